@@ -1,0 +1,10 @@
+pub mod IdKept
+pub mod Rows
+pub mod Members
+pub mod First
+pub mod Least
+pub mod Worked
+pub mod Quieting
+pub mod Ending
+pub mod Unique
+pub mod Totals

@@ -1,0 +1,10 @@
+pub mod Ids
+pub mod IdFields
+pub mod Rulebook
+pub mod RulebookFields
+pub mod Candidates
+pub mod Clearing
+pub mod Meaning
+pub mod Legs
+pub mod Quiet
+pub mod Journal
