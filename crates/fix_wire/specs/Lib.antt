@@ -5,6 +5,7 @@ pub mod Frames
 pub mod Messages
 pub mod Fronts
 pub mod Held
+pub mod FramerFields
 pub mod Lent
 pub mod Layout
 pub mod Pieces

@@ -6,6 +6,7 @@ ghost use Rattle.memchr.specs.Find.{is_byte};
 ghost use Rattle.fix_wire.specs.Texts.{strip_prefix, is_cut_short};
 ghost use Rattle.fix_wire.specs.Frames.{begin_text, header, header_after, body_at, is_body, is_intact, is_length_open, checksum_field, frame_length};
 ghost use Rattle.fix_wire.specs.Fields.{fields_of_body};
+ghost use Rattle.fix_wire.specs.Held.{from_first_start};
 ghost use Rattle.fix_wire.specs.Fronts.{front_of, first_field, leading_field_view, is_header_open};
 
 use crate::values::limited_digits;
@@ -88,6 +89,16 @@ fn is_header_open(text: &[u8]) -> bool
     } else {
         text.len() < 12 && BEGIN_TEXT.starts_with(text)
     }
+}
+
+/// The next place at which a frame may begin, once none begins at the first: where its `8` stands, or the end.
+pub(crate) fn next_begin(text: &[u8]) -> usize
+    requires { 0 < length text.now }
+    ensures past { 0 < result }
+    ensures within { result ≤ length text.now }
+    ensures skipped { from_first_start (drop result text.now) ≡ from_first_start (drop 1 text.now) }
+{
+    1 + place_of(b'8', &text[1..])
 }
 
 /// The first field of a body.
