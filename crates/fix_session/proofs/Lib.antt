@@ -1,0 +1,2 @@
+mod Judged
+mod Opens
