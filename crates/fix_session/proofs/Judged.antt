@@ -251,7 +251,7 @@ whole_law fs =
 pub closed_law : (fs : List (List ℕ)) → events_at_end (session_after new_session fs) ≡ cond (live (filter_map view fs) (length (filter_map view fs))) (variant.Close 5 ∷ []) []
 closed_law fs = let ms = filter_map view fs in ap events_at_end (after_messages new_session fs ∙ after_is ms ms 0 (length ms) refl (omega arith)) ∙ end_is ms
 
-cons_two : (o : Option Event) (xs ys : List Event) → cons_option o (xs ++ ys) ≡ cons_option o xs ++ ys
+pub cons_two : (o : Option Event) (xs ys : List Event) → cons_option o (xs ++ ys) ≡ cons_option o xs ++ ys
 cons_two None xs ys = refl
 cons_two (Some e) xs ys = refl
 

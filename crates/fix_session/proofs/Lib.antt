@@ -1,2 +1,4 @@
-mod Judged
-mod Opens
+pub mod Judged
+pub mod Opens
+pub mod Given
+pub mod Lawful
