@@ -1,0 +1,4 @@
+pub mod Judged
+pub mod Opens
+pub mod Given
+pub mod Lawful

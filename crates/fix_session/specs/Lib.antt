@@ -1,0 +1,6 @@
+pub mod Table
+pub mod Shown
+pub mod View
+pub mod Places
+pub mod Steps
+pub mod Streams

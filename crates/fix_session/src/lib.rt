@@ -1,0 +1,8 @@
+//! Sessions of FIX 4.2: what each message of a session says, by its number and its kind.
+#![tactic(auto)]
+
+pub mod laws;
+mod session;
+mod table;
+
+pub use session::{Session, Verdict};
