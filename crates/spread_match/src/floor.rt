@@ -114,11 +114,7 @@ fn renew_all<A: Allocator + Copy>(statuses: &mut Vec<OrderStatus, A>, fills: &[F
 }
 
 /// By the fills from that one on.
-fn renew_from<A: Allocator + Copy>(
-    statuses: &mut Vec<OrderStatus, A>,
-    fills: &[Fill],
-    from: usize,
-)
+fn renew_from<A: Allocator + Copy>(statuses: &mut Vec<OrderStatus, A>, fills: &[Fill], from: usize)
     requires { from ≤ length fills.now }
     ensures { statuses.new.items ≡ renewed (drop from fills.now) statuses.old.items }
 {

@@ -27,16 +27,18 @@ trade-left-requires g c κs within =
     (subst HasSmallPrice (sym c.new_order-order.ensures) (record { low = c.requires.price.low; high = c.requires.price.high }))
     (subst IsNearFirst (sym c.new_order-order.ensures) (record { near_before_far = c.requires.listed }))
     (subst (λ (o : Order). in_months (month_count c.args.rules.now) o.instrument) (sym c.new_order-order.ensures) c.requires.within)
-    (subst (λ (o : Order). 0 < o.leaves) (sym c.new_order-order.ensures) c.requires.some) in
-    (
-      within,
+    (subst (λ (o : Order). 0 < o.leaves) (sym c.new_order-order.ensures) c.requires.some) in (
+      within.0,
       (
-        added ∙ ap (λ (ys : List Order). ys ++ new ∷ []) (sym rest),
+        within.1,
         (
-          subst (λ (m : ℕ). IsTradable m book) (sym c.months.ensures.count) (subst (IsTradable (month_count c.args.rules.now)) (sym added) own),
+          added ∙ ap (λ (ys : List Order). ys ++ new ∷ []) (sym rest),
           (
-            subst (All IsSmall) refs (references_of c.requires.rules),
-            room_new all_on _ _ c.min.result c.len.result c.args.ticket.now.quantity new.leaves (length (removed new.place book)) c.in_ok-reserve.ensures.ok c.min.ensures (c.len.ensures ∙ (ap (λ (m : Standing). length m.orders) c.self.view_is ∙ ap (λ (ys : List Order). length ys) (sym rest))) (ap (λ (o : Order). o.leaves) c.new_order-order.ensures),
+            subst (λ (m : ℕ). IsTradable m book) (sym c.months.ensures.count) (subst (IsTradable (month_count c.args.rules.now)) (sym added) own),
+            (
+              small_references c.args.rules.now c.months.ensures.lawful,
+              room_new all_on _ _ c.min.result c.len.result c.args.ticket.now.quantity new.leaves (length (removed new.place book)) c.in_ok-reserve.ensures.ok c.min.ensures (c.len.ensures ∙ (ap (λ (m : Standing). length m.orders) c.self.view_is ∙ ap (λ (ys : List Order). length ys) (sym rest))) (ap (λ (o : Order). o.leaves) c.new_order-order.ensures),
+            ),
           ),
         ),
       ),
