@@ -1,6 +1,6 @@
 //! The rulebook of a day.
-ghost use Rattle.std.specs.Prelude.{◌≡◌, ◌≢◌, ◌<◌, ◌≤◌, ℕ, length, get_or, [], pos, IfSome, IfNone, Ok, Err, MatchResult};
-ghost use Rattle.spread_rules.specs.Rulebook.{month_count, names_of, references_of, IsListed, symbol_of, find_symbol};
+ghost use Rattle.std.specs.Prelude.{◌≡◌, ◌≢◌, ◌<◌, ◌≤◌, ℕ, length, get_or, [], pos, IfSome, IfNone, Ok, Err, MatchResult, ◌≤ℤ◌};
+ghost use Rattle.spread_rules.specs.Rulebook.{month_count, names_of, references_of, IsListed, symbol_of, find_symbol, IsRules};
 ghost use Rattle.spread_rules.specs.RulebookText.{ReadsRulebook};
 ghost use Rattle.spread_rules.specs.declared.order.Instrument.{Instrument};
 ghost use Rattle.spread_rules.specs.declared.rule_fault.RuleFault.{RuleFault};
@@ -69,6 +69,7 @@ impl Rulebook {
         ensures count { result ≡ month_count self.now }
         ensures some { 1 ≤ result }
         ensures most { result ≤ 12 }
+        ensures lawful { IsRules self.now }
     {
         self.list.count as u8
     }
@@ -142,7 +143,9 @@ impl Rulebook {
 
     /// The tick, in hundredths, 1 to 1,000,000.
     pub fn tick(&self) -> i64
-        ensures { result ≡ self.now.tick }
+        ensures value { result ≡ self.now.tick }
+        ensures low { pos 1 ≤ℤ result }
+        ensures high { result ≤ℤ pos 1000000 }
     {
         self.tick
     }

@@ -1,0 +1,5 @@
+//! Books of resting orders by price and time.
+#![tactic(auto)]
+
+pub mod book;
+pub mod list;

@@ -1,0 +1,14 @@
+pub mod Costs
+pub mod FrontFacts
+pub mod Whole
+pub mod After
+pub mod Found
+pub mod Listing
+pub mod Turns
+pub mod Tradable
+pub mod Whole_turn
+pub mod Entering
+pub mod Accounts
+pub mod Past
+pub mod Ready
+pub mod Lawful

@@ -1,0 +1,5 @@
+pub mod State
+pub mod Best
+pub mod Trade
+pub mod Kept
+pub mod Sound

@@ -1,0 +1,327 @@
+//! What a market keeps, and what each kind of entry does to it.
+ghost use Rattle.std.specs.Prelude.{◌≡◌, ℕ, ℤ, pos, ◌<ℤ◌, ◌<◌, ◌≤◌, List, All, OnOk, OnErr, IfOk, IfSome, ◌++◌, [], map, vec_len, drop, length};
+ghost use Rattle.std.specs.List.{find};
+ghost use Rattle.spread_rules.specs.declared.order.Order.{Order};
+ghost use Rattle.spread_rules.specs.declared.event.Event.TheVariants.{New, Cancel};
+ghost use Rattle.spread_rules.specs.declared.outcome.Outcome.TheVariants.{Refused};
+ghost use Rattle.spread_rules.specs.Candidates.{all_on};
+ghost use Rattle.spread_rules.specs.Clearing.{clear};
+ghost use Rattle.spread_rules.specs.Journal.{IsPrice};
+ghost use Rattle.spread_rules.specs.Meaning.{has_id, is_own, judged, judged_by, outcome_of, order_of, only, cleared, cancelled};
+ghost use Rattle.spread_rules.specs.Rulebook.{month_count, references_of, find_symbol};
+ghost use Rattle.spread_match.specs.State.{nothing_yet};
+ghost use Rattle.spread_match.specs.Best.{in_months, is_ordered};
+ghost use Rattle.spread_match.specs.Kept.{renewed_by, renewed, kept_meaning, kept_after, kept_with, settled, IsReady};
+ghost use Rattle.spread_match.specs.Trade.{IsPriced, IsNewest};
+
+use crate::trade::trade;
+use spread_books::book::Book;
+use spread_rules::event::{Entry, Event, Ticket};
+use spread_rules::fill::Fill;
+use spread_rules::id::Id;
+use spread_rules::memory::NoMemory;
+use spread_rules::order::{Instrument, Order};
+use spread_rules::outcome::{OrderStatus, Outcome};
+use spread_rules::rulebook::Rulebook;
+use std::alloc::Allocator;
+use std::marker::Model;
+
+/// Resting orders, the status of each New entry so far, and the greatest place that was given.
+#[derive(Drop)]
+pub struct Floor<B: Book, A: Allocator + Copy> {
+    book: B,
+    statuses: Vec<OrderStatus, A>,
+    last: u64,
+}
+
+impl<B: Book, A: Allocator + Copy> Model for Floor<B, A> {
+    ghost use Rattle.spread_match.specs.State.{Standing};
+
+    ghost Value = { Standing };
+
+    ghost view = { λ m. record { orders = B.orders m.book; statuses = m.statuses.items; last = m.last } };
+}
+
+fn find_status(statuses: &[OrderStatus], session: u8, id: &Id) -> Option<OrderStatus>
+    ensures { result ≡ find (has_id session id.now) statuses.now }
+{
+    for status in statuses {
+        if status.session == session && status.id.is(id) {
+            return Some(*status);
+        }
+    }
+    None
+}
+
+/// The instrument, or why the ticket is refused.
+fn judge(
+    rules: &Rulebook,
+    statuses: &[OrderStatus],
+    session: u8,
+    ticket: &Ticket,
+) -> Result<Instrument, u8>
+    ensures { result ≡ judged rules.now ticket.now (find (has_id session ticket.now.id) statuses.now) }
+{
+    match find_status(statuses, session, &ticket.id) {
+        Some(_) => Err(6),
+        None => judge_fields(rules, ticket, rules.find(ticket.symbol.bytes())),
+    }
+}
+
+fn judge_fields(
+    rules: &Rulebook,
+    ticket: &Ticket,
+    named: Option<Instrument>,
+) -> Result<Instrument, u8>
+    ensures { result ≡ judged_by rules.now ticket.now named }
+{
+    match named {
+        None => Err(1),
+        Some(instrument) => {
+            if ticket.quantity == 0 || ticket.quantity > 999_999 {
+                Err(3)
+            } else if ticket.price % rules.tick() != 0 {
+                Err(0)
+            } else {
+                Ok(instrument)
+            }
+        }
+    }
+}
+
+fn renew_one(status: &mut OrderStatus, fill: &Fill)
+    ensures { status.new ≡ renewed_by fill.now status.old }
+{
+    if status.place == fill.order && fill.leaves == 0 {
+        status.status = 2;
+    }
+}
+
+fn renew(statuses: &mut [OrderStatus], fill: &Fill)
+    ensures { statuses.new ≡ map (renewed_by fill.now) statuses.old }
+{
+    for status in statuses.iter_mut() {
+        renew_one(status, fill);
+    }
+}
+
+fn renew_all<A: Allocator + Copy>(statuses: &mut Vec<OrderStatus, A>, fills: &[Fill])
+    ensures { statuses.new.items ≡ renewed fills.now statuses.old.items }
+{
+    for fill in fills {
+        renew(statuses, fill);
+    }
+}
+
+/// By the fills from that one on.
+fn renew_from<A: Allocator + Copy>(statuses: &mut Vec<OrderStatus, A>, fills: &[Fill], from: usize)
+    requires { from ≤ length fills.now }
+    ensures { statuses.new.items ≡ renewed (drop from fills.now) statuses.old.items }
+{
+    renew_all(statuses, &fills[from..]);
+}
+
+/// What becomes of an order of which so much is left.
+fn outcome_with(immediate: bool, left: u32) -> Outcome
+    ensures { result ≡ outcome_of immediate left }
+{
+    if left == 0 {
+        Outcome::Filled
+    } else if immediate {
+        Outcome::Ended { left }
+    } else {
+        Outcome::Rested
+    }
+}
+
+/// A new order as it comes in.
+fn new_order(place: u64, session: u8, ticket: &Ticket, instrument: Instrument) -> Order
+    ensures { result ≡ order_of place session ticket.now instrument }
+{
+    Order {
+        place,
+        session,
+        id: ticket.id,
+        instrument,
+        side: ticket.side,
+        price: ticket.price,
+        quantity: ticket.quantity,
+        leaves: ticket.quantity,
+    }
+}
+
+/// The new order rests with what is left, or goes.
+fn settle<B: Book>(book: &mut B, immediate: bool, own: &Order, left: u32)
+    requires newest { IsNewest own.now (B.orders book.old) }
+    requires most { left ≤ own.now.leaves }
+    ensures { B.orders book.new ≡ settled immediate own.now left (B.orders book.old) }
+{
+    if left == 0 || immediate {
+        book.remove(own.place);
+    } else if left < own.leaves {
+        book.reduce(own.place, own.leaves - left);
+    }
+}
+
+impl<B: Book, A: Allocator + Copy> Floor<B, A> {
+    /// Before the first entry, over a book that is empty.
+    pub fn new(alloc: A, book: B) -> Self
+        requires { B.orders book ≡ [] }
+        ensures { result ≡ nothing_yet }
+    {
+        Floor {
+            book,
+            statuses: Vec::new(alloc),
+            last: 0,
+        }
+    }
+
+    /// The resting orders.
+    pub fn book(&self) -> &B
+        ensures { B.orders result.now ≡ self.now.orders }
+    {
+        &self.book
+    }
+
+    /// A ticket that is refused keeps its id used.
+    fn refuse(
+        &mut self,
+        place: u64,
+        session: u8,
+        ticket: &Ticket,
+        reason: u8,
+    ) -> Result<Outcome, NoMemory>
+        ensures outcome { IfOk result (λ o. o ≡ Refused reason) }
+        ensures after { OnOk result (self.new ≡ kept_with self.old place session (New ticket.now) (only (Refused reason) self.old.orders)) }
+        ensures err { OnErr result (self.new ≡ self.old) }
+    {
+        self.statuses.push(OrderStatus {
+            session,
+            id: ticket.id,
+            place,
+            status: 8,
+        })?;
+        self.last = place;
+        Ok(Outcome::Refused(reason))
+    }
+
+    /// Clears a ticket that is not refused. All growth comes first.
+    fn take(
+        &mut self,
+        rules: &Rulebook,
+        place: u64,
+        session: u8,
+        ticket: &Ticket,
+        instrument: Instrument,
+        fills: &mut Vec<Fill, A>,
+    ) -> Result<Outcome, NoMemory>
+        requires ready { IsReady (month_count rules.now) self.old }
+        requires price { IsPrice ticket.now.price }
+        requires some { 0 < ticket.now.quantity }
+        requires listed { is_ordered instrument }
+        requires within { in_months (month_count rules.now) instrument }
+        requires place { self.old.last < place }
+        ensures outcome { IfOk result (λ o. o ≡ (cleared ticket.now.immediate (clear all_on (references_of rules.now) (order_of place session ticket.now instrument) self.old.orders)).outcome) }
+        ensures fills { OnOk result (fills.new.items ≡ fills.old.items ++ (clear all_on (references_of rules.now) (order_of place session ticket.now instrument) self.old.orders).fills) }
+        ensures after { OnOk result (self.new ≡ kept_with self.old place session (New ticket.now) (cleared ticket.now.immediate (clear all_on (references_of rules.now) (order_of place session ticket.now instrument) self.old.orders))) }
+        ensures err { OnErr result (self.new ≡ self.old) }
+        ensures no_fills { OnErr result (fills.new.items ≡ fills.old.items) }
+    {
+        let before = fills.len();
+        fills.reserve(3 * self.book.len().min(ticket.quantity as usize))?;
+        self.statuses.reserve(1)?;
+        let order = new_order(place, session, ticket, instrument);
+        self.book.add(order)?;
+        let left = trade(&mut self.book, rules.months(), rules, order, fills);
+        settle(&mut self.book, ticket.immediate, &order, left.leaves);
+        self.statuses.push_reserved(OrderStatus {
+            session,
+            id: ticket.id,
+            place,
+            status: 4,
+        });
+        renew_from(&mut self.statuses, fills, before);
+        self.last = place;
+        Ok(outcome_with(ticket.immediate, left.leaves))
+    }
+
+    /// A New entry.
+    fn enter(
+        &mut self,
+        rules: &Rulebook,
+        place: u64,
+        session: u8,
+        ticket: &Ticket,
+        fills: &mut Vec<Fill, A>,
+    ) -> Result<Outcome, NoMemory>
+        requires ready { IsReady (month_count rules.now) self.old }
+        requires price { IsPrice ticket.now.price }
+        requires place { self.old.last < place }
+        ensures outcome { IfOk result (λ o. o ≡ (kept_meaning rules.now self.old place session (New ticket.now)).outcome) }
+        ensures fills { OnOk result (fills.new.items ≡ fills.old.items ++ (kept_meaning rules.now self.old place session (New ticket.now)).fills) }
+        ensures after { OnOk result (self.new ≡ kept_after rules.now self.old place session (New ticket.now)) }
+        ensures err { OnErr result (self.new ≡ self.old) }
+        ensures no_fills { OnErr result (fills.new.items ≡ fills.old.items) }
+    {
+        match judge(rules, &self.statuses, session, ticket) {
+            Err(reason) => self.refuse(place, session, ticket, reason),
+            Ok(instrument) => self.take(rules, place, session, ticket, instrument, fills),
+        }
+    }
+
+    /// Ends the resting order with the original id.
+    fn cancel(&mut self, place: u64, session: u8, id: &Id, original: &Id) -> Outcome
+        requires { self.old.last < place }
+        ensures outcome { result ≡ (cancelled self.old.orders (find (has_id session original.now) self.old.statuses) (find (is_own session original.now) self.old.orders)).outcome }
+        ensures after { self.new ≡ kept_with self.old place session (Cancel id.now original.now) (cancelled self.old.orders (find (has_id session original.now) self.old.statuses) (find (is_own session original.now) self.old.orders)) }
+    {
+        self.last = place;
+        match self.book.find(session, original) {
+            Some(order) => {
+                self.book.remove(order.place);
+                Outcome::Cancelled(order)
+            }
+            None => match find_status(&self.statuses, session, original) {
+                Some(status) => Outcome::CancelRefused {
+                    reason: 0,
+                    place: status.place,
+                    status: status.status,
+                },
+                None => Outcome::CancelRefused {
+                    reason: 1,
+                    place: 0,
+                    status: 8,
+                },
+            },
+        }
+    }
+
+    /// Works one entry by what is kept.
+    pub fn work_entry(
+        &mut self,
+        rules: &Rulebook,
+        place: u64,
+        entry: &Entry,
+        fills: &mut Vec<Fill, A>,
+    ) -> Result<Outcome, NoMemory>
+        requires ready { IsReady (month_count rules.now) self.old }
+        requires entry { IsPriced entry.now.event }
+        requires place { self.old.last < place }
+        ensures outcome { IfOk result (λ o. o ≡ (kept_meaning rules.now self.old place entry.now.session entry.now.event).outcome) }
+        ensures fills { OnOk result (fills.new.items ≡ fills.old.items ++ (kept_meaning rules.now self.old place entry.now.session entry.now.event).fills) }
+        ensures after { OnOk result (self.new ≡ kept_after rules.now self.old place entry.now.session entry.now.event) }
+        ensures err { OnErr result (self.new ≡ self.old) }
+        ensures no_fills { OnErr result (fills.new.items ≡ fills.old.items) }
+    {
+        match entry.event {
+            Event::New(ticket) => self.enter(rules, place, entry.session, &ticket, fills),
+            Event::Cancel { id, original } => {
+                Ok(self.cancel(place, entry.session, &id, &original))
+            }
+            _ => {
+                self.last = place;
+                Ok(Outcome::Session)
+            }
+        }
+    }
+}

@@ -1,0 +1,9 @@
+//! What one entry of the journal does to the resting orders: refusals, direct and implied matching, cancels.
+#![tactic(auto)]
+
+pub mod best;
+mod floor;
+pub mod journal;
+pub mod market;
+mod parts;
+mod trade;
