@@ -82,6 +82,15 @@ impl Rulebook {
         self.list.slots[month as usize].name.bytes()
     }
 
+    /// The month's name as an id.
+    pub fn name_id(&self, month: u8) -> Id
+        requires { month < month_count self.now }
+        ensures value { result ≡ get_or (names_of self.now) month [] }
+        ensures most { length result ≤ 15 }
+    {
+        self.months[month as usize].name
+    }
+
     /// The month's reference price, in hundredths.
     pub fn reference(&self, month: u8) -> i64
         requires { month < month_count self.now }

@@ -1,0 +1,5 @@
+pub mod Runs
+pub mod Steps
+pub mod Fills
+pub mod Cuts
+pub mod Symbols

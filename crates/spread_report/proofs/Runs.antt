@@ -1,0 +1,104 @@
+-- Messages, and more messages after them.
+use Rattle.std.proofs.Common.{◌≡◌, ◌≢◌, ℕ, ◌+◌, ◌<◌, ◌≤◌, ◌==◌, Bool, true, false, cond, List, [], ◌∷◌, ◌++◌, ◌||◌, length, get_or, take, refl, sym, ap, ◌∙◌, arith, append_assoc, append-nil, length-append, Ok, Err, Result}
+use Rattle.std.proofs.Math.Seq.{take-append_seam}
+use Rattle.std.proofs.lemmas.List.{take-append-le, take-take}
+use Rattle.std.specs.declared.vec.Vec.{Vec}
+use Rattle.spread_report.specs.declared.line.SessionLine.{SessionLine}
+use Rattle.spread_report.specs.declared.fault.DeskFault.{DeskFault}
+use Rattle.spread_report.specs.declared.fault.DeskFault.TheVariants.{NoMemory, NumbersSpent}
+use Rattle.spread_report.specs.EntryMessages.{AddressedMessage, MessageContent}
+use Rattle.spread_report.specs.Outgoing.{bytes_to, line_after, spends, text_for, line_for, spent_for}
+use Rattle.spread_report.specs.Sessions.{bytes_of, line_at, Sent, OnlyAppended, NumbersRunOut, SendResult}
+
+pub line_after-append : (s : ℕ) (l : SessionLine) (xs ys : List AddressedMessage) → line_after s l (xs ++ ys) ≡ line_after s (line_after s l xs) ys
+line_after-append s l [] ys = refl
+line_after-append s l (m ∷ ms) ys = line_after-append s (line_for s l m) ms ys
+
+pub bytes_to-append : (stamp : List ℕ) (s : ℕ) (l : SessionLine) (xs ys : List AddressedMessage) → bytes_to stamp s l (xs ++ ys) ≡ bytes_to stamp s l xs ++ bytes_to stamp s (line_after s l xs) ys
+bytes_to-append stamp s l [] ys = refl
+bytes_to-append stamp s l (m ∷ ms) ys =
+    ap (λ (t : List ℕ). text_for stamp s l m ++ t) (bytes_to-append stamp s (line_for s l m) ms ys)
+    ∙ sym (append_assoc (text_for stamp s l m) (bytes_to stamp s (line_for s l m) ms) (bytes_to stamp s (line_after s (line_for s l m) ms) ys))
+
+or_assoc : (a b d : Bool) → a || (b || d) ≡ (a || b) || d
+or_assoc true b d = refl
+or_assoc false b d = refl
+
+pub spends-append : (s : ℕ) (l : SessionLine) (xs ys : List AddressedMessage) → spends s l (xs ++ ys) ≡ spends s l xs || spends s (line_after s l xs) ys
+spends-append s l [] ys = refl
+spends-append s l (m ∷ ms) ys =
+    ap (λ (t : Bool). spent_for s l m || t) (spends-append s (line_for s l m) ms ys)
+    ∙ or_assoc (spent_for s l m) (spends s (line_for s l m) ms) (spends s (line_after s (line_for s l m) ms) ys)
+
+or_left : (a b : Bool) → a ≡ true → a || b ≡ true
+or_left a b e = rw e refl
+
+or_right : (a b : Bool) → b ≡ true → a || b ≡ true
+or_right true b e = refl
+or_right false b e = e
+
+or_none : (a b : Bool) → a ≡ false → b ≡ false → a || b ≡ false
+or_none a b e f = rw e f
+
+-- what begins with a list begins with its front
+pub begins_both : (u v w t : List ℕ) → w ≡ u ++ v → take (length w) t ≡ w → take (length u) t ≡ u
+begins_both u v w t e h =
+    let n : length u ≤ length w = rw (e, length-append u v) (omega arith) in
+    sym (take-take (length u) (length w) t n) ∙ (ap (λ (l : List ℕ). take (length u) l) (h ∙ e) ∙ take-append_seam u v)
+
+module _ {A : Type 0} (stamp : List ℕ) (a b d : List SessionLine) (x y z : List (Vec ℕ A)) (ms ns : List AddressedMessage) where
+  -- these were sent, and then those
+  pub sends_both : Sent stamp a b x y ms → Sent stamp b d y z ns → Sent stamp a d x z (ms ++ ns)
+  sends_both p q = record {
+    lines = q.lines ∙ p.lines;
+    lists = q.lists ∙ p.lists;
+    bytes = λ s below.
+        q.bytes s below
+        ∙ (ap (λ (t : List ℕ). t ++ bytes_to stamp s (line_at b s) ns) (p.bytes s below)
+        ∙ (append_assoc (bytes_of x s) (bytes_to stamp s (line_at a s) ms) (bytes_to stamp s (line_at b s) ns)
+        ∙ ap (λ (t : List ℕ). bytes_of x s ++ t)
+        (ap (λ (l : SessionLine). bytes_to stamp s (line_at a s) ms ++ bytes_to stamp s l ns) (p.line s below) ∙ sym (bytes_to-append stamp s (line_at a s) ms ns))));
+    line = λ s below. q.line s below ∙ (ap (λ (l : SessionLine). line_after s l ns) (p.line s below) ∙ sym (line_after-append s (line_at a s) ms ns));
+    unspent = λ s below.
+        spends-append s (line_at a s) ms ns
+        ∙ or_none (spends s (line_at a s) ms) (spends s (line_after s (line_at a s) ms) ns) (p.unspent s below) (ap (λ (l : SessionLine). spends s l ns) (sym (p.line s below)) ∙ q.unspent s below);
+  }
+
+  -- these were sent, and then not all of those
+  grown_after : Sent stamp a b x y ms → OnlyAppended b d y z → OnlyAppended a d x z
+  grown_after p q = record {
+    lines = q.lines ∙ p.lines;
+    lists = q.lists ∙ p.lists;
+    begins = λ s below. begins_both (bytes_of x s) (bytes_to stamp s (line_at a s) ms) (bytes_of y s) (bytes_of z s) (p.bytes s below) (q.begins s below);
+  }
+
+  spends_after : Sent stamp a b x y ms → NumbersRunOut b ns → NumbersRunOut a (ms ++ ns)
+  spends_after p q = record {
+    session = q.session;
+    below = q.below;
+    spent =
+        spends-append q.session (line_at a q.session) ms ns
+        ∙ or_right (spends q.session (line_at a q.session) ms) (spends q.session (line_after q.session (line_at a q.session) ms) ns)
+        (ap (λ (l : SessionLine). spends q.session l ns) (sym (p.line q.session q.below)) ∙ q.spent);
+  }
+
+  -- these were sent, and this became of those
+  pub works_after : {T : Type 0} (r : Result T DeskFault) → Sent stamp a b x y ms → SendResult stamp b d y z ns r → SendResult stamp a d x z (ms ++ ns) r
+  works_after (Ok t) p w = sends_both p w
+  works_after (Err NoMemory) p w = grown_after p w
+  works_after (Err NumbersSpent) p w = (grown_after p w.0, spends_after p w.1)
+
+module _ {A : Type 0} (stamp : List ℕ) (a b : List SessionLine) (x y : List (Vec ℕ A)) (ms ns : List AddressedMessage) where
+  spends_first : NumbersRunOut a ms → NumbersRunOut a (ms ++ ns)
+  spends_first q = record {
+    session = q.session;
+    below = q.below;
+    spent =
+        spends-append q.session (line_at a q.session) ms ns
+        ∙ or_left (spends q.session (line_at a q.session) ms) (spends q.session (line_after q.session (line_at a q.session) ms) ns) q.spent;
+  }
+
+  -- where these were not sent, more were not
+  pub works_no_more : (T U : Type 0) (f : DeskFault) → SendResult {T = T} stamp a b x y ms (Err f) → SendResult {T = U} stamp a b x y (ms ++ ns) (Err f)
+  works_no_more T U NoMemory w = w
+  works_no_more T U NumbersSpent w = (w.0, spends_first w.1)

@@ -1,0 +1,16 @@
+use Rattle.std.proofs.Common.{◌≡◌, ℕ, ◌+◌, ◌<◌, ◌∙◌, ◌++◌, List, ap, true, false, nat_lt, refl, arith, rules}
+use Rattle.spread_report.proofs.Steps.{gap_line, gap_text, grown_line}
+use Rattle.spread_report.proofs.send.fill_gap.Goals as goal
+
+pub returns-in-Ok : goal.returns-in-Ok
+returns-in-Ok g c =
+    let below : nat_lt c.from-number.result c.index-lines-at.result.next ≡ true = search (rules, c.if-number-line.false) in
+    gap_line c.args.stamp.now c.args.lines.now c.args.lists.now c.args.session c.args.first c.args.last c.index-lines-at.result c.index-lists-at.result c.in-Some.ids c.write_message.new.out _
+    c.requires.lines c.requires.lists c.requires.session c.index-lines-at.is c.in-Some.is
+    c.in-Ok.ensures.ok
+    (gap_text c.args.stamp.now c.in-Some.ids c.index-lines-at.result.next c.args.first c.args.last c.from-number.result c.new_seq_no-next.result c.from.result c.known_id.result
+    c.from-number.ensures c.new_seq_no-next.ensures c.from.ensures c.known_id.ensures below)
+
+pub returns-in-Err : goal.returns-in-Err
+returns-in-Err g c =
+    grown_line c.args.lines.now c.args.lists.now c.args.session c.index-lists-at.result c.write_message.new.out c.requires.lists c.requires.session c.in-Err.ensures.err

@@ -1,0 +1,24 @@
+use Rattle.std.proofs.Common.{◌≡◌, ℕ, ◌+◌, ◌<◌, true, false, nat_lt, refl, arith, rules}
+use Rattle.spread_report.specs.EntryMessages.{numbered}
+use Rattle.spread_report.proofs.Steps.{sent_line, spent_line, grown_line, grown_none}
+use Rattle.spread_report.proofs.send.send.Goals as goal
+
+pub returns-then-line-gt-GREATEST_NUMBER : goal.returns-then-line-gt-GREATEST_NUMBER
+returns-then-line-gt-GREATEST_NUMBER g c =
+    let spent : nat_lt 999999999 c.index-lines-at.result.next ≡ true = search (rules, c.if-line-gt-GREATEST_NUMBER.true) in (
+      grown_none c.args.lines.now c.args.lists.now,
+      spent_line c.args.stamp.now c.args.lines.now c.args.session (numbered c.args.kind c.args.fields.now) c.index-lines-at.result c.in-Some.ids
+          c.requires.lines c.requires.session c.index-lines-at.is c.in-Some.is spent,
+    )
+
+pub returns-in-Ok : goal.returns-in-Ok
+returns-in-Ok g c =
+    let unspent : nat_lt 999999999 c.index-lines-at.result.next ≡ false = search (rules, c.if-line-gt-GREATEST_NUMBER.false) in
+    sent_line c.args.stamp.now c.args.lines.now c.args.lists.now c.args.session (numbered c.args.kind c.args.fields.now) c.index-lines-at.result c.index-lists-at.result c.in-Some.ids
+    c.write_message.new.out (c.index-lines-at.result.next + 1) c.requires.lines c.requires.lists c.requires.session c.index-lines-at.is c.in-Some.is
+    c.in-Ok.ensures.ok refl unspent
+
+pub returns-in-Err : goal.returns-in-Err
+returns-in-Err g c =
+    grown_line c.args.lines.now c.args.lists.now c.args.session c.index-lists-at.result
+    c.write_message.new.out c.requires.lists c.requires.session c.in-Err.ensures.err

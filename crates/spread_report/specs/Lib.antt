@@ -1,0 +1,4 @@
+pub mod EntryMessages
+pub mod Outgoing
+pub mod Sessions
+pub mod Conditions

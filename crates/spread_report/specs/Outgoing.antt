@@ -1,0 +1,140 @@
+-- The bytes that each session is sent.
+use Rattle.std.specs.Prelude.{◌≡◌, ℕ, ◌+◌, ◌==◌, nat_lt, Bool, true, false, ◌&&◌, ◌||◌, if◌then◌else◌, List, [], ◌∷◌, ◌++◌, codes, Option, Some, None}
+use Rattle.fix_wire.specs.Layout.{message_text}
+use Rattle.fix_wire.specs.declared.writer.Head.{Head}
+use Rattle.fix_wire.specs.declared.writer.Field.{Field}
+use Rattle.spread_rules.specs.declared.fill.Fill.{Fill}
+use Rattle.spread_rules.specs.declared.event.Entry.{Entry}
+use Rattle.spread_rules.specs.declared.event.Event.{Event}
+use Rattle.spread_rules.specs.declared.event.Event.TheVariants.{Logon, New, Cancel, TestReply, Gap, Resend, Reject, Close}
+use Rattle.spread_rules.specs.declared.outcome.Outcome.{Outcome}
+use Rattle.spread_rules.specs.Rulebook.{Rules}
+use Rattle.spread_report.specs.declared.line.SessionLine.{SessionLine}
+use Rattle.spread_report.specs.declared.line.CompIds.{CompIds}
+use Rattle.spread_report.specs.EntryMessages.{MessageContent, numbered, gap_fill, AddressedMessage, text, number, messages_of}
+
+-- ---- one message
+
+-- NewSeqNo of a gap fill, where the next number is this and the last one asked for is that; 0 is no end
+abbrev pub new_seq_no : ℕ → ℕ → ℕ
+new_seq_no next last = if last == 0 || nat_lt next (last + 2) then next else last + 1
+
+abbrev pub head_of : List ℕ → CompIds → ℕ → ℕ → Bool → Head
+head_of stamp ids kind n duplicate = record { kind = kind; number = n; duplicate = duplicate; sender = ids.host; target = ids.client; stamp = stamp }
+
+-- the fields of a gap fill: NewSeqNo, GapFillFlag
+abbrev pub gap_fields : ℕ → ℕ → List Field
+gap_fields next last = number 36 (new_seq_no next last) ∷ text 123 (codes "Y") ∷ []
+
+-- its text, the session's next number being this: a gap fill, of kind `4`, only where its first number was sent before
+abbrev pub content_text : List ℕ → CompIds → ℕ → MessageContent → List ℕ
+content_text stamp ids next (numbered kind fields) = message_text (head_of stamp ids kind next false) fields
+content_text stamp ids next (gap_fill first last) = if nat_lt first next then message_text (head_of stamp ids 52 first true) (gap_fields next last) else []
+
+-- a gap fill uses no number
+abbrev pub next_after : ℕ → MessageContent → ℕ
+next_after next (numbered kind fields) = next + 1
+next_after next (gap_fill first last) = next
+
+-- it would bear a number above 999,999,999
+abbrev pub is_spent : ℕ → MessageContent → Bool
+is_spent next (numbered kind fields) = nat_lt 999999999 next
+is_spent next (gap_fill first last) = false
+
+-- a session without a Logon is sent nothing, and its number stays
+abbrev pub text_under : List ℕ → Option CompIds → ℕ → MessageContent → List ℕ
+text_under stamp None next c = []
+text_under stamp (Some ids) next c = content_text stamp ids next c
+
+abbrev pub next_under : Option CompIds → ℕ → MessageContent → ℕ
+next_under None next c = next
+next_under (Some ids) next c = next_after next c
+
+abbrev pub spent_under : Option CompIds → ℕ → MessageContent → Bool
+spent_under None next c = false
+spent_under (Some ids) next c = is_spent next c
+
+-- ---- what session s is sent of some messages, from this line on
+
+abbrev pub text_for : List ℕ → ℕ → SessionLine → AddressedMessage → List ℕ
+text_for stamp s line m = if m.to == s then text_under stamp line.comp_ids line.next m.content else []
+
+abbrev pub line_for : ℕ → SessionLine → AddressedMessage → SessionLine
+line_for s line m = if m.to == s then record { next = next_under line.comp_ids line.next m.content; comp_ids = line.comp_ids } else line
+
+abbrev pub spent_for : ℕ → SessionLine → AddressedMessage → Bool
+spent_for s line m = m.to == s && spent_under line.comp_ids line.next m.content
+
+abbrev pub bytes_to : List ℕ → ℕ → SessionLine → List AddressedMessage → List ℕ
+bytes_to stamp s line [] = []
+bytes_to stamp s line (m ∷ ms) = text_for stamp s line m ++ bytes_to stamp s (line_for s line m) ms
+
+abbrev pub line_after : ℕ → SessionLine → List AddressedMessage → SessionLine
+line_after s line [] = line
+line_after s line (m ∷ ms) = line_after s (line_for s line m) ms
+
+-- one of them would bear a number above 999,999,999
+abbrev pub spends : ℕ → SessionLine → List AddressedMessage → Bool
+spends s line [] = false
+spends s line (m ∷ ms) = spent_for s line m || spends s (line_for s line m) ms
+
+-- ---- an entry
+
+-- the line under which an entry's messages go: a Logon gives its session its CompIDs
+abbrev pub line_at_entry : ℕ → SessionLine → ℕ → Event → SessionLine
+line_at_entry s line session (Logon client host beat) = if session == s then record { next = line.next; comp_ids = Some (record { client = client; host = host }) } else line
+line_at_entry s line session (New t) = line
+line_at_entry s line session (Cancel id original) = line
+line_at_entry s line session (TestReply answer) = line
+line_at_entry s line session (Gap first) = line
+line_at_entry s line session (Resend first last) = line
+line_at_entry s line session (Reject n reason) = line
+line_at_entry s line session (Close reason) = line
+
+-- An entry at its place in the journal, with its outcome and its fills.
+pub record WorkedEntry : Type 0 where
+  pub place : ℕ
+  pub entry : Entry
+  pub outcome : Outcome
+  pub fills : List Fill
+
+abbrev pub entry_messages : Rules → WorkedEntry → List AddressedMessage
+entry_messages rules w = messages_of rules w.place w.entry w.outcome w.fills
+
+-- what an entry sends session s
+abbrev pub entry_bytes : List ℕ → Rules → ℕ → SessionLine → WorkedEntry → List ℕ
+entry_bytes stamp rules s line w = bytes_to stamp s (line_at_entry s line w.entry.session w.entry.event) (entry_messages rules w)
+
+-- the line of session s after it
+abbrev pub entry_line : Rules → ℕ → SessionLine → WorkedEntry → SessionLine
+entry_line rules s line w = line_after s (line_at_entry s line w.entry.session w.entry.event) (entry_messages rules w)
+
+-- it would send session s a message with a number above 999,999,999
+abbrev pub entry_spends : Rules → ℕ → SessionLine → WorkedEntry → Bool
+entry_spends rules s line w = spends s (line_at_entry s line w.entry.session w.entry.event) (entry_messages rules w)
+
+-- ---- a journal
+
+abbrev pub bytes_from : List ℕ → Rules → ℕ → SessionLine → List WorkedEntry → List ℕ
+bytes_from stamp rules s line [] = []
+bytes_from stamp rules s line (w ∷ ws) = entry_bytes stamp rules s line w ++ bytes_from stamp rules s (entry_line rules s line w) ws
+
+abbrev pub line_from : Rules → ℕ → SessionLine → List WorkedEntry → SessionLine
+line_from rules s line [] = line
+line_from rules s line (w ∷ ws) = line_from rules s (entry_line rules s line w) ws
+
+abbrev pub spends_from : Rules → ℕ → SessionLine → List WorkedEntry → Bool
+spends_from rules s line [] = false
+spends_from rules s line (w ∷ ws) = entry_spends rules s line w || spends_from rules s (entry_line rules s line w) ws
+
+-- before its Logon, with this next number
+abbrev pub line_before_logon : ℕ → SessionLine
+line_before_logon next = record { next = next; comp_ids = None }
+
+-- all that session s is sent over a journal, its first message bearing this number
+abbrev pub outgoing_starting : ℕ → Rules → List ℕ → List WorkedEntry → ℕ → List ℕ
+outgoing_starting next rules stamp worked s = bytes_from stamp rules s (line_before_logon next) worked
+
+-- all that session s is sent over a journal
+abbrev pub outgoing_of : Rules → List ℕ → List WorkedEntry → ℕ → List ℕ
+outgoing_of rules stamp worked s = outgoing_starting 1 rules stamp worked s

@@ -1,0 +1,46 @@
+-- What a call does to the sixteen lines and the sixteen lists, session by session.
+use Rattle.std.specs.Prelude.{◌≡◌, ℕ, ◌<◌, true, false, List, ◌++◌, length, map, take, slice_index_or, Result, Ok, Err, []}
+use Rattle.std.specs.declared.vec.Vec.{Vec}
+use Rattle.spread_report.specs.declared.line.SessionLine.{SessionLine}
+use Rattle.spread_report.specs.declared.fault.DeskFault.{DeskFault}
+use Rattle.spread_report.specs.declared.fault.DeskFault.TheVariants.{NoMemory, NumbersSpent}
+use Rattle.spread_report.specs.EntryMessages.{AddressedMessage}
+use Rattle.spread_report.specs.Outgoing.{bytes_to, line_after, spends, line_before_logon}
+
+-- the bytes of session s
+abbrev pub bytes_of : {A : Type 0} → List (Vec ℕ A) → ℕ → List ℕ
+bytes_of {A} lists s = slice_index_or (map (λ (v : Vec ℕ A). v.items) lists) s []
+
+-- the line of session s
+abbrev pub line_at : List SessionLine → ℕ → SessionLine
+line_at lines s = slice_index_or lines s (line_before_logon 1)
+
+-- to each session exactly what these messages send it was appended, and its line went on with them
+pub record Sent {A : Type 0} (stamp : List ℕ) (a b : List SessionLine) (x y : List (Vec ℕ A)) (ms : List AddressedMessage) : Type 0 where
+  pub lines : length b ≡ length a
+  pub lists : length y ≡ length x
+  pub bytes : (s : ℕ) → s < 16 → bytes_of y s ≡ bytes_of x s ++ bytes_to stamp s (line_at a s) ms
+  pub line : (s : ℕ) → s < 16 → line_at b s ≡ line_after s (line_at a s) ms
+  pub unspent : (s : ℕ) → s < 16 → spends s (line_at a s) ms ≡ false
+
+-- to some sessions something was appended
+pub record OnlyAppended {A : Type 0} (a b : List SessionLine) (x y : List (Vec ℕ A)) : Type 0 where
+  pub lines : length b ≡ length a
+  pub lists : length y ≡ length x
+  pub begins : (s : ℕ) → s < 16 → take (length (bytes_of x s)) (bytes_of y s) ≡ bytes_of x s
+
+-- one of the messages would bear a number above 999,999,999
+pub record NumbersRunOut (a : List SessionLine) (ms : List AddressedMessage) : Type 0 where
+  pub session : ℕ
+  pub below : session < 16
+  pub spent : spends session (line_at a session) ms ≡ true
+
+-- what became of sending these messages
+abbrev pub SendResult : {A T : Type 0} → List ℕ → List SessionLine → List SessionLine → List (Vec ℕ A) → List (Vec ℕ A) → List AddressedMessage → Result T DeskFault → Type 0
+SendResult stamp a b x y ms (Ok r) = Sent stamp a b x y ms
+SendResult stamp a b x y ms (Err NoMemory) = OnlyAppended a b x y
+SendResult stamp a b x y ms (Err NumbersSpent) = OnlyAppended a b x y × NumbersRunOut a ms
+
+-- every list holds what it held
+abbrev pub KeepsBytes : {A : Type 0} → List (Vec ℕ A) → List (Vec ℕ A) → Type 0
+KeepsBytes x y = (s : ℕ) → s < 16 → bytes_of y s ≡ bytes_of x s

@@ -1,0 +1,18 @@
+//! A session's outgoing side: its next number, and the CompIDs of its last Logon.
+use spread_rules::id::Id;
+
+/// The CompIDs of a session: it calls itself `client` and the exchange `host`.
+#[derive(Clone, Copy, Debug, PartialEq, Eq)]
+pub struct CompIds {
+    pub client: Id,
+    pub host: Id,
+}
+
+/// What the next message to a session bears.
+#[derive(Clone, Copy, Debug, PartialEq, Eq)]
+pub struct SessionLine {
+    /// Its number (MsgSeqNum, tag 34).
+    pub next: u64,
+    /// None before the session's Logon.
+    pub comp_ids: Option<CompIds>,
+}

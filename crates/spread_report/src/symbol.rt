@@ -1,0 +1,54 @@
+//! Symbols and other short texts.
+ghost use Rattle.std.specs.Prelude.{◌≡◌, ◌≤◌, ◌<◌, ◌+◌, ◌++◌, ◌∷◌, true, length, take};
+ghost use Rattle.spread_rules.specs.Ids.{is_id};
+ghost use Rattle.spread_rules.specs.Rulebook.{IsListed, symbol_of};
+
+use spread_rules::id::Id;
+use spread_rules::order::Instrument;
+use spread_rules::rulebook::Rulebook;
+
+/// The id of a text that is one.
+pub fn known_id(text: &[u8]) -> Id
+    requires { is_id text.now ≡ true }
+    ensures { result ≡ text.now }
+{
+    match Id::new(text) {
+        Some(id) => id,
+        None => unreachable!(),
+    }
+}
+
+/// Writes two names with a dash between to the front of the text, and tells how many bytes they are.
+fn write_joined(text: &mut [u8], first: &[u8], second: &[u8]) -> usize
+    requires room { length first.now + length second.now < length text.old }
+    ensures written { take result text.new ≡ first.now ++ 45 ∷ second.now }
+    ensures within { result ≤ length text.old }
+{
+    let dash = first.len();
+    let end = dash + 1 + second.len();
+    text[..dash].copy_from_slice(first);
+    text[dash] = b'-';
+    text[dash + 1..end].copy_from_slice(second);
+    end
+}
+
+/// Two names with a dash between.
+fn joined(near: &Id, far: &Id) -> Id
+    requires { length near.now + length far.now < 32 }
+    ensures { result ≡ near.now ++ 45 ∷ far.now }
+{
+    let mut text = [0; 32];
+    let end = write_joined(&mut text, near.bytes(), far.bytes());
+    known_id(&text[..end])
+}
+
+/// The symbol of an instrument.
+pub fn symbol_of(rules: &Rulebook, instrument: Instrument) -> Id
+    requires { IsListed rules.now instrument }
+    ensures { result ≡ symbol_of rules.now instrument }
+{
+    match instrument {
+        Instrument::Outright(month) => rules.name_id(month),
+        Instrument::Spread(near, far) => joined(&rules.name_id(near), &rules.name_id(far)),
+    }
+}
