@@ -1,0 +1,3 @@
+pub mod DayText
+pub mod Output
+pub mod Totals
