@@ -11,3 +11,8 @@ pub mod order;
 pub mod outcome;
 pub mod plain;
 pub mod rulebook;
+pub mod sink;
+pub mod source;
+pub mod test_ends;
+pub mod text;
+pub mod whole;

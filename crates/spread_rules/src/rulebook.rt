@@ -1,8 +1,11 @@
 //! The rulebook of a day.
-ghost use Rattle.std.specs.Prelude.{◌≡◌, ◌<◌, ◌≤◌, ℕ, length, get_or, [], pos};
-ghost use Rattle.spread_rules.specs.Rulebook.{month_count, names_of, references_of};
+ghost use Rattle.std.specs.Prelude.{◌≡◌, ◌≢◌, ◌<◌, ◌≤◌, ℕ, length, get_or, [], pos, IfSome, IfNone};
+ghost use Rattle.spread_rules.specs.Rulebook.{month_count, names_of, references_of, IsListed, symbol_of, find_symbol};
+ghost use Rattle.spread_rules.specs.declared.order.Instrument.{Instrument};
 
 use crate::id::Id;
+use crate::order::Instrument;
+use crate::text::cut_at;
 use std::marker::Model;
 
 /// A contract month.
@@ -59,6 +62,57 @@ impl Rulebook {
         ensures { result ≡ get_or (references_of self.now) month (pos 0) }
     {
         self.months[month as usize].reference
+    }
+
+    /// The number of the month with this name.
+    fn month_named(&self, name: &[u8]) -> Option<u8>
+        ensures found { IfSome result (λ m. (m < month_count self.now) × (get_or (names_of self.now) m [] ≡ name.now)) }
+        ensures none { IfNone result ((m : ℕ) → m < month_count self.now → get_or (names_of self.now) m [] ≢ name.now) }
+    {
+        for month in 0..self.months() {
+            if self.name(month) == name {
+                return Some(month);
+            }
+        }
+        None
+    }
+
+    /// The spread with this symbol.
+    fn spread_named(&self, symbol: &[u8]) -> Option<Instrument>
+        ensures found { IfSome result (λ i. IsListed self.now i × (symbol_of self.now i ≡ symbol.now)) }
+        ensures none { IfNone result ((m f : ℕ) → IsListed self.now (Instrument.Spread m f) → symbol_of self.now (Instrument.Spread m f) ≢ symbol.now) }
+    {
+        let _ = &self.count;
+        let (before, behind) = match cut_at(symbol, b'-') {
+            Some(cut) => cut,
+            None => return None,
+        };
+        let near = match self.month_named(before) {
+            Some(month) => month,
+            None => return None,
+        };
+        let far = match self.month_named(behind) {
+            Some(month) => month,
+            None => return None,
+        };
+        if near < far {
+            Some(Instrument::Spread(near, far))
+        } else {
+            None
+        }
+    }
+
+    /// The instrument with this symbol: a month's name, or two with a dash between, the near one first.
+    pub fn find(&self, symbol: &[u8]) -> Option<Instrument>
+        ensures found { IfSome result (λ i. IsListed self.now i × (symbol_of self.now i ≡ symbol.now)) }
+        ensures none { IfNone result ((i : Instrument) → IsListed self.now i → symbol_of self.now i ≢ symbol.now) }
+        ensures value { result ≡ find_symbol self.now symbol.now }
+    {
+        let _ = &self.count;
+        match self.month_named(symbol) {
+            Some(month) => Some(Instrument::Outright(month)),
+            None => self.spread_named(symbol),
+        }
     }
 
     /// The tick, in hundredths, 1 to 1,000,000.
