@@ -1,20 +1,27 @@
 -- The sums of each month, as the code keeps them.
-use Rattle.std.specs.Prelude.{◌≡◌, ℕ, ◌+◌, ◌*◌, ◌<◌, ◌≤◌, ℤ, pos, neg_ℤ, ◌≤ℤ◌, List, length, get_or, slice_get, Option, Some, All}
+use Rattle.std.specs.Prelude.{◌≡◌, ℕ, ◌+◌, ◌*◌, ◌^◌, ◌<◌, ◌≤◌, ℤ, pos, neg_ℤ, ◌≤ℤ◌, ◌+ℤ◌, ◌*ℤ◌, List, length, get_or, All}
 use Rattle.spread_rules.specs.declared.order.Side.{Side}
 use Rattle.spread_rules.specs.declared.order.Side.TheVariants.{Buy, Sell}
+use Rattle.spread_rules.specs.declared.order.Instrument.{Instrument}
+use Rattle.spread_rules.specs.declared.order.Instrument.TheVariants.{Outright, Spread}
 use Rattle.spread_rules.specs.declared.fill.Fill.{Fill}
-use Rattle.spread_rules.specs.Legs.{Leg, quantities, money, legs}
+use Rattle.spread_rules.specs.Legs.{Leg, quantities, money, bought, sold, paid, received}
 use Rattle.spread_host.specs.declared.totals.MonthTotals.{MonthTotals}
 
--- what these legs sum to in a month
-abbrev pub totals_with : ℕ → List Leg → MonthTotals
-totals_with month ls = record { bought = quantities Buy month ls; sold = quantities Sell month ls; paid = money Buy month ls; received = money Sell month ls }
+-- what these fills sum to in a month
+abbrev pub totals_of : ℕ → List Fill → MonthTotals
+totals_of month fills = record { bought = bought month fills; sold = sold month fills; paid = paid month fills; received = received month fills }
 
--- each month has its sums
-abbrev pub AreTotals : List Leg → List MonthTotals → Type 0
-AreTotals ls totals = (month : ℕ) (t : MonthTotals) → slice_get totals month ≡ Some t → t ≡ totals_with month ls
+-- each of these is its month's sums, the first month first
+abbrev pub AreTotals : List Fill → List MonthTotals → Type 0
+AreTotals fills totals = (month : ℕ) (other : MonthTotals) → month < length totals → get_or totals month other ≡ totals_of month fills
 
--- prices of legs, and quantities, within what a day's sums have room for
+-- the months of the instrument are below n
+abbrev pub IsBelow : ℕ → Instrument → Type 0
+IsBelow n (Outright m) = m < n
+IsBelow n (Spread i j) = (i < n) × (j < n)
+
+-- a quantity and prices for which a day's sums have room
 pub record IsSummable (f : Fill) : Type 0 where
   pub quantity : f.quantity ≤ 999999
   pub price_low : neg_ℤ (pos 2000000000) ≤ℤ f.price
@@ -23,12 +30,3 @@ pub record IsSummable (f : Fill) : Type 0 where
   pub near_high : f.near ≤ℤ pos 2000000000
   pub far_low : neg_ℤ (pos 2000000000) ≤ℤ f.far
   pub far_high : f.far ≤ℤ pos 2000000000
-
--- so many legs keep sums in 128 bits
-pub record HasRoom (n : ℕ) (t : MonthTotals) : Type 0 where
-  pub bought : t.bought ≤ 999999 * n
-  pub sold : t.sold ≤ 999999 * n
-  pub paid_low : neg_ℤ (pos (1999998000000000 * n)) ≤ℤ t.paid
-  pub paid_high : t.paid ≤ℤ pos (1999998000000000 * n)
-  pub received_low : neg_ℤ (pos (1999998000000000 * n)) ≤ℤ t.received
-  pub received_high : t.received ≤ℤ pos (1999998000000000 * n)
