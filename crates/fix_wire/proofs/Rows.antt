@@ -1,0 +1,185 @@
+-- A row of fields, one field after another.
+use Rattle.std.proofs.Common.{◌≡◌, ◌≢◌, ℕ, zero, suc, ◌+◌, ◌<◌, ◌≤◌, Bool, true, false, cond, ◌&&◌, not, eqb, ltb, leb, List, [], ◌∷◌, length, take, drop, get_or, Option, Some, None, option_map, option_and_then, is_some, unwrap_or, find, refl, sym, ap, ◌∙◌, arith, add-one, ◌⊎◌, inl, inr}
+use Rattle.std.specs.List.{position_or_len, list_all}
+use Rattle.std.proofs.lemmas.List.Sums.{fails_before_first, passes_at_first}
+use Rattle.std.proofs.lemmas.Bool.{cases_lt, false≢true}
+use Rattle.std.proofs.lemmas.Bool.Decides.{nat_tests}
+use Rattle.fix_wire.specs.Texts.{is_end, is_equals, number_of}
+use Rattle.fix_wire.specs.Fronts.{limited_digits}
+use Rattle.fix_wire.proofs.Digits.{nine_digits}
+use Rattle.fix_wire.proofs.Hundredths.{digits_some}
+use Rattle.std.specs.Char.{is_ascii_digit}
+use Rattle.std.proofs.lemmas.List.{length-take-le, get_or-take}
+use Rattle.fix_wire.specs.declared.frame.FrameHeader.{FrameHeader}
+use Rattle.fix_wire.specs.Frames.{header, body_at}
+use Rattle.fix_wire.specs.Messages.{fields, first_value}
+use Rattle.fix_wire.specs.Fields.{TagValue, field_texts, prepended, with_first, field_of_text, field_with, is_tag, fields_of_texts, fields_of_body}
+use Rattle.fix_wire.specs.Fronts.{first_field, field_up_to, value_of}
+
+prepended_first : (b : ℕ) (p : List ℕ) (o : Option (List (List ℕ))) → option_and_then (prepended b) (option_map (with_first p) o) ≡ option_map (with_first (b ∷ p)) o
+prepended_first b p None = refl
+prepended_first b p (Some ps) = refl
+
+-- the first byte 1 ends the first piece
+pub field_texts_cut : (xs : List ℕ) (k : ℕ) → k < length xs → eqb (get_or xs k 0) 1 ≡ true → ((j : ℕ) → j < k → eqb (get_or xs j 0) 1 ≡ false) → field_texts xs ≡ option_map (with_first (take k xs)) (field_texts (drop (suc k) xs))
+field_texts_cut [] k l at before = absurd (omega arith)
+field_texts_cut (b ∷ bs) zero l at before = ap (λ x. cond x (option_map (with_first []) (field_texts bs)) (option_and_then (prepended b) (field_texts bs))) at
+field_texts_cut (b ∷ bs) (suc k) l at before =
+    ap (λ x. cond x (option_map (with_first []) (field_texts bs)) (option_and_then (prepended b) (field_texts bs))) (before 0 (omega arith))
+    ∙ ap (option_and_then (prepended b)) (field_texts_cut bs k (omega arith) at (λ j l. before (suc j) (omega arith)))
+    ∙ prepended_first b (take k bs) (field_texts (drop (suc k) bs))
+
+-- bytes without byte 1 are no row
+pub field_texts_open : (xs : List ℕ) → 0 < length xs → ((j : ℕ) → j < length xs → eqb (get_or xs j 0) 1 ≡ false) → field_texts xs ≡ None
+field_texts_open [] some before = absurd (omega arith)
+field_texts_open (b ∷ []) some before = ap (λ x. cond x (option_map (with_first []) (Some [])) (option_and_then (prepended b) (Some []))) (before 0 (omega arith))
+field_texts_open (b ∷ c ∷ cs) some before =
+    ap (λ x. cond x (option_map (with_first []) (field_texts (c ∷ cs))) (option_and_then (prepended b) (field_texts (c ∷ cs)))) (before 0 (omega arith))
+    ∙ ap (option_and_then (prepended b)) (field_texts_open (c ∷ cs) (omega arith) (λ j l. before (suc j) (omega arith)))
+
+-- the field in front of a row that follows
+abbrev pub onto_row : TagValue × List ℕ → Option (List TagValue)
+onto_row p = option_map (λ fs. p.0 ∷ fs) (fields_of_body p.1)
+
+with_field : (piece rest : List ℕ) (f : Option TagValue) (o : Option (List (List ℕ))) → o ≡ field_texts rest → f ≡ field_of_text piece →
+    option_and_then fields_of_texts (option_map (with_first piece) o) ≡ option_and_then onto_row (option_map (λ x. (x, rest)) f)
+with_field piece rest None None e g = refl
+with_field piece rest (Some f) None e g = ap (λ x. option_map (λ fs. f ∷ fs) (option_and_then fields_of_texts x)) e
+with_field piece rest None (Some qs) e g = ap (λ x. option_and_then (λ f. option_map (λ fs. f ∷ fs) (fields_of_texts qs)) x) (sym g)
+with_field piece rest (Some f) (Some qs) e g =
+    ap (λ x. option_and_then (λ f. option_map (λ fs. f ∷ fs) (fields_of_texts qs)) x) (sym g)
+    ∙ ap (λ x. option_map (λ fs. f ∷ fs) (option_and_then fields_of_texts x)) e
+
+row_at : (xs : List ℕ) (end : ℕ) → end ≡ position_or_len is_end xs → 0 < length xs → (end < length xs) ⊎ (length xs ≤ end) → fields_of_body xs ≡ option_and_then onto_row (field_up_to end xs)
+row_at xs end e some (inl l) =
+    let here : ltb end (length xs) ≡ true = grind (arith, nat_tests) in
+    let at : eqb (get_or xs end 0) 1 ≡ true = rw e (passes_at_first is_end xs 0 (rw (← e) l)) in
+    let before : (j : ℕ) → j < end → eqb (get_or xs j 0) 1 ≡ false = λ j below. fails_before_first is_end xs j 0 (rw (← e) below) in
+    let cut = field_texts_cut xs end l at before in
+    ap (option_and_then fields_of_texts) cut
+    ∙ with_field (take end xs) (drop (suc end) xs) (field_of_text (take end xs)) (field_texts (drop (suc end) xs)) refl refl
+    ∙ ap (λ x. option_and_then onto_row (option_map (λ f. (f, drop x xs)) (field_of_text (take end xs)))) (sym (add-one end))
+    ∙ ap (λ x. option_and_then onto_row (cond x (option_map (λ f. (f, drop (end + 1) xs)) (field_of_text (take end xs))) None)) (sym here)
+row_at xs end e some (inr l) =
+    let past_frame : ltb end (length xs) ≡ false = grind (arith, nat_tests) in
+    let before : (j : ℕ) → j < length xs → eqb (get_or xs j 0) 1 ≡ false = λ j below. fails_before_first is_end xs j 0 (rw (← e) (omega arith)) in
+    ap (option_and_then fields_of_texts) (field_texts_open xs some before)
+    ∙ ap (λ x. option_and_then onto_row (cond x (option_map (λ f. (f, drop (end + 1) xs)) (field_of_text (take end xs))) None)) (sym past_frame)
+
+-- a row is its first field and the row behind it
+pub row_is : (xs : List ℕ) → 0 < length xs → fields_of_body xs ≡ option_and_then onto_row (first_field xs)
+row_is xs some = row_at xs (position_or_len is_end xs) refl some (cases_lt (position_or_len is_end xs) (length xs))
+
+-- the row behind a field is a row exactly where the row is one
+pub row_some : (xs : List ℕ) (p : TagValue × List ℕ) → 0 < length xs → Some p ≡ first_field xs → is_some (fields_of_body p.1) ≡ is_some (fields_of_body xs)
+row_some xs p some e = sym (ap is_some (row_is xs some ∙ ap (option_and_then onto_row) (sym e)) ∙ is_some_onto p (fields_of_body p.1))
+  where
+    is_some_onto : (p : TagValue × List ℕ) (o : Option (List TagValue)) → is_some (option_map (λ fs. p.0 ∷ fs) o) ≡ is_some o
+    is_some_onto p None = refl
+    is_some_onto p (Some fs) = refl
+
+pub row_none : (xs : List ℕ) → 0 < length xs → None ≡ first_field xs → fields_of_body xs ≡ None
+row_none xs some e = row_is xs some ∙ ap (option_and_then onto_row) (sym e)
+
+pub place_within : (p : ℕ → Bool) (xs : List ℕ) → position_or_len p xs ≤ length xs
+place_within p [] = omega arith
+place_within p (x ∷ xs) = elim (p x) as (λ v. cond (not v) (1 + position_or_len p xs) 0 ≤ suc (length xs)) [ true ↦ omega arith | false ↦ omega (arith, place_within p xs) ]
+
+is_tag_is : (tag : List ℕ) → 1 ≤ length tag → length tag ≤ 9 → list_all is_ascii_digit tag ≡ true → get_or tag 0 0 ≢ 48 → is_tag tag ≡ true
+is_tag_is tag some few digits first =
+    let a : leb 1 (length tag) ≡ true = grind (arith, nat_tests) in
+    let b : leb (length tag) 9 ≡ true = grind (arith, nat_tests) in
+    let d : eqb (get_or tag 0 0) 48 ≡ false = grind (arith, nat_tests) in
+    rw (a, b, digits, d)
+
+field_found : (piece : List ℕ) (digits tag : ℕ) → digits ≡ position_or_len is_equals piece → digits < length piece → digits ≢ 0 → digits ≤ 9 → get_or piece 0 0 ≢ 48 → Some tag ≡ limited_digits (take digits piece) →
+    Some (record { tag = tag; value = drop (digits + 1) piece }) ≡ field_of_text piece
+field_found piece digits tag e l some few first found =
+    let known = digits_some (take digits piece) tag found in
+    let len = length-take-le digits piece (omega arith) in
+    let same = get_or-take digits piece 0 0 (omega arith) in
+    let shape = is_tag_is (take digits piece) (omega arith) (omega arith) known.0 (λ z. first (sym same ∙ z)) in
+    let here : ltb digits (length piece) ≡ true = grind (arith, nat_tests) in
+    let below = nine_digits (take digits piece) (omega arith) known.0 in
+    let value : tag ≡ number_of (take digits piece) = omega (arith, known.1, below) in
+    ap (λ t. Some (record { tag = t; value = drop (digits + 1) piece })) value
+    ∙ sym (ap (λ x. cond x (Some (record { tag = number_of (take digits piece); value = drop (digits + 1) piece })) None) (ap (λ x. x && is_tag (take digits piece)) here ∙ shape))
+    ∙ ap (λ k. field_with k piece) e
+
+pub first_field_found : (body : List ℕ) (end digits tag : ℕ) (value rest : List ℕ) → end ≡ position_or_len is_end body → end < length body → digits ≡ position_or_len is_equals (take end body) → digits < end → digits ≢ 0 → digits ≤ 9 → get_or (take end body) 0 0 ≢ 48 → Some tag ≡ limited_digits (take digits (take end body)) →
+    value ≡ drop (digits + 1) (take end body) → rest ≡ drop (end + 1) body →
+    ◌≡◌ {A = Option (TagValue × List ℕ)} (Some (record { tag = tag; value = value }, rest)) (first_field body)
+first_field_found body end digits tag value rest e l f m some few first found v r =
+    let len = length-take-le end body (omega arith) in
+    let field = field_found (take end body) digits tag f (omega arith) some few first found in
+    let here : ltb end (length body) ≡ true = grind (arith, nat_tests) in
+    ap (λ x. Some (record { tag = tag; value = x }, rest)) v
+    ∙ ap (λ x. Some (record { tag = tag; value = drop (digits + 1) (take end body) }, x)) r
+    ∙ ap (option_map (λ g. (g, drop (end + 1) body))) field
+    ∙ sym (ap (λ x. cond x (option_map (λ g. (g, drop (end + 1) body)) (field_of_text (take end body))) None) here)
+    ∙ ap (λ k. field_up_to k body) e
+
+-- the first field with a tag, one field after another
+pub value_step : (tag : ℕ) (xs : List ℕ) (p : TagValue × List ℕ) → 0 < length xs → Some p ≡ first_field xs → is_some (fields_of_body xs) ≡ true → value_of tag xs ≡ cond (eqb p.0.tag tag) (Some p.0.value) (value_of tag p.1)
+value_step tag xs p some e whole = by_row (fields_of_body p.1) refl (row_is xs some ∙ ap (option_and_then onto_row) (sym e))
+  where
+    by_test : (b : Bool) (fs : List TagValue) → option_map (λ f. f.value) (cond b (Some p.0) (find (λ f. eqb f.tag tag) fs)) ≡ cond b (Some p.0.value) (option_map (λ f. f.value) (find (λ f. eqb f.tag tag) fs))
+    by_test true fs = refl
+    by_test false fs = refl
+
+    by_row : (o : Option (List TagValue)) → o ≡ fields_of_body p.1 → fields_of_body xs ≡ option_map (λ fs. p.0 ∷ fs) (fields_of_body p.1) → value_of tag xs ≡ cond (eqb p.0.tag tag) (Some p.0.value) (value_of tag p.1)
+    by_row None o is = absurd (false≢true (sym (ap is_some (is ∙ ap (option_map (λ fs. p.0 ∷ fs)) (sym o))) ∙ whole))
+    by_row (Some fs) o is =
+        ap (λ r. option_map (λ f. f.value) (find (λ f. eqb f.tag tag) (unwrap_or r []))) (is ∙ ap (option_map (λ fs. p.0 ∷ fs)) (sym o))
+        ∙ by_test (eqb p.0.tag tag) fs
+        ∙ ap (λ r. cond (eqb p.0.tag tag) (Some p.0.value) (option_map (λ f. f.value) (find (λ f. eqb f.tag tag) (unwrap_or r [])))) o
+
+pub first_step : (xs : List ℕ) (p : TagValue × List ℕ) → 0 < length xs → Some p ≡ first_field xs → is_some (fields_of_body xs) ≡ true → first_value (unwrap_or (fields_of_body xs) []) ≡ p.0.value
+first_step xs p some e whole = by_row (fields_of_body p.1) refl (row_is xs some ∙ ap (option_and_then onto_row) (sym e))
+  where
+    by_row : (o : Option (List TagValue)) → o ≡ fields_of_body p.1 → fields_of_body xs ≡ option_map (λ fs. p.0 ∷ fs) (fields_of_body p.1) → first_value (unwrap_or (fields_of_body xs) []) ≡ p.0.value
+    by_row None o is = absurd (false≢true (sym (ap is_some (is ∙ ap (option_map (λ fs. p.0 ∷ fs)) (sym o))) ∙ whole))
+    by_row (Some fs) o is = ap (λ r. first_value (unwrap_or r [])) (is ∙ ap (option_map (λ fs. p.0 ∷ fs)) (sym o))
+
+value_cond : (b : Bool) (v : List ℕ) (w x : Option (List ℕ)) → x ≡ cond b (Some v) w → b ≡ true → x ≡ Some v
+value_cond true v w x e t = e
+value_cond false v w x e t = absurd (false≢true t)
+
+value_past : (b : Bool) (v : List ℕ) (w x : Option (List ℕ)) → x ≡ cond b (Some v) w → b ≡ false → x ≡ w
+value_past true v w x e f = absurd (false≢true (sym f))
+value_past false v w x e f = e
+
+pub value_here : (tag : ℕ) (xs : List ℕ) (p : TagValue × List ℕ) → 0 < length xs → Some p ≡ first_field xs → is_some (fields_of_body xs) ≡ true → p.0.tag ≡ tag → value_of tag xs ≡ Some p.0.value
+value_here tag xs p some e whole same =
+    let t : eqb p.0.tag tag ≡ true = grind (arith, nat_tests) in value_cond _ _ _ _ (value_step tag xs p some e whole) t
+
+pub value_behind : (tag : ℕ) (xs : List ℕ) (p : TagValue × List ℕ) → 0 < length xs → Some p ≡ first_field xs → is_some (fields_of_body xs) ≡ true → p.0.tag ≢ tag → value_of tag xs ≡ value_of tag p.1
+value_behind tag xs p some e whole other =
+    let t : eqb p.0.tag tag ≡ false = grind (arith, nat_tests) in value_past _ _ _ _ (value_step tag xs p some e whole) t
+
+pub value_none : (tag : ℕ) (xs : List ℕ) → 0 < length xs → None ≡ first_field xs → value_of tag xs ≡ None
+value_none tag xs some e = ap (λ r. option_map (λ f. f.value) (find (λ f. eqb f.tag tag) (unwrap_or r []))) (row_none xs some e)
+
+pub kind_none : (xs : List ℕ) → (length xs ≡ 0) ⊎ (0 < length xs) → None ≡ first_field xs → first_value (unwrap_or (fields_of_body xs) []) ≡ []
+kind_none [] (inl none) e = refl
+kind_none [] (inr some) e = refl
+kind_none (x ∷ xs) (inl none) e = absurd (omega arith)
+kind_none (x ∷ xs) (inr some) e = ap (λ r. first_value (unwrap_or r [])) (row_none (x ∷ xs) some e)
+
+-- the fields of a message whose claim is known
+pub fields_at : (frame : List ℕ) (head : FrameHeader) → header frame ≡ Some head → fields frame ≡ unwrap_or (fields_of_body (body_at frame head)) []
+fields_at frame head e = ap (λ c. unwrap_or (option_and_then (λ h. fields_of_body (body_at frame h)) c) []) e
+
+pub first_some : (xs : List ℕ) (p : TagValue × List ℕ) → Some p ≡ first_field xs → 0 < length xs
+first_some [] p e = cc
+first_some (x ∷ xs) p e = omega arith
+
+pub kind_some : (xs : List ℕ) (p : TagValue × List ℕ) → Some p ≡ first_field xs → is_some (fields_of_body xs) ≡ true → first_value (unwrap_or (fields_of_body xs) []) ≡ p.0.value
+kind_some xs p e whole = first_step xs p (first_some xs p e) e whole
+
+some_or_none : (xs : List ℕ) → (length xs ≡ 0) ⊎ (0 < length xs)
+some_or_none [] = inl refl
+some_or_none (x ∷ xs) = inr (omega arith)
+
+pub kind_nothing : (xs : List ℕ) → None ≡ first_field xs → first_value (unwrap_or (fields_of_body xs) []) ≡ []
+kind_nothing xs e = kind_none xs (some_or_none xs) e

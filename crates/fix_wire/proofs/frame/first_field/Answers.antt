@@ -1,0 +1,18 @@
+use Rattle.std.proofs.Common.{◌+◌, ◌<◌, ◌≤◌, take, length, arith}
+use Rattle.std.proofs.lemmas.List.{take_rest, length-take-le}
+use Rattle.fix_wire.specs.Texts.{is_end, is_equals}
+use Rattle.fix_wire.proofs.Rows.{first_field_found, place_within}
+use Rattle.fix_wire.proofs.frame.first_field.Goals as goal
+
+pub returns-in-Some : goal.returns-in-Some
+returns-in-Some c =
+    let body = c.args.body.now in
+    let end = c.place_of-end.result in
+    let digits = c.place_of-digits.result in
+    let below = place_within is_end body in
+    let l : c.place_of-end.result < length c.args.body.now = omega (arith, below, c.place_of-end.ensures, c.if-end-body.false) in
+    let len = length-take-le end body (omega arith) in
+    let within = place_within is_equals (take end body) in
+    let m : c.place_of-digits.result < c.place_of-end.result = omega (arith, within, len, c.place_of-digits.ensures, c.if-digits-end.false) in
+    let few : c.place_of-digits.result ≤ 9 = c.if-digits-gt9.false in
+    first_field_found body end digits c.in-Some.tag _ _ c.place_of-end.ensures l c.place_of-digits.ensures m c.if-digits-eq0.false few c.if-text-eq48.false c.in-Some.ensures (take_rest (take end body) (digits + 1)) (take_rest body (end + 1))

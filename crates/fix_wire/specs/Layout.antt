@@ -1,0 +1,91 @@
+-- The one spelling of a message.
+use Rattle.std.specs.Prelude.{◌≡◌, ◌≢◌, ℕ, ◌+◌, ◌/◌, ◌%◌, ◌<◌, ◌≤◌, ◌^◌, ℤ, pos, Bool, true, false, if◌then◌else◌, List, [], ◌∷◌, ◌++◌, map, length, sum, decimal, int_lt, unsigned_abs}
+use Rattle.std.specs.List.{flat_map, AllByRecursion}
+use Rattle.spread_rules.specs.Ids.{is_plain}
+use Rattle.fix_wire.specs.declared.writer.Value.{Value}
+use Rattle.fix_wire.specs.declared.writer.Value.TheVariants.{Text, Number, Price, Pair}
+use Rattle.fix_wire.specs.declared.writer.Field as given
+use Rattle.fix_wire.specs.declared.writer.Head.{Head}
+use Rattle.fix_wire.specs.Fields.{TagValue}
+use Rattle.fix_wire.specs.Frames.{begin_text, checksum_field}
+
+-- two digits
+abbrev pub two_digits : ℕ → List ℕ
+two_digits n = (48 + n / 10 % 10) ∷ (48 + n % 10) ∷ []
+
+-- a price: an optional `-`, the whole part, a point and two digits; 10000 is `100.00`, -5 is `-0.05`
+abbrev pub price_text : ℤ → List ℕ
+price_text z = (if int_lt z (pos 0) then 45 ∷ [] else []) ++ (decimal (unsigned_abs z / 100) ++ (46 ∷ two_digits (unsigned_abs z % 100)))
+
+-- what a field's value is written as; a pair is `a-b`
+abbrev pub value_text : Value → List ℕ
+value_text (Text id) = id
+value_text (Number n) = decimal n
+value_text (Price z) = price_text z
+value_text (Pair a b) = decimal a ++ (45 ∷ decimal b)
+
+-- a tag, `=`, a value and byte 1
+abbrev pub field_text : TagValue → List ℕ
+field_text f = (decimal f.tag ++ (61 ∷ f.value)) ++ (1 ∷ [])
+
+abbrev pub field : ℕ → List ℕ → TagValue
+field tag value = record { tag = tag; value = value }
+
+-- the fields of a duplicate alone
+abbrev pub only_if : Bool → TagValue → List TagValue
+only_if true f = f ∷ []
+only_if false f = []
+
+-- what each message begins with: MsgType, MsgSeqNum, PossDupFlag in a duplicate, SenderCompID, SendingTime, TargetCompID, and
+-- OrigSendingTime in a duplicate
+abbrev pub head_fields : Head → List TagValue
+head_fields h =
+    (field 35 (h.kind ∷ []) ∷ field 34 (decimal h.number) ∷ [])
+    ++ (only_if h.duplicate (field 43 (89 ∷ []))
+    ++ ((field 49 h.sender ∷ field 52 h.stamp ∷ field 56 h.target ∷ [])
+    ++ only_if h.duplicate (field 122 h.stamp)))
+
+-- a field as it is written
+abbrev pub field_of_given : given.Field → TagValue
+field_of_given f = field f.tag (value_text f.value)
+
+-- all fields of a message
+abbrev pub all_fields : Head → List given.Field → List TagValue
+all_fields h fs = head_fields h ++ map field_of_given fs
+
+-- the body: MsgType to the last field
+abbrev pub body_text : Head → List given.Field → List ℕ
+body_text h fs = flat_map field_text (all_fields h fs)
+
+-- what CheckSum sums: BeginString, BodyLength without leading zeros, and the body
+abbrev pub summed_text : List ℕ → List ℕ
+summed_text body = begin_text ++ (decimal (length body) ++ (1 ∷ body))
+
+-- a body within its frame
+abbrev pub frame_text : List ℕ → List ℕ
+frame_text body = summed_text body ++ checksum_field (sum (summed_text body) % 256)
+
+-- the one text of a message
+abbrev pub message_text : Head → List given.Field → List ℕ
+message_text h fs = frame_text (body_text h fs)
+
+-- ---- which heads and fields give a lawful frame
+
+-- a value in the range of its type
+abbrev pub FitsValue : Value → Type 0
+FitsValue (Text id) = is_plain id ≡ true
+FitsValue (Number n) = n < 2 ^ 64
+FitsValue (Price z) = unsigned_abs z < 2 ^ 64
+FitsValue (Pair a b) = (a < 2 ^ 64) × (b < 2 ^ 64)
+
+-- a tag of one to nine digits
+abbrev pub FitsField : given.Field → Type 0
+FitsField f = (1 ≤ f.tag) × (f.tag < 1000000000) × FitsValue f.value
+
+-- the kind isn't byte 1, and the ids are ids
+abbrev pub FitsHead : Head → Type 0
+FitsHead h = (h.kind ≢ 1) × (h.number < 2 ^ 64) × (is_plain h.sender ≡ true) × (is_plain h.target ≡ true) × (is_plain h.stamp ≡ true)
+
+-- in range, and a body that BodyLength allows
+abbrev pub FitsMessage : Head → List given.Field → Type 0
+FitsMessage h fs = FitsHead h × AllByRecursion FitsField fs × (length (body_text h fs) ≤ 4096)

@@ -1,0 +1,12 @@
+pub mod Texts
+pub mod Values
+pub mod Fields
+pub mod Frames
+pub mod Messages
+pub mod Fronts
+pub mod Held
+pub mod FramerFields
+pub mod Lent
+pub mod Layout
+pub mod Pieces
+pub mod Examples

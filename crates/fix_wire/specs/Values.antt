@@ -1,0 +1,45 @@
+-- What the text of a value means.
+use Rattle.std.specs.Prelude.{ℕ, ℤ, pos, neg_ℤ, ◌+◌, ◌*◌, Bool, true, false, ◌&&◌, ◌==◌, nat_le, nat_lt, if◌then◌else◌, List, [], ◌∷◌, ◌++◌, Result, Ok, Err, length, take, drop}
+use Rattle.std.specs.Char.{is_ascii_digit}
+use Rattle.std.specs.List.{list_all, before_first, after_first}
+use Rattle.fix_wire.specs.declared.values.Unread.{Unread}
+use Rattle.fix_wire.specs.declared.values.Unread.TheVariants.{Format, Range}
+use Rattle.fix_wire.specs.Texts.{is_point, is_zero, number_of}
+
+-- one or more digits
+abbrev pub is_number : List ℕ → Bool
+is_number text = nat_lt 0 (length text) && list_all is_ascii_digit text
+
+-- a value up to a limit
+abbrev pub within : ℕ → ℕ → Result ℕ Unread
+within most n = if nat_le n most then Ok n else Err Range
+
+-- one or more digits, up to 999,999,999
+abbrev pub number_in : List ℕ → Result ℕ Unread
+number_in text = if is_number text then within 999999999 (number_of text) else Err Format
+
+-- one or more digits, then nothing, or a point and any number of zeros
+abbrev pub quantity_in : List ℕ → Result ℕ Unread
+quantity_in text =
+    let whole = before_first is_point text in
+    if is_number whole && list_all is_zero (after_first is_point text) then within 999999999 (number_of whole) else Err Format
+
+-- what stands before and after the point: at least one digit, and no digit but 0 past the second place after the point
+abbrev pub hundredths : List ℕ → List ℕ → Result ℕ Unread
+hundredths whole part =
+    if is_number (whole ++ part) then
+    (if list_all is_zero (drop 2 part) then within 1000000000 (100 * number_of whole + number_of (take 2 (part ++ 48 ∷ 48 ∷ []))) else Err Range)
+    else Err Format
+
+-- hundredths without a sign: digits with at most one point among, before or after them
+abbrev pub hundredths_in : List ℕ → Result ℕ Unread
+hundredths_in text = hundredths (before_first is_point text) (after_first is_point text)
+
+abbrev pub signed : Bool → Result ℕ Unread → Result ℤ Unread
+signed negative (Ok n) = Ok (if negative then neg_ℤ (pos n) else pos n)
+signed negative (Err e) = Err e
+
+-- an optional `-`, then hundredths
+abbrev pub price_in : List ℕ → Result ℤ Unread
+price_in [] = Err Format
+price_in (b ∷ bs) = if b == 45 then signed true (hundredths_in bs) else signed false (hundredths_in (b ∷ bs))

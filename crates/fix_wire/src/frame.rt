@@ -1,0 +1,205 @@
+//! What stands at the front of a text.
+ghost use Rattle.std.specs.Prelude.{◌≡◌, ℕ, ◌+◌, ◌%◌, ◌≤◌, ◌<◌, ◌^◌, length, take, drop, sum, option_map, option_and_then, is_some, true};
+ghost use Rattle.std.specs.List.{position_or_len};
+ghost use Rattle.std.specs.Str.{bytes_eq};
+ghost use Rattle.memchr.specs.Find.{is_byte};
+ghost use Rattle.fix_wire.specs.Texts.{strip_prefix, is_cut_short};
+ghost use Rattle.fix_wire.specs.Frames.{begin_text, header, header_after, body_at, is_body, is_intact, is_length_open, checksum_field, frame_length};
+ghost use Rattle.fix_wire.specs.Fields.{fields_of_body};
+ghost use Rattle.fix_wire.specs.Held.{from_first_start};
+ghost use Rattle.fix_wire.specs.Fronts.{front_of, first_field, leading_field_view, is_header_open};
+
+use crate::values::limited_digits;
+use memchr::memchr;
+
+/// `8=FIX.4.2|9=`
+const BEGIN_TEXT: [u8; 12] = *b"8=FIX.4.2\x019=";
+
+/// The header of a frame: where its body starts, and how long it is.
+#[derive(Clone, Copy)]
+pub struct FrameHeader {
+    pub body_start: usize,
+    pub body_length: usize,
+}
+
+/// What stands at the front of a text.
+#[derive(Clone, Copy)]
+pub enum Front {
+    /// a lawful frame of that length
+    Frame(usize),
+    /// no frame, but what may still begin one
+    Partial,
+    /// neither
+    Garbled,
+}
+
+/// A field, and the fields after it.
+#[derive(Clone, Copy)]
+pub struct LeadingField<'a> {
+    pub tag: u32,
+    pub value: &'a [u8],
+    pub rest: &'a [u8],
+}
+
+/// The place of the first such byte, or the length where there is none.
+fn place_of(byte: u8, text: &[u8]) -> usize
+    ensures { result ≡ position_or_len (is_byte byte) text.now }
+{
+    match memchr(byte, text) {
+        Some(at) => at,
+        None => text.len(),
+    }
+}
+
+fn header_after(rest: &[u8]) -> Option<FrameHeader>
+    requires { length rest.now < 2 ^ 32 }
+    ensures { result ≡ header_after rest.now }
+{
+    let digits = place_of(1, rest);
+    if digits == rest.len() || digits == 0 || digits > 8 {
+        return None;
+    }
+    match limited_digits(&rest[..digits]) {
+        Some(length) if 5 <= length && length <= 4096 => Some(FrameHeader {
+            body_start: digits + 13,
+            body_length: length as usize,
+        }),
+        _ => None,
+    }
+}
+
+/// The header of a text, where it has one.
+pub(crate) fn header_of(text: &[u8]) -> Option<FrameHeader>
+    requires { length text.now < 2 ^ 32 }
+    ensures { result ≡ header text.now }
+{
+    if text.starts_with(&BEGIN_TEXT) {
+        header_after(&text[12..])
+    } else {
+        None
+    }
+}
+
+/// Whether a text without a header may still begin a frame.
+fn is_header_open(text: &[u8]) -> bool
+    ensures { result ≡ is_header_open text.now }
+{
+    if text.starts_with(&BEGIN_TEXT) {
+        text.len() <= 20 && limited_digits(&text[12..]).is_some()
+    } else {
+        text.len() < 12 && BEGIN_TEXT.starts_with(text)
+    }
+}
+
+/// The next place at which a frame may begin, once none begins at the first: where its `8` stands, or the end.
+pub(crate) fn next_begin(text: &[u8]) -> usize
+    requires { 0 < length text.now }
+    ensures past { 0 < result }
+    ensures within { result ≤ length text.now }
+    ensures skipped { from_first_start (drop result text.now) ≡ from_first_start (drop 1 text.now) }
+{
+    1 + place_of(b'8', &text[1..])
+}
+
+/// The first field of a body.
+pub(crate) fn first_field(body: &[u8]) -> Option<LeadingField<'_>>
+    ensures { option_map leading_field_view result ≡ first_field body.now }
+{
+    let end = place_of(1, body);
+    if end == body.len() {
+        return None;
+    }
+    let text = &body[..end];
+    let digits = place_of(b'=', text);
+    if digits == end || digits == 0 || digits > 9 || text[0] == b'0' {
+        return None;
+    }
+    match limited_digits(&text[..digits]) {
+        Some(tag) => Some(LeadingField {
+            tag: tag as u32,
+            value: &text[digits + 1..],
+            rest: &body[end + 1..],
+        }),
+        None => None,
+    }
+}
+
+/// Whether a text is a row of fields.
+fn are_fields(text: &[u8]) -> bool
+    ensures { result ≡ is_some (fields_of_body text.now) }
+{
+    let mut rest = text;
+    while !rest.is_empty() {
+        match first_field(rest) {
+            Some(field) => rest = field.rest,
+            None => return false,
+        }
+    }
+    true
+}
+
+fn is_body(body: &[u8]) -> bool
+    ensures { result ≡ is_body body.now }
+{
+    body.starts_with(b"35=") && are_fields(body)
+}
+
+/// The sum of bytes, modulo 256.
+fn checksum(text: &[u8]) -> u8
+    ensures { result ≡ sum text.now % 256 }
+{
+    let mut sum: u8 = 0;
+    for b in text {
+        sum = sum.wrapping_add(*b);
+    }
+    sum
+}
+
+/// Whether the last 7 bytes are the checksum field.
+fn is_trailer(tail: &[u8], sum: u8) -> bool
+    ensures { result ≡ bytes_eq tail.now (checksum_field sum) }
+{
+    let digits = [
+        b'1',
+        b'0',
+        b'=',
+        b'0' + sum / 100,
+        b'0' + sum / 10 % 10,
+        b'0' + sum % 10,
+        1,
+    ];
+    tail == digits.as_slice()
+}
+
+/// Whether the text has what its header announces.
+fn is_intact(text: &[u8], header: FrameHeader) -> bool
+    requires start { header.body_start ≤ 21 }
+    requires size { header.body_length ≤ 4096 }
+    requires whole { frame_length header ≤ length text.now }
+    ensures { result ≡ is_intact text.now header }
+{
+    let end = header.body_start + header.body_length;
+    is_trailer(&text[end..end + 7], checksum(&text[..end]))
+        && is_body(&text[header.body_start..end])
+}
+
+/// What stands at the front of a text.
+pub(crate) fn front_of(text: &[u8]) -> Front
+    requires { length text.now < 2 ^ 32 }
+    ensures { result ≡ front_of text.now }
+{
+    match header_of(text) {
+        Some(header) => {
+            let whole = header.body_start + header.body_length + 7;
+            if text.len() < whole {
+                Front::Partial
+            } else if is_intact(text, header) {
+                Front::Frame(whole)
+            } else {
+                Front::Garbled
+            }
+        }
+        None if is_header_open(text) => Front::Partial,
+        None => Front::Garbled,
+    }
+}

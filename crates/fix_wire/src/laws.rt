@@ -1,0 +1,25 @@
+//! Laws over the definitions alone.
+ghost use Rattle.std.specs.Prelude.{◌≡◌, List, ℕ, ◌∷◌, ◌++◌, Some};
+ghost use Rattle.fix_wire.specs.Frames.{IsFrame, frames};
+ghost use Rattle.fix_wire.specs.Messages.{fields};
+ghost use Rattle.fix_wire.specs.Layout.{FitsMessage, all_fields, message_text};
+ghost use Rattle.fix_wire.specs.declared.writer.Head.{Head};
+ghost use Rattle.fix_wire.specs.declared.writer.Field.{Field};
+ghost use Rattle.fix_wire.specs.Held.{first_frame, from_first_start, after_first_frame};
+
+/// The bytes that `next` lets go have no part in any frame, whatever follows; and what `pass` takes away is the first
+/// frame and nothing else.
+pub fn scan()
+    ensures kept { (held more : List ℕ) → frames (from_first_start held ++ more) ≡ frames (held ++ more) }
+    ensures passed { (held more frame : List ℕ) → first_frame (frames held) ≡ Some frame →
+        frames (held ++ more) ≡ frame ∷ frames (after_first_frame held ++ more) }
+{}
+
+/// A written message is a lawful frame with exactly its fields, and before any further bytes it is read first, alone and
+/// whole.
+pub fn read_back()
+    ensures lawful { (h : Head) (fs : List Field) → FitsMessage h fs → IsFrame (message_text h fs) }
+    ensures same { (h : Head) (fs : List Field) → FitsMessage h fs → fields (message_text h fs) ≡ all_fields h fs }
+    ensures first { (h : Head) (fs : List Field) (more : List ℕ) → FitsMessage h fs →
+        frames (message_text h fs ++ more) ≡ message_text h fs ∷ frames more }
+{}

@@ -1,0 +1,111 @@
+//! A message, which is a lawful frame.
+ghost use Rattle.std.specs.Prelude.{◌≡◌, ℕ, ◌+◌, ◌<◌, ◌≤◌, ◌^◌, length, List, Option, IsSome, IfSome, ◌↔◌, option_map, Some, is_some, true};
+ghost use Rattle.std.specs.Option.{option_copied};
+ghost use Rattle.fix_wire.specs.Fronts.{value_of};
+ghost use Rattle.fix_wire.specs.Frames.{IsFrame, header, body_at};
+ghost use Rattle.fix_wire.specs.Fields.{fields_of_body};
+ghost use Rattle.fix_wire.specs.Messages.{kind, get, number};
+
+use crate::frame::{FrameHeader, Front, first_field, front_of, header_of};
+use crate::values::read_number;
+
+/// The length of the longest frame: `8=FIX.4.2|9=`, eight digits, byte 1, 4,096 bytes of body and seven of CheckSum.
+pub const LONGEST: usize = 4124;
+
+/// A message borrows its whole frame.
+#[derive(Clone, Copy)]
+pub struct Message<'a> {
+    frame: &'a [u8],
+    head: FrameHeader,
+    pub ghost lawful: { IsFrame frame.now },
+    pub ghost claimed: { header frame.now ≡ Some head },
+}
+
+impl<'a> Message<'a> {
+    /// The message whose frame the bytes are, if they are one lawful frame.
+    pub fn whole(bytes: &'a [u8]) -> Option<Message<'a>>
+        ensures only { IsSome result ↔ IsFrame bytes.now }
+        ensures same { IfSome result (λ m. m.frame.now ≡ bytes.now) }
+    {
+        if bytes.len() > LONGEST {
+            return None;
+        }
+        let head = header_of(bytes)?;
+        match front_of(bytes) {
+            Front::Frame(n) if n == bytes.len() => Some(Message { frame: bytes, head }),
+            _ => None,
+        }
+    }
+
+    /// Its whole frame.
+    pub fn bytes(&self) -> &'a [u8]
+        ensures same { result.now ≡ self.now.frame.now }
+        ensures frame { IsFrame self.now.frame.now }
+    {
+        self.frame
+    }
+
+    fn body(&self) -> &'a [u8]
+        ensures value { result.now ≡ body_at self.now.frame.now self.now.head }
+        ensures fields_of_body { is_some (fields_of_body result.now) ≡ true }
+    {
+        &self.frame[self.head.body_start..self.head.body_start + self.head.body_length]
+    }
+
+    /// The value of its first field.
+    pub fn kind(&self) -> &'a [u8]
+        ensures { result.now ≡ kind self.now.frame.now }
+    {
+        match first_field(self.body()) {
+            Some(field) => field.value,
+            None => &[],
+        }
+    }
+
+    /// The value of the first field with that tag.
+    pub fn get(&self, tag: u32) -> Option<&'a [u8]>
+        ensures { option_copied result ≡ get tag self.now.frame.now }
+    {
+        value_in(self.body(), tag)
+    }
+
+    /// Its number, where it can be read and is at least 1.
+    pub fn number(&self) -> Option<u32>
+        ensures { result ≡ number self.now.frame.now }
+    {
+        match read_number(self.get(34)?) {
+            Ok(number) if 1 <= number => Some(number),
+            _ => None,
+        }
+    }
+
+    /// The message of a lawful frame.
+    pub(crate) fn of_frame(frame: &'a [u8]) -> Message<'a>
+        requires short { length frame.now < 2 ^ 32 }
+        requires lawful { IsFrame frame.now }
+        ensures { result.frame.now ≡ frame.now }
+    {
+        let head = header_of(frame).unwrap();
+        Message { frame, head }
+    }
+}
+
+/// The value of the first field of a body with that tag.
+fn value_in(text: &[u8], tag: u32) -> Option<&[u8]>
+    requires { is_some (fields_of_body text.now) ≡ true }
+    ensures { option_copied result ≡ value_of tag text.now }
+{
+    let mut rest = text;
+    while !rest.is_empty() {
+        match first_field(rest) {
+            Some(field) => {
+                if field.tag == tag {
+                    return Some(field.value);
+                }
+                rest = field.rest;
+            }
+            None => return None,
+        }
+    }
+    None
+}
