@@ -1,0 +1,5 @@
+pub mod DayText
+pub mod LinesRead
+pub mod Output
+pub mod Sums
+pub mod Totals

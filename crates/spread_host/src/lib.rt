@@ -1,0 +1,6 @@
+//! A day, from day lines or from sessions in threads, to its journal, fills, outgoing messages and totals.
+#![tactic(auto)]
+
+pub mod day_lines;
+pub mod output;
+pub mod totals;
