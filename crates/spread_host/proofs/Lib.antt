@@ -1,3 +1,6 @@
 pub mod Next
 pub mod Said
 pub mod Sums
+pub mod Behind
+pub mod Feeding
+pub mod Inlets

@@ -2,5 +2,7 @@
 #![tactic(auto)]
 
 pub mod day_lines;
+pub mod lanes;
+pub mod laws;
 pub mod output;
 pub mod totals;

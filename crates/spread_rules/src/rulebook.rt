@@ -88,7 +88,7 @@ impl Rulebook {
         ensures value { result ≡ get_or (names_of self.now) month [] }
         ensures most { length result ≤ 15 }
     {
-        self.months[month as usize].name
+        self.list.slots[month as usize].name
     }
 
     /// The month's reference price, in hundredths.
