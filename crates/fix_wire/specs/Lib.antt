@@ -8,5 +8,6 @@ pub mod Held
 pub mod FramerFields
 pub mod Lent
 pub mod Layout
+pub mod Spelling
 pub mod Pieces
 pub mod Examples

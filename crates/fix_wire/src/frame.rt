@@ -13,7 +13,7 @@ use crate::values::limited_digits;
 use memchr::memchr;
 
 /// `8=FIX.4.2|9=`
-const BEGIN_TEXT: [u8; 12] = *b"8=FIX.4.2\x019=";
+pub(crate) const BEGIN_TEXT: [u8; 12] = *b"8=FIX.4.2\x019=";
 
 /// The header of a frame: where its body starts, and how long it is.
 #[derive(Clone, Copy)]
@@ -145,7 +145,7 @@ fn is_body(body: &[u8]) -> bool
 }
 
 /// The sum of bytes, modulo 256.
-fn checksum(text: &[u8]) -> u8
+pub(crate) fn checksum(text: &[u8]) -> u8
     ensures { result ≡ sum text.now % 256 }
 {
     let mut sum: u8 = 0;
@@ -155,11 +155,11 @@ fn checksum(text: &[u8]) -> u8
     sum
 }
 
-/// Whether the last 7 bytes are the checksum field.
-fn is_trailer(tail: &[u8], sum: u8) -> bool
-    ensures { result ≡ bytes_eq tail.now (checksum_field sum) }
+/// The CheckSum field of that sum.
+pub(crate) fn checksum_digits(sum: u8) -> [u8; 7]
+    ensures { result ≡ checksum_field sum }
 {
-    let digits = [
+    [
         b'1',
         b'0',
         b'=',
@@ -167,8 +167,14 @@ fn is_trailer(tail: &[u8], sum: u8) -> bool
         b'0' + sum / 10 % 10,
         b'0' + sum % 10,
         1,
-    ];
-    tail == digits.as_slice()
+    ]
+}
+
+/// Whether the last 7 bytes are the CheckSum field.
+fn is_trailer(tail: &[u8], sum: u8) -> bool
+    ensures { result ≡ bytes_eq tail.now (checksum_field sum) }
+{
+    tail == checksum_digits(sum).as_slice()
 }
 
 /// Whether the text has what its header announces.
