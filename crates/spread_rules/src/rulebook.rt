@@ -1,10 +1,14 @@
 //! The rulebook of a day.
-ghost use Rattle.std.specs.Prelude.{◌≡◌, ◌≢◌, ◌<◌, ◌≤◌, ℕ, length, get_or, [], pos, IfSome, IfNone, ◌≤ℤ◌};
+ghost use Rattle.std.specs.Prelude.{◌≡◌, ◌≢◌, ◌<◌, ◌≤◌, ℕ, length, get_or, [], pos, IfSome, IfNone, Ok, Err, MatchResult, ◌≤ℤ◌};
 ghost use Rattle.spread_rules.specs.Rulebook.{month_count, names_of, references_of, IsListed, symbol_of, find_symbol, IsRules};
+ghost use Rattle.spread_rules.specs.RulebookText.{ReadsRulebook};
 ghost use Rattle.spread_rules.specs.declared.order.Instrument.{Instrument};
+ghost use Rattle.spread_rules.specs.declared.rule_fault.RuleFault.{RuleFault};
 
 use crate::id::Id;
 use crate::order::Instrument;
+use crate::rule_fault::RuleFault;
+use crate::rulebook_text::{MonthList, read_lines};
 use crate::text::cut_at;
 use std::marker::Model;
 
@@ -21,8 +25,7 @@ pub struct Month {
 #[derive(Drop)]
 pub struct Rulebook {
     tick: i64,
-    count: usize,
-    months: [Month; 12],
+    list: MonthList,
 }
 
 impl Model for Rulebook {
@@ -39,6 +42,28 @@ impl Model for Rulebook {
 }
 
 impl Rulebook {
+    /// The rulebook of this text, or the first fault from the top. Lines count from 1, the empty ones and comments too.
+    pub fn read(text: &[u8]) -> Result<Rulebook, RuleFault>
+        ensures reads { MatchResult result (λ rules. ReadsRulebook text.now (Ok rules)) (λ f. ReadsRulebook text.now (Err f)) }
+        ensures takes_no_memory { result ≢ Err RuleFault.NoMemory }
+    {
+        let draft = match read_lines(text) {
+            Ok(draft) => draft,
+            Err(fault) => return Err(fault),
+        };
+        let tick = match draft.tick {
+            Some(tick) => tick,
+            None => return Err(RuleFault::NoMonth),
+        };
+        if draft.list.count == 0 {
+            return Err(RuleFault::NoMonth);
+        }
+        Ok(Rulebook {
+            tick,
+            list: draft.list,
+        })
+    }
+
     /// How many months there are, 1 to 12.
     pub fn months(&self) -> u8
         ensures count { result ≡ month_count self.now }
@@ -46,7 +71,7 @@ impl Rulebook {
         ensures most { result ≤ 12 }
         ensures lawful { IsRules self.now }
     {
-        self.count as u8
+        self.list.count as u8
     }
 
     /// The month's name, 1 to 15 letters and digits.
@@ -54,7 +79,7 @@ impl Rulebook {
         requires { month < month_count self.now }
         ensures { result.now ≡ get_or (names_of self.now) month [] }
     {
-        self.months[month as usize].name.bytes()
+        self.list.slots[month as usize].name.bytes()
     }
 
     /// The month's reference price, in hundredths.
@@ -62,7 +87,7 @@ impl Rulebook {
         requires { month < month_count self.now }
         ensures { result ≡ get_or (references_of self.now) month (pos 0) }
     {
-        self.months[month as usize].reference
+        self.list.slots[month as usize].reference
     }
 
     /// The number of the month with this name.
@@ -83,7 +108,7 @@ impl Rulebook {
         ensures found { IfSome result (λ i. IsListed self.now i × (symbol_of self.now i ≡ symbol.now)) }
         ensures none { IfNone result ((m f : ℕ) → IsListed self.now (Instrument.Spread m f) → symbol_of self.now (Instrument.Spread m f) ≢ symbol.now) }
     {
-        let _ = &self.count;
+        let _ = &self.tick;
         let (before, behind) = match cut_at(symbol, b'-') {
             Some(cut) => cut,
             None => return None,
@@ -109,7 +134,7 @@ impl Rulebook {
         ensures none { IfNone result ((i : Instrument) → IsListed self.now i → symbol_of self.now i ≢ symbol.now) }
         ensures value { result ≡ find_symbol self.now symbol.now }
     {
-        let _ = &self.count;
+        let _ = &self.tick;
         match self.month_named(symbol) {
             Some(month) => Some(Instrument::Outright(month)),
             None => self.spread_named(symbol),
