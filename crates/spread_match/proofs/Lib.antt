@@ -11,4 +11,6 @@ pub mod Entering
 pub mod Accounts
 pub mod Past
 pub mod Ready
+pub mod Most
+pub mod Entries
 pub mod Lawful

@@ -1,10 +1,12 @@
 -- what holds of the past of a journal, and how a market reads it
-use Rattle.std.specs.Prelude.{◌≡◌, ℕ, ◌+◌, ◌≤◌, true, false, List, ◌++◌, Contains, All}
+use Rattle.std.specs.Prelude.{◌≡◌, ℕ, ◌+◌, ◌-◌, ◌≤◌, true, false, List, ◌++◌, Contains, All, Some, slice_get}
 use Rattle.spread_rules.specs.declared.order.Order.{Order}
 use Rattle.spread_rules.specs.declared.fill.Fill.{Fill}
 use Rattle.spread_rules.specs.Candidates.{is_within_limit}
 use Rattle.spread_match.specs.Trade.{IsTradable}
 use Rattle.spread_rules.specs.declared.event.Entry.{Entry}
+use Rattle.spread_rules.specs.declared.event.Ticket.{Ticket}
+use Rattle.spread_rules.specs.declared.event.Event.TheVariants.{New}
 use Rattle.spread_rules.specs.declared.outcome.Outcome.{Outcome}
 use Rattle.spread_rules.specs.Meaning.{JournalState, PastNew, filled, is_refused, meaning_of, statuses_of, with_meaning}
 use Rattle.spread_rules.specs.Rulebook.{Rules, month_count}
@@ -60,3 +62,12 @@ pub record IsWorked (rules : Rules) (past : JournalState) (place : ℕ) (e : Ent
   pub fills_is : made ≡ fills ++ (meaning_of rules past place e).fills
   pub reads : Reads rules after (with_meaning past place e (meaning_of rules past place e))
   pub last : after.last ≡ place
+
+-- the entry of the fill's order in the journal is a New entry of its side, and the fill's price is within its limit
+pub record KeepsOrder (journal : List Entry) (f : Fill) : Type 0 where
+  pub session : ℕ
+  pub ticket : Ticket
+  pub entry : slice_get journal (f.order - 1) ≡ Some (record { session = session; event = New ticket })
+  pub placed : 1 ≤ f.order
+  pub side : f.side ≡ ticket.side
+  pub within : is_within_limit ticket.side ticket.price f.price ≡ true

@@ -8,6 +8,7 @@ use Rattle.spread_rules.specs.declared.candidate.Counterparty.TheVariants.{Direc
 use Rattle.spread_rules.specs.Candidates.{Pairs, HasSmallPrice}
 use Rattle.spread_match.specs.Best.{IsNearFirst, in_months, is_ordered}
 use Rattle.spread_rules.specs.declared.event.Ticket.{Ticket}
+use Rattle.spread_rules.specs.declared.event.Entry.{Entry}
 use Rattle.spread_rules.specs.declared.event.Event.{Event}
 use Rattle.spread_rules.specs.declared.event.Event.TheVariants.{New}
 use Rattle.spread_rules.specs.Journal.{IsPrice}
@@ -56,3 +57,6 @@ pub record IsNewest (own : Order) (xs : List Order) : Type 0 where
 abbrev pub IsPriced : Event → Type 0
 IsPriced (New t) = IsPrice t.price
 IsPriced _ = Unit {0}
+
+abbrev pub ArePriced : List Entry → Type 0
+ArePriced journal = All (λ e. IsPriced e.event) journal

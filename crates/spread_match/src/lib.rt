@@ -1,9 +1,10 @@
 //! What one entry of the journal does to the resting orders: refusals, direct and implied matching, cancels.
 #![tactic(auto)]
 
-pub mod best;
+mod best;
 mod floor;
 pub mod journal;
+pub mod laws;
 pub mod market;
 mod parts;
 mod trade;

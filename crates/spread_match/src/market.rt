@@ -74,6 +74,7 @@ impl<'r, B: Book, A: Allocator + Copy> Market<'r, B, A> {
         ensures meaning { IfOk result (λ o. (past : JournalState) → Reads self.old.rules self.old.standing past → IsWorked self.old.rules past place entry.now o fills.old.items fills.new.items self.new.standing) }
         ensures rules { self.new.rules ≡ self.old.rules }
         ensures last { OnOk result (self.new.standing.last ≡ place) }
+        ensures most { OnOk result (length fills.new.items ≤ length fills.old.items + 3 * length self.old.standing.orders) }
         ensures err { OnErr result (self.new.standing ≡ self.old.standing) }
         ensures no_fills { OnErr result (fills.new.items ≡ fills.old.items) }
     {

@@ -143,3 +143,16 @@ after_entries rules past place (e ∷ es) = after_entries rules (after_entry rul
 -- what a journal means: its places count from 1
 abbrev pub meaning_of_journal : Rules → List Entry → JournalState
 meaning_of_journal rules entries = after_entries rules no_entries 1 entries
+
+-- what came of each of the entries in order, from that place on
+abbrev pub worked_from : Rules → JournalState → ℕ → List Entry → List EntryMeaning
+worked_from rules past place [] = []
+worked_from rules past place (e ∷ es) = meaning_of rules past place e ∷ worked_from rules (after_entry rules past place e) (place + 1) es
+
+-- what came of each entry of a journal
+abbrev pub worked_of : Rules → List Entry → List EntryMeaning
+worked_of rules entries = worked_from rules no_entries 1 entries
+
+-- the outcomes of a journal's entries
+abbrev pub outcomes_of : Rules → List Entry → List Outcome
+outcomes_of rules entries = map (λ m. m.outcome) (worked_of rules entries)
