@@ -2,3 +2,4 @@ pub mod EntryMessages
 pub mod Outgoing
 pub mod Sessions
 pub mod Conditions
+pub mod Desk

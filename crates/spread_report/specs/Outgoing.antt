@@ -98,6 +98,9 @@ pub record WorkedEntry : Type 0 where
   pub outcome : Outcome
   pub fills : List Fill
 
+abbrev pub worked_at : ℕ → Entry → Outcome → List Fill → WorkedEntry
+worked_at place entry outcome fills = record { place = place; entry = entry; outcome = outcome; fills = fills }
+
 abbrev pub entry_messages : Rules → WorkedEntry → List AddressedMessage
 entry_messages rules w = messages_of rules w.place w.entry w.outcome w.fills
 

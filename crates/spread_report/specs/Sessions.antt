@@ -4,8 +4,9 @@ use Rattle.std.specs.declared.vec.Vec.{Vec}
 use Rattle.spread_report.specs.declared.line.SessionLine.{SessionLine}
 use Rattle.spread_report.specs.declared.fault.DeskFault.{DeskFault}
 use Rattle.spread_report.specs.declared.fault.DeskFault.TheVariants.{NoMemory, NumbersSpent}
+use Rattle.spread_rules.specs.Rulebook.{Rules}
 use Rattle.spread_report.specs.EntryMessages.{AddressedMessage}
-use Rattle.spread_report.specs.Outgoing.{bytes_to, line_after, spends, line_before_logon}
+use Rattle.spread_report.specs.Outgoing.{WorkedEntry, entry_spends, bytes_to, line_after, spends, line_before_logon}
 
 -- the bytes of session s
 abbrev pub bytes_of : {A : Type 0} → List (Vec ℕ A) → ℕ → List ℕ
@@ -40,6 +41,12 @@ abbrev pub SendResult : {A T : Type 0} → List ℕ → List SessionLine → Lis
 SendResult stamp a b x y ms (Ok r) = Sent stamp a b x y ms
 SendResult stamp a b x y ms (Err NoMemory) = OnlyAppended a b x y
 SendResult stamp a b x y ms (Err NumbersSpent) = OnlyAppended a b x y × NumbersRunOut a ms
+
+-- an entry would send some session a message with a number above 999,999,999
+pub record RunsOut (rules : Rules) (lines : List SessionLine) (w : WorkedEntry) : Type 0 where
+  pub session : ℕ
+  pub below : session < 16
+  pub spent : entry_spends rules session (line_at lines session) w ≡ true
 
 -- every list holds what it held
 abbrev pub KeepsBytes : {A : Type 0} → List (Vec ℕ A) → List (Vec ℕ A) → Type 0

@@ -37,12 +37,16 @@ macro_rules! pair_field {
     };
 }
 
+mod desk;
 mod entries;
 mod entry;
-pub mod fault;
+mod fault;
 pub mod line;
 mod messages;
 mod reports;
 mod rollback;
 mod send;
 mod symbol;
+
+pub use desk::Desk;
+pub use fault::DeskFault;
