@@ -2,5 +2,6 @@
 #![tactic(auto)]
 
 pub mod day_lines;
+pub mod fault;
 pub mod output;
 pub mod totals;
