@@ -1,3 +1,4 @@
 pub mod Next
 pub mod Said
 pub mod Sums
+pub mod MonthLines

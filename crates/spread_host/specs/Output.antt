@@ -37,10 +37,17 @@ fill_line rules f = places_text f ++ symbol_of rules f.instrument ++ trade_text 
 abbrev pub fill_lines : Rules → List Fill → List ℕ
 fill_lines rules fills = flat_map (fill_line rules) fills
 
+-- bought and sold
+abbrev pub lots_text : MonthTotals → List ℕ
+lots_text t = 32 ∷ decimal t.bought ++ 32 ∷ decimal t.sold
+
+-- paid and received
+abbrev pub money_text : MonthTotals → List ℕ
+money_text t = 32 ∷ signed_decimal t.paid ++ 32 ∷ signed_decimal t.received
+
 -- `M NAME BOUGHT SOLD PAID RECEIVED`
 abbrev pub totals_line : List ℕ → MonthTotals → List ℕ
-totals_line name t =
-    codes "M " ++ name ++ 32 ∷ decimal t.bought ++ 32 ∷ decimal t.sold ++ 32 ∷ signed_decimal t.paid ++ 32 ∷ signed_decimal t.received ++ 10 ∷ []
+totals_line name t = codes "M " ++ name ++ lots_text t ++ money_text t ++ 10 ∷ []
 
 -- the line of the month with this number
 abbrev pub month_line : List ℕ → ℕ → List Fill → List ℕ

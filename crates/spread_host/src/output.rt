@@ -4,7 +4,7 @@ ghost use Rattle.std.specs.Io.KnownBytes.{Appends};
 ghost use Rattle.spread_rules.specs.Rulebook.{IsListed, symbol_of};
 ghost use Rattle.spread_rules.specs.Ends.{AppendsPrefix};
 ghost use Rattle.spread_host.specs.Totals.{IsSummable};
-ghost use Rattle.spread_host.specs.Output.{fill_line, fill_lines, places_text, trade_text, legs_text, side_digit, totals_line, month_lines, fills_text, shown, outgoing_line, outgoing_lines};
+ghost use Rattle.spread_host.specs.Output.{fill_line, fill_lines, places_text, trade_text, legs_text, side_digit, lots_text, money_text, totals_line, month_lines, fills_text, shown, outgoing_line, outgoing_lines};
 
 use crate::fault::HostFault;
 use crate::totals::{MonthTotals, month_totals};
@@ -126,6 +126,30 @@ pub fn put_fills<A: Allocator>(
     Ok(())
 }
 
+/// Bought and sold.
+fn put_lots<A: Allocator>(out: &mut Vec<u8, A>, totals: &MonthTotals) -> Result<(), AllocError>
+    ensures { OnOk result (out.new.items ≡ out.old.items ++ lots_text totals.now) }
+{
+    let mut digits = Buffer::new();
+    out.push(b' ')?;
+    out.extend_from_slice(digits.format(totals.bought).as_bytes())?;
+    out.push(b' ')?;
+    out.extend_from_slice(digits.format(totals.sold).as_bytes())?;
+    Ok(())
+}
+
+/// Paid and received.
+fn put_money<A: Allocator>(out: &mut Vec<u8, A>, totals: &MonthTotals) -> Result<(), AllocError>
+    ensures { OnOk result (out.new.items ≡ out.old.items ++ money_text totals.now) }
+{
+    let mut digits = Buffer::new();
+    out.push(b' ')?;
+    out.extend_from_slice(digits.format(totals.paid).as_bytes())?;
+    out.push(b' ')?;
+    out.extend_from_slice(digits.format(totals.received).as_bytes())?;
+    Ok(())
+}
+
 /// One month's line.
 fn put_month<A: Allocator>(
     out: &mut Vec<u8, A>,
@@ -134,17 +158,10 @@ fn put_month<A: Allocator>(
 ) -> Result<(), AllocError>
     ensures { OnOk result (out.new.items ≡ out.old.items ++ totals_line name.now totals.now) }
 {
-    let mut digits = Buffer::new();
     out.extend_from_slice(b"M ")?;
     out.extend_from_slice(name)?;
-    out.push(b' ')?;
-    out.extend_from_slice(digits.format(totals.bought).as_bytes())?;
-    out.push(b' ')?;
-    out.extend_from_slice(digits.format(totals.sold).as_bytes())?;
-    out.push(b' ')?;
-    out.extend_from_slice(digits.format(totals.paid).as_bytes())?;
-    out.push(b' ')?;
-    out.extend_from_slice(digits.format(totals.received).as_bytes())?;
+    put_lots(out, totals)?;
+    put_money(out, totals)?;
     out.push(b'\n')?;
     Ok(())
 }
