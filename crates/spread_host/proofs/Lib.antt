@@ -4,3 +4,4 @@ pub mod Sums
 pub mod Behind
 pub mod Feeding
 pub mod Inlets
+pub mod MonthLines

@@ -7,7 +7,7 @@ use Rattle.std.proofs.lemmas.Bool.Decides.{nat_tests}
 use Rattle.std.proofs.lemmas.Int.{ints, to_z-of_z, unsigned_abs-mul}
 use Rattle.std.proofs.lemmas.List.Elements.{All-set, All-replicate, All-take}
 use Rattle.std.proofs.lemmas.List.Sums.{fold-append}
-use Rattle.std.proofs.lemmas.List.{take_all, length-take}
+use Rattle.std.proofs.lemmas.List.{take_all, length-take, length-replicate}
 use Rattle.std.proofs.Math.ListN.{length-set}
 use Rattle.std.proofs.Math.Nat.{mul-le-mul_left}
 use Rattle.spread_rules.specs.declared.order.Side.{Side}
@@ -194,22 +194,18 @@ pub fold_fills : (fs : List Fill) (ts : List MonthTotals) → fold with_fill ts 
 fold_fills [] ts = refl
 fold_fills (f ∷ fs) ts = fold_fills fs (with_fill ts f) ∙ sym (fold-append with_leg ts (legs_in f) (legs fs))
 
-fold_length : (ls : List Leg) (ts : List MonthTotals) → length (fold with_leg ts ls) ≡ length ts
-fold_length [] ts = refl
-fold_length (l ∷ ls) ts = fold_length ls (with_leg ts l) ∙ length-set ts l.month (added l.side l.quantity l.price (get_or ts l.month none))
-
--- from nothing, the sums of all fills
-pub sums_are : (fs : List Fill) (ts : List MonthTotals) → All (λ t. t ≡ none) ts → AreTotals fs (fold with_fill ts fs)
-sums_are fs ts h = λ m d lt.
-    let len = ap length (fold_fills fs ts) ∙ fold_length (legs fs) ts in
-    let less : m < length ts = omega (arith, len, lt) in
-    ap (λ (xs : List MonthTotals). get_or xs m d) (fold_fills fs ts)
-    ∙ (fold_is (legs fs) ts m d less
-    ∙ (ap (λ (t : MonthTotals). after_legs t m (legs fs)) (h m d less)
-    ∙ same_totals _ _ _ _ _ _ _ _ (omega arith) (omega arith) (omega (arith, ints)) (omega (arith, ints))))
-
 twelve_none : All (λ t. t ≡ none) twelve
 twelve_none = All-replicate (λ t. t ≡ none) 12 none refl
+
+-- from nothing, the sums of all fills
+pub sums_are : (fs : List Fill) → AreTotals fs (fold with_fill twelve fs)
+sums_are fs = λ m d lt.
+    let len = length-replicate 12 none in
+    let less : m < length twelve = omega (arith, len, lt) in
+    ap (λ (xs : List MonthTotals). get_or xs m d) (fold_fills fs twelve)
+    ∙ (fold_is (legs fs) twelve m d less
+    ∙ (ap (λ (t : MonthTotals). after_legs t m (legs fs)) (twelve_none m d less)
+    ∙ same_totals _ _ _ _ _ _ _ _ (omega arith) (omega arith) (omega (arith, ints)) (omega (arith, ints))))
 
 -- room for the far leg of a spread
 pub room_far : (ts us : List MonthTotals) (month : ℕ) (s : Side) (f : Fill) → us ≡ with_leg ts (record { month = month; side = s; quantity = f.quantity; price = to_z w64 (of_z w64 f.near) }) → IsSummable f → All (HasRoom (2 ^ 66)) ts → All (HasRoom (2 ^ 67)) us
@@ -223,7 +219,7 @@ room_far ts us month s f is sum h =
 
 -- the sums of the fills so far
 pub sums_taken : (fs : List Fill) (n : ℕ) (ts : List MonthTotals) → ts ≡ fold with_fill twelve (take n fs) → length fs ≤ n → AreTotals fs ts
-sums_taken fs n ts is end = let all = take_all n fs end in subst (λ (t : List MonthTotals). AreTotals fs t) (sym (is ∙ ap (λ (xs : List Fill). fold with_fill twelve xs) all)) (sums_are fs twelve twelve_none)
+sums_taken fs n ts is end = let all = take_all n fs end in subst (λ (t : List MonthTotals). AreTotals fs t) (sym (is ∙ ap (λ (xs : List Fill). fold with_fill twelve xs) all)) (sums_are fs)
 
 pub room_taken : (fs : List Fill) (n : ℕ) (ts : List MonthTotals) → ts ≡ fold with_fill twelve (take n fs) → All IsSummable fs → n < 2 ^ 64 → All (HasRoom (2 ^ 66)) ts
 room_taken fs n ts is all few =

@@ -1,4 +1,5 @@
 pub mod DayText
+pub mod Faults
 pub mod LinesRead
 pub mod DayLines
 pub mod Output

@@ -1,5 +1,5 @@
 -- The lines of a day's text.
-use Rattle.std.specs.Prelude.{ℕ, ℤ, zero, suc, if◌then◌else◌, List, [], ◌∷◌, ◌++◌, codes, decimal}
+use Rattle.std.specs.Prelude.{ℕ, ℤ, suc, ◌==◌, if◌then◌else◌, List, [], ◌∷◌, ◌++◌, map, codes, decimal}
 use Rattle.std.specs.Fmt.{signed_decimal}
 use Rattle.std.specs.List.{flat_map}
 use Rattle.spread_rules.specs.declared.order.Side.{Side}
@@ -8,7 +8,9 @@ use Rattle.spread_rules.specs.declared.order.Instrument.{Instrument}
 use Rattle.spread_rules.specs.declared.order.Instrument.TheVariants.{Outright, Spread}
 use Rattle.spread_rules.specs.declared.fill.Fill.{Fill}
 use Rattle.spread_rules.specs.Rulebook.{Rules, names_of, symbol_of}
-use Rattle.spread_rules.specs.Legs.{bought, sold, paid, received}
+use Rattle.fix_wire.specs.Frames.{frames}
+use Rattle.spread_host.specs.declared.totals.MonthTotals.{MonthTotals}
+use Rattle.spread_host.specs.Totals.{totals_of}
 
 -- `1` buys, `2` sells
 abbrev pub side_digit : Side → ℕ
@@ -35,20 +37,48 @@ fill_line rules f = places_text f ++ symbol_of rules f.instrument ++ trade_text 
 abbrev pub fill_lines : Rules → List Fill → List ℕ
 fill_lines rules fills = flat_map (fill_line rules) fills
 
--- M, the month's name, and its sums: bought, sold, paid, received
+-- bought and sold
+abbrev pub lots_text : MonthTotals → List ℕ
+lots_text t = 32 ∷ decimal t.bought ++ 32 ∷ decimal t.sold
+
+-- paid and received
+abbrev pub money_text : MonthTotals → List ℕ
+money_text t = 32 ∷ signed_decimal t.paid ++ 32 ∷ signed_decimal t.received
+
+-- `M NAME BOUGHT SOLD PAID RECEIVED`
+abbrev pub totals_line : List ℕ → MonthTotals → List ℕ
+totals_line name t = codes "M " ++ name ++ lots_text t ++ money_text t ++ 10 ∷ []
+
+-- the line of the month with this number
 abbrev pub month_line : List ℕ → ℕ → List Fill → List ℕ
-month_line name month fills =
-    codes "M " ++ name ++ 32 ∷ decimal (bought month fills) ++ 32 ∷ decimal (sold month fills)
-    ++ 32 ∷ signed_decimal (paid month fills) ++ 32 ∷ signed_decimal (received month fills) ++ 10 ∷ []
+month_line name month fills = totals_line name (totals_of month fills)
 
 -- the lines of these months, of which the first has this number
 abbrev pub month_lines_from : ℕ → List (List ℕ) → List Fill → List ℕ
 month_lines_from month [] fills = []
 month_lines_from month (name ∷ names) fills = month_line name month fills ++ month_lines_from (suc month) names fills
 
+-- a line for each month of the rulebook
 abbrev pub month_lines : Rules → List Fill → List ℕ
 month_lines rules fills = month_lines_from 0 (names_of rules) fills
 
 -- the lines of fills, and of months
 abbrev pub fills_text : Rules → List Fill → List ℕ
 fills_text rules fills = fill_lines rules fills ++ month_lines rules fills
+
+-- byte 1 is shown as `|`
+abbrev pub shown : ℕ → ℕ
+shown b = if b == 1 then 124 else b
+
+-- `O S:MESSAGE`
+abbrev pub outgoing_line : ℕ → List ℕ → List ℕ
+outgoing_line session message = codes "O " ++ decimal session ++ 58 ∷ map shown message ++ 10 ∷ []
+
+-- a session's outgoing messages
+abbrev pub outgoing_lines : ℕ → List ℕ → List ℕ
+outgoing_lines session bytes = flat_map (outgoing_line session) (frames bytes)
+
+-- those of these sessions, of which the first has this number
+abbrev pub outgoing_lines_from : ℕ → List (List ℕ) → List ℕ
+outgoing_lines_from session [] = []
+outgoing_lines_from session (bytes ∷ others) = outgoing_lines session bytes ++ outgoing_lines_from (suc session) others

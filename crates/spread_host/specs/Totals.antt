@@ -12,9 +12,9 @@ use Rattle.spread_host.specs.declared.totals.MonthTotals.{MonthTotals}
 abbrev pub totals_of : ℕ → List Fill → MonthTotals
 totals_of month fills = record { bought = bought month fills; sold = sold month fills; paid = paid month fills; received = received month fills }
 
--- each of these is its month's sums, the first month first
+-- each of these twelve is its month's sums, the first month first
 abbrev pub AreTotals : List Fill → List MonthTotals → Type 0
-AreTotals fills totals = (month : ℕ) (other : MonthTotals) → month < length totals → get_or totals month other ≡ totals_of month fills
+AreTotals fills totals = (month : ℕ) (other : MonthTotals) → month < 12 → get_or totals month other ≡ totals_of month fills
 
 -- the months of the instrument are below n
 abbrev pub IsBelow : ℕ → Instrument → Type 0

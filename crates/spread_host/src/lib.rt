@@ -4,5 +4,6 @@
 pub mod day_lines;
 pub mod lanes;
 pub mod laws;
+pub mod fault;
 pub mod output;
 pub mod totals;

@@ -1,12 +1,21 @@
 //! The lines of a day's text.
-ghost use Rattle.std.specs.Prelude.{◌≡◌, ◌<◌, ◌++◌, ◌∷◌, List, length, get_or, OnOk};
+ghost use Rattle.std.specs.Prelude.{◌≡◌, ◌<◌, ◌++◌, ◌∷◌, ◌⊎◌, List, All, map, length, get_or, OnOk, IfOk, IfErr, IsErrOf, true, false};
+ghost use Rattle.std.specs.Io.KnownBytes.{Appends};
 ghost use Rattle.spread_rules.specs.Rulebook.{IsListed, symbol_of};
-ghost use Rattle.spread_host.specs.Output.{fill_line, places_text, trade_text, legs_text, side_digit};
+ghost use Rattle.spread_rules.specs.Ends.{AppendsPrefix};
+ghost use Rattle.spread_host.specs.Totals.{IsSummable};
+ghost use Rattle.spread_host.specs.Output.{fill_line, fill_lines, places_text, trade_text, legs_text, side_digit, lots_text, money_text, totals_line, month_lines, fills_text, shown, outgoing_line, outgoing_lines};
 
+use crate::fault::HostFault;
+use crate::totals::{MonthTotals, month_totals};
+use fix_wire::first_message;
 use itoa::Buffer;
 use spread_rules::fill::Fill;
 use spread_rules::order::{Instrument, Side};
 use spread_rules::rulebook::Rulebook;
+use spread_rules::sink::Sink;
+use spread_rules::source::Failed;
+use spread_rules::whole::write_all;
 use std::alloc::{AllocError, Allocator};
 
 fn put_symbol<A: Allocator>(
@@ -100,4 +109,170 @@ fn put_fill<A: Allocator>(
     put_legs(out, fill)?;
     out.push(b'\n')?;
     Ok(())
+}
+
+/// A line for each fill.
+pub fn put_fills<A: Allocator>(
+    out: &mut Vec<u8, A>,
+    rulebook: &Rulebook,
+    fills: &[Fill],
+) -> Result<(), AllocError>
+    requires { All (λ f. IsListed rulebook.now f.instrument) fills.now }
+    ensures { OnOk result (out.new.items ≡ out.old.items ++ fill_lines rulebook.now fills.now) }
+{
+    for fill in fills {
+        put_fill(out, rulebook, fill)?;
+    }
+    Ok(())
+}
+
+/// Bought and sold.
+fn put_lots<A: Allocator>(out: &mut Vec<u8, A>, totals: &MonthTotals) -> Result<(), AllocError>
+    ensures { OnOk result (out.new.items ≡ out.old.items ++ lots_text totals.now) }
+{
+    let mut digits = Buffer::new();
+    out.push(b' ')?;
+    out.extend_from_slice(digits.format(totals.bought).as_bytes())?;
+    out.push(b' ')?;
+    out.extend_from_slice(digits.format(totals.sold).as_bytes())?;
+    Ok(())
+}
+
+/// Paid and received.
+fn put_money<A: Allocator>(out: &mut Vec<u8, A>, totals: &MonthTotals) -> Result<(), AllocError>
+    ensures { OnOk result (out.new.items ≡ out.old.items ++ money_text totals.now) }
+{
+    let mut digits = Buffer::new();
+    out.push(b' ')?;
+    out.extend_from_slice(digits.format(totals.paid).as_bytes())?;
+    out.push(b' ')?;
+    out.extend_from_slice(digits.format(totals.received).as_bytes())?;
+    Ok(())
+}
+
+/// One month's line.
+fn put_month<A: Allocator>(
+    out: &mut Vec<u8, A>,
+    name: &[u8],
+    totals: &MonthTotals,
+) -> Result<(), AllocError>
+    ensures { OnOk result (out.new.items ≡ out.old.items ++ totals_line name.now totals.now) }
+{
+    out.extend_from_slice(b"M ")?;
+    out.extend_from_slice(name)?;
+    put_lots(out, totals)?;
+    put_money(out, totals)?;
+    out.push(b'\n')?;
+    Ok(())
+}
+
+/// A line for each month of the rulebook.
+pub fn put_months<A: Allocator>(
+    out: &mut Vec<u8, A>,
+    rulebook: &Rulebook,
+    fills: &[Fill],
+) -> Result<(), AllocError>
+    requires listed { All (λ f. IsListed rulebook.now f.instrument) fills.now }
+    requires summable { All IsSummable fills.now }
+    ensures { OnOk result (out.new.items ≡ out.old.items ++ month_lines rulebook.now fills.now) }
+{
+    let months = rulebook.months();
+    let totals = month_totals(fills);
+    for month in 0..months {
+        put_month(out, rulebook.name(month), &totals[month as usize])?;
+    }
+    Ok(())
+}
+
+/// Shows each byte 1 as `|`.
+fn show_field_ends(text: &mut [u8])
+    ensures { text.new ≡ map shown text.old }
+{
+    for byte in text.iter_mut() {
+        *byte = shown_byte(*byte);
+    }
+}
+
+fn shown_byte(byte: u8) -> u8
+    ensures { result ≡ shown byte }
+{
+    if byte == 1 { b'|' } else { byte }
+}
+
+/// One message's line.
+fn put_message<A: Allocator>(
+    out: &mut Vec<u8, A>,
+    session: u8,
+    message: &[u8],
+) -> Result<(), AllocError>
+    ensures { OnOk result (out.new.items ≡ out.old.items ++ outgoing_line session message.now) }
+{
+    out.extend_from_slice(b"O ")?;
+    out.extend_from_slice(Buffer::new().format(session).as_bytes())?;
+    out.push(b':')?;
+    let start = out.len();
+    out.extend_from_slice(message)?;
+    show_field_ends(&mut out[start..]);
+    out.push(b'\n')?;
+    Ok(())
+}
+
+/// A line for each message of these bytes, which this session is sent.
+pub fn put_outgoing<A: Allocator>(
+    out: &mut Vec<u8, A>,
+    session: u8,
+    bytes: &[u8],
+) -> Result<(), AllocError>
+    ensures { OnOk result (out.new.items ≡ out.old.items ++ outgoing_lines session bytes.now) }
+{
+    let mut rest = bytes;
+    while let Some((message, later)) = first_message(rest) {
+        put_message(out, session, message.bytes())?;
+        rest = later;
+    }
+    Ok(())
+}
+
+/// The lines of fills, and of months.
+pub fn fills_text<A: Allocator>(
+    alloc: A,
+    rulebook: &Rulebook,
+    fills: &[Fill],
+) -> Result<Vec<u8, A>, AllocError>
+    requires listed { All (λ f. IsListed rulebook.now f.instrument) fills.now }
+    requires summable { All IsSummable fills.now }
+    ensures { IfOk result (λ v. v.items ≡ fills_text rulebook.now fills.now) }
+{
+    let mut out = Vec::new(alloc);
+    put_fills(&mut out, rulebook, fills)?;
+    put_months(&mut out, rulebook, fills)?;
+    Ok(out)
+}
+
+/// Writes the lines of fills, and of months, and nothing else. Each fill's instrument is the rulebook's, its quantity is
+/// at most 999,999, and its price and leg prices are within 2,000,000,000 either way. Answers NoMemory(0), with nothing
+/// written, or Write, with a prefix of the text written.
+pub fn write_fills<K: Sink, A: Allocator>(
+    alloc: A,
+    rulebook: &Rulebook,
+    fills: &[Fill],
+    sink: &mut K,
+) -> Result<(), HostFault>
+    requires sound { K.has_failed sink.old ≡ false }
+    requires listed { All (λ f. IsListed rulebook.now f.instrument) fills.now }
+    requires summable { All IsSummable fills.now }
+    ensures ok { OnOk result (Appends (K.written sink.old) (K.written sink.new) (fills_text rulebook.now fills.now)) }
+    ensures sound { OnOk result (K.has_failed sink.new ≡ false) }
+    ensures no_memory { IsErrOf result (HostFault.NoMemory 0) → sink.new ≡ sink.old }
+    ensures write { IsErrOf result HostFault.Write → (K.has_failed sink.new ≡ true) × AppendsPrefix (K.written sink.old) (K.written sink.new) (fills_text rulebook.now fills.now) }
+    ensures only { IfErr result (λ f. (f ≡ HostFault.NoMemory 0) ⊎ (f ≡ HostFault.Write)) }
+{
+    let text = match fills_text(alloc, rulebook, fills) {
+        Ok(text) => text,
+        Err(_) => return Err(HostFault::NoMemory(0)),
+    };
+    match write_all(sink, &text) {
+        Ok(()) => Ok(()),
+        Err(Failed) => Err(HostFault::Write),
+    }
 }

@@ -1,0 +1,49 @@
+//! Why a run ended without its day.
+ghost use Rattle.std.specs.Prelude.{◌≡◌};
+ghost use Rattle.spread_host.specs.Faults.{number_of};
+
+use thiserror::Error;
+
+/// Why a run ended without its day.
+#[derive(Clone, Copy, Debug, PartialEq, Eq, Error)]
+pub enum HostFault {
+    /// The first bad day line, counted from 1.
+    #[error("day line {0}")]
+    DayLine(u64),
+    /// The thread of this session could not be started.
+    #[error("thread {0}")]
+    Spawn(u8),
+    /// The journal has its stated size, and there is more to enter.
+    #[error("journal full")]
+    JournalFull,
+    /// Memory ran out. The place is that of the first entry not worked through: 0 where none was begun, one more than the
+    /// journal's length where all were.
+    #[error("no memory")]
+    NoMemory(u64),
+    /// The reader failed, or gave too much.
+    #[error("cannot read input")]
+    Read,
+    /// The writer failed.
+    #[error("cannot write")]
+    Write,
+    /// A message of the entry of this place would bear a number above 999,999,999.
+    #[error("numbers spent")]
+    NumbersSpent(u64),
+}
+
+impl HostFault {
+    /// The fault's number.
+    pub fn number(&self) -> u8
+        ensures { result ≡ number_of self.now }
+    {
+        match self {
+            HostFault::DayLine(_) => 1,
+            HostFault::Spawn(_) => 4,
+            HostFault::JournalFull => 5,
+            HostFault::NoMemory(_) => 6,
+            HostFault::Read => 7,
+            HostFault::Write => 8,
+            HostFault::NumbersSpent(_) => 9,
+        }
+    }
+}
