@@ -5,3 +5,4 @@ pub mod Behind
 pub mod Feeding
 pub mod Inlets
 pub mod MonthLines
+pub mod EntryByEntry

@@ -5,3 +5,4 @@ pub mod DayLines
 pub mod Output
 pub mod Sums
 pub mod Totals
+pub mod Working

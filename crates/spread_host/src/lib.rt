@@ -7,3 +7,4 @@ pub mod laws;
 pub mod fault;
 pub mod output;
 pub mod totals;
+pub mod working;
