@@ -12,3 +12,4 @@ pub mod Accounts
 pub mod Past
 pub mod Ready
 pub mod Lawful
+pub mod Ranging

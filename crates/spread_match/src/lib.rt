@@ -6,4 +6,5 @@ mod floor;
 pub mod journal;
 pub mod market;
 mod parts;
+pub mod ranges;
 mod trade;
