@@ -14,3 +14,4 @@ pub mod Ready
 pub mod Most
 pub mod Entries
 pub mod Lawful
+pub mod Ranging

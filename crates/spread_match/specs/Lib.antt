@@ -3,3 +3,4 @@ pub mod Best
 pub mod Trade
 pub mod Kept
 pub mod Sound
+pub mod Ranges

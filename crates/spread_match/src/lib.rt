@@ -7,4 +7,5 @@ pub mod journal;
 pub mod laws;
 pub mod market;
 mod parts;
+pub mod ranges;
 mod trade;
