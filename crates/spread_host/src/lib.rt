@@ -2,9 +2,9 @@
 #![tactic(auto)]
 
 pub mod day_lines;
+pub mod fault;
 pub mod lanes;
 pub mod laws;
-pub mod fault;
 pub mod output;
 pub mod totals;
 pub mod working;
