@@ -16,5 +16,7 @@ mod rulebook_text;
 pub mod sink;
 pub mod source;
 pub mod test_ends;
+#[cfg(test)]
+mod tests;
 pub mod text;
 pub mod whole;
