@@ -105,15 +105,38 @@ fn nested_and_cut_frames(rt: HostRuntime) -> Result<(), Fail> {
 }
 
 #[test]
-fn frames_within_a_frame(rt: HostRuntime) -> Result<(), Fail> {
+fn frames_within_a_garbled_frame(rt: HostRuntime) -> Result<(), Fail> {
     let alloc = rt.alloc();
     let all = [LOGON, SELL, BUY, LOGOUT];
-    let day = joined(alloc, &all)?;
-    let front = b"8=FIX.4.2\x019=408\x0135=0\x0158=";
-    let garbled = joined(alloc, &[front, &day, b"10=000\x01"])?;
+    let garbled = joined(
+        alloc,
+        &[
+            b"8=FIX.4.2\x019=408\x0135=0\x0158=",
+            LOGON,
+            SELL,
+            BUY,
+            LOGOUT,
+            b"10=000\x01",
+        ],
+    )?;
     expect_both_ways(&rt, alloc, &garbled, &all)?;
+    Ok(())
+}
 
-    let lawful = joined(alloc, &[front, &day, b"10=129\x01"])?;
+#[test]
+fn frames_within_a_lawful_frame(rt: HostRuntime) -> Result<(), Fail> {
+    let alloc = rt.alloc();
+    let lawful = joined(
+        alloc,
+        &[
+            b"8=FIX.4.2\x019=408\x0135=0\x0158=",
+            LOGON,
+            SELL,
+            BUY,
+            LOGOUT,
+            b"10=129\x01",
+        ],
+    )?;
     let text = lawful.as_slice();
     expect_both_ways(&rt, alloc, text, &[text])?;
     let message = Message::whole(text).ok_or("no frame")?;
