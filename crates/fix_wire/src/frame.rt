@@ -51,11 +51,23 @@ fn place_of(byte: u8, text: &[u8]) -> usize
     }
 }
 
+/// The same, byte by byte, which is quicker where the byte is near, as within a field.
+fn near_place_of(byte: u8, text: &[u8]) -> usize
+    ensures { result ≡ position_or_len (is_byte byte) text.now }
+{
+    for i in 0..text.len() {
+        if text[i] == byte {
+            return i;
+        }
+    }
+    text.len()
+}
+
 fn header_after(rest: &[u8]) -> Option<FrameHeader>
     requires { length rest.now < 2 ^ 32 }
     ensures { result ≡ header_after rest.now }
 {
-    let digits = place_of(1, rest);
+    let digits = near_place_of(1, rest);
     if digits == rest.len() || digits == 0 || digits > 8 {
         return None;
     }
@@ -105,12 +117,12 @@ pub(crate) fn next_begin(text: &[u8]) -> usize
 pub(crate) fn first_field(body: &[u8]) -> Option<LeadingField<'_>>
     ensures { option_map leading_field_view result ≡ first_field body.now }
 {
-    let end = place_of(1, body);
+    let end = near_place_of(1, body);
     if end == body.len() {
         return None;
     }
     let text = &body[..end];
-    let digits = place_of(b'=', text);
+    let digits = near_place_of(b'=', text);
     if digits == end || digits == 0 || digits > 9 || text[0] == b'0' {
         return None;
     }

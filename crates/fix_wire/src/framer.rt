@@ -38,6 +38,7 @@ impl Model for Framer {
 }
 
 /// What a framer answers: its first message, or that it needs more bytes.
+#[derive(Clone, Copy)]
 pub enum Next<'a> {
     Message(Message<'a>),
     Need,
