@@ -7,4 +7,6 @@ pub mod journal;
 pub mod laws;
 pub mod market;
 mod parts;
+#[cfg(test)]
+mod tests;
 mod trade;
