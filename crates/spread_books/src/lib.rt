@@ -3,3 +3,5 @@
 
 pub mod book;
 pub mod list;
+#[cfg(test)]
+mod tests;

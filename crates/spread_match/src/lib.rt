@@ -8,4 +8,6 @@ pub mod laws;
 pub mod market;
 mod parts;
 pub mod ranges;
+#[cfg(test)]
+mod tests;
 mod trade;
