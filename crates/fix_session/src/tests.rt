@@ -1,6 +1,6 @@
 //! Worked rows: messages of a session as its client writes them, and what the session says to them.
 use crate::{Session, Verdict};
-use fix_wire::{Message, read_pieces};
+use fix_wire::{Framer, Message, Next};
 use spread_rules::event::{Event, Ticket};
 use spread_rules::id::Id;
 use spread_rules::order::Side;
@@ -115,21 +115,21 @@ fn whole_of<A: Allocator + Copy>(
     Ok(Some(events))
 }
 
-/// The events of a stream, and of its end.
+/// The events of a stream of less than 8,000 bytes, and of its end.
 fn whole<A: Allocator + Copy>(alloc: A, text: &str) -> Result<Vec<Event, A>, AllocError> {
     let bytes = bytes_of(alloc, text)?;
-    let (frames, _held) = read_pieces(alloc, &[bytes.as_slice()])?;
+    let mut framer = Framer::new();
+    framer.put(&bytes);
     let mut events = Vec::new(alloc);
     let mut session = Session::new();
-    for frame in &frames {
-        if frame.len() > 5000 {
-            continue;
-        }
-        if let Some(message) = Message::whole(frame) {
-            let (verdict, after) = session.judge(&message);
-            push_event(&mut events, verdict)?;
-            session = after;
-        }
+    for _ in 0..100 {
+        let (verdict, after) = match framer.next() {
+            Next::Message(message) => session.judge(&message),
+            Next::Need => break,
+        };
+        push_event(&mut events, verdict)?;
+        session = after;
+        framer.pass();
     }
     push_event(&mut events, session.end().0)?;
     Ok(events)
@@ -289,6 +289,18 @@ const CANCEL: &[(&str, &str)] = &[
     ("60", "T"),
 ];
 
+/// The fields of a lawful message of a kind.
+fn fields_of(kind: &str) -> &'static [(&'static str, &'static str)] {
+    match kind {
+        "1" => TEST_REQUEST,
+        "2" => RESEND_REQUEST,
+        "4" => SEQUENCE_RESET,
+        "D" => ORDER,
+        "F" => CANCEL,
+        _ => HEARTBEAT,
+    }
+}
+
 /// Message 2 of a kind, with other text in place of one field.
 fn changed<A: Allocator + Copy>(
     alloc: A,
@@ -323,120 +335,93 @@ fn second<A: Allocator + Copy>(alloc: A, body: &str) -> Result<Option<Verdict>, 
 #[test]
 fn each_reason_of_each_kind(rt: HostRuntime) -> Result<(), Fail> {
     let long = "123456789012345678901234567890123";
-    let rows: [(&str, &[(&str, &str)], &str, &[(&str, u8)]); 23] = [
-        ("0", HEARTBEAT, "52", &[("", 1), ("52=|", 4)]),
-        ("3", HEARTBEAT, "52", &[("", 1), ("52=|", 4)]),
-        ("1", TEST_REQUEST, "52", &[("", 1), ("52=|", 4)]),
-        ("1", TEST_REQUEST, "112", &[("", 1), ("112=|", 4)]),
-        ("2", RESEND_REQUEST, "52", &[("", 1), ("52=|", 4)]),
-        (
-            "2",
-            RESEND_REQUEST,
-            "7",
-            &[
-                ("", 1),
-                ("7=|", 4),
-                ("7=x|", 6),
-                ("7=0|", 5),
-                ("7=1000000000|", 5),
-            ],
-        ),
-        (
-            "2",
-            RESEND_REQUEST,
-            "16",
-            &[
-                ("", 1),
-                ("16=|", 4),
-                ("16=-1|", 6),
-                ("16=1|", 5),
-                ("16=1000000000|", 5),
-            ],
-        ),
-        ("4", SEQUENCE_RESET, "52", &[("", 1), ("52=|", 4)]),
-        (
-            "4",
-            SEQUENCE_RESET,
-            "36",
-            &[
-                ("", 1),
-                ("36=|", 4),
-                ("36=x|", 6),
-                ("36=2|", 5),
-                ("36=1000000000|", 5),
-            ],
-        ),
-        (
-            "4",
-            SEQUENCE_RESET,
-            "123",
-            &[("", 5), ("123=|", 4), ("123=N|", 5), ("123=YY|", 5)],
-        ),
-        ("D", ORDER, "52", &[("", 1), ("52=|", 4)]),
-        ("D", ORDER, "11", &[("", 1), ("11=|", 4)]),
-        (
-            "D",
-            ORDER,
-            "21",
-            &[("", 1), ("21=|", 4), ("21=4|", 5), ("21=11|", 5)],
-        ),
-        ("D", ORDER, "55", &[("", 1), ("55=|", 4)]),
-        ("D", ORDER, "54", &[("", 1), ("54=|", 4), ("54=3|", 5)]),
-        ("D", ORDER, "60", &[("", 1), ("60=|", 4)]),
-        (
-            "D",
-            ORDER,
-            "38",
-            &[
-                ("", 1),
-                ("38=|", 4),
-                ("38=x|", 6),
-                ("38=5.1|", 6),
-                ("38=1000000000|", 5),
-            ],
-        ),
-        ("D", ORDER, "40", &[("", 1), ("40=|", 4), ("40=1|", 5)]),
-        (
-            "D",
-            ORDER,
-            "44",
-            &[
-                ("", 1),
-                ("44=|", 4),
-                ("44=1.2.3|", 6),
-                ("44=.|", 6),
-                ("44=12.345|", 5),
-                ("44=10000000.01|", 5),
-            ],
-        ),
-        (
-            "D",
-            ORDER,
-            "59",
-            &[("59=|", 4), ("59=1|", 5), ("59=33|", 5)],
-        ),
-        ("F", CANCEL, "41", &[("", 1), ("41=|", 4)]),
-        ("F", CANCEL, "54", &[("", 1), ("54=|", 4), ("54=0|", 5)]),
-        ("F", CANCEL, "60", &[("", 1), ("60=|", 4)]),
+    let rows: [(&str, &str, &str, u8); 70] = [
+        ("0", "52", "", 1),
+        ("0", "52", "52=|", 4),
+        ("3", "52", "", 1),
+        ("3", "52", "52=|", 4),
+        ("1", "52", "", 1),
+        ("1", "52", "52=|", 4),
+        ("1", "112", "", 1),
+        ("1", "112", "112=|", 4),
+        ("2", "52", "", 1),
+        ("2", "52", "52=|", 4),
+        ("2", "7", "", 1),
+        ("2", "7", "7=|", 4),
+        ("2", "7", "7=x|", 6),
+        ("2", "7", "7=0|", 5),
+        ("2", "7", "7=1000000000|", 5),
+        ("2", "16", "", 1),
+        ("2", "16", "16=|", 4),
+        ("2", "16", "16=-1|", 6),
+        ("2", "16", "16=1|", 5),
+        ("2", "16", "16=1000000000|", 5),
+        ("4", "52", "", 1),
+        ("4", "52", "52=|", 4),
+        ("4", "36", "", 1),
+        ("4", "36", "36=|", 4),
+        ("4", "36", "36=x|", 6),
+        ("4", "36", "36=2|", 5),
+        ("4", "36", "36=1000000000|", 5),
+        ("4", "123", "", 5),
+        ("4", "123", "123=|", 4),
+        ("4", "123", "123=N|", 5),
+        ("4", "123", "123=YY|", 5),
+        ("D", "52", "", 1),
+        ("D", "52", "52=|", 4),
+        ("D", "11", "", 1),
+        ("D", "11", "11=|", 4),
+        ("D", "21", "", 1),
+        ("D", "21", "21=|", 4),
+        ("D", "21", "21=4|", 5),
+        ("D", "21", "21=11|", 5),
+        ("D", "55", "", 1),
+        ("D", "55", "55=|", 4),
+        ("D", "54", "", 1),
+        ("D", "54", "54=|", 4),
+        ("D", "54", "54=3|", 5),
+        ("D", "60", "", 1),
+        ("D", "60", "60=|", 4),
+        ("D", "38", "", 1),
+        ("D", "38", "38=|", 4),
+        ("D", "38", "38=x|", 6),
+        ("D", "38", "38=5.1|", 6),
+        ("D", "38", "38=1000000000|", 5),
+        ("D", "40", "", 1),
+        ("D", "40", "40=|", 4),
+        ("D", "40", "40=1|", 5),
+        ("D", "44", "", 1),
+        ("D", "44", "44=|", 4),
+        ("D", "44", "44=1.2.3|", 6),
+        ("D", "44", "44=.|", 6),
+        ("D", "44", "44=12.345|", 5),
+        ("D", "44", "44=10000000.01|", 5),
+        ("D", "59", "59=|", 4),
+        ("D", "59", "59=1|", 5),
+        ("D", "59", "59=33|", 5),
+        ("F", "41", "", 1),
+        ("F", "41", "41=|", 4),
+        ("F", "54", "", 1),
+        ("F", "54", "54=|", 4),
+        ("F", "54", "54=0|", 5),
+        ("F", "60", "", 1),
+        ("F", "60", "60=|", 4),
     ];
-    for (kind, fields, tag, faults) in rows {
-        for (text, reason) in faults {
-            let body = changed(rt.alloc(), kind, fields, tag, text)?;
-            let got = second(rt.alloc(), body.as_str())?;
-            assert_eq!(rt; got, Some(Verdict::Event(reject(2, *reason))), "{body}");
-        }
+    for (kind, tag, text, reason) in rows {
+        let body = changed(rt.alloc(), kind, fields_of(kind), tag, text)?;
+        let got = second(rt.alloc(), body.as_str())?;
+        assert_eq!(rt; got, Some(Verdict::Event(reject(2, reason))), "{body}");
     }
-    let ids: [(&str, &[(&str, &str)], &str); 6] = [
-        ("1", TEST_REQUEST, "112"),
-        ("D", ORDER, "11"),
-        ("D", ORDER, "55"),
-        ("F", CANCEL, "41"),
-        ("F", CANCEL, "11"),
-        ("F", CANCEL, "55"),
-    ];
-    for (kind, fields, tag) in ids {
+    for (kind, tag) in [
+        ("1", "112"),
+        ("D", "11"),
+        ("D", "55"),
+        ("F", "41"),
+        ("F", "11"),
+        ("F", "55"),
+    ] {
         let field = format!(in rt.alloc(); "{tag}={long}|")?;
-        let body = changed(rt.alloc(), kind, fields, tag, field.as_str())?;
+        let body = changed(rt.alloc(), kind, fields_of(kind), tag, field.as_str())?;
         let got = second(rt.alloc(), body.as_str())?;
         assert_eq!(rt; got, Some(Verdict::Event(reject(2, 5))), "{body}");
     }
@@ -455,79 +440,54 @@ fn each_reason_of_each_kind(rt: HostRuntime) -> Result<(), Fail> {
     Ok(())
 }
 
-#[test]
-fn each_kind_says_its_event(rt: HostRuntime) -> Result<(), Fail> {
-    let text = b"12345678901234567890123456789012";
-    let ticket = Ticket {
-        id: id(b"a"),
+fn sale(text: &[u8], immediate: bool) -> Verdict {
+    Verdict::Event(Event::New(Ticket {
+        id: id(text),
         symbol: id(b"H6"),
         side: Side::Sell,
         quantity: 5,
         price: 10_000,
-        immediate: false,
+        immediate,
+    }))
+}
+
+#[test]
+fn each_kind_says_its_event(rt: HostRuntime) -> Result<(), Fail> {
+    let test_reply = Event::TestReply { text: id(b"T") };
+    let cancel = Event::Cancel {
+        id: id(b"b"),
+        original: id(b"a"),
     };
-    let immediate = Ticket {
-        immediate: true,
-        ..ticket
-    };
-    let named = Ticket {
-        id: id(text),
-        ..ticket
-    };
-    let rows: [(&str, &[(&str, &str)], &str, &str, Verdict); 11] = [
-        ("0", HEARTBEAT, "", "", Verdict::Nothing),
-        ("3", HEARTBEAT, "", "", Verdict::Nothing),
-        (
-            "1",
-            TEST_REQUEST,
-            "",
-            "",
-            Verdict::Event(Event::TestReply { text: id(b"T") }),
-        ),
+    let rows: [(&str, &str, &str, Verdict); 11] = [
+        ("0", "", "", Verdict::Nothing),
+        ("3", "", "", Verdict::Nothing),
+        ("1", "", "", Verdict::Event(test_reply)),
         (
             "2",
-            RESEND_REQUEST,
             "",
             "",
             Verdict::Event(Event::Resend { first: 2, last: 0 }),
         ),
         (
             "2",
-            RESEND_REQUEST,
             "16",
             "16=2|",
             Verdict::Event(Event::Resend { first: 2, last: 2 }),
         ),
-        ("4", SEQUENCE_RESET, "", "", Verdict::Nothing),
-        ("D", ORDER, "", "", Verdict::Event(Event::New(ticket))),
-        ("D", ORDER, "59", "", Verdict::Event(Event::New(ticket))),
+        ("4", "", "", Verdict::Nothing),
+        ("D", "", "", sale(b"a", false)),
+        ("D", "59", "", sale(b"a", false)),
+        ("D", "59", "59=3|", sale(b"a", true)),
         (
             "D",
-            ORDER,
-            "59",
-            "59=3|",
-            Verdict::Event(Event::New(immediate)),
-        ),
-        (
-            "D",
-            ORDER,
             "11",
             "11=12345678901234567890123456789012|",
-            Verdict::Event(Event::New(named)),
+            sale(b"12345678901234567890123456789012", false),
         ),
-        (
-            "F",
-            CANCEL,
-            "",
-            "",
-            Verdict::Event(Event::Cancel {
-                id: id(b"b"),
-                original: id(b"a"),
-            }),
-        ),
+        ("F", "", "", Verdict::Event(cancel)),
     ];
-    for (kind, fields, tag, replacement, want) in rows {
-        let body = changed(rt.alloc(), kind, fields, tag, replacement)?;
+    for (kind, tag, text, want) in rows {
+        let body = changed(rt.alloc(), kind, fields_of(kind), tag, text)?;
         let got = second(rt.alloc(), body.as_str())?;
         assert_eq!(rt; got, Some(want), "{body}");
     }
