@@ -28,7 +28,7 @@ use Rattle.fix_session.specs.Steps.{new_session, running, closed, verdict_of, cl
 use Rattle.fix_session.proofs.Given.{Holds, IsGiven, FitsMeaning, meaning_holds}
 use Rattle.fix_session.proofs.Judged.{cons_two}
 
-abbrev May : {A : Type 0} → (A → Type 0) → Option A → Type 0
+abbrev pub May : {A : Type 0} → (A → Type 0) → Option A → Type 0
 May P None = Unit {0}
 May P (Some x) = P x
 
@@ -38,15 +38,15 @@ chained P Q (Some x) f h g = g x h
 
 -- ---- the view of a frame
 
-abbrev FitsLogon : Logon → Type 0
+abbrev pub FitsLogon : Logon → Type 0
 FitsLogon l = FitsEvent (logon_event l)
 
 -- what a session sees of a message is in range
-record IsFair (m : MessageView) : Type 0 where
-  number : IsNumber m.number
-  next : 1 ≤ m.next
-  event : May IsGiven m.event
-  logon : May FitsLogon m.logon
+pub record IsFair (m : MessageView) : Type 0 where
+  pub number : IsNumber m.number
+  pub next : 1 ≤ m.next
+  pub event : May IsGiven m.event
+  pub logon : May FitsLogon m.logon
 
 id_holds : (text : List ℕ) → May (λ id. is_id id ≡ true) (id_of text)
 id_holds text = by_test (is_id text) refl
@@ -122,7 +122,7 @@ number_holds : (o : Option (List ℕ)) → May IsNumber (option_and_then (λ v. 
 number_holds None = tt
 number_holds (Some text) = at_least_one_holds (number_in text) (read_holds text)
 
-view_fair : (m : List ℕ) → May IsFair (view m)
+pub view_fair : (m : List ℕ) → May IsFair (view m)
 view_fair m = by_number (number m) (number_holds (get 34 m))
   where
     by_number : (o : Option ℕ) → May IsNumber o → May IsFair (option_map (view_with m) o)

@@ -1,6 +1,7 @@
 -- What one message makes of a session.
 use Rattle.std.specs.Prelude.{ℕ, Bool, true, false, not, nat_lt, List, [], ◌∷◌, Option, Some, None, if◌then◌else◌}
 use Rattle.std.specs.List.{cons_option}
+use Rattle.spread_rules.specs.Journal.{is_close}
 use Rattle.spread_rules.specs.declared.event.Event.{Event}
 use Rattle.spread_rules.specs.declared.event.Event.TheVariants as events
 use Rattle.fix_session.specs.declared.session.Logon.{Logon}
@@ -97,6 +98,11 @@ is_closed s = is_closed_at s.state
 abbrev pub event_in : Verdict → Option Event
 event_in verdicts.Nothing = None
 event_in (verdicts.Event e) = Some e
+
+-- it says a Close
+abbrev pub is_closing : Verdict → Bool
+is_closing verdicts.Nothing = false
+is_closing (verdicts.Event e) = is_close e
 
 -- what it says to frames
 abbrev pub events_said : Session → List (List ℕ) → List Event

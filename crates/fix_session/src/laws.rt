@@ -1,13 +1,14 @@
 //! Laws of sessions: what a session says message by message is what the places of the finished list say.
-ghost use Rattle.std.specs.Prelude.{◌≡◌, List, ℕ, [], ◌∷◌, ◌++◌, cond, true};
+ghost use Rattle.std.specs.Prelude.{◌≡◌, List, ℕ, [], ◌∷◌, ◌++◌, cond, true, false};
 ghost use Rattle.std.specs.List.{All, cons_option};
 ghost use Rattle.spread_rules.specs.declared.event.Event.{Event};
 ghost use Rattle.spread_rules.specs.declared.event.Event.TheVariants.{Close};
 ghost use Rattle.spread_rules.specs.Journal.{FitsEvent, is_in_order};
 ghost use Rattle.fix_session.specs.declared.session.Session.{Session};
+ghost use Rattle.fix_session.specs.declared.session.Verdict.TheVariants.{Nothing};
 ghost use Rattle.fix_wire.specs.Frames.{frames};
 ghost use Rattle.fix_session.specs.Streams.{stays_open_of, events_of, whole_of, events, whole};
-ghost use Rattle.fix_session.specs.Steps.{new_session, judge, event_in, events_said, session_after, events_at_end};
+ghost use Rattle.fix_session.specs.Steps.{new_session, judge, ended, is_closed, is_closing, event_in, events_said, session_after, events_at_end};
 
 /// A new session that judges the messages of a list one after another says the events of the list's places. Where it
 /// then ends, it says all of them: Close 5 too, if no place closes. So it is for the messages of a stream of bytes.
@@ -29,6 +30,13 @@ pub fn said_after()
 /// After messages a session has a Close 5 to say at its end exactly where no place of them closes.
 pub fn closed_after()
     ensures { (fs : List (List ℕ)) → events_at_end (session_after new_session fs) ≡ cond (stays_open_of fs) (Close 5 ∷ []) [] }
+{}
+
+/// A session that is open closes exactly with a Close, and once closed it says nothing and stays as it is.
+pub fn closes_once()
+    ensures open { (s : Session) (f : List ℕ) → is_closed s ≡ false → is_closed (judge s f).1 ≡ is_closing (judge s f).0 }
+    ensures closed { (s : Session) (f : List ℕ) → is_closed s ≡ true → judge s f ≡ (Nothing, s) }
+    ensures ended { (s : Session) → is_closed (ended s).1 ≡ true }
 {}
 
 /// The events of a stream are in the ranges of a journal's entries and in the order of a session's entries: a Logon or a

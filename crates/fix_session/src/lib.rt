@@ -4,5 +4,7 @@
 pub mod laws;
 mod session;
 mod table;
+#[cfg(test)]
+mod tests;
 
 pub use session::{Session, Verdict};

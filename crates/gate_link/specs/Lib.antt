@@ -1,0 +1,9 @@
+pub mod Rows
+pub mod Owed
+pub mod Gates
+pub mod Lanes
+pub mod Links
+pub mod Turns
+pub mod Opening
+pub mod Schedules
+pub mod Counts

@@ -1,0 +1,33 @@
+// Looks beside all gateways.
+ghost use Rattle.std.specs.Prelude.{◌≡◌, ◌≤◌, length, IfSome, IfNone};
+ghost use Rattle.gate_link.specs.Lanes.{AllLooked, ArePairs};
+ghost use Rattle.gate_link.specs.Links.{AllClosed, IsFirstOpen};
+
+use crate::gateway::Gateway;
+use crate::lane::SessionLane;
+use std::alloc::Allocator;
+
+/// Looks beside each gateway in turn.
+pub(crate) fn look_all<A: Allocator>(lanes: &mut [SessionLane<A>], gateways: &mut [Gateway<A>])
+    requires { ArePairs lanes.old gateways.old }
+    ensures { AllLooked lanes.old gateways.old lanes.new gateways.new }
+{
+    for s in 0..lanes.len() {
+        let lane = &mut lanes[s];
+        lane.look(&mut gateways[s]);
+    }
+}
+
+/// The first gateway that is not closed.
+pub(crate) fn first_open<A: Allocator>(gateways: &[Gateway<A>]) -> Option<u8>
+    requires { length gateways.now ≤ 16 }
+    ensures some { IfSome result (λ s. IsFirstOpen s gateways.now) }
+    ensures none { IfNone result (AllClosed gateways.now) }
+{
+    for (s, gateway) in gateways.iter().enumerate() {
+        if !gateway.is_closed() {
+            return Some(s as u8);
+        }
+    }
+    None
+}
