@@ -41,6 +41,7 @@ mod desk;
 mod entries;
 mod entry;
 mod fault;
+pub mod laws;
 pub mod line;
 mod messages;
 mod reports;
