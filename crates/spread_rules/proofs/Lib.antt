@@ -8,3 +8,10 @@ pub mod Quieting
 pub mod Ending
 pub mod Unique
 pub mod Totals
+pub mod Cuts
+pub mod Numbers
+pub mod Lines
+pub mod Symbols
+pub mod Names
+pub mod MonthLines
+pub mod Drafts

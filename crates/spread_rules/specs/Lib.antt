@@ -8,3 +8,7 @@ pub mod Meaning
 pub mod Legs
 pub mod Quiet
 pub mod Journal
+pub mod Cut
+pub mod Ends
+pub mod RulebookText
+pub mod DraftFields

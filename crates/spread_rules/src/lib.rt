@@ -10,4 +10,13 @@ pub mod memory;
 pub mod order;
 pub mod outcome;
 pub mod plain;
+pub mod rule_fault;
 pub mod rulebook;
+mod rulebook_text;
+pub mod sink;
+pub mod source;
+pub mod test_ends;
+#[cfg(test)]
+mod tests;
+pub mod text;
+pub mod whole;

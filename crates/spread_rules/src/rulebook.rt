@@ -1,8 +1,15 @@
 //! The rulebook of a day.
-ghost use Rattle.std.specs.Prelude.{◌≡◌, ◌<◌, ◌≤◌, ℕ, length, get_or, [], pos};
-ghost use Rattle.spread_rules.specs.Rulebook.{month_count, names_of, references_of};
+ghost use Rattle.std.specs.Prelude.{◌≡◌, ◌≢◌, ◌<◌, ◌≤◌, ℕ, length, get_or, [], pos, IfSome, IfNone, Ok, Err, MatchResult};
+ghost use Rattle.spread_rules.specs.Rulebook.{month_count, names_of, references_of, IsListed, symbol_of, find_symbol};
+ghost use Rattle.spread_rules.specs.RulebookText.{ReadsRulebook};
+ghost use Rattle.spread_rules.specs.declared.order.Instrument.{Instrument};
+ghost use Rattle.spread_rules.specs.declared.rule_fault.RuleFault.{RuleFault};
 
 use crate::id::Id;
+use crate::order::Instrument;
+use crate::rule_fault::RuleFault;
+use crate::rulebook_text::{MonthList, read_lines};
+use crate::text::cut_at;
 use std::marker::Model;
 
 /// A contract month.
@@ -18,8 +25,7 @@ pub struct Month {
 #[derive(Drop)]
 pub struct Rulebook {
     tick: i64,
-    count: usize,
-    months: [Month; 12],
+    list: MonthList,
 }
 
 impl Model for Rulebook {
@@ -36,13 +42,35 @@ impl Model for Rulebook {
 }
 
 impl Rulebook {
+    /// The rulebook of this text, or the first fault from the top. Lines count from 1, the empty ones and comments too.
+    pub fn read(text: &[u8]) -> Result<Rulebook, RuleFault>
+        ensures reads { MatchResult result (λ rules. ReadsRulebook text.now (Ok rules)) (λ f. ReadsRulebook text.now (Err f)) }
+        ensures takes_no_memory { result ≢ Err RuleFault.NoMemory }
+    {
+        let draft = match read_lines(text) {
+            Ok(draft) => draft,
+            Err(fault) => return Err(fault),
+        };
+        let tick = match draft.tick {
+            Some(tick) => tick,
+            None => return Err(RuleFault::NoMonth),
+        };
+        if draft.list.count == 0 {
+            return Err(RuleFault::NoMonth);
+        }
+        Ok(Rulebook {
+            tick,
+            list: draft.list,
+        })
+    }
+
     /// How many months there are, 1 to 12.
     pub fn months(&self) -> u8
         ensures count { result ≡ month_count self.now }
         ensures some { 1 ≤ result }
         ensures most { result ≤ 12 }
     {
-        self.count as u8
+        self.list.count as u8
     }
 
     /// The month's name, 1 to 15 letters and digits.
@@ -50,7 +78,7 @@ impl Rulebook {
         requires { month < month_count self.now }
         ensures { result.now ≡ get_or (names_of self.now) month [] }
     {
-        self.months[month as usize].name.bytes()
+        self.list.slots[month as usize].name.bytes()
     }
 
     /// The month's name as an id.
@@ -67,7 +95,58 @@ impl Rulebook {
         requires { month < month_count self.now }
         ensures { result ≡ get_or (references_of self.now) month (pos 0) }
     {
-        self.months[month as usize].reference
+        self.list.slots[month as usize].reference
+    }
+
+    /// The number of the month with this name.
+    fn month_named(&self, name: &[u8]) -> Option<u8>
+        ensures found { IfSome result (λ m. (m < month_count self.now) × (get_or (names_of self.now) m [] ≡ name.now)) }
+        ensures none { IfNone result ((m : ℕ) → m < month_count self.now → get_or (names_of self.now) m [] ≢ name.now) }
+    {
+        for month in 0..self.months() {
+            if self.name(month) == name {
+                return Some(month);
+            }
+        }
+        None
+    }
+
+    /// The spread with this symbol.
+    fn spread_named(&self, symbol: &[u8]) -> Option<Instrument>
+        ensures found { IfSome result (λ i. IsListed self.now i × (symbol_of self.now i ≡ symbol.now)) }
+        ensures none { IfNone result ((m f : ℕ) → IsListed self.now (Instrument.Spread m f) → symbol_of self.now (Instrument.Spread m f) ≢ symbol.now) }
+    {
+        let _ = &self.tick;
+        let (before, behind) = match cut_at(symbol, b'-') {
+            Some(cut) => cut,
+            None => return None,
+        };
+        let near = match self.month_named(before) {
+            Some(month) => month,
+            None => return None,
+        };
+        let far = match self.month_named(behind) {
+            Some(month) => month,
+            None => return None,
+        };
+        if near < far {
+            Some(Instrument::Spread(near, far))
+        } else {
+            None
+        }
+    }
+
+    /// The instrument with this symbol: a month's name, or two with a dash between, the near one first.
+    pub fn find(&self, symbol: &[u8]) -> Option<Instrument>
+        ensures found { IfSome result (λ i. IsListed self.now i × (symbol_of self.now i ≡ symbol.now)) }
+        ensures none { IfNone result ((i : Instrument) → IsListed self.now i → symbol_of self.now i ≢ symbol.now) }
+        ensures value { result ≡ find_symbol self.now symbol.now }
+    {
+        let _ = &self.tick;
+        match self.month_named(symbol) {
+            Some(month) => Some(Instrument::Outright(month)),
+            None => self.spread_named(symbol),
+        }
     }
 
     /// The tick, in hundredths, 1 to 1,000,000.
