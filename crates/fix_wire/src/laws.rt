@@ -1,6 +1,6 @@
 //! Laws over the definitions alone.
-ghost use Rattle.std.specs.Prelude.{◌≡◌, List, ℕ, ◌∷◌, ◌++◌, Some};
-ghost use Rattle.fix_wire.specs.Frames.{IsFrame, frames};
+ghost use Rattle.std.specs.Prelude.{◌≡◌, List, ℕ, [], ◌∷◌, ◌++◌, Some, None, true, false, take, drop};
+ghost use Rattle.fix_wire.specs.Frames.{IsFrame, frame_at, may_begin, frames};
 ghost use Rattle.fix_wire.specs.Messages.{fields};
 ghost use Rattle.fix_wire.specs.Layout.{FitsMessage, all_fields, message_text};
 ghost use Rattle.fix_wire.specs.declared.writer.Head.{Head};
@@ -13,6 +13,14 @@ pub fn scan()
     ensures kept { (held more : List ℕ) → frames (from_first_start held ++ more) ≡ frames (held ++ more) }
     ensures passed { (held more frame : List ℕ) → first_frame (frames held) ≡ Some frame →
         frames (held ++ more) ≡ frame ∷ frames (after_first_frame held ++ more) }
+{}
+
+/// The frames of an input, in words: where a lawful frame stands at its front, that one, then those after it; else, where the
+/// input may still begin one, none; else those from the next place on.
+pub fn frame_by_frame()
+    ensures frame { (input : List ℕ) (n : ℕ) → frame_at input ≡ Some n → frames input ≡ take n input ∷ frames (drop n input) }
+    ensures unfinished { (input : List ℕ) → frame_at input ≡ None → may_begin input ≡ true → frames input ≡ [] }
+    ensures garbled { (b : ℕ) (rest : List ℕ) → frame_at (b ∷ rest) ≡ None → may_begin (b ∷ rest) ≡ false → frames (b ∷ rest) ≡ frames rest }
 {}
 
 /// A written message is a lawful frame with exactly its fields, and before any further bytes it is read first, alone and
