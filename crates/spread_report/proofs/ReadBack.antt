@@ -51,7 +51,7 @@ module _ (stamp : List ℕ) (stamp_id : is_id stamp ≡ true) where
   written ids kind n d fs i k small fit few =
       let short : IsShortHead (head_of stamp ids kind n d) = record { number = small; sender = id_short ids.host i.1; target = id_short ids.client i.0; stamp = id_short stamp stamp_id } in
       let fits : FitsMessage (head_of stamp ids kind n d) fs =
-      ((k, small, id_plain ids.host i.1, id_plain ids.client i.0, id_plain stamp stamp_id), fields_fit fs fit, body_short (head_of stamp ids kind n d) fs short fit few) in
+      ((k, (small, id_plain ids.host i.1, id_plain ids.client i.0, id_plain stamp stamp_id)), fields_fit fs fit, body_short (head_of stamp ids kind n d) fs short fit few) in
       let lawful : IsFrame (message_text (head_of stamp ids kind n d) fs) = written_frame (head_of stamp ids kind n d) fs fits in
       record {
         read = λ more. read_first (message_text (head_of stamp ids kind n d) fs) more lawful;

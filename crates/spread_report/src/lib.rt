@@ -51,3 +51,6 @@ mod symbol;
 
 pub use desk::Desk;
 pub use fault::DeskFault;
+
+#[cfg(test)]
+mod tests;

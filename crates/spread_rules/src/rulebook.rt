@@ -1,6 +1,6 @@
 //! The rulebook of a day.
 ghost use Rattle.std.specs.Prelude.{◌≡◌, ◌≢◌, ◌<◌, ◌≤◌, ℕ, length, get_or, [], pos, IfSome, IfNone, Ok, Err, MatchResult};
-ghost use Rattle.spread_rules.specs.Rulebook.{month_count, names_of, references_of, IsListed, symbol_of, find_symbol};
+ghost use Rattle.spread_rules.specs.Rulebook.{month_count, names_of, references_of, IsListed, symbol_of, find_symbol, IsRules};
 ghost use Rattle.spread_rules.specs.RulebookText.{ReadsRulebook};
 ghost use Rattle.spread_rules.specs.declared.order.Instrument.{Instrument};
 ghost use Rattle.spread_rules.specs.declared.rule_fault.RuleFault.{RuleFault};
@@ -86,8 +86,10 @@ impl Rulebook {
         requires { month < month_count self.now }
         ensures value { result ≡ get_or (names_of self.now) month [] }
         ensures most { length result ≤ 15 }
+        // What a rulebook keeps at all times.
+        ensures lawful { IsRules self.now }
     {
-        self.months[month as usize].name
+        self.list.slots[month as usize].name
     }
 
     /// The month's reference price, in hundredths.
