@@ -3,3 +3,7 @@ pub mod Steps
 pub mod Fills
 pub mod Cuts
 pub mod Symbols
+pub mod Bodies
+pub mod InRange
+pub mod ReadBack
+pub mod Running

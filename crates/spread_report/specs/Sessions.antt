@@ -8,9 +8,16 @@ use Rattle.spread_rules.specs.Rulebook.{Rules}
 use Rattle.spread_report.specs.EntryMessages.{AddressedMessage}
 use Rattle.spread_report.specs.Outgoing.{WorkedEntry, entry_spends, bytes_to, line_after, spends, line_before_logon}
 
+-- the texts of the sessions' lists
+abbrev pub texts_of : {A : Type 0} → List (Vec ℕ A) → List (List ℕ)
+texts_of {A} lists = map (λ (v : Vec ℕ A). v.items) lists
+
+abbrev pub text_at : List (List ℕ) → ℕ → List ℕ
+text_at texts s = slice_index_or texts s []
+
 -- the bytes of session s
 abbrev pub bytes_of : {A : Type 0} → List (Vec ℕ A) → ℕ → List ℕ
-bytes_of {A} lists s = slice_index_or (map (λ (v : Vec ℕ A). v.items) lists) s []
+bytes_of lists s = text_at (texts_of lists) s
 
 -- the line of session s
 abbrev pub line_at : List SessionLine → ℕ → SessionLine

@@ -41,6 +41,7 @@ mod desk;
 mod entries;
 mod entry;
 mod fault;
+pub mod laws;
 pub mod line;
 mod messages;
 mod reports;
@@ -50,3 +51,6 @@ mod symbol;
 
 pub use desk::Desk;
 pub use fault::DeskFault;
+
+#[cfg(test)]
+mod tests;
