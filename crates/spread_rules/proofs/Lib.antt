@@ -12,3 +12,6 @@ pub mod Cuts
 pub mod Numbers
 pub mod Lines
 pub mod Symbols
+pub mod Names
+pub mod MonthLines
+pub mod Drafts

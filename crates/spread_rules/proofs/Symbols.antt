@@ -13,6 +13,7 @@ use Rattle.spread_rules.specs.declared.order.Instrument.{Instrument}
 use Rattle.spread_rules.specs.declared.order.Instrument.TheVariants.{Outright, Spread}
 use Rattle.spread_rules.specs.declared.rulebook.Month.{Month}
 use Rattle.spread_rules.specs.Rulebook.{Rules, IsRules, IsMonth, is_name_byte, month_count, names_of, outrights_below, spreads_to, spreads_below, instruments_of, IsListed, symbol_of, find_symbol}
+use Rattle.spread_rules.proofs.Names.{Lacks-name}
 use Rattle.spread_rules.proofs.Members.{not_in_nil, in_head, in_tail, in_cons_cases}
 use Rattle.spread_rules.proofs.Cuts.{cut_once, not_lacking}
 
@@ -108,19 +109,11 @@ from_instruments rules i c =
 
 -- ---- symbols
 
-pub Lacks-dash : (name : List ℕ) → list_all is_name_byte name ≡ true → Lacks 45 name
-Lacks-dash [] t = tt
-Lacks-dash (b ∷ bs) t = by (is_name_byte b) (Lacks-dash bs) refl t
-  where
-    by : (r : Bool) → (list_all is_name_byte bs ≡ true → Lacks 45 bs) → is_name_byte b ≡ r → (r && list_all is_name_byte bs) ≡ true → Lacks 45 (b ∷ bs)
-    by true rest e h = ((λ (same : b ≡ 45). absurd (true≢false (sym e ∙ ap is_name_byte same))), rest h)
-    by false rest e h = absurd (false≢true h)
-
 name_lacks : (rules : Rules) → IsRules rules → (m : ℕ) → m < month_count rules → Lacks 45 (get_or (names_of rules) m [])
 name_lacks rules r m lt =
     let d : Month = record { name = []; reference = pos 0 } in
     let month = All-get_or (IsMonth rules.tick) rules.months m d lt r.months in
-    Lacks-dash (get_or (names_of rules) m []) (ap (list_all is_name_byte) (get_or-map (λ (x : Month). x.name) rules.months m d [] lt) ∙ month.letters)
+    Lacks-name 45 refl (get_or (names_of rules) m []) (ap (list_all is_name_byte) (get_or-map (λ (x : Month). x.name) rules.months m d [] lt) ∙ month.letters)
 
 pub symbol_once : (rules : Rules) → IsRules rules → (i j : Instrument) → IsListed rules i → IsListed rules j → symbol_of rules i ≡ symbol_of rules j → i ≡ j
 symbol_once rules r (Outright m) (Outright n) a b e = ap Outright (r.names m n a b e)

@@ -10,3 +10,5 @@ pub mod Quiet
 pub mod Journal
 pub mod Cut
 pub mod Ends
+pub mod RulebookText
+pub mod DraftFields
