@@ -4,4 +4,6 @@
 pub mod day_lines;
 pub mod fault;
 pub mod output;
+#[cfg(test)]
+mod tests;
 pub mod totals;
