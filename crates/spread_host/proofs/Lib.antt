@@ -6,3 +6,4 @@ pub mod Feeding
 pub mod Inlets
 pub mod MonthLines
 pub mod EntryByEntry
+pub mod SessionLines

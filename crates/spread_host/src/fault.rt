@@ -1,7 +1,9 @@
 //! Why a run ended without its day.
 ghost use Rattle.std.specs.Prelude.{◌≡◌};
-ghost use Rattle.spread_host.specs.Faults.{number_of};
+ghost use Rattle.spread_host.specs.Faults.{number_of, of_lines};
 
+use crate::day_lines::LinesFault;
+use spread_rules::rule_fault::RuleFault;
 use thiserror::Error;
 
 /// Why a run ended without its day.
@@ -10,6 +12,9 @@ pub enum HostFault {
     /// The first bad day line, counted from 1.
     #[error("day line {0}")]
     DayLine(u64),
+    /// The rulebook was refused.
+    #[error("rules: {0}")]
+    Rule(RuleFault),
     /// The thread of this session could not be started.
     #[error("thread {0}")]
     Spawn(u8),
@@ -32,18 +37,31 @@ pub enum HostFault {
 }
 
 impl HostFault {
-    /// The fault's number.
+    /// Its number: 1, 2, and 4 to 9.
     pub fn number(&self) -> u8
         ensures { result ≡ number_of self.now }
     {
         match self {
             HostFault::DayLine(_) => 1,
+            HostFault::Rule(_) => 2,
             HostFault::Spawn(_) => 4,
             HostFault::JournalFull => 5,
             HostFault::NoMemory(_) => 6,
             HostFault::Read => 7,
             HostFault::Write => 8,
             HostFault::NumbersSpent(_) => 9,
+        }
+    }
+}
+
+/// Want of memory for day lines comes before any entry is begun.
+impl From<LinesFault> for HostFault {
+    ghost from_gives = { λ lines f. f ≡ of_lines lines };
+
+    fn from(lines: LinesFault) -> HostFault {
+        match lines {
+            LinesFault::BadLine(line) => HostFault::DayLine(line),
+            LinesFault::NoMemory => HostFault::NoMemory(0),
         }
     }
 }

@@ -6,5 +6,7 @@ pub mod fault;
 pub mod lanes;
 pub mod laws;
 pub mod output;
+#[cfg(test)]
+mod tests;
 pub mod totals;
 pub mod working;

@@ -1,10 +1,10 @@
 //! The lines of a day's text.
-ghost use Rattle.std.specs.Prelude.{◌≡◌, ◌<◌, ◌++◌, ◌∷◌, ◌⊎◌, List, All, map, length, get_or, OnOk, IfOk, IfErr, IsErrOf, true, false};
+ghost use Rattle.std.specs.Prelude.{◌≡◌, ◌<◌, ◌≤◌, ◌++◌, ◌∷◌, ◌⊎◌, List, All, map, length, get_or, OnOk, IfOk, IfErr, IsErrOf, true, false};
 ghost use Rattle.std.specs.Io.KnownBytes.{Appends};
 ghost use Rattle.spread_rules.specs.Rulebook.{IsListed, symbol_of};
 ghost use Rattle.spread_rules.specs.Ends.{AppendsPrefix};
 ghost use Rattle.spread_host.specs.Totals.{IsSummable};
-ghost use Rattle.spread_host.specs.Output.{fill_line, fill_lines, places_text, trade_text, legs_text, side_digit, lots_text, money_text, totals_line, month_lines, fills_text, shown, outgoing_line, outgoing_lines};
+ghost use Rattle.spread_host.specs.Output.{fill_line, fill_lines, places_text, trade_text, legs_text, side_digit, lots_text, money_text, totals_line, month_lines, fills_text, shown, outgoing_line, outgoing_lines, outgoing_lines_from};
 
 use crate::fault::HostFault;
 use crate::totals::{MonthTotals, month_totals};
@@ -229,6 +229,20 @@ pub fn put_outgoing<A: Allocator>(
     while let Some((message, later)) = first_message(rest) {
         put_message(out, session, message.bytes())?;
         rest = later;
+    }
+    Ok(())
+}
+
+/// A line for each message of these lists, session 0 first.
+pub fn put_sessions<A: Allocator, B: Allocator>(
+    out: &mut Vec<u8, A>,
+    lists: &[Vec<u8, B>],
+) -> Result<(), AllocError>
+    requires { length lists.now ≤ 16 }
+    ensures { OnOk result (out.new.items ≡ out.old.items ++ outgoing_lines_from 0 (map (λ v. v.items) lists.now)) }
+{
+    for (session, bytes) in lists.iter().enumerate() {
+        put_outgoing(out, session as u8, bytes)?;
     }
     Ok(())
 }
