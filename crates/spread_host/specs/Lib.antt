@@ -5,4 +5,5 @@ pub mod DayLines
 pub mod Output
 pub mod Sums
 pub mod Totals
+pub mod Days
 pub mod Working
