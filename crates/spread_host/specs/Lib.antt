@@ -2,6 +2,7 @@ pub mod DayText
 pub mod Faults
 pub mod LinesRead
 pub mod DayLines
+pub mod JournalParts
 pub mod Output
 pub mod Sums
 pub mod Totals

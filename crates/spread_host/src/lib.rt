@@ -2,6 +2,7 @@
 #![tactic(auto)]
 
 pub mod day;
+pub mod day_journal;
 pub mod day_lines;
 pub mod fault;
 pub mod lanes;
