@@ -6,6 +6,8 @@ use Rattle.spread_rules.specs.declared.fill.Fill.{Fill}
 use Rattle.spread_rules.specs.Rulebook.{Rules, IsListed}
 use Rattle.spread_host.specs.DayText.{DayLine, day_lines_of}
 use Rattle.spread_host.specs.DayLines.{journal_of}
+use Rattle.spread_host.specs.JournalParts.{part_of}
+use Rattle.spread_rules.specs.Journal.{restricted}
 use Rattle.spread_host.specs.Output.{fill_lines, month_lines, outgoing_lines_from}
 use Rattle.spread_host.specs.Totals.{IsSummable}
 use Rattle.spread_rules.specs.Ends.{AppendsPrefix}
@@ -19,6 +21,12 @@ pub record IsJournalOf (input : List ℕ) (journal : List Entry) : Type 0 where
   pub lines : List DayLine
   pub said : day_lines_of input ≡ Ok lines
   pub journal_is : journal ≡ journal_of lines
+
+-- each session's part of the journal is what its whole stream says, and nothing where it had no line
+pub record HasParts (input : List ℕ) (journal : List Entry) : Type 0 where
+  pub lines : List DayLine
+  pub said : day_lines_of input ≡ Ok lines
+  pub part : (session : ℕ) → restricted session journal ≡ part_of session lines
 
 -- the lists' bytes, session by session
 abbrev pub texts_of : {A : Type 0} → List (Vec ℕ A) → List (List ℕ)

@@ -13,16 +13,15 @@ ghost use Rattle.spread_match.specs.Sound.{KeepsOrder};
 ghost use Rattle.spread_report.specs.Sessions.{bytes_of};
 ghost use Rattle.spread_host.specs.DayText.{byte_of, lines_said, day_lines_of};
 ghost use Rattle.spread_host.specs.DayLines.{journal_of};
-ghost use Rattle.spread_host.specs.Days.{IsJournalOf, IsReadingFault, IsReplayFault, IsPartOut, text_of_journal};
+ghost use Rattle.spread_host.specs.Days.{IsJournalOf, HasParts, IsReadingFault, IsReplayFault, IsPartOut, text_of_journal};
 ghost use Rattle.spread_host.specs.Working.{outgoing_bytes};
 ghost use Rattle.spread_host.specs.declared.fault.HostFault.{HostFault};
 
 use crate::day::{Day, day_of, write_day};
+use crate::day_journal::day_journal;
 use crate::day_lines::{LinesFault, put_field_ends, read_lines};
 use crate::fault::HostFault;
 use crate::lanes::journal_of_lines;
-use crate::day_journal::day_journal;
-use spread_match::laws::lawful;
 use spread_rules::event::Entry;
 use spread_rules::id::Id;
 use spread_rules::rulebook::Rulebook;
@@ -40,9 +39,11 @@ fn read_journal_of<A: Allocator + Copy>(
     text: &mut [u8],
 ) -> Result<Vec<Entry, A>, HostFault>
     ensures journal { IfOk result (λ journal. IsJournalOf text.old journal.items) }
-    ensures few { IfOk result (λ journal. length journal.items ≤ 1000000) }
+    ensures parts { IfOk result (λ journal. HasParts text.old journal.items) }
+    ensures lawful { IfOk result (λ journal. IsLawful journal.items) }
     ensures fault { IfErr result (IsReadingFault text.old) }
 {
+    day_journal();
     put_field_ends(text);
     let lines = match read_lines(alloc, text) {
         Ok(lines) => lines,
@@ -80,6 +81,7 @@ pub fn replay<S: Source, K: Sink, A: Allocator + Copy>(
 
     // The journal is that of the bytes read.
     ensures journal { IfOk result (λ day. IfSome (S.left source.old) (λ input. IsJournalOf input day.journal.items)) }
+    ensures parts { IfOk result (λ day. IfSome (S.left source.old) (λ input. HasParts input day.journal.items)) }
     ensures lawful { IfOk result (λ day. IsLawful day.journal.items) }
 
     // What the journal's entries came to.
@@ -107,8 +109,6 @@ pub fn replay<S: Source, K: Sink, A: Allocator + Copy>(
         Err(ReadFault::Read) => return Err(HostFault::Read),
         Err(ReadFault::NoMemory) => return Err(HostFault::NoMemory(0)),
     };
-    lawful();
-    day_journal();
     let journal = match read_journal_of(alloc, &mut text) {
         Ok(journal) => journal,
         Err(fault) => return Err(fault),
