@@ -12,5 +12,6 @@ pub mod Accounts
 pub mod Past
 pub mod Ready
 pub mod Most
+pub mod Renewed
 pub mod Entries
 pub mod Lawful
