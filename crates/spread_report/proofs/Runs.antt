@@ -1,5 +1,5 @@
 -- Messages, and more messages after them.
-use Rattle.std.proofs.Common.{◌≡◌, ◌≢◌, ℕ, ◌+◌, ◌<◌, ◌≤◌, ◌==◌, Bool, true, false, cond, List, [], ◌∷◌, ◌++◌, ◌||◌, length, get_or, take, refl, sym, ap, ◌∙◌, arith, append_assoc, append-nil, length-append, Ok, Err, Result}
+use Rattle.std.proofs.Common.{◌≡◌, ◌≢◌, ℕ, ◌+◌, ◌<◌, ◌≤◌, ◌==◌, Bool, true, false, cond, List, [], ◌∷◌, ◌++◌, ◌||◌, length, get_or, take, subst, refl, sym, ap, ◌∙◌, arith, append_assoc, append-nil, length-append, Ok, Err, Result}
 use Rattle.std.proofs.Math.Seq.{take-append_seam}
 use Rattle.std.proofs.lemmas.List.{take-append-le, take-take}
 use Rattle.std.specs.declared.vec.Vec.{Vec}
@@ -8,6 +8,8 @@ use Rattle.spread_report.specs.declared.fault.DeskFault.{DeskFault}
 use Rattle.spread_report.specs.declared.fault.DeskFault.TheVariants.{NoMemory, NumbersSpent}
 use Rattle.spread_report.specs.EntryMessages.{AddressedMessage, MessageContent}
 use Rattle.spread_report.specs.Outgoing.{bytes_to, line_after, spends, text_for, line_for, spent_for}
+use Rattle.spread_report.specs.Messages.{IsRow, as_message, texts_to}
+use Rattle.spread_report.proofs.FrameRows.{rows_both}
 use Rattle.spread_report.specs.Sessions.{bytes_of, line_at, Sent, OnlyAppended, NumbersRunOut, SendResult}
 
 pub line_after-append : (s : ℕ) (l : SessionLine) (xs ys : List AddressedMessage) → line_after s l (xs ++ ys) ≡ line_after s (line_after s l xs) ys
@@ -19,6 +21,18 @@ bytes_to-append stamp s l [] ys = refl
 bytes_to-append stamp s l (m ∷ ms) ys =
     ap (λ (t : List ℕ). text_for stamp s l m ++ t) (bytes_to-append stamp s (line_for s l m) ms ys)
     ∙ sym (append_assoc (text_for stamp s l m) (bytes_to stamp s (line_for s l m) ms) (bytes_to stamp s (line_after s (line_for s l m) ms) ys))
+
+pub texts_to-append : (stamp : List ℕ) (s : ℕ) (l : SessionLine) (xs ys : List AddressedMessage) → texts_to stamp s l (xs ++ ys) ≡ texts_to stamp s l xs ++ texts_to stamp s (line_after s l xs) ys
+texts_to-append stamp s l [] ys = refl
+texts_to-append stamp s l (m ∷ ms) ys =
+    ap (λ (t : List (List ℕ)). as_message (text_for stamp s l m) ++ t) (texts_to-append stamp s (line_for s l m) ms ys)
+    ∙ sym (append_assoc (as_message (text_for stamp s l m)) (texts_to stamp s (line_for s l m) ms) (texts_to stamp s (line_after s (line_for s l m) ms) ys))
+
+pub row-append : (stamp : List ℕ) (s : ℕ) (l k : SessionLine) (xs ys : List AddressedMessage) → k ≡ line_after s l xs
+    → IsRow (texts_to stamp s l xs) (bytes_to stamp s l xs) → IsRow (texts_to stamp s k ys) (bytes_to stamp s k ys) → IsRow (texts_to stamp s l (xs ++ ys)) (bytes_to stamp s l (xs ++ ys))
+row-append stamp s l k xs ys e p q =
+    let after : IsRow (texts_to stamp s (line_after s l xs) ys) (bytes_to stamp s (line_after s l xs) ys) = subst (λ (j : SessionLine). IsRow (texts_to stamp s j ys) (bytes_to stamp s j ys)) e q in
+    rw (texts_to-append stamp s l xs ys, bytes_to-append stamp s l xs ys) (rows_both (texts_to stamp s l xs) (texts_to stamp s (line_after s l xs) ys) (bytes_to stamp s l xs) (bytes_to stamp s (line_after s l xs) ys) p after)
 
 or_assoc : (a b d : Bool) → a || (b || d) ≡ (a || b) || d
 or_assoc true b d = refl
@@ -62,6 +76,7 @@ module _ {A : Type 0} (stamp : List ℕ) (a b d : List SessionLine) (x y z : Lis
     unspent = λ s below.
         spends-append s (line_at a s) ms ns
         ∙ or_none (spends s (line_at a s) ms) (spends s (line_after s (line_at a s) ms) ns) (p.unspent s below) (ap (λ (l : SessionLine). spends s l ns) (sym (p.line s below)) ∙ q.unspent s below);
+    row = λ s below. row-append stamp s (line_at a s) (line_at b s) ms ns (p.line s below) (p.row s below) (q.row s below);
   }
 
   -- these were sent, and then not all of those

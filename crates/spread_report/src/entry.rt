@@ -6,6 +6,7 @@ ghost use Rattle.spread_report.specs.EntryMessages.{messages_of};
 ghost use Rattle.std.specs.Prelude.{OnOk, OnErr, IsErrOf};
 ghost use Rattle.spread_report.specs.declared.fault.DeskFault.TheVariants.{NumbersSpent};
 ghost use Rattle.spread_report.specs.Sessions.{SendResult, KeepsBytes, RunsOut, bytes_of, line_at};
+ghost use Rattle.spread_report.specs.Messages.{IsRow, entry_texts};
 ghost use Rattle.spread_report.specs.Outgoing.{line_at_entry, entry_bytes, entry_line, entry_spends, worked_at};
 
 use crate::entries::{cancel_entry, new_entry};
@@ -92,6 +93,7 @@ pub fn send_entry<A: Allocator + Copy>(
     ensures bytes { OnOk result ((s : ℕ) → s < 16 → bytes_of lists.new s ≡ bytes_of lists.old s ++ entry_bytes stamp.now rules.now s (line_at lines.old s) (worked_at place entry.now outcome.now fills.now)) }
     ensures lines { OnOk result ((s : ℕ) → s < 16 → line_at lines.new s ≡ entry_line rules.now s (line_at lines.old s) (worked_at place entry.now outcome.now fills.now)) }
     ensures unspent { OnOk result ((s : ℕ) → s < 16 → entry_spends rules.now s (line_at lines.old s) (worked_at place entry.now outcome.now fills.now) ≡ false) }
+    ensures whole { OnOk result ((s : ℕ) → s < 16 → IsRow (entry_texts stamp.now rules.now s (line_at lines.old s) (worked_at place entry.now outcome.now fills.now)) (entry_bytes stamp.now rules.now s (line_at lines.old s) (worked_at place entry.now outcome.now fills.now))) }
     ensures spent { IsErrOf result NumbersSpent → RunsOut rules.now lines.old (worked_at place entry.now outcome.now fills.now) }
     ensures lines_kept { OnErr result (lines.new ≡ lines.old) }
     ensures lists_kept { OnErr result (KeepsBytes lists.old lists.new) }
