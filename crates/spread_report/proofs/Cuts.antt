@@ -33,9 +33,9 @@ module _ {A : Type 0} (x : List (Vec ℕ A)) (i n : ℕ) (w : Vec ℕ A) (ns : L
       elim (cases_eq t i) [ inl e ↦ rw e here | inr apart ↦ get_or-set_other ns i t n 0 apart ∙ done t (omega (arith, h, apart)) ]
 
 -- what was taken back is as it was
-pub grown_of : {A : Type 0} (T : Type 0) (stamp : List ℕ) (a b : List SessionLine) (x y : List (Vec ℕ A)) (ms : List AddressedMessage) (f : DeskFault) → SendResult {T = T} stamp a b x y ms (Err f) → OnlyAppended a b x y
-grown_of T stamp a b x y ms NoMemory w = w
-grown_of T stamp a b x y ms NumbersSpent w = w.0
+pub appended_of : {A : Type 0} (T : Type 0) (stamp : List ℕ) (a b : List SessionLine) (x y : List (Vec ℕ A)) (ms : List AddressedMessage) (f : DeskFault) → SendResult {T = T} stamp a b x y ms (Err f) → OnlyAppended a b x y
+appended_of T stamp a b x y ms NoMemory w = w
+appended_of T stamp a b x y ms NumbersSpent w = w.0
 
 pub back_again : {A : Type 0} (a b : List SessionLine) (x y z : List (Vec ℕ A)) (ns : List ℕ) → OnlyAppended a b x y → ((s : ℕ) → s < 16 → get_or ns s 0 ≡ length (bytes_of x s)) → ((s : ℕ) → s < 16 → bytes_of z s ≡ take (get_or ns s 0) (bytes_of y s)) → (s : ℕ) → s < 16 → bytes_of z s ≡ bytes_of x s
 back_again a b x y z ns grown lengths cut s below = cut s below ∙ (ap (λ (n : ℕ). take n (bytes_of y s)) (lengths s below) ∙ grown.begins s below)

@@ -62,8 +62,8 @@ begins_both u v w t e h =
 
 module _ {A : Type 0} (stamp : List ℕ) (a b d : List SessionLine) (x y z : List (Vec ℕ A)) (ms ns : List AddressedMessage) where
   -- these were sent, and then those
-  pub sends_both : Sent stamp a b x y ms → Sent stamp b d y z ns → Sent stamp a d x z (ms ++ ns)
-  sends_both p q = record {
+  pub sent_both : Sent stamp a b x y ms → Sent stamp b d y z ns → Sent stamp a d x z (ms ++ ns)
+  sent_both p q = record {
     lines = q.lines ∙ p.lines;
     lists = q.lists ∙ p.lists;
     bytes = λ s below.
@@ -80,8 +80,8 @@ module _ {A : Type 0} (stamp : List ℕ) (a b d : List SessionLine) (x y z : Lis
   }
 
   -- these were sent, and then not all of those
-  grown_after : Sent stamp a b x y ms → OnlyAppended b d y z → OnlyAppended a d x z
-  grown_after p q = record {
+  appended_after : Sent stamp a b x y ms → OnlyAppended b d y z → OnlyAppended a d x z
+  appended_after p q = record {
     lines = q.lines ∙ p.lines;
     lists = q.lists ∙ p.lists;
     begins = λ s below. begins_both (bytes_of x s) (bytes_to stamp s (line_at a s) ms) (bytes_of y s) (bytes_of z s) (p.bytes s below) (q.begins s below);
@@ -98,10 +98,10 @@ module _ {A : Type 0} (stamp : List ℕ) (a b d : List SessionLine) (x y z : Lis
   }
 
   -- these were sent, and this became of those
-  pub works_after : {T : Type 0} (r : Result T DeskFault) → Sent stamp a b x y ms → SendResult stamp b d y z ns r → SendResult stamp a d x z (ms ++ ns) r
-  works_after (Ok t) p w = sends_both p w
-  works_after (Err NoMemory) p w = grown_after p w
-  works_after (Err NumbersSpent) p w = (grown_after p w.0, spends_after p w.1)
+  pub result_after : {T : Type 0} (r : Result T DeskFault) → Sent stamp a b x y ms → SendResult stamp b d y z ns r → SendResult stamp a d x z (ms ++ ns) r
+  result_after (Ok t) p w = sent_both p w
+  result_after (Err NoMemory) p w = appended_after p w
+  result_after (Err NumbersSpent) p w = (appended_after p w.0, spends_after p w.1)
 
 module _ {A : Type 0} (stamp : List ℕ) (a b : List SessionLine) (x y : List (Vec ℕ A)) (ms ns : List AddressedMessage) where
   spends_first : NumbersRunOut a ms → NumbersRunOut a (ms ++ ns)
@@ -114,6 +114,6 @@ module _ {A : Type 0} (stamp : List ℕ) (a b : List SessionLine) (x y : List (V
   }
 
   -- where these were not sent, more were not
-  pub works_no_more : (T U : Type 0) (f : DeskFault) → SendResult {T = T} stamp a b x y ms (Err f) → SendResult {T = U} stamp a b x y (ms ++ ns) (Err f)
-  works_no_more T U NoMemory w = w
-  works_no_more T U NumbersSpent w = (w.0, spends_first w.1)
+  pub result_no_more : (T U : Type 0) (f : DeskFault) → SendResult {T = T} stamp a b x y ms (Err f) → SendResult {T = U} stamp a b x y (ms ++ ns) (Err f)
+  result_no_more T U NoMemory w = w
+  result_no_more T U NumbersSpent w = (w.0, spends_first w.1)

@@ -130,12 +130,12 @@ sent_none stamp a x = record { lines = refl; lists = refl; bytes = λ s below. s
 
 module _ {A : Type 0} (a : List SessionLine) (x : List (Vec ℕ A)) where
   -- nothing was appended
-  pub grown_none : OnlyAppended a a x x
-  grown_none = record { lines = refl; lists = refl; begins = λ s below. take_all (length (bytes_of x s)) (bytes_of x s) (omega arith) }
+  pub appended_none : OnlyAppended a a x x
+  appended_none = record { lines = refl; lists = refl; begins = λ s below. take_all (length (bytes_of x s)) (bytes_of x s) (omega arith) }
 
   -- the list was written to, and stayed as it was
-  pub grown_same : (i : ℕ) (v : Vec ℕ A) → i < length x → v.items ≡ bytes_of x i → OnlyAppended a a x (set x i v)
-  grown_same i v in_x same = record {
+  pub appended_same : (i : ℕ) (v : Vec ℕ A) → i < length x → v.items ≡ bytes_of x i → OnlyAppended a a x (set x i v)
+  appended_same i v in_x same = record {
     lines = refl;
     lists = length-set x i v;
     begins = λ s below.
@@ -168,8 +168,8 @@ module _ (stamp : List ℕ) (a : List SessionLine) (i : ℕ) (content : MessageC
       record { session = i; below = below; spent = spends_same stamp (line_at a i) content i ∙ rw (here, is_ids) spent }
 
 module _ {A : Type 0} (a : List SessionLine) (x : List (Vec ℕ A)) (i : ℕ) (w : Vec ℕ A) where
-  pub grown_line : (v : Vec ℕ A) → length x ≡ 16 → i < 16 → v.items ≡ (get_or x i w).items → OnlyAppended a a x (set x i v)
-  grown_line v in_x below same = grown_same a x i v (rw in_x below) (same ∙ sym (get_or-map (λ (v : Vec ℕ A). v.items) x i w [] (rw in_x below)))
+  pub appended_line : (v : Vec ℕ A) → length x ≡ 16 → i < 16 → v.items ≡ (get_or x i w).items → OnlyAppended a a x (set x i v)
+  appended_line v in_x below same = appended_same a x i v (rw in_x below) (same ∙ sym (get_or-map (λ (v : Vec ℕ A). v.items) x i w [] (rw in_x below)))
 
 module _ {A : Type 0} (stamp : List ℕ) (a : List SessionLine) (x : List (Vec ℕ A)) (i : ℕ) (first last : ℕ) (r : SessionLine) (w : Vec ℕ A) (ids : CompIds) where
   -- a gap fill leaves the line as it was
@@ -199,8 +199,8 @@ pub named_place : (p : ℕ) → p ≢ 0 → place_field p ≡ number 37 p
 named_place p h = rw (ne_eqb p 0 h) refl
 
 -- messages that are the same
-pub works_same : {A T : Type 0} (stamp : List ℕ) (a b : List SessionLine) (x y : List (Vec ℕ A)) (ms ns : List AddressedMessage) (r : Result T DeskFault) → ms ≡ ns → SendResult stamp a b x y ms r → SendResult stamp a b x y ns r
-works_same stamp a b x y ms ns r e w = subst (λ (l : List AddressedMessage). SendResult stamp a b x y l r) e w
+pub result_same : {A T : Type 0} (stamp : List ℕ) (a b : List SessionLine) (x y : List (Vec ℕ A)) (ms ns : List AddressedMessage) (r : Result T DeskFault) → ms ≡ ns → SendResult stamp a b x y ms r → SendResult stamp a b x y ns r
+result_same stamp a b x y ms ns r e w = subst (λ (l : List AddressedMessage). SendResult stamp a b x y l r) e w
 
 module _ {A : Type 0} (stamp : List ℕ) (a : List SessionLine) (x : List (Vec ℕ A)) (i : ℕ) (r : SessionLine) (in_a : length a ≡ 16) (below : i < 16) (is_r : r ≡ get_or a i r) where
   -- before its Logon a session is sent nothing

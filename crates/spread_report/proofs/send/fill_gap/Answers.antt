@@ -1,5 +1,5 @@
 use Rattle.std.proofs.Common.{◌≡◌, ℕ, ◌+◌, ◌<◌, ◌∙◌, ◌++◌, [], ◌∷◌, List, ap, true, false, nat_lt, refl, arith, rules}
-use Rattle.spread_report.proofs.Steps.{gap_line, gap_none, gap_text, grown_line, sent_off}
+use Rattle.spread_report.proofs.Steps.{gap_line, gap_none, gap_text, appended_line, sent_off}
 use Rattle.spread_report.specs.EntryMessages.{number, text, gap_fill}
 use Rattle.spread_report.specs.Outgoing.{head_of}
 use Rattle.spread_report.proofs.FrameRows.{written_row}
@@ -17,7 +17,7 @@ returns-in-Ok g c =
 
 pub returns-in-Err : goal.returns-in-Err
 returns-in-Err g c =
-    grown_line c.args.lines.now c.args.lists.now c.args.session c.index-lists-at.result c.write_message.new.out c.requires.lists c.requires.session c.in-Err.ensures.err
+    appended_line c.args.lines.now c.args.lists.now c.args.session c.index-lists-at.result c.write_message.new.out c.requires.lists c.requires.session c.in-Err.ensures.err
 
 pub returns-in-None : goal.returns-in-None
 returns-in-None g c = sent_off c.args.stamp.now c.args.lines.now c.args.lists.now c.args.session c.index-lines-at.result c.requires.lines c.requires.session c.index-lines-at.is (gap_fill c.args.first c.args.last) c.in-None.is
