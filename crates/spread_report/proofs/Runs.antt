@@ -1,13 +1,15 @@
 -- Messages, and more messages after them.
-use Rattle.std.proofs.Common.{◌≡◌, ◌≢◌, ℕ, ◌+◌, ◌<◌, ◌≤◌, ◌==◌, Bool, true, false, cond, List, [], ◌∷◌, ◌++◌, ◌||◌, length, get_or, take, subst, refl, sym, ap, ◌∙◌, arith, append_assoc, append-nil, length-append, Ok, Err, Result}
+use Rattle.std.proofs.Common.{Option, ◌≡◌, ◌≢◌, ℕ, ◌+◌, ◌<◌, ◌≤◌, ◌==◌, Bool, true, false, cond, List, [], ◌∷◌, ◌++◌, ◌||◌, length, get_or, take, subst, refl, sym, ap, ◌∙◌, arith, append_assoc, append-nil, length-append, Ok, Err, Result}
 use Rattle.std.proofs.Math.Seq.{take-append_seam}
 use Rattle.std.proofs.lemmas.List.{take-append-le, take-take}
 use Rattle.std.specs.declared.vec.Vec.{Vec}
 use Rattle.spread_report.specs.declared.line.SessionLine.{SessionLine}
+use Rattle.std.specs.Prelude.{if◌then◌else◌}
+use Rattle.spread_report.specs.declared.line.CompIds.{CompIds}
 use Rattle.spread_report.specs.declared.fault.DeskFault.{DeskFault}
 use Rattle.spread_report.specs.declared.fault.DeskFault.TheVariants.{NoMemory, NumbersSpent}
 use Rattle.spread_report.specs.EntryMessages.{AddressedMessage, MessageContent}
-use Rattle.spread_report.specs.Outgoing.{bytes_to, line_after, spends, text_for, line_for, spent_for}
+use Rattle.spread_report.specs.Outgoing.{next_under, bytes_to, line_after, spends, text_for, line_for, spent_for}
 use Rattle.spread_report.specs.Messages.{IsRow, as_message, texts_to}
 use Rattle.spread_report.proofs.FrameRows.{rows_both}
 use Rattle.spread_report.specs.Sessions.{bytes_of, line_at, Sent, OnlyAppended, NumbersRunOut, SendResult}
@@ -27,6 +29,16 @@ texts_to-append stamp s l [] ys = refl
 texts_to-append stamp s l (m ∷ ms) ys =
     ap (λ (t : List (List ℕ)). as_message (text_for stamp s l m) ++ t) (texts_to-append stamp s (line_for s l m) ms ys)
     ∙ sym (append_assoc (as_message (text_for stamp s l m)) (texts_to stamp s (line_for s l m) ms) (texts_to stamp s (line_after s (line_for s l m) ms) ys))
+
+abbrev chosen : Bool → ℕ → SessionLine → AddressedMessage → SessionLine
+chosen b s l m = if b then record { next = next_under l.comp_ids l.next m.content; comp_ids = l.comp_ids } else l
+
+for_ids : (s : ℕ) (l : SessionLine) (m : AddressedMessage) → (line_for s l m).comp_ids ≡ l.comp_ids
+for_ids s l m = elim (m.to == s) as (λ b. (chosen b s l m).comp_ids ≡ l.comp_ids) [ true ↦ refl | false ↦ refl ]
+
+pub ids_after : (s : ℕ) (l : SessionLine) (ms : List AddressedMessage) → (line_after s l ms).comp_ids ≡ l.comp_ids
+ids_after s l [] = refl
+ids_after s l (m ∷ ms) = ids_after s (line_for s l m) ms ∙ for_ids s l m
 
 pub row-append : (stamp : List ℕ) (s : ℕ) (l k : SessionLine) (xs ys : List AddressedMessage) → k ≡ line_after s l xs
     → IsRow (texts_to stamp s l xs) (bytes_to stamp s l xs) → IsRow (texts_to stamp s k ys) (bytes_to stamp s k ys) → IsRow (texts_to stamp s l (xs ++ ys)) (bytes_to stamp s l (xs ++ ys))
@@ -84,6 +96,7 @@ module _ {A : Type 0} (stamp : List ℕ) (a b d : List SessionLine) (x y z : Lis
   appended_after p q = record {
     lines = q.lines ∙ p.lines;
     lists = q.lists ∙ p.lists;
+    comp_ids = λ s below. q.comp_ids s below ∙ (ap (λ (l : SessionLine). l.comp_ids) (p.line s below) ∙ ids_after s (line_at a s) ms);
     begins = λ s below. begins_both (bytes_of x s) (bytes_to stamp s (line_at a s) ms) (bytes_of y s) (bytes_of z s) (p.bytes s below) (q.begins s below);
   }
 

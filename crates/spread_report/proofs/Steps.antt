@@ -131,13 +131,14 @@ sent_none stamp a x = record { lines = refl; lists = refl; bytes = λ s below. s
 module _ {A : Type 0} (a : List SessionLine) (x : List (Vec ℕ A)) where
   -- nothing was appended
   pub appended_none : OnlyAppended a a x x
-  appended_none = record { lines = refl; lists = refl; begins = λ s below. take_all (length (bytes_of x s)) (bytes_of x s) (omega arith) }
+  appended_none = record { lines = refl; lists = refl; comp_ids = λ s below. refl; begins = λ s below. take_all (length (bytes_of x s)) (bytes_of x s) (omega arith) }
 
   -- the list was written to, and stayed as it was
   pub appended_same : (i : ℕ) (v : Vec ℕ A) → i < length x → v.items ≡ bytes_of x i → OnlyAppended a a x (set x i v)
   appended_same i v in_x same = record {
     lines = refl;
     lists = length-set x i v;
+    comp_ids = λ s below. refl;
     begins = λ s below.
         let stays : bytes_of (set x i v) s ≡ bytes_of x s = elim (cases_eq s i) [ inl e ↦ rw e (row_same x i v in_x ∙ same) | inr apart ↦ row_other x i v s apart ] in
         rw stays (take_all (length (bytes_of x s)) (bytes_of x s) (omega arith));

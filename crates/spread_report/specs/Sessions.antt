@@ -33,10 +33,11 @@ pub record Sent {A : Type 0} (stamp : List ℕ) (a b : List SessionLine) (x y : 
   pub unspent : (s : ℕ) → s < 16 → spends s (line_at a s) ms ≡ false
   pub row : (s : ℕ) → s < 16 → IsRow (texts_to stamp s (line_at a s) ms) (bytes_to stamp s (line_at a s) ms)
 
--- to some sessions something was appended
+-- to some sessions something was appended, and their CompIDs stayed
 pub record OnlyAppended {A : Type 0} (a b : List SessionLine) (x y : List (Vec ℕ A)) : Type 0 where
   pub lines : length b ≡ length a
   pub lists : length y ≡ length x
+  pub comp_ids : (s : ℕ) → s < 16 → (line_at b s).comp_ids ≡ (line_at a s).comp_ids
   pub begins : (s : ℕ) → s < 16 → take (length (bytes_of x s)) (bytes_of y s) ≡ bytes_of x s
 
 -- one of the messages would bear a number above 999,999,999

@@ -13,7 +13,7 @@ use crate::entries::{cancel_entry, new_entry};
 use crate::fault::DeskFault;
 use crate::line::{CompIds, SessionLine};
 use crate::messages::{heartbeat, logon, logout, reject, resend_request};
-use crate::rollback::{cut_back, lengths_of};
+use crate::rollback::{cut_back, lengths_of, numbers_of, restore};
 use crate::send::fill_gap;
 use spread_rules::event::{Entry, Event};
 use spread_rules::fill::Fill;
@@ -100,15 +100,12 @@ pub fn send_entry<A: Allocator + Copy>(
     ensures count { length lists.new ≡ 16 }
 {
     let lengths = lengths_of(lists);
-    let mut before = [SessionLine {
-        next: 1,
-        comp_ids: None,
-    }; 16];
-    before.copy_from_slice(lines);
+    let numbers = numbers_of(lines);
+    let comp_ids = lines[entry.session as usize].comp_ids;
     note_comp_ids(lines, entry.session, &entry.event);
     let result = send_messages(stamp, lines, lists, rules, place, entry, outcome, fills);
     if result.is_err() {
-        lines.copy_from_slice(&before);
+        restore(lines, &numbers, entry.session, comp_ids);
         cut_back(lists, &lengths);
     }
     result
