@@ -13,7 +13,7 @@ ghost use Rattle.spread_match.specs.Sound.{KeepsOrder};
 ghost use Rattle.spread_report.specs.Sessions.{bytes_of};
 ghost use Rattle.spread_host.specs.DayText.{byte_of, lines_said, day_lines_of};
 ghost use Rattle.spread_host.specs.DayLines.{journal_of};
-ghost use Rattle.spread_host.specs.Days.{IsJournalOf, HasParts, IsReadingFault, IsReplayFault, IsPartOut, text_of_journal};
+ghost use Rattle.spread_host.specs.Days.{IsJournalOf, HasParts, IsReadingFault, IsReplayFault, IsPartOut, text_of_day};
 ghost use Rattle.spread_host.specs.Working.{outgoing_bytes};
 ghost use Rattle.spread_host.specs.declared.fault.HostFault.{HostFault};
 
@@ -60,7 +60,7 @@ fn read_journal_of<A: Allocator + Copy>(
     Ok(journal)
 }
 
-/// Reads day lines to their end, works their journal, and writes the day's text and nothing else.
+/// Reads day lines to their end, works their journal, and writes the day's text, or the journal text alone, and nothing else.
 ///
 /// Faults, the first that applies: Read, where the source failed or gave more than 16,777,216 bytes; DayLine, naming the
 /// first bad line, lines counted from 1; JournalFull, above 1,000,000 entries; NumbersSpent; Write, after which a prefix
@@ -71,6 +71,7 @@ pub fn replay<S: Source, K: Sink, A: Allocator + Copy>(
     stamp: Id,
     source: &mut S,
     sink: &mut K,
+    journal_only: bool,
 ) -> Result<Day<A>, HostFault>
     requires source_works { S.has_failed source.old ≡ false }
     requires sink_works { K.has_failed sink.old ≡ false }
@@ -95,12 +96,12 @@ pub fn replay<S: Source, K: Sink, A: Allocator + Copy>(
     ensures totals { IfOk result (λ day. (f : Fill) → Contains day.fills.items f → filled f.order day.fills.items ≤ f.total) }
 
     // What was written, and nothing else.
-    ensures written { IfOk result (λ day. Appends (K.written sink.old) (K.written sink.new) (text_of_journal rulebook.now stamp day.journal.items)) }
+    ensures written { IfOk result (λ day. Appends (K.written sink.old) (K.written sink.new) (text_of_day journal_only rulebook.now stamp day.journal.items)) }
     ensures write_sound { OnOk result (K.has_failed sink.new ≡ false) }
 
     // When each fault comes, and what is out then.
     ensures read { IsErrOf result HostFault.Read → (S.has_failed source.new ≡ true) ⊎ IfSome (S.left source.old) (λ input. LIMIT < length input) }
-    ensures write { IsErrOf result HostFault.Write → (K.has_failed sink.new ≡ true) × IfSome (S.left source.old) (λ input. IsPartOut rulebook.now stamp input (K.written sink.old) (K.written sink.new)) }
+    ensures write { IsErrOf result HostFault.Write → (K.has_failed sink.new ≡ true) × IfSome (S.left source.old) (λ input. IsPartOut journal_only rulebook.now stamp input (K.written sink.old) (K.written sink.new)) }
     ensures nothing_written { IfErr result (λ f. f ≢ HostFault.Write → sink.new ≡ sink.old) }
     ensures fault { IfErr result (IsReplayFault rulebook.now (S.left source.old)) }
 {
@@ -117,7 +118,7 @@ pub fn replay<S: Source, K: Sink, A: Allocator + Copy>(
         Ok(day) => day,
         Err(fault) => return Err(fault),
     };
-    match write_day(alloc, rulebook, &day, sink) {
+    match write_day(alloc, rulebook, &day, journal_only, sink) {
         Ok(()) => Ok(day),
         Err(fault) => Err(fault),
     }
