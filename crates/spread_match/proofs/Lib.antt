@@ -13,5 +13,6 @@ pub mod Past
 pub mod Ready
 pub mod Most
 pub mod Renewed
+pub mod Fitting
 pub mod Entries
 pub mod Lawful
