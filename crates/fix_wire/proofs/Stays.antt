@@ -316,8 +316,8 @@ behind_len (p ∷ ps) (b ∷ bs) rest e = by_test (λ h. behind_len ps bs rest h
     by_test ih true e = let h = ih e in omega (arith, h)
     by_test ih false e = cc
 
-claim_bound : (k : ℕ) (rest : List ℕ) (c : FrameHeader) → header_with k rest ≡ Some c → frame_length c ≤ 4124
-claim_bound k rest c e =
+header_bound : (k : ℕ) (rest : List ℕ) (c : FrameHeader) → header_with k rest ≡ Some c → frame_length c ≤ 4124
+header_bound k rest c e =
     let p = cond_some (ltb k (length rest) && is_body_length (take k rest)) (record { body_start = k + 13; body_length = number_of (take k rest) }) c e in
     let tests = and_true (ltb k (length rest)) (is_body_length (take k rest)) p.0 in
     let digits = take k rest in
@@ -339,7 +339,7 @@ begins_short text e = by_cut (is_cut_short begin_text text) refl
     by_claim None o s = cc
     by_claim (Some c) o s =
         option_and_then_some header_after (strip_prefix begin_text text) c (sym o) (λ rest stands says.
-        let b = claim_bound (position_or_len is_end rest) rest c says in
+        let b = header_bound (position_or_len is_end rest) rest c says in
         let l : length text < frame_length c = ltb-true (length text) (frame_length c) s in omega (arith, b, l))
 
     by_behind : (o : Option (List ℕ)) → o ≡ strip_prefix begin_text text → (is_length_open o || is_unfinished text (header text)) ≡ true → length text ≤ 4123
@@ -355,3 +355,11 @@ begins_short text e = by_cut (is_cut_short begin_text text) refl
     by_cut : (v : Bool) → v ≡ is_cut_short begin_text text → length text ≤ 4123
     by_cut true v = let h = cut_short begin_text text (sym v) in omega (arith, h)
     by_cut false v = by_behind (strip_prefix begin_text text) refl (shift _ _ _ (sym v) e)
+
+-- no frame is longer than 4,124 bytes
+pub frame_short : (text : List ℕ) (n : ℕ) → frame_at text ≡ Some n → n ≤ 4124
+frame_short text n e =
+    frame_parts text n e (λ h claims keeps len fits.
+    option_and_then_some header_after (strip_prefix begin_text text) h claims (λ rest stands says.
+    let b = header_bound (position_or_len is_end rest) rest h says in
+    omega (arith, b, len)))

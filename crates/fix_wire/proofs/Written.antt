@@ -1,12 +1,12 @@
 -- A written message is a lawful frame with its fields.
-use Rattle.std.proofs.Common.{rules, ◌≡◌, ◌≢◌, ℕ, ◌+◌, ◌/◌, ◌%◌, ◌<◌, ◌≤◌, ◌^◌, pos, Bool, true, false, cond, ◌&&◌, not, eqb, leb, ltb, List, [], ◌∷◌, ◌++◌, map, length, take, drop, sum, Some, None, option_and_then, is_some, unwrap_or, get_or, refl, sym, ap, ◌∙◌, arith, length-append}
+use Rattle.std.proofs.Common.{rules, ◌≡◌, ◌≢◌, ℕ, ◌+◌, ◌/◌, ◌%◌, ◌<◌, ◌≤◌, ◌^◌, pos, Bool, true, false, cond, ◌&&◌, not, eqb, leb, ltb, List, [], ◌∷◌, ◌++◌, map, length, take, drop, sum, Some, None, option_and_then, is_some, unwrap_or, get_or, refl, sym, ap, ◌∙◌, subst, arith, length-append}
 use Rattle.std.specs.Prelude.{decimal, slice_index, unsigned_abs, int_lt}
 use Rattle.std.specs.Char.{is_ascii_digit}
 use Rattle.std.specs.List.{list_all, position_or_len, flat_map, AllByRecursion}
 use Rattle.std.specs.Str.{bytes_eq}
 use Rattle.std.proofs.lemmas.Bool.{false≢true}
 use Rattle.std.proofs.lemmas.Bool.Decides.{nat_tests}
-use Rattle.std.proofs.lemmas.List.{take_at, drop_at, append_assoc, take_all, drop_all}
+use Rattle.std.proofs.lemmas.List.{take_at, drop_at, append_assoc, take_all, drop_all, take_more, flat_map_more}
 use Rattle.std.proofs.lemmas.List.Folds.{list_all-append}
 use Rattle.std.proofs.lemmas.Slice.Eq.{bytes_eq-Decides}
 use Rattle.std.proofs.lemmas.Str.Parse.{IsNumeralModel, numerals_by_fold}
@@ -21,7 +21,7 @@ use Rattle.fix_wire.specs.Fields.{TagValue, is_tag, fields_of_body}
 use Rattle.fix_wire.specs.Frames.{begin_text, header, header_after, header_with, is_body_length, is_body, is_intact, body_at, frame_length, intact_length, frame_at, frames, checksum_field}
 use Rattle.fix_wire.specs.Messages.{fields}
 use Rattle.spread_rules.specs.Ids.{is_plain}
-use Rattle.fix_wire.specs.Layout.{field, field_text, only_if, head_fields, field_of_given, all_fields, body_text, message_text, value_text, two_digits, FitsValue, FitsField, FitsHead, FitsMessage}
+use Rattle.fix_wire.specs.Layout.{field, field_text, only_if, head_fields, field_of_given, all_fields, body_text, summed_text, message_text, value_text, two_digits, FitsValue, FitsValueOf, FitsTags, FitsField, FitsHead, FitsMessage, IsReadBack}
 use Rattle.fix_wire.proofs.Digits.{and_true}
 use Rattle.fix_wire.proofs.Spelled as spelled
 use Rattle.fix_wire.proofs.Scan.{scan_frame}
@@ -38,6 +38,45 @@ flat_map_given (f ∷ fs) = ap (λ t. field_text (field_of_given f) ++ t) (flat_
 
 pub body_is : (h : Head) (fs : List given.Field) → flat_map field_text (head_fields h) ++ flat_map (λ f. field_text (field_of_given f)) fs ≡ body_text h fs
 body_is h fs = ap (λ t. flat_map field_text (head_fields h) ++ t) (sym (flat_map_given fs)) ∙ sym (flat_map_two (head_fields h) (map field_of_given fs))
+
+-- ---- fields one after another
+
+pub length_more : (fs : List given.Field) (i : ℕ) (f : given.Field) → i < length fs → f ≡ get_or fs i f →
+    length (flat_map (λ f. field_text (field_of_given f)) (take (i + 1) fs)) ≡ length (flat_map (λ f. field_text (field_of_given f)) (take i fs)) + length (field_text (field_of_given f))
+length_more fs i f l e =
+    let g = λ (x : given.Field). field_text (field_of_given x) in
+    ap (λ t. length (flat_map g t)) (take_more fs i f l ∙ ap (λ x. take i fs ++ x ∷ []) (sym e))
+    ∙ ap length (sym (flat_map_more g [] (take i fs) f))
+    ∙ length-append (flat_map g (take i fs)) (g f)
+
+-- what holds of each of the first, and of the next, holds of one more
+pub all_more : (P : given.Field → Type 0) (fs : List given.Field) (i : ℕ) (f : given.Field) → i < length fs → f ≡ get_or fs i f → AllByRecursion P (take i fs) → P f → AllByRecursion P (take (i + 1) fs)
+all_more P fs i f l e all one = subst (AllByRecursion P) (sym (take_more fs i f l ∙ ap (λ x. take i fs ++ x ∷ []) (sym e))) (all_append (take i fs) all)
+  where
+    all_append : (xs : List given.Field) → AllByRecursion P xs → AllByRecursion P (xs ++ f ∷ [])
+    all_append [] h = (one, tt)
+    all_append (x ∷ xs) h = (h.0, all_append xs h.1)
+
+-- a message as the code appends it
+pub message_appended : (h : Head) (fs : List given.Field) (n start : ℕ) (o o1 o2 o3 o4 : List ℕ) → n ≡ length (body_text h fs) → start ≡ length o →
+    o1 ≡ o ++ (begin_text ++ (decimal n ++ 1 ∷ [])) → o2 ≡ o1 ++ flat_map field_text (head_fields h) → o3 ≡ o2 ++ flat_map (λ f. field_text (field_of_given f)) fs →
+    o4 ≡ o3 ++ checksum_field (sum (drop start o3) % 256) → o4 ≡ o ++ message_text h fs
+message_appended h fs n start o o1 o2 o3 o4 len begins e1 e2 e3 e4 =
+    let head = flat_map field_text (head_fields h) in
+    let rest = flat_map (λ f. field_text (field_of_given f)) fs in
+    let front = begin_text ++ (decimal n ++ 1 ∷ []) in
+    let all : o3 ≡ o ++ ((front ++ head) ++ rest) =
+    e3 ∙ ap (λ t. t ++ rest) (e2 ∙ ap (λ t. t ++ head) e1 ∙ append_assoc o front head) ∙ append_assoc o (front ++ head) rest in
+    let same : (front ++ head) ++ rest ≡ summed_text (body_text h fs) =
+    append_assoc front head rest
+    ∙ ap (λ t. front ++ t) (body_is h fs)
+    ∙ ap (λ t. begin_text ++ t) (append_assoc (decimal n) (1 ∷ []) (body_text h fs))
+    ∙ ap (λ k. begin_text ++ (decimal k ++ 1 ∷ body_text h fs)) len in
+    let written = all ∙ ap (λ t. o ++ t) same in
+    let summed = ap (drop start) written ∙ drop_at o (summed_text (body_text h fs)) start (sym begins) in
+    e4 ∙ ap (λ t. o3 ++ checksum_field (sum t % 256)) summed
+    ∙ ap (λ t. t ++ checksum_field (sum (summed_text (body_text h fs)) % 256)) written
+    ∙ append_assoc o (summed_text (body_text h fs)) (checksum_field (sum (summed_text (body_text h fs)) % 256))
 
 -- ---- decimal numbers
 
@@ -165,7 +204,7 @@ kind_plain : (k : ℕ) → k ≢ 1 → is_plain (k ∷ []) ≡ true
 kind_plain k h = both_true (not (eqb k 1)) true (grind (arith, nat_tests)) refl
 
 head_fit : (h : Head) → FitsHead h → AllByRecursion Fits (head_fields h)
-head_fit h (kind, number, sender, target, stamp) = (
+head_fit h (kind, (number, sender, target, stamp)) = (
   small_tag 35 (h.kind ∷ []) (omega arith) (omega arith) (kind_plain h.kind kind),
   (
     small_tag 34 (decimal h.number) (omega arith) (omega arith) (decimal_plain h.number number),
@@ -325,3 +364,15 @@ read_first text more e =
     scan_frame text more (length text) e
     ∙ ap (λ t. t ∷ frames (drop (length text) text ++ more)) (take_all (length text) text (omega arith))
     ∙ ap (λ t. text ∷ frames (t ++ more)) (drop_all (length text) text (omega arith))
+
+-- the ranges that the types give, and what a caller knows of kind and tags
+pub fits_together : (fs : List given.Field) → FitsTags fs → AllByRecursion FitsValueOf fs → AllByRecursion FitsField fs
+fits_together [] tags values = tt
+fits_together (f ∷ fs) tags values = ((tags.0.0, tags.0.1, values.0), fits_together fs tags.1 values.1)
+
+pub read_back_is : (h : Head) (fs : List given.Field) → FitsMessage h fs → IsReadBack h fs
+read_back_is h fs fits = record {
+  lawful = written_frame h fs fits;
+  same = written_fields h fs fits;
+  first = λ more. read_first (message_text h fs) more (written_frame h fs fits);
+}

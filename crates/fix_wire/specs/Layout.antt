@@ -1,13 +1,14 @@
 -- The one spelling of a message.
-use Rattle.std.specs.Prelude.{◌≡◌, ◌≢◌, ℕ, ◌+◌, ◌/◌, ◌%◌, ◌<◌, ◌≤◌, ◌^◌, ℤ, pos, Bool, true, false, not, ◌==◌, if◌then◌else◌, List, [], ◌∷◌, ◌++◌, map, length, sum, decimal, int_lt, unsigned_abs}
-use Rattle.std.specs.List.{flat_map, list_all, AllByRecursion}
+use Rattle.std.specs.Prelude.{◌≡◌, ◌≢◌, ℕ, ◌+◌, ◌/◌, ◌%◌, ◌<◌, ◌≤◌, ◌^◌, ℤ, pos, Bool, true, false, if◌then◌else◌, List, [], ◌∷◌, ◌++◌, map, length, sum, decimal, int_lt, unsigned_abs}
+use Rattle.std.specs.List.{flat_map, AllByRecursion}
 use Rattle.spread_rules.specs.Ids.{is_plain}
 use Rattle.fix_wire.specs.declared.writer.Value.{Value}
 use Rattle.fix_wire.specs.declared.writer.Value.TheVariants.{Text, Number, Price, Pair}
 use Rattle.fix_wire.specs.declared.writer.Field as given
 use Rattle.fix_wire.specs.declared.writer.Head.{Head}
 use Rattle.fix_wire.specs.Fields.{TagValue}
-use Rattle.fix_wire.specs.Frames.{begin_text, checksum_field}
+use Rattle.fix_wire.specs.Frames.{begin_text, checksum_field, IsFrame, frames}
+use Rattle.fix_wire.specs.Messages.{fields}
 
 -- two digits
 abbrev pub two_digits : ℕ → List ℕ
@@ -69,7 +70,7 @@ frame_text body = summed_text body ++ checksum_field (sum (summed_text body) % 2
 abbrev pub message_text : Head → List given.Field → List ℕ
 message_text h fs = frame_text (body_text h fs)
 
--- ---- which heads and fields give a lawful frame
+-- ---- which messages are read back
 
 -- a value in the range of its type
 abbrev pub FitsValue : Value → Type 0
@@ -78,14 +79,41 @@ FitsValue (Number n) = n < 2 ^ 64
 FitsValue (Price z) = unsigned_abs z < 2 ^ 64
 FitsValue (Pair a b) = (a < 2 ^ 64) × (b < 2 ^ 64)
 
+abbrev pub FitsValueOf : given.Field → Type 0
+FitsValueOf f = FitsValue f.value
+
 -- a tag of one to nine digits
+abbrev pub FitsTag : given.Field → Type 0
+FitsTag f = (1 ≤ f.tag) × (f.tag < 1000000000)
+
 abbrev pub FitsField : given.Field → Type 0
 FitsField f = (1 ≤ f.tag) × (f.tag < 1000000000) × FitsValue f.value
 
--- the kind isn't byte 1, and the ids are ids
+-- the number and the ids keep to the ranges of their types
+abbrev pub FitsTypes : Head → Type 0
+FitsTypes h = (h.number < 2 ^ 64) × (is_plain h.sender ≡ true) × (is_plain h.target ≡ true) × (is_plain h.stamp ≡ true)
+
+-- the kind isn't byte 1
+abbrev pub FitsKind : Head → Type 0
+FitsKind h = h.kind ≢ 1
+
+-- both
 abbrev pub FitsHead : Head → Type 0
-FitsHead h = (h.kind ≢ 1) × (h.number < 2 ^ 64) × (is_plain h.sender ≡ true) × (is_plain h.target ≡ true) × (is_plain h.stamp ≡ true)
+FitsHead h = FitsKind h × FitsTypes h
+
+abbrev pub FitsTags : List given.Field → Type 0
+FitsTags fs = AllByRecursion FitsTag fs
+
+-- a body that BodyLength allows
+abbrev pub FitsBody : Head → List given.Field → Type 0
+FitsBody h fs = length (body_text h fs) ≤ 4096
 
 -- in range, and a body that BodyLength allows
 abbrev pub FitsMessage : Head → List given.Field → Type 0
-FitsMessage h fs = FitsHead h × AllByRecursion FitsField fs × (length (body_text h fs) ≤ 4096)
+FitsMessage h fs = FitsHead h × AllByRecursion FitsField fs × FitsBody h fs
+
+-- The message is a lawful frame with exactly these fields, and before any further bytes it is read first, alone and whole.
+pub record IsReadBack (h : Head) (fs : List given.Field) : Type 0 where
+  pub lawful : IsFrame (message_text h fs)
+  pub same : fields (message_text h fs) ≡ all_fields h fs
+  pub first : (more : List ℕ) → frames (message_text h fs ++ more) ≡ message_text h fs ∷ frames more

@@ -5,7 +5,9 @@ pub mod Frames
 pub mod Messages
 pub mod Fronts
 pub mod Held
+pub mod FramerFields
 pub mod Lent
 pub mod Layout
+pub mod Spelling
 pub mod Pieces
 pub mod Examples

@@ -6,13 +6,14 @@ ghost use Rattle.memchr.specs.Find.{is_byte};
 ghost use Rattle.fix_wire.specs.Texts.{strip_prefix, is_cut_short};
 ghost use Rattle.fix_wire.specs.Frames.{begin_text, header, header_after, body_at, is_body, is_intact, is_length_open, checksum_field, frame_length};
 ghost use Rattle.fix_wire.specs.Fields.{fields_of_body};
+ghost use Rattle.fix_wire.specs.Held.{from_first_start};
 ghost use Rattle.fix_wire.specs.Fronts.{front_of, first_field, leading_field_view, is_header_open};
 
 use crate::values::limited_digits;
 use memchr::memchr;
 
 /// `8=FIX.4.2|9=`
-const BEGIN_TEXT: [u8; 12] = *b"8=FIX.4.2\x019=";
+pub(crate) const BEGIN_TEXT: [u8; 12] = *b"8=FIX.4.2\x019=";
 
 /// The header of a frame: where its body starts, and how long it is.
 #[derive(Clone, Copy)]
@@ -50,11 +51,23 @@ fn place_of(byte: u8, text: &[u8]) -> usize
     }
 }
 
+/// The same, byte by byte, which is quicker where the byte is near, as within a field.
+fn near_place_of(byte: u8, text: &[u8]) -> usize
+    ensures { result ≡ position_or_len (is_byte byte) text.now }
+{
+    for i in 0..text.len() {
+        if text[i] == byte {
+            return i;
+        }
+    }
+    text.len()
+}
+
 fn header_after(rest: &[u8]) -> Option<FrameHeader>
     requires { length rest.now < 2 ^ 32 }
     ensures { result ≡ header_after rest.now }
 {
-    let digits = place_of(1, rest);
+    let digits = near_place_of(1, rest);
     if digits == rest.len() || digits == 0 || digits > 8 {
         return None;
     }
@@ -90,16 +103,26 @@ fn is_header_open(text: &[u8]) -> bool
     }
 }
 
+/// The next place at which a frame may begin, once none begins at the first: where its `8` stands, or the end.
+pub(crate) fn next_begin(text: &[u8]) -> usize
+    requires { 0 < length text.now }
+    ensures past { 0 < result }
+    ensures within { result ≤ length text.now }
+    ensures skipped { from_first_start (drop result text.now) ≡ from_first_start (drop 1 text.now) }
+{
+    1 + place_of(b'8', &text[1..])
+}
+
 /// The first field of a body.
 pub(crate) fn first_field(body: &[u8]) -> Option<LeadingField<'_>>
     ensures { option_map leading_field_view result ≡ first_field body.now }
 {
-    let end = place_of(1, body);
+    let end = near_place_of(1, body);
     if end == body.len() {
         return None;
     }
     let text = &body[..end];
-    let digits = place_of(b'=', text);
+    let digits = near_place_of(b'=', text);
     if digits == end || digits == 0 || digits > 9 || text[0] == b'0' {
         return None;
     }
@@ -134,7 +157,7 @@ fn is_body(body: &[u8]) -> bool
 }
 
 /// The sum of bytes, modulo 256.
-fn checksum(text: &[u8]) -> u8
+pub(crate) fn checksum(text: &[u8]) -> u8
     ensures { result ≡ sum text.now % 256 }
 {
     let mut sum: u8 = 0;
@@ -144,11 +167,11 @@ fn checksum(text: &[u8]) -> u8
     sum
 }
 
-/// Whether the last 7 bytes are the checksum field.
-fn is_trailer(tail: &[u8], sum: u8) -> bool
-    ensures { result ≡ bytes_eq tail.now (checksum_field sum) }
+/// The CheckSum field of that sum.
+pub(crate) fn checksum_digits(sum: u8) -> [u8; 7]
+    ensures { result ≡ checksum_field sum }
 {
-    let digits = [
+    [
         b'1',
         b'0',
         b'=',
@@ -156,8 +179,14 @@ fn is_trailer(tail: &[u8], sum: u8) -> bool
         b'0' + sum / 10 % 10,
         b'0' + sum % 10,
         1,
-    ];
-    tail == digits.as_slice()
+    ]
+}
+
+/// Whether the last 7 bytes are the CheckSum field.
+fn is_trailer(tail: &[u8], sum: u8) -> bool
+    ensures { result ≡ bytes_eq tail.now (checksum_field sum) }
+{
+    tail == checksum_digits(sum).as_slice()
 }
 
 /// Whether the text has what its header announces.

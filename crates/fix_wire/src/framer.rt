@@ -9,7 +9,7 @@ ghost use denote.Follow.{follows_so};
 ghost use mathlib.Core.Option.{none};
 ghost use Rattle.fix_wire.specs.contracts.framer.Framer.{the_row};
 
-use crate::frame::{Front, front_of};
+use crate::frame::{Front, front_of, next_begin};
 use crate::message::Message;
 use std::marker::Model;
 
@@ -22,24 +22,30 @@ pub struct Framer {
     buffer: [u8; 8192],
     start: usize,
     end: usize,
+    // The length of the frame at the front, once it is found; else 0.
+    found: usize,
 }
 
 impl Model for Framer {
-    ghost use Rattle.std.specs.Prelude.{◌≤◌, ℕ, List, slice_range};
+    ghost use Rattle.std.specs.Prelude.{ℕ, List};
+    ghost use Rattle.fix_wire.specs.FramerFields.{held_of, IsKept};
 
     ghost Value = { List ℕ };
 
-    ghost view = { λ f. slice_range f.buffer f.start f.end };
+    ghost view = { held_of };
 
-    ghost invariant = { λ f. (f.start ≤ f.end) × (f.end ≤ 8192) };
+    ghost invariant = { IsKept };
 }
 
+/// What a framer answers: its first message, or that it needs more bytes.
+#[derive(Clone, Copy)]
 pub enum Next<'a> {
     Message(Message<'a>),
     Need,
 }
 
 impl Framer {
+    /// A framer that holds nothing.
     pub fn new() -> Framer
         ensures { result ≡ [] }
     {
@@ -47,6 +53,7 @@ impl Framer {
             buffer: [0; 8192],
             start: 0,
             end: 0,
+            found: 0,
         }
     }
 
@@ -75,25 +82,44 @@ impl Framer {
         taken
     }
 
+    /// How many bytes stand before the first place at which a frame stands or may still begin, and the length of the
+    /// frame that stands there.
+    fn first(&self) -> (usize, Option<usize>)
+        ensures within { result.0 ≤ length self.now }
+        ensures kept { drop result.0 self.now ≡ from_first_start self.now }
+        ensures found { result.1 ≡ frame_at (from_first_start self.now) }
+        ensures fits { IfSome result.1 (λ n. result.0 + n ≤ length self.now) }
+    {
+        if self.found > 0 {
+            (0, Some(self.found))
+        } else {
+            first_start(&self.buffer[self.start..self.end])
+        }
+    }
+
     /// Lets the bytes at the front go at which no frame stands or may still begin.
     fn seek(&mut self) -> Option<usize>
         ensures kept { self.new ≡ from_first_start self.old }
         ensures found { result ≡ frame_at (from_first_start self.old) }
     {
-        let (skip, found) = first_start(&self.buffer[self.start..self.end]);
+        let (skip, found) = self.first();
         self.start += skip;
+        self.found = found.unwrap_or(0);
         found
     }
 
-    /// Lends the message at the front.
-    fn lend(&self) -> Next<'_>
-        requires { from_first_start self.now ≡ self.now }
+    /// Lends the message at the front, whose length is known where there is one.
+    fn lend(&self, found: Option<usize>) -> Next<'_>
+        requires settled { from_first_start self.now ≡ self.now }
+        requires found { found ≡ frame_at self.now }
         ensures { lent result ≡ first_frame (frames self.now) }
     {
-        let held = &self.buffer[self.start..self.end];
-        match front_of(held) {
-            Front::Frame(len) => Next::Message(Message::of_frame(&held[..len])),
-            _ => Next::Need,
+        match found {
+            Some(length) => {
+                let frame = &self.buffer[self.start..self.start + length];
+                Next::Message(Message::of_frame(frame))
+            }
+            None => Next::Need,
         }
     }
 
@@ -104,8 +130,8 @@ impl Framer {
         // What is held after Need leaves room for more.
         ensures room { lent result ≡ None → length (from_first_start self.old) ≤ 4123 }
     {
-        self.seek();
-        self.lend()
+        let found = self.seek();
+        self.lend(found)
     }
 
     /// Goes past the message that `next` would lend.
@@ -114,10 +140,11 @@ impl Framer {
         ensures passed { OnTrue result (self.new ≡ after_first_frame self.old) }
         ensures same { OnFalse result (self.new ≡ self.old) }
     {
-        let (skip, found) = first_start(&self.buffer[self.start..self.end]);
+        let (skip, found) = self.first();
         match found {
-            Some(len) => {
-                self.start += skip + len;
+            Some(length) => {
+                self.start += skip + length;
+                self.found = 0;
                 true
             }
             None => false,
@@ -156,7 +183,7 @@ fn first_start(held: &[u8]) -> (usize, Option<usize>)
         match front_of(&held[at..]) {
             Front::Frame(len) => return (at, Some(len)),
             Front::Partial => return (at, None),
-            Front::Garbled => at += 1,
+            Front::Garbled => at += next_begin(&held[at..]),
         }
     }
     (at, None)

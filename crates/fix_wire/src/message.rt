@@ -9,6 +9,9 @@ ghost use Rattle.fix_wire.specs.Messages.{kind, get, number};
 use crate::frame::{FrameHeader, Front, first_field, front_of, header_of};
 use crate::values::read_number;
 
+/// The length of the longest frame: `8=FIX.4.2|9=`, eight digits, byte 1, 4,096 bytes of body and seven of CheckSum.
+pub const LONGEST: usize = 4124;
+
 /// A message borrows its whole frame.
 #[derive(Clone, Copy)]
 pub struct Message<'a> {
@@ -21,10 +24,12 @@ pub struct Message<'a> {
 impl<'a> Message<'a> {
     /// The message whose frame the bytes are, if they are one lawful frame.
     pub fn whole(bytes: &'a [u8]) -> Option<Message<'a>>
-        requires { length bytes.now < 2 ^ 32 }
         ensures only { IsSome result ↔ IsFrame bytes.now }
         ensures same { IfSome result (λ m. m.frame.now ≡ bytes.now) }
     {
+        if bytes.len() > LONGEST {
+            return None;
+        }
         let head = header_of(bytes)?;
         match front_of(bytes) {
             Front::Frame(n) if n == bytes.len() => Some(Message { frame: bytes, head }),

@@ -6,13 +6,14 @@ ghost use Rattle.fix_wire.specs.Pieces.{joined, Leaves, IsDrained, GoesOn};
 
 use crate::framer::{Framer, Next};
 use crate::laws::scan;
-use std::alloc::{AllocError, Allocator};
+use spread_rules::memory::NoMemory;
+use std::alloc::Allocator;
 
 /// A copy of the first message, which is passed.
 fn take_message<A: Allocator + Copy>(
     alloc: A,
     framer: &mut Framer,
-) -> Result<Option<Vec<u8, A>>, AllocError>
+) -> Result<Option<Vec<u8, A>>, NoMemory>
     ensures first { IfOk result (λ taken. option_map (λ v. v.items) taken ≡ first_frame (frames framer.old)) }
     ensures rest { IfOk result (λ taken. IfSome taken (λ v. Leaves framer.old (v.items ∷ []) framer.new)) }
     ensures less { IfOk result (λ taken. IfSome taken (λ v. length framer.new < length framer.old)) }
@@ -32,7 +33,7 @@ fn pass_messages<A: Allocator + Copy>(
     alloc: A,
     framer: &mut Framer,
     out: &mut Vec<Vec<u8, A>, A>,
-) -> Result<(), AllocError>
+) -> Result<(), NoMemory>
     ensures passed { OnOk result (GoesOn (map (λ v. v.items) out.old.items) framer.old (map (λ v. v.items) out.new.items) framer.new) }
     ensures drained { OnOk result (IsDrained framer.new) }
 {
@@ -48,7 +49,7 @@ fn put_piece<A: Allocator + Copy>(
     framer: &mut Framer,
     piece: &[u8],
     out: &mut Vec<Vec<u8, A>, A>,
-) -> Result<(), AllocError>
+) -> Result<(), NoMemory>
     requires { IsDrained framer.old }
     ensures passed { OnOk result (GoesOn (map (λ v. v.items) out.old.items) (framer.old ++ piece.now) (map (λ v. v.items) out.new.items) framer.new) }
     ensures drained { OnOk result (IsDrained framer.new) }
@@ -66,7 +67,7 @@ fn put_piece<A: Allocator + Copy>(
 pub fn read_pieces<A: Allocator + Copy>(
     alloc: A,
     pieces: &[&[u8]],
-) -> Result<(Vec<Vec<u8, A>, A>, Framer), AllocError>
+) -> Result<(Vec<Vec<u8, A>, A>, Framer), NoMemory>
     ensures messages { IfOk result (λ r. map (λ v. v.items) r.0.items ≡ frames (joined pieces.now)) }
     ensures left { IfOk result (λ r. Leaves (joined pieces.now) (frames (joined pieces.now)) r.1 × IsDrained r.1) }
 {

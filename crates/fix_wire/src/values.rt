@@ -8,8 +8,8 @@ ghost use Rattle.fix_wire.specs.Fronts.{limited_digits};
 
 use memchr::memchr;
 
-/// Why a value isn't read.
-#[derive(Clone, Copy)]
+/// Why a value isn't read: it has another form, or it is out of range.
+#[derive(Clone, Copy, Debug, PartialEq, Eq)]
 pub enum Unread {
     Format,
     Range,

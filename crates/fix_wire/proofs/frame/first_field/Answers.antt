@@ -7,12 +7,12 @@ use Rattle.fix_wire.proofs.frame.first_field.Goals as goal
 pub returns-in-Some : goal.returns-in-Some
 returns-in-Some c =
     let body = c.args.body.now in
-    let end = c.place_of-end.result in
-    let digits = c.place_of-digits.result in
+    let end = c.near_place_of-end.result in
+    let digits = c.near_place_of-digits.result in
     let below = place_within is_end body in
-    let l : c.place_of-end.result < length c.args.body.now = omega (arith, below, c.place_of-end.ensures, c.if-end-body.false) in
+    let l : c.near_place_of-end.result < length c.args.body.now = omega (arith, below, c.near_place_of-end.ensures, c.if-end-body.false) in
     let len = length-take-le end body (omega arith) in
     let within = place_within is_equals (take end body) in
-    let m : c.place_of-digits.result < c.place_of-end.result = omega (arith, within, len, c.place_of-digits.ensures, c.if-digits-end.false) in
-    let few : c.place_of-digits.result ≤ 9 = c.if-digits-gt9.false in
-    first_field_found body end digits c.in-Some.tag _ _ c.place_of-end.ensures l c.place_of-digits.ensures m c.if-digits-eq0.false few c.if-text-eq48.false c.in-Some.ensures (take_rest (take end body) (digits + 1)) (take_rest body (end + 1))
+    let m : c.near_place_of-digits.result < c.near_place_of-end.result = omega (arith, within, len, c.near_place_of-digits.ensures, c.if-digits-end.false) in
+    let few : c.near_place_of-digits.result ≤ 9 = c.if-digits-gt9.false in
+    first_field_found body end digits c.in-Some.tag _ _ c.near_place_of-end.ensures l c.near_place_of-digits.ensures m c.if-digits-eq0.false few c.if-text-eq48.false c.in-Some.ensures (take_rest (take end body) (digits + 1)) (take_rest body (end + 1))

@@ -1,6 +1,7 @@
-use Rattle.std.proofs.Common.{drop, sym, ap, ◌∙◌, arith}
-use Rattle.std.proofs.lemmas.List.{take_rest, length-drop}
+use Rattle.std.proofs.Common.{◌≤◌, drop, length, sym, ap, ◌∙◌, subst, arith}
+use Rattle.std.proofs.lemmas.List.{take_rest, length-drop, drop-drop}
 use Rattle.fix_wire.specs.Frames.{frame_at, may_begin}
+use Rattle.fix_wire.specs.Held.{from_first_start}
 use Rattle.fix_wire.specs.Fronts.{front_of}
 use Rattle.fix_wire.proofs.Scan.{front_frame, front_partial, front_garbled, start_frame, start_partial, start_next}
 use Rattle.fix_wire.proofs.Stays.{frame_within}
@@ -39,6 +40,13 @@ returns-in-Partial-clause-found c =
 
 pub loop-at-preserved : goal.loop-at-preserved
 loop-at-preserved c =
+    let at = c.loop-at.at in
+    let held = c.args.held.now in
     let text = drop c.loop-at.at c.args.held.now in
-    let e = front_garbled (frame_at text) (may_begin text) (sym (c.in-Garbled.ensures ∙ ap front_of (take_rest c.args.held.now c.loop-at.at))) in
-    (omega arith, sym (start_next c.args.held.now c.loop-at.at c.loop-at-test.true e.0 e.1) ∙ c.loop-at.invariant.1)
+    let rest = take_rest c.args.held.now c.loop-at.at in
+    let k = c.next_begin-at.result in
+    let e = front_garbled (frame_at text) (may_begin text) (sym (c.in-Garbled.ensures ∙ ap front_of rest)) in
+    let len = length-drop c.loop-at.at c.args.held.now in
+    let within : c.next_begin-at.result ≤ length (drop c.loop-at.at c.args.held.now) = subst (λ t. c.next_begin-at.result ≤ length t) rest c.next_begin-at.ensures.within in
+    let skips = ap from_first_start (sym (drop-drop k at held)) ∙ sym (ap (λ t. from_first_start (drop k t)) rest) ∙ c.next_begin-at.ensures.skipped ∙ ap (λ t. from_first_start (drop 1 t)) rest ∙ ap from_first_start (drop-drop 1 at held) in
+    (omega (arith, within, len, c.loop-at-test.true), skips ∙ sym (start_next held at c.loop-at-test.true e.0 e.1) ∙ c.loop-at.invariant.1)

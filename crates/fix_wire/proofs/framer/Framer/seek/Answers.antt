@@ -1,9 +1,22 @@
-use Rattle.std.proofs.Common.{ap, ◌∙◌}
-use Rattle.fix_wire.specs.Held.{from_first_start}
+use Rattle.std.proofs.Common.{◌+◌, drop, sym, ap, ◌∙◌}
+use Rattle.std.specs.List.{between}
+use Rattle.fix_wire.specs.Frames.{frame_at}
 use Rattle.fix_wire.proofs.Ranges.{range_drop}
+use Rattle.fix_wire.proofs.Knows.{knows_found, skip_within}
 use Rattle.fix_wire.proofs.framer.Framer.seek.Goals as goal
+
+pub invariant_of-self : goal.invariant_of-self
+invariant_of-self c =
+    let f = c.self.inside in
+    let skip = c.first-skip.result.0 in
+    let now_is = range_drop f.buffer f.start skip f.end ∙ ap (λ t. drop skip t) c.self.view_is ∙ c.first-skip.ensures.kept in
+    record {
+      order = skip_within f skip c.args.self.now c.self.told c.self.invariant c.self.view_is c.first-skip.ensures.within;
+      room = c.self.invariant.room;
+      known = knows_found c.first-skip.result.1 c.unwrap_or-self-inside.result (between (f.start + skip) f.end f.buffer) c.unwrap_or-self-inside.ensures (c.first-skip.ensures.found ∙ ap frame_at (sym now_is));
+    }
 
 pub returns-clause-kept : goal.returns-clause-kept
 returns-clause-kept c =
     let f = c.self.inside in
-    range_drop f.buffer f.start c.first_start-skip.result.0 f.end ∙ c.first_start-skip.ensures.kept ∙ ap from_first_start c.self.view_is
+    range_drop f.buffer f.start c.first-skip.result.0 f.end ∙ ap (λ t. drop c.first-skip.result.0 t) c.self.view_is ∙ c.first-skip.ensures.kept

@@ -1,0 +1,107 @@
+-- The fields of a head, as they are written one after another.
+use Rattle.std.proofs.Common.{◌≡◌, ℕ, ◌+◌, Bool, true, false, cond, List, [], ◌∷◌, ◌++◌, length, refl, sym, ap, ◌∙◌, arith, length-append}
+use Rattle.std.specs.Prelude.{decimal}
+use Rattle.std.specs.List.{flat_map}
+use Rattle.std.proofs.lemmas.List.{append_assoc}
+use Rattle.std.proofs.lemmas.Fmt.{decimal_step, decimal_digit}
+use Rattle.fix_wire.specs.declared.writer.Head.{Head}
+use Rattle.fix_wire.specs.Fields.{TagValue}
+use Rattle.fix_wire.specs.Layout.{field, field_text, only_if, head_fields}
+use Rattle.fix_wire.specs.Spelling.{kind_text, orig_text}
+
+-- ---- the tags in digits
+
+d35 : decimal 35 ≡ 51 ∷ 53 ∷ []
+d35 = decimal_step 35 (omega arith) (omega arith) ∙ ap (λ t. t ++ 53 ∷ []) (decimal_digit 3 (omega arith))
+
+d34 : decimal 34 ≡ 51 ∷ 52 ∷ []
+d34 = decimal_step 34 (omega arith) (omega arith) ∙ ap (λ t. t ++ 52 ∷ []) (decimal_digit 3 (omega arith))
+
+d43 : decimal 43 ≡ 52 ∷ 51 ∷ []
+d43 = decimal_step 43 (omega arith) (omega arith) ∙ ap (λ t. t ++ 51 ∷ []) (decimal_digit 4 (omega arith))
+
+d49 : decimal 49 ≡ 52 ∷ 57 ∷ []
+d49 = decimal_step 49 (omega arith) (omega arith) ∙ ap (λ t. t ++ 57 ∷ []) (decimal_digit 4 (omega arith))
+
+d52 : decimal 52 ≡ 53 ∷ 50 ∷ []
+d52 = decimal_step 52 (omega arith) (omega arith) ∙ ap (λ t. t ++ 50 ∷ []) (decimal_digit 5 (omega arith))
+
+d56 : decimal 56 ≡ 53 ∷ 54 ∷ []
+d56 = decimal_step 56 (omega arith) (omega arith) ∙ ap (λ t. t ++ 54 ∷ []) (decimal_digit 5 (omega arith))
+
+d12 : decimal 12 ≡ 49 ∷ 50 ∷ []
+d12 = decimal_step 12 (omega arith) (omega arith) ∙ ap (λ t. t ++ 50 ∷ []) (decimal_digit 1 (omega arith))
+
+d122 : decimal 122 ≡ 49 ∷ 50 ∷ 50 ∷ []
+d122 = decimal_step 122 (omega arith) (omega arith) ∙ ap (λ t. t ++ 50 ∷ []) d12
+
+-- one field, and what follows it
+text_of : (tag : ℕ) (digits value rest : List ℕ) → decimal tag ≡ digits → field_text (field tag value) ++ rest ≡ digits ++ 61 ∷ (value ++ 1 ∷ rest)
+text_of tag digits value rest e =
+    ap (λ ds. ((ds ++ (61 ∷ value)) ++ (1 ∷ [])) ++ rest) e
+    ∙ append_assoc (digits ++ 61 ∷ value) (1 ∷ []) rest
+    ∙ append_assoc digits (61 ∷ value) (1 ∷ rest)
+
+abbrev fields_by : Bool → ℕ → List ℕ → List ℕ → List ℕ → List ℕ → List TagValue
+fields_by d k n sender stamp target =
+    (field 35 (k ∷ []) ∷ field 34 n ∷ [])
+    ++ (only_if d (field 43 (89 ∷ []))
+    ++ ((field 49 sender ∷ field 52 stamp ∷ field 56 target ∷ [])
+    ++ only_if d (field 122 stamp)))
+
+-- the fields one after another
+abbrev line_by : Bool → ℕ → List ℕ → List ℕ → List ℕ → List ℕ → List ℕ
+line_by d k n sender stamp target =
+    51 ∷ 53 ∷ 61 ∷ k ∷ 1 ∷ 51 ∷ 52 ∷ 61 ∷ (n ++ (cond d (1 ∷ 52 ∷ 51 ∷ 61 ∷ 89 ∷ []) []
+    ++ 1 ∷ 52 ∷ 57 ∷ 61 ∷ (sender ++ 1 ∷ 53 ∷ 50 ∷ 61 ∷ (stamp ++ 1 ∷ 53 ∷ 54 ∷ 61 ∷ (target ++ (cond d (1 ∷ 49 ∷ 50 ∷ 50 ∷ 61 ∷ stamp) [] ++ 1 ∷ []))))))
+
+line_tail : (d : Bool) (stamp : List ℕ) → 1 ∷ flat_map field_text (only_if d (field 122 stamp)) ≡ cond d (1 ∷ 49 ∷ 50 ∷ 50 ∷ 61 ∷ stamp) [] ++ 1 ∷ []
+line_tail true stamp = ap (λ t. 1 ∷ t) (text_of 122 (49 ∷ 50 ∷ 50 ∷ []) stamp [] d122)
+line_tail false stamp = refl
+
+line_ids : (d : Bool) (sender stamp target : List ℕ) →
+    flat_map field_text ((field 49 sender ∷ field 52 stamp ∷ field 56 target ∷ []) ++ only_if d (field 122 stamp))
+    ≡ 52 ∷ 57 ∷ 61 ∷ (sender ++ 1 ∷ 53 ∷ 50 ∷ 61 ∷ (stamp ++ 1 ∷ 53 ∷ 54 ∷ 61 ∷ (target ++ (cond d (1 ∷ 49 ∷ 50 ∷ 50 ∷ 61 ∷ stamp) [] ++ 1 ∷ []))))
+line_ids d sender stamp target =
+    text_of 49 (52 ∷ 57 ∷ []) sender _ d49
+    ∙ ap (λ t. 52 ∷ 57 ∷ 61 ∷ (sender ++ 1 ∷ t)) (text_of 52 (53 ∷ 50 ∷ []) stamp _ d52
+    ∙ ap (λ t. 53 ∷ 50 ∷ 61 ∷ (stamp ++ 1 ∷ t)) (text_of 56 (53 ∷ 54 ∷ []) target _ d56
+    ∙ ap (λ t. 53 ∷ 54 ∷ 61 ∷ (target ++ t)) (line_tail d stamp)))
+
+line_is : (d : Bool) (k : ℕ) (n sender stamp target : List ℕ) → flat_map field_text (fields_by d k n sender stamp target) ≡ line_by d k n sender stamp target
+line_is true k n sender stamp target =
+    text_of 35 (51 ∷ 53 ∷ []) (k ∷ []) _ d35
+    ∙ ap (λ t. 51 ∷ 53 ∷ 61 ∷ k ∷ 1 ∷ t) (text_of 34 (51 ∷ 52 ∷ []) n _ d34
+    ∙ ap (λ t. 51 ∷ 52 ∷ 61 ∷ (n ++ 1 ∷ t)) (text_of 43 (52 ∷ 51 ∷ []) (89 ∷ []) _ d43
+    ∙ ap (λ t. 52 ∷ 51 ∷ 61 ∷ 89 ∷ 1 ∷ t) (line_ids true sender stamp target)))
+line_is false k n sender stamp target =
+    text_of 35 (51 ∷ 53 ∷ []) (k ∷ []) _ d35
+    ∙ ap (λ t. 51 ∷ 53 ∷ 61 ∷ k ∷ 1 ∷ t) (text_of 34 (51 ∷ 52 ∷ []) n _ d34
+    ∙ ap (λ t. 51 ∷ 52 ∷ 61 ∷ (n ++ 1 ∷ t)) (line_ids false sender stamp target))
+
+-- ---- how long they are
+
+pub head_size : (h : Head) → length (flat_map field_text (head_fields h)) ≡ length (decimal h.number) + length h.sender + length h.target + length h.stamp + 21 + cond h.duplicate (length h.stamp + 10) 0
+head_size h = ap length (line_is h.duplicate h.kind (decimal h.number) h.sender h.stamp h.target) ∙ by_flag h.duplicate (decimal h.number) h.sender h.stamp h.target
+  where
+    by_flag : (d : Bool) (n sender stamp target : List ℕ) → length (line_by d h.kind n sender stamp target) ≡ length n + length sender + length target + length stamp + 21 + cond d (length stamp + 10) 0
+    by_flag true n sender stamp target = grind (arith, length-append)
+    by_flag false n sender stamp target = grind (arith, length-append)
+
+-- ---- as the code appends them
+
+step : (o o1 o2 a b : List ℕ) → o2 ≡ o1 ++ b → o1 ≡ o ++ a → o2 ≡ o ++ (a ++ b)
+step o o1 o2 a b e f = e ∙ ap (λ t. t ++ b) f ∙ append_assoc o a b
+
+pub head_appended : (h : Head) (o o1 o2 o3 o4 o5 o6 o7 o8 : List ℕ) →
+    o1 ≡ o ++ kind_text h → o2 ≡ o1 ++ h.sender → o3 ≡ o2 ++ (1 ∷ 53 ∷ 50 ∷ 61 ∷ []) → o4 ≡ o3 ++ h.stamp → o5 ≡ o4 ++ (1 ∷ 53 ∷ 54 ∷ 61 ∷ []) → o6 ≡ o5 ++ h.target → o7 ≡ o6 ++ orig_text h → o8 ≡ o7 ++ (1 ∷ []) →
+    o8 ≡ o ++ flat_map field_text (head_fields h)
+head_appended h o o1 o2 o3 o4 o5 o6 o7 o8 e1 e2 e3 e4 e5 e6 e7 e8 =
+    step o o7 o8 _ _ e8 (step o o6 o7 _ _ e7 (step o o5 o6 _ _ e6 (step o o4 o5 _ _ e5 (step o o3 o4 _ _ e4 (step o o2 o3 _ _ e3 (step o o1 o2 _ _ e2 e1))))))
+    ∙ ap (λ t. o ++ t) (nested h.duplicate h.kind (decimal h.number) h.sender h.stamp h.target ∙ sym (line_is h.duplicate h.kind (decimal h.number) h.sender h.stamp h.target))
+  where
+    nested : (d : Bool) (k : ℕ) (n sender stamp target : List ℕ) →
+        ((((((((51 ∷ 53 ∷ 61 ∷ k ∷ 1 ∷ 51 ∷ 52 ∷ 61 ∷ []) ++ (n ++ cond d (1 ∷ 52 ∷ 51 ∷ 61 ∷ 89 ∷ 1 ∷ 52 ∷ 57 ∷ 61 ∷ []) (1 ∷ 52 ∷ 57 ∷ 61 ∷ []))) ++ sender) ++ (1 ∷ 53 ∷ 50 ∷ 61 ∷ [])) ++ stamp) ++ (1 ∷ 53 ∷ 54 ∷ 61 ∷ [])) ++ target) ++ cond d (1 ∷ 49 ∷ 50 ∷ 50 ∷ 61 ∷ stamp) []) ++ (1 ∷ [])
+        ≡ line_by d k n sender stamp target
+    nested true k n sender stamp target = simp append_assoc refl
+    nested false k n sender stamp target = simp append_assoc refl
