@@ -332,9 +332,8 @@ fn second<A: Allocator + Copy>(alloc: A, body: &str) -> Result<Option<Verdict>, 
     }
 }
 
-#[test]
-fn each_reason_of_each_kind(rt: HostRuntime) -> Result<(), Fail> {
-    let rows: [(&str, &str, &str, u8); 70] = [
+/// A kind, a field of it, what stands in its place, and the reason of the Reject.
+const FAULTS: &[(&str, &str, &str, u8)] = &[
         ("0", "52", "", 1),
         ("0", "52", "52=|", 4),
         ("3", "52", "", 1),
@@ -406,10 +405,13 @@ fn each_reason_of_each_kind(rt: HostRuntime) -> Result<(), Fail> {
         ("F", "60", "", 1),
         ("F", "60", "60=|", 4),
     ];
-    for (kind, tag, text, reason) in rows {
+
+#[test]
+fn each_reason_of_each_kind(rt: HostRuntime) -> Result<(), Fail> {
+    for (kind, tag, text, reason) in FAULTS {
         let body = changed(rt.alloc(), kind, fields_of(kind), tag, text)?;
         let got = second(rt.alloc(), body.as_str())?;
-        assert_eq!(rt; got, Some(Verdict::Event(reject(2, reason))), "{body}");
+        assert_eq!(rt; got, Some(Verdict::Event(reject(2, *reason))), "{body}");
     }
     Ok(())
 }
