@@ -7,3 +7,5 @@ pub mod Inlets
 pub mod MonthLines
 pub mod EntryByEntry
 pub mod SessionLines
+pub mod WorkedRanges
+pub mod SentFrames

@@ -6,6 +6,7 @@ pub mod fault;
 pub mod lanes;
 pub mod laws;
 pub mod output;
+pub mod sent;
 #[cfg(test)]
 mod tests;
 pub mod totals;

@@ -15,3 +15,4 @@ pub mod Most
 pub mod Entries
 pub mod Lawful
 pub mod Ranging
+pub mod Named
