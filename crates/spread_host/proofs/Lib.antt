@@ -11,3 +11,5 @@ pub mod SessionLines
 pub mod SixteenTexts
 pub mod Shown
 pub mod Theorems
+pub mod WorkedRanges
+pub mod SentFrames

@@ -17,3 +17,4 @@ pub mod Fitting
 pub mod Entries
 pub mod Lawful
 pub mod Ranging
+pub mod Named
