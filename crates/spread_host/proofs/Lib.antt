@@ -11,5 +11,3 @@ pub mod SessionLines
 pub mod SixteenTexts
 pub mod Shown
 pub mod Theorems
-pub mod WorkedRanges
-pub mod SentFrames

@@ -10,7 +10,6 @@ pub mod lanes;
 pub mod laws;
 pub mod output;
 pub mod replay;
-pub mod sent;
 #[cfg(test)]
 mod tests;
 pub mod totals;

@@ -1,4 +1,8 @@
-use Rattle.std.proofs.Common.{◌≡◌, ℕ, List, Option, ap, subst, ◌∙◌, Err}
+use Rattle.std.proofs.Common.{◌≡◌, ℕ, List, Option, ap, sym, subst, ◌∙◌, Err}
+use Rattle.spread_rules.specs.declared.event.Entry.{Entry}
+use Rattle.spread_report.specs.Messages.{IsRow, messages_to}
+use Rattle.spread_report.specs.Sessions.{bytes_of}
+use Rattle.spread_host.specs.Working.{outgoing_bytes, worked_entries}
 use Rattle.spread_rules.specs.Ends.{AppendsPrefix}
 use Rattle.spread_host.specs.Days.{IsJournalOf, IsPartOut}
 use Rattle.spread_host.specs.declared.fault.HostFault.{HostFault}
@@ -45,3 +49,10 @@ returns-clause-write g c e =
           })
           (g.S.Source.left c.args.source.now) c.in-Ok.ensures.whole,
     )
+
+pub returns-in-Ok-write_day-clause-outgoing : goal.returns-in-Ok-write_day-clause-outgoing
+returns-in-Ok-write_day-clause-outgoing g c s h = c.in-Ok-day_of.ensures.out s h ∙ ap (λ (es : List Entry). outgoing_bytes c.args.rulebook.now c.args.stamp es s) (sym c.in-Ok-day_of.ensures.journal)
+
+pub returns-in-Ok-write_day-clause-whole_frames : goal.returns-in-Ok-write_day-clause-whole_frames
+returns-in-Ok-write_day-clause-whole_frames g c s h =
+    subst (λ (es : List Entry). IsRow (messages_to c.args.rulebook.now c.args.stamp (worked_entries c.args.rulebook.now es) s) (bytes_of c.in-Ok-day_of.day.out.items s)) (sym c.in-Ok-day_of.ensures.journal) (c.in-Ok-day_of.ensures.whole s h)

@@ -1,6 +1,0 @@
-use super::sent;
-
-#[test]
-fn law_of_what_is_sent() {
-    sent();
-}
