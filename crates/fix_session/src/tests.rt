@@ -334,7 +334,6 @@ fn second<A: Allocator + Copy>(alloc: A, body: &str) -> Result<Option<Verdict>, 
 
 #[test]
 fn each_reason_of_each_kind(rt: HostRuntime) -> Result<(), Fail> {
-    let long = "123456789012345678901234567890123";
     let rows: [(&str, &str, &str, u8); 70] = [
         ("0", "52", "", 1),
         ("0", "52", "52=|", 4),
@@ -412,6 +411,13 @@ fn each_reason_of_each_kind(rt: HostRuntime) -> Result<(), Fail> {
         let got = second(rt.alloc(), body.as_str())?;
         assert_eq!(rt; got, Some(Verdict::Event(reject(2, reason))), "{body}");
     }
+    Ok(())
+}
+
+/// An id of 33 bytes is too long.
+#[test]
+fn long_ids(rt: HostRuntime) -> Result<(), Fail> {
+    let long = "123456789012345678901234567890123";
     for (kind, tag) in [
         ("1", "112"),
         ("D", "11"),
@@ -425,6 +431,11 @@ fn each_reason_of_each_kind(rt: HostRuntime) -> Result<(), Fail> {
         let got = second(rt.alloc(), body.as_str())?;
         assert_eq!(rt; got, Some(Verdict::Event(reject(2, 5))), "{body}");
     }
+    Ok(())
+}
+
+#[test]
+fn kinds_that_are_none(rt: HostRuntime) -> Result<(), Fail> {
     for (kind, reason) in [
         ("", 4),
         ("G", 11),

@@ -1,7 +1,8 @@
 -- What was sent, and then what is owed, stays the same list.
-use Rattle.std.proofs.Common.{◌≡◌, ℕ, true, List, [], ◌∷◌, ◌++◌, sym, ap, ◌∙◌, append_assoc, append-nil}
+use Rattle.std.proofs.Common.{◌≡◌, ℕ, true, List, [], ◌∷◌, ◌++◌, sym, ap, ◌∙◌, inl, inr, append_assoc, append-nil}
 use mathlib.Core.List.{IsPrefix}
 use Rattle.spread_rules.specs.declared.event.Event.{Event}
+use Rattle.spread_rules.specs.declared.event.Event.TheVariants as events
 use Rattle.fix_wire.specs.Frames.{frames}
 use Rattle.gate_link.proofs.Owing.{owes_nothing}
 use Rattle.gate_link.specs.Gates.{gate_sent, gate_owed, gate_closed, Rests, Stepped, Ended}
@@ -19,21 +20,23 @@ alike : (was now after before : List Event) → now ≡ was → after ≡ before
 alike was now after before sent owed = ap (λ (t : List Event). t ++ after) sent ∙ ap (λ (t : List Event). was ++ t) owed
 
 pub kept_of_rest : {A : Type 0} (a b : Gateway A) → Rests a b → (more : List ℕ) → gate_sent b ++ gate_owed b more ≡ gate_sent a ++ gate_owed a more
-kept_of_rest a b s more = alike (gate_sent a) (gate_sent b) (gate_owed b more) (gate_owed a more) s.0 (s.3 more)
+kept_of_rest a b s more = alike (gate_sent a) (gate_sent b) (gate_owed b more) (gate_owed a more) s.sent (s.owed more)
 
 pub kept_of_step : {A : Type 0} (r : Step) (a b : Gateway A) → Stepped r a b → (more : List ℕ) → gate_sent b ++ gate_owed b more ≡ gate_sent a ++ gate_owed a more
-kept_of_step Sent a b s more = moved (gate_sent a) (gate_sent b) s.0 (gate_owed b more) (gate_owed a more) s.1 (s.3 more)
-kept_of_step Skipped a b s more = alike (gate_sent a) (gate_sent b) (gate_owed b more) (gate_owed a more) s.0 (s.2 more)
-kept_of_step Need a b s more = kept_of_rest a b s.0 more
-kept_of_step Full a b s more = kept_of_rest a b s.0 more
-kept_of_step Closed a b s more = ap (λ (g : Gateway _). gate_sent g ++ gate_owed g more) s.0
+kept_of_step Sent a b s more = moved (gate_sent a) (gate_sent b) s.event (gate_owed b more) (gate_owed a more) s.sent (s.owed more)
+kept_of_step Skipped a b s more = alike (gate_sent a) (gate_sent b) (gate_owed b more) (gate_owed a more) s.sent (s.owed more)
+kept_of_step Need a b s more = kept_of_rest a b s.rests more
+kept_of_step Full a b s more = kept_of_rest a b s.rests more
+kept_of_step Closed a b s more = ap (λ (g : Gateway _). gate_sent g ++ gate_owed g more) s.same
 
 pub kept_of_end : {A : Type 0} (r : Step) (a b : Gateway A) → Ended r a b → gate_sent b ++ gate_owed b [] ≡ gate_sent a ++ gate_owed a []
-kept_of_end Sent a b s = moved (gate_sent a) (gate_sent b) s.0 (gate_owed b []) (gate_owed a []) s.1 s.2
-kept_of_end Skipped a b s = alike (gate_sent a) (gate_sent b) (gate_owed b []) (gate_owed a []) s.0 (s.2 [])
+kept_of_end Sent a b (inl s) = moved (gate_sent a) (gate_sent b) s.event (gate_owed b []) (gate_owed a []) s.sent (s.owed [])
+kept_of_end Sent a b (inr s) = moved (gate_sent a) (gate_sent b) (events.Close 5) (gate_owed b []) (gate_owed a []) s.sent s.owed
+kept_of_end Skipped a b s = alike (gate_sent a) (gate_sent b) (gate_owed b []) (gate_owed a []) s.sent (s.owed [])
 kept_of_end Need a b s = absurd s
-kept_of_end Full a b s = kept_of_rest a b s.0 []
-kept_of_end Closed a b s = ap (λ (g : Gateway _). gate_sent g ++ gate_owed g []) s.0
+kept_of_end Full a b (inl s) = kept_of_rest a b s.rests []
+kept_of_end Full a b (inr s) = kept_of_rest a b s.rests []
+kept_of_end Closed a b s = ap (λ (g : Gateway _). gate_sent g ++ gate_owed g []) s.same
 
 -- bytes that were put come before those that follow
 pub kept_of_put : {A : Type 0} (a b : Gateway A) (taken rest : List ℕ) → gate_sent b ≡ gate_sent a → gate_owed b rest ≡ gate_owed a (taken ++ rest)
@@ -48,4 +51,4 @@ sent_is_prefix g rest whole total = (gate_owed g rest, total)
 pub sent_is_whole : {A : Type 0} (g : Gateway A) (rest : List ℕ) (whole : List Event) → gate_sent g ++ gate_owed g rest ≡ whole → gate_closed g ≡ true → gate_sent g ≡ whole
 sent_is_whole g rest whole total shut =
     sym (append-nil (gate_sent g))
-    ∙ (ap (λ (t : List Event). gate_sent g ++ t) (sym (owes_nothing g.judging (frames (g.held ++ rest)) shut)) ∙ total)
+    ∙ (ap (λ (t : List Event). gate_sent g ++ t) (sym (owes_nothing g.judging (frames (g.framer ++ rest)) shut)) ∙ total)

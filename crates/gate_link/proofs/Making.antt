@@ -31,8 +31,8 @@ pairs_snoc ls gs l g pairs here =
           ],
     )
 
-pub fresh_snoc : {A : Type 0} (gs : List (Gateway A)) (g : Gateway A) → AreFresh gs → IsFresh (length gs) g → AreFresh (gs ++ g ∷ [])
-fresh_snoc gs g all here s e below =
+pub fresh_snoc : {A : Type 0} (ring : ℕ) (gs : List (Gateway A)) (g : Gateway A) → AreFresh ring gs → IsFresh ring (length gs) g → AreFresh ring (gs ++ g ∷ [])
+fresh_snoc ring gs g all here s e below =
     elim (snoc_cases gs g s below) [
       | inl early ↦ rw (get_or_append_left gs (g ∷ []) e s early) (all s e early)
       | inr last ↦ rw (get_or_push gs g e s (sym last), last) here

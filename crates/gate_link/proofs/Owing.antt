@@ -14,7 +14,7 @@ use Rattle.fix_session.specs.declared.session.Verdict.TheVariants.{Event as Says
 use Rattle.fix_session.specs.Steps.{judge, event_in, is_closed, is_closing, events_said, session_after, events_at_end}
 use Rattle.fix_session.proofs.Judged.{cons_two}
 use Rattle.fix_session.proofs.Closing.{closed_silent, closes_with}
-use Rattle.gate_link.specs.Owed.{whole_from, owed, SameFrames, Heads}
+use Rattle.gate_link.specs.Owed.{whole_from, owes, SameFrames, Heads}
 
 -- what a session says to one message and then to others
 pub whole_step : (s : Session) (f : List ℕ) (fs : List (List ℕ)) → whole_from s (f ∷ fs) ≡ cons_option (event_in (judge s f).0) (whole_from (judge s f).1 fs)
@@ -36,27 +36,27 @@ owes_nothing s (f ∷ fs) shut =
     ∙ (ap (λ r. cons_option (event_in r.0) (whole_from r.1 fs)) (closed_silent s f shut) ∙ owes_nothing s fs shut)
 
 -- skipped bytes change nothing
-pub owed_same : (s : Session) (a b : List ℕ) → SameFrames a b → (more : List ℕ) → owed s b more ≡ owed s a more
+pub owed_same : (s : Session) (a b : List ℕ) → SameFrames a b → (more : List ℕ) → owes s b more ≡ owes s a more
 owed_same s a b same more = ap (whole_from s) (sym (same more))
 
 -- a message is passed that says this
-pub owed_passed : (s : Session) (m a d : List ℕ) → Heads m a d → (more : List ℕ) → cons_option (event_in (judge s m).0) (owed (judge s m).1 d more) ≡ owed s a more
+pub owed_passed : (s : Session) (m a d : List ℕ) → Heads m a d → (more : List ℕ) → cons_option (event_in (judge s m).0) (owes (judge s m).1 d more) ≡ owes s a more
 owed_passed s m a d heads more = sym (whole_step s m (frames (d ++ more))) ∙ ap (whole_from s) (sym (heads more))
 
 -- a message that says nothing
 pub owed_nothing : (s s' : Session) (m a d : List ℕ) → Heads m a d → s' ≡ (judge s m).1 → event_in (judge s m).0 ≡ None
-    → (more : List ℕ) → owed s' d more ≡ owed s a more
+    → (more : List ℕ) → owes s' d more ≡ owes s a more
 owed_nothing s s' m a d heads goes none more =
-    ap (λ t. owed t d more) goes ∙ (ap (λ o. cons_option o (owed (judge s m).1 d more)) (sym none) ∙ owed_passed s m a d heads more)
+    ap (λ t. owes t d more) goes ∙ (ap (λ o. cons_option o (owes (judge s m).1 d more)) (sym none) ∙ owed_passed s m a d heads more)
 
 -- a message that says this event
 pub owed_event : (s s' : Session) (m a d : List ℕ) (e : Event) → Heads m a d → s' ≡ (judge s m).1 → event_in (judge s m).0 ≡ Some e
-    → (more : List ℕ) → e ∷ owed s' d more ≡ owed s a more
+    → (more : List ℕ) → e ∷ owes s' d more ≡ owes s a more
 owed_event s s' m a d e heads goes some more =
-    ap (λ t. e ∷ owed t d more) goes ∙ (ap (λ o. cons_option o (owed (judge s m).1 d more)) (sym some) ∙ owed_passed s m a d heads more)
+    ap (λ t. e ∷ owes t d more) goes ∙ (ap (λ o. cons_option o (owes (judge s m).1 d more)) (sym some) ∙ owed_passed s m a d heads more)
 
 -- bytes put behind the held ones come before those that follow
-pub owed_put : (s : Session) (held piece more : List ℕ) → owed s (held ++ piece) more ≡ owed s held (piece ++ more)
+pub owed_put : (s : Session) (held piece more : List ℕ) → owes s (held ++ piece) more ≡ owes s held (piece ++ more)
 owed_put s held piece more = ap (λ (bs : List ℕ). whole_from s (frames bs)) (append_assoc held piece more)
 
 -- where no message stands behind skipped bytes, none stood before
@@ -96,3 +96,7 @@ whole_has_close s (f ∷ fs) opens = ap (list_any is_close) (whole_step s f fs) 
     by_closed : (v : Bool) → is_closed (judge s f).1 ≡ v → (is_closed (judge s f).1 ≡ false → list_any is_close (whole_from (judge s f).1 fs) ≡ true) → list_any is_close (cons_option (event_in (judge s f).0) (whole_from (judge s f).1 fs)) ≡ true
     by_closed true h ih = with_event (judge s f).0 (whole_from (judge s f).1 fs) (sym (closes_with s f opens) ∙ h)
     by_closed false h ih = with_rest (event_in (judge s f).0) (whole_from (judge s f).1 fs) (ih h)
+
+-- where no message stands at the end of a stream, Close 5 is left
+pub end_owed : (s : Session) (held : List ℕ) → is_closed s ≡ false → frames held ≡ [] → owes s held [] ≡ Close 5 ∷ []
+end_owed s held opens none = ap (whole_from s) (ap frames (append-nil held) ∙ none) ∙ end_says s opens

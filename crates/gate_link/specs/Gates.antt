@@ -6,7 +6,7 @@ use Rattle.spread_rules.specs.declared.event.Event.TheVariants.{Close}
 use Rattle.fix_wire.specs.Frames.{frames}
 use Rattle.fix_session.specs.declared.session.Session.{Session}
 use Rattle.fix_session.specs.Steps.{judge, event_in, is_closed}
-use Rattle.gate_link.specs.Owed.{owed, Stands, Heads, SameFrames}
+use Rattle.gate_link.specs.Owed.{owes, Stands, Heads, SameFrames}
 use Rattle.gate_link.specs.Rows.{events}
 use Rattle.gate_link.specs.declared.gateway.Gateway.{Gateway}
 use Rattle.gate_link.specs.declared.gateway.Step.{Step}
@@ -34,7 +34,7 @@ gate_held g = g.framer
 
 -- what it still has to send, if these bytes follow the held ones
 abbrev pub gate_owed : {A : Type 0} → Gateway A → List ℕ → List Event
-gate_owed g more = owed g.judging g.framer more
+gate_owed g more = owes g.judging g.framer more
 
 -- its session is over
 abbrev pub gate_closed : {A : Type 0} → Gateway A → Bool

@@ -12,8 +12,8 @@ abbrev pub whole_from : Session → List (List ℕ) → List Event
 whole_from s fs = events_said s fs ++ events_at_end (session_after s fs)
 
 -- what it owes: what it says to the messages of the held bytes followed by these, and then where its stream ends
-abbrev pub owed : Session → List ℕ → List ℕ → List Event
-owed s held more = whole_from s (frames (held ++ more))
+abbrev pub owes : Session → List ℕ → List ℕ → List Event
+owes s held more = whole_from s (frames (held ++ more))
 
 -- this message stands first among the held bytes
 abbrev pub Stands : List ℕ → List ℕ → Type 0

@@ -1,94 +1,128 @@
-// The sending end of a session.
+//! The sending end of a session: it judges the session's bytes and pushes its events into a ring.
 ghost use Rattle.std.specs.List.{list_any};
 ghost use Rattle.rtrb.specs.Ring.{sent};
 ghost use Rattle.spread_rules.specs.Journal.{is_close};
+ghost use Rattle.fix_session.specs.Steps.{judge, is_closed};
+ghost use Rattle.fix_wire.specs.Frames.{frames};
+ghost use Rattle.fix_wire.specs.Held.{first_frame, from_first_start};
 ghost use Rattle.gate_link.specs.Rows.{events};
-ghost use Rattle.std.specs.Prelude.{◌≡◌, ◌-◌, ◌↔◌, ℕ, List, ◌++◌, length, take, min, true, if◌then◌else◌, IsTrue};
+ghost use Rattle.std.specs.Prelude.{◌≡◌, ◌-◌, ◌↔◌, ℕ, List, ◌++◌, length, take, min, true, if◌then◌else◌, option_map, is_some};
 
+use fix_session::{Session, Verdict};
+use fix_wire::{Framer, Next};
 use rtrb::Producer;
+use spread_rules::event::{Entry, Event};
 use std::alloc::Allocator;
-use wire_mini::{Entry, Event, Held, Session, Verdict};
 
-/// Judges the bytes of one session and sends its events.
+/// Judges the bytes of one session and sends its events. It may move to another thread.
 #[derive(Drop)]
 pub struct Gateway<A: Allocator> {
     session: u8,
     pub(crate) producer: Producer<Entry, A>,
     judging: Session,
-    held: Held<A>,
-    ghost shut: { judging.closed ≡ list_any is_close (events (sent producer)) },
+    framer: Framer,
+    // It is closed exactly where its close was sent.
+    ghost close_sent: { is_closed judging ≡ list_any is_close (events (sent producer)) },
 }
 
-/// What one step did.
+/// What one step of a gateway did.
 #[derive(Clone, Copy, PartialEq, Eq, Debug)]
 pub enum Step {
+    /// One event was pushed.
     Sent,
+    /// One message was passed that has no event.
     Skipped,
+    /// No message stands.
     Need,
+    /// The ring gave no room for the event that is due.
     Full,
+    /// The session was closed before.
     Closed,
+}
+
+/// What the first held message says, if one stands, and the session after it. Bytes at which no frame stands are skipped.
+fn judge_first(framer: &mut Framer, judging: Session) -> Option<(Verdict, Session)>
+    ensures verdict { result ≡ option_map (judge judging) (first_frame (frames framer.old)) }
+    ensures held { framer.new ≡ from_first_start framer.old }
+{
+    match framer.next() {
+        Next::Message(message) => Some(judging.judge(&message)),
+        Next::Need => None,
+    }
+}
+
+/// Whether a message stands among the held bytes. Bytes at which no frame stands are skipped.
+fn has_message(framer: &mut Framer) -> bool
+    ensures stands { result ≡ is_some (first_frame (frames framer.old)) }
+    ensures held { framer.new ≡ from_first_start framer.old }
+{
+    match framer.next() {
+        Next::Message(_) => true,
+        Next::Need => false,
+    }
 }
 
 impl<A: Allocator> Gateway<A> {
     ghost use Rattle.fix_session.specs.Steps.{new_session};
-    ghost use Rattle.wire_mini.specs.declared.held.TheConstants.{ROOM};
-    ghost use Rattle.gate_link.specs.Gates.{gate_sent, gate_state, gate_held, gate_owed, gate_closed, SameGate, Rests, Stepped, Ended};
+    ghost use Rattle.gate_link.specs.Gates.{gate_session, gate_sent, gate_room, gate_state, gate_held, gate_owed, gate_closed, SameGate, Rests, Stepped, Ended};
+    ghost use Rattle.gate_link.specs.Owed.{Stands};
     ghost use Rattle.std.specs.Prelude.{[], ◌⊎◌, false, MatchBool};
-    ghost use Rattle.wire_mini.specs.Streams.{frames, Stands};
 
-    pub(crate) fn new(session: u8, producer: Producer<Entry, A>, held: Held<A>) -> Gateway<A>
-        requires { (held ≡ []) × (sent producer ≡ []) }
-        ensures parts { (result.session ≡ session) × (result.producer ≡ producer) }
-        ensures state { (gate_state result ≡ fresh) × (gate_held result ≡ []) }
+    pub(crate) fn new(session: u8, producer: Producer<Entry, A>) -> Gateway<A>
+        requires { sent producer ≡ [] }
+        ensures parts { (gate_session result ≡ session) × (result.producer ≡ producer) }
+        ensures state { (gate_state result ≡ new_session) × (gate_held result ≡ []) }
     {
         Gateway {
             session,
             producer,
             judging: Session::new(),
-            held,
+            framer: Framer::new(),
         }
     }
 
+    /// The number of its session, from 0.
     pub fn session(&self) -> u8
-        ensures { result ≡ self.now.session }
+        ensures { result ≡ gate_session self.now }
     {
         self.session
     }
 
-    /// Whether its close was sent.
+    /// Whether its session is over: its close was sent.
     pub fn is_closed(&self) -> bool
         ensures { result ≡ gate_closed self.now }
     {
         self.judging.is_closed()
     }
 
-    /// Takes as much of the piece as there is room for, and all of it once closed.
+    /// Takes as much of the piece as there is room for, and says how many bytes. Once closed it takes the whole piece and
+    /// keeps nothing of it.
     pub fn put(&mut self, piece: &[u8]) -> usize
-        ensures count { result ≡ (if gate_closed self.old then length piece.now else min (length piece.now) (ROOM - length (gate_held self.old))) }
+        ensures count { result ≡ (if gate_closed self.old then length piece.now else min (length piece.now) (8192 - length (gate_held self.old))) }
         ensures gate { SameGate self.old self.new }
         ensures sent { gate_sent self.new ≡ gate_sent self.old }
+        ensures room { gate_room self.new ≡ gate_room self.old }
         ensures state { gate_state self.new ≡ gate_state self.old }
+        ensures held { gate_held self.new ≡ (if gate_closed self.old then gate_held self.old else gate_held self.old ++ take result piece.now) }
         ensures owed { (more : List ℕ) → gate_owed self.new more ≡ gate_owed self.old (take result piece.now ++ more) }
     {
         if self.judging.is_closed() {
             return piece.len();
         }
-        self.held.put(piece)
+        self.framer.put(piece)
     }
 
     /// Whether a message stands that `step` would judge.
     pub fn stands(&mut self) -> bool
         ensures gate { SameGate self.old self.new }
         ensures rests { Rests self.old self.new }
-        ensures stands { MatchBool result ((gate_closed self.old ≡ false) × ((m : ℕ) × Stands m (gate_held self.new))) ((gate_closed self.old ≡ true) ⊎ (frames (gate_held self.old) ≡ [])) }
+        ensures room { gate_room self.new ≡ gate_room self.old }
+        ensures stands { MatchBool result ((gate_closed self.old ≡ false) × ((m : List ℕ) × Stands m (gate_held self.old))) ((gate_closed self.old ≡ true) ⊎ (frames (gate_held self.old) ≡ [])) }
     {
         if self.judging.is_closed() {
             return false;
         }
-        let Some(_) = self.held.next() else {
-            return false;
-        };
-        true
+        has_message(&mut self.framer)
     }
 
     /// Judges the first message that is held, and sends its event.
@@ -99,13 +133,12 @@ impl<A: Allocator> Gateway<A> {
         if self.judging.is_closed() {
             return Step::Closed;
         }
-        let Some(message) = self.held.next() else {
+        let Some((verdict, after)) = judge_first(&mut self.framer, self.judging) else {
             return Step::Need;
         };
-        let (verdict, after) = self.judging.judge(message);
         match verdict {
             Verdict::Nothing => {
-                self.held.pass();
+                self.framer.pass();
                 self.judging = after;
                 Step::Skipped
             }
@@ -117,14 +150,14 @@ impl<A: Allocator> Gateway<A> {
                 let Ok(()) = self.producer.push(entry) else {
                     return Step::Full;
                 };
-                self.held.pass();
+                self.framer.pass();
                 self.judging = after;
                 Step::Sent
             }
         }
     }
 
-    /// After the last byte was put: steps, and where no message stands sends the close.
+    /// After the last byte was put: steps, and where no message stands sends Close 5.
     pub fn end(&mut self) -> Step
         ensures gate { SameGate self.old self.new }
         ensures step { Ended result self.old self.new }

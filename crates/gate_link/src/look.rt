@@ -1,4 +1,4 @@
-// Looks beside all gateways.
+//! Over all gateways of a link: what they have sent, and the first that is open.
 ghost use Rattle.std.specs.Prelude.{◌≡◌, ◌≤◌, length, IfSome, IfNone};
 ghost use Rattle.gate_link.specs.Lanes.{AllLooked, ArePairs};
 ghost use Rattle.gate_link.specs.Links.{AllClosed, IsFirstOpen};

@@ -1,27 +1,47 @@
-// Makes a link.
+//! Makes the gateways and the sequencer of a day, and refuses what is out of range.
 ghost use Rattle.std.specs.Prelude.{◌≡◌, ◌≤◌, ◌<◌, ℕ, [], IfOk, IfErr, vec_len};
 ghost use Rattle.gate_link.specs.Rows.{row};
 ghost use Rattle.gate_link.specs.Lanes.{taken, ArePairs};
 ghost use Rattle.gate_link.specs.Links.{IsLinkOf, journal_of, room_of, session_count};
-ghost use Rattle.gate_link.specs.Opening.{AreFresh, IsRefusal};
+ghost use Rattle.gate_link.specs.Opening.{AreFresh, IsRefusal, fault_number};
 
 use crate::gateway::Gateway;
 use crate::lane::SessionLane;
 use crate::sequencer::Sequencer;
 use rtrb::RingBuffer;
+use spread_rules::event::Entry;
 use std::alloc::{AllocError, Allocator};
-use wire_mini::{Entry, Held};
+use thiserror::Error;
 
 /// Why no link was made.
-#[derive(Clone, Copy, PartialEq, Eq, Debug)]
+#[derive(Clone, Copy, PartialEq, Eq, Debug, Error)]
 pub enum LinkFault {
+    #[error("not 1 to 16 sessions")]
     Sessions,
+    #[error("a ring of not 1 to 4,096 events")]
     Ring,
+    #[error("no memory")]
     NoMemory,
+    #[error("a journal of more than 1,000,000 entries")]
     Journal,
 }
 
-/// The gateways of these many sessions in their order, and their sequencer.
+impl LinkFault {
+    /// Its number, 1 to 4.
+    pub fn number(&self) -> u8
+        ensures { result ≡ fault_number self.now }
+    {
+        match self {
+            LinkFault::Sessions => 1,
+            LinkFault::Ring => 2,
+            LinkFault::NoMemory => 3,
+            LinkFault::Journal => 4,
+        }
+    }
+}
+
+/// The gateways of 1 to 16 sessions in their order, over rings of 1 to 4,096 events, and their sequencer, whose journal has
+/// room for at most 1,000,000 entries, all of it reserved here. The faults are judged in the order 1, 2, 4, 3.
 pub fn link<A: Allocator + Copy>(
     alloc: A,
     sessions: usize,
@@ -29,7 +49,7 @@ pub fn link<A: Allocator + Copy>(
     journal: usize,
 ) -> Result<(Vec<Gateway<A>, A>, Sequencer<A>), LinkFault>
     ensures pairs { IfOk result (λ r. IsLinkOf r.1 r.0.items) }
-    ensures gateways { IfOk result (λ r. (vec_len r.0 ≡ sessions) × AreFresh r.0.items) }
+    ensures gateways { IfOk result (λ r. (vec_len r.0 ≡ sessions) × AreFresh ring r.0.items) }
     ensures sequencer { IfOk result (λ r. (journal_of r.1 ≡ []) × (room_of r.1 ≡ journal) × (session_count r.1 ≡ sessions)) }
     ensures refusal { IfErr result (λ f. IsRefusal f sessions ring journal) }
 {
@@ -59,15 +79,14 @@ fn rings<A: Allocator + Copy>(
     requires { sessions ≤ 16 }
     ensures len { IfOk result (λ r. (vec_len r.0 ≡ sessions) × (vec_len r.1 ≡ sessions)) }
     ensures pairs { IfOk result (λ r. ArePairs r.1.items r.0.items) }
-    ensures fresh { IfOk result (λ r. AreFresh r.0.items) }
+    ensures fresh { IfOk result (λ r. AreFresh ring r.0.items) }
     ensures idle { IfOk result (λ r. (s : ℕ) → row taken r.1.items s ≡ []) }
 {
     let mut gateways = Vec::with_capacity(alloc, sessions)?;
     let mut lanes = Vec::with_capacity(alloc, sessions)?;
     for s in 0..sessions {
         let (producer, consumer) = RingBuffer::<Entry>::new(alloc, ring)?;
-        let held = Held::new(alloc)?;
-        gateways.push_reserved(Gateway::new(s as u8, producer, held));
+        gateways.push_reserved(Gateway::new(s as u8, producer));
         lanes.push_reserved(SessionLane::new(consumer));
     }
     Ok((gateways, lanes))

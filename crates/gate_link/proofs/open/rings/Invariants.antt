@@ -9,6 +9,6 @@ invariant-loop-s g l = record {
   gateways : (vec_len l.gateways ≡ l.s) × (l.sessions ≤ vec_capacity l.gateways);
   lanes : (vec_len l.lanes ≡ l.s) × (l.sessions ≤ vec_capacity l.lanes);
   pairs : ArePairs l.lanes.items l.gateways.items;
-  fresh : AreFresh l.gateways.items;
+  fresh : AreFresh l.ring l.gateways.items;
   idle : (s : ℕ) → row taken l.lanes.items s ≡ [];
 }

@@ -1,12 +1,12 @@
 use Rattle.std.proofs.Common.{◌∙◌, sym, ◌++◌, take, length}
-use Rattle.gate_link.proofs.Owing.{owes_nothing}
 use Rattle.fix_wire.specs.Frames.{frames}
+use Rattle.gate_link.proofs.Owing.{owes_nothing}
 use Rattle.gate_link.proofs.gateway.Gateway.put.Goals as goal
 
 -- once closed it owes nothing, whatever follows
 pub returns-then-is_closed-clause-owed : goal.returns-then-is_closed-clause-owed
 returns-then-is_closed-clause-owed g c more =
-    let g = c.args.self.now in
+    let a = c.args.self.now in
     let shut = sym c.is_closed.ensures ∙ c.if-is_closed.true in
-    owes_nothing g.judging (frames (g.held ++ more)) shut
-    ∙ sym (owes_nothing g.judging (frames (g.held ++ (take (length c.args.piece.now) c.args.piece.now ++ more))) shut)
+    owes_nothing a.judging (frames (a.framer ++ more)) shut
+    ∙ sym (owes_nothing a.judging (frames (a.framer ++ (take (length c.args.piece.now) c.args.piece.now ++ more))) shut)

@@ -1,9 +1,14 @@
-use Rattle.std.proofs.Common.{rules, ◌≡◌, [], inr}
-use Rattle.fix_wire.specs.Frames.{frames}
-use Rattle.gate_link.proofs.Owing.{none_before}
+use Rattle.std.proofs.Common.{refl}
+use Rattle.gate_link.proofs.Owing.{owed_same}
+use Rattle.gate_link.proofs.Stepping.{skipped}
 use Rattle.gate_link.proofs.gateway.Gateway.stands.Goals as goal
 
-pub returns-in_default-clause-stands : goal.returns-in_default-clause-stands
-returns-in_default-clause-stands g c =
-    let none : frames c.next.new.self ≡ [] = search rules in
-    inr (none_before c.args.self.now.held c.next.new.self c.next.ensures.same none)
+pub returns-clause-rests : goal.returns-clause-rests
+returns-clause-rests g c =
+    let a = c.args.self.now in
+    let same = skipped a.framer c.has_message.new.framer c.has_message.ensures.held in record {
+      sent = refl;
+      state = refl;
+      held = same;
+      owed = owed_same a.judging a.framer c.has_message.new.framer same;
+    }
