@@ -4,6 +4,9 @@ pub mod Sums
 pub mod Behind
 pub mod Feeding
 pub mod Inlets
+pub mod DayJournals
 pub mod MonthLines
 pub mod EntryByEntry
 pub mod SessionLines
+pub mod SixteenTexts
+pub mod Shown

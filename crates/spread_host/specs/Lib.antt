@@ -2,7 +2,9 @@ pub mod DayText
 pub mod Faults
 pub mod LinesRead
 pub mod DayLines
+pub mod JournalParts
 pub mod Output
 pub mod Sums
 pub mod Totals
+pub mod Days
 pub mod Working

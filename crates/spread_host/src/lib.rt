@@ -1,11 +1,14 @@
 //! A day, from day lines or from sessions in threads, to its journal, fills, outgoing messages and totals.
 #![tactic(auto)]
 
+pub mod day;
+pub mod day_journal;
 pub mod day_lines;
 pub mod fault;
 pub mod lanes;
 pub mod laws;
 pub mod output;
+pub mod replay;
 #[cfg(test)]
 mod tests;
 pub mod totals;
