@@ -106,6 +106,49 @@ start_again (b ∷ bs) = by_case (start_again bs) (front_case (b ∷ bs))
         let e = start_nothing b bs p.0 p.1 in
         ap from_first_start e ∙ ih ∙ sym e
 
+-- at each place that goes, no frame stands or may begin
+pub passed_over : (held : List ℕ) (k : ℕ) → k + length (from_first_start held) < length held → (frame_at (drop k held) ≡ None) × (may_begin (drop k held) ≡ false)
+passed_over [] k l = absurd (omega arith)
+passed_over (b ∷ bs) k l = by_case (λ j h. passed_over bs j h) k l (front_case (b ∷ bs))
+  where
+    by_case : ((j : ℕ) → j + length (from_first_start bs) < length bs → (frame_at (drop j bs) ≡ None) × (may_begin (drop j bs) ≡ false)) → (k : ℕ) → k + length (from_first_start (b ∷ bs)) < length (b ∷ bs) → FrontCase (b ∷ bs) → (frame_at (drop k (b ∷ bs)) ≡ None) × (may_begin (drop k (b ∷ bs)) ≡ false)
+    by_case ih k l (inl f) = let e = ap length (start_frame (b ∷ bs) f.0 f.1) in absurd (omega (arith, e, l))
+    by_case ih k l (inr (inl p)) = let e = ap length (start_partial (b ∷ bs) p.0 p.1) in absurd (omega (arith, e, l))
+    by_case ih zero l (inr (inr p)) = p
+    by_case ih (suc j) l (inr (inr p)) = let e = ap length (start_nothing b bs p.0 p.1) in ih j (omega (arith, e, l))
+
+start_shorter : (held : List ℕ) → length (from_first_start held) ≤ length held
+start_shorter [] = omega arith
+start_shorter (b ∷ bs) = by_case (start_shorter bs) (front_case (b ∷ bs))
+  where
+    by_case : length (from_first_start bs) ≤ length bs → FrontCase (b ∷ bs) → length (from_first_start (b ∷ bs)) ≤ length (b ∷ bs)
+    by_case ih (inl f) = let e = ap length (start_frame (b ∷ bs) f.0 f.1) in omega (arith, e)
+    by_case ih (inr (inl p)) = let e = ap length (start_partial (b ∷ bs) p.0 p.1) in omega (arith, e)
+    by_case ih (inr (inr p)) = let e = ap length (start_nothing b bs p.0 p.1) in omega (arith, e, ih)
+
+-- and what stays is the rest
+pub rest_stays : (held : List ℕ) (k : ℕ) → k + length (from_first_start held) ≡ length held → from_first_start held ≡ drop k held
+rest_stays [] k e = sym (ap (λ n. drop n []) (no_place k e))
+  where
+    no_place : (k : ℕ) → k + 0 ≡ 0 → k ≡ 0
+    no_place k e = omega arith
+rest_stays (b ∷ bs) k e = by_case (λ j h. rest_stays bs j h) (start_shorter bs) k e (front_case (b ∷ bs))
+  where
+    none : (k n : ℕ) → k + n ≡ n → k ≡ 0
+    none k n e = omega arith
+
+    by_case : ((j : ℕ) → j + length (from_first_start bs) ≡ length bs → from_first_start bs ≡ drop j bs) → length (from_first_start bs) ≤ length bs → (k : ℕ) → k + length (from_first_start (b ∷ bs)) ≡ length (b ∷ bs) → FrontCase (b ∷ bs) → from_first_start (b ∷ bs) ≡ drop k (b ∷ bs)
+    by_case ih less k e (inl f) =
+        let s = start_frame (b ∷ bs) f.0 f.1 in
+        let zero_k : k ≡ 0 = none k (length (b ∷ bs)) (ap (λ t. k + length t) (sym s) ∙ e) in
+        s ∙ sym (ap (λ n. drop n (b ∷ bs)) zero_k)
+    by_case ih less k e (inr (inl p)) =
+        let s = start_partial (b ∷ bs) p.0 p.1 in
+        let zero_k : k ≡ 0 = none k (length (b ∷ bs)) (ap (λ t. k + length t) (sym s) ∙ e) in
+        s ∙ sym (ap (λ n. drop n (b ∷ bs)) zero_k)
+    by_case ih less zero e (inr (inr p)) = let s = ap length (start_nothing b bs p.0 p.1) in absurd (omega (arith, e, s, less))
+    by_case ih less (suc j) e (inr (inr p)) = let s = ap length (start_nothing b bs p.0 p.1) in start_nothing b bs p.0 p.1 ∙ ih j (omega (arith, e, s))
+
 -- after the bytes went, a frame stands or may begin
 pub start_settled : (held : List ℕ) → frame_at (from_first_start held) ≡ None → may_begin (from_first_start held) ≡ true
 start_settled [] e = refl

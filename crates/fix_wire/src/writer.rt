@@ -1,7 +1,7 @@
 //! A message in its one spelling: its parts, and the call that appends it.
 ghost use Rattle.std.specs.Prelude.{◌≡◌, ◌++◌, ◌≤◌, ◌*◌, ◌+◌, ◌^◌, ◌-◌, min, OnOk, OnErr, length};
 ghost use Rattle.std.specs.Vec.{vec_len, vec_capacity};
-ghost use Rattle.fix_wire.specs.Layout.{message_text, FitsKind, FitsTags, FitsBody, IsReadBack};
+ghost use Rattle.fix_wire.specs.Layout.{body_text, message_text, FitsKind, FitsTags, FitsBody, IsReadBack};
 
 use crate::lengths::body_length;
 use crate::spelling::{append_begin, append_checksum, append_fields, append_head};
@@ -51,6 +51,7 @@ pub fn write_message<A: Allocator>(
 ) -> Result<(), NoMemory>
     ensures ok { OnOk result (out.new.items ≡ out.old.items ++ message_text head.now fields.now) }
     ensures err { OnErr result (out.new.items ≡ out.old.items) }
+    ensures short { OnOk result (length (body_text head.now fields.now) ≤ 64 * length fields.now + 180) }
     // Where the kind isn't byte 1, tags have 1 to 9 digits and the body fits, it is a lawful frame with exactly its fields.
     ensures lawful { OnOk result (FitsKind head.now → FitsTags fields.now → FitsBody head.now fields.now → IsReadBack head.now fields.now) }
 {

@@ -167,19 +167,17 @@ impl<A: Allocator> Gateway<A> {
             step => return step,
         }
         let (verdict, after) = self.judging.end();
-        match verdict {
-            Verdict::Nothing => unreachable!(),
-            Verdict::Event(event) => {
-                let entry = Entry {
-                    session: self.session,
-                    event,
-                };
-                let Ok(()) = self.producer.push(entry) else {
-                    return Step::Full;
-                };
-                self.judging = after;
-                Step::Sent
-            }
-        }
+        let Verdict::Event(event) = verdict else {
+            unreachable!()
+        };
+        let close = Entry {
+            session: self.session,
+            event,
+        };
+        let Ok(()) = self.producer.push(close) else {
+            return Step::Full;
+        };
+        self.judging = after;
+        Step::Sent
     }
 }

@@ -10,3 +10,4 @@ pub mod EntryByEntry
 pub mod SessionLines
 pub mod SixteenTexts
 pub mod Shown
+pub mod Theorems

@@ -38,6 +38,6 @@ text_at (suc n) i rules stamp journal h = one_more n i rules stamp journal (text
 
 pub all_texts : {A : Type 0} (lists : List (Vec ℕ A)) (rules : Rules) (stamp : List ℕ) (journal : List Entry) → length lists ≡ 16 → ((s : ℕ) → s < 16 → bytes_of lists s ≡ outgoing_bytes rules stamp journal s) → texts_of lists ≡ texts_below 16 rules stamp journal
 all_texts {A} lists rules stamp journal n each =
-    let l : length (texts_of lists) ≡ 16 = length-map (λ (v : Vec ℕ A). v.items) lists ∙ n in
+    let l : length (texts_of lists) ≡ 16 = length-map lists (λ (v : Vec ℕ A). v.items) ∙ n in
     ext_get_or [] (texts_of lists) (texts_below 16 rules stamp journal) (l ∙ sym (texts_length 16 rules stamp journal))
     (λ i h. each i (omega (arith, l, h)) ∙ sym (text_at 16 i rules stamp journal (omega (arith, l, h))))

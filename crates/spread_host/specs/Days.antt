@@ -1,11 +1,14 @@
 -- A day: what a run hands out, and when.
-use Rattle.std.specs.Prelude.{◌≡◌, ℕ, zero, suc, ◌+◌, ◌<◌, ◌≤◌, ◌⊎◌, List, [], ◌∷◌, ◌++◌, map, length, All, Option, IfSome, Ok, Err}
+use Rattle.std.specs.Prelude.{◌≡◌, ℕ, zero, suc, Bool, true, false, ◌+◌, ◌<◌, ◌≤◌, ◌⊎◌, List, [], ◌∷◌, ◌++◌, map, length, All, Option, IfSome, Ok, Err}
 use Rattle.std.specs.declared.vec.Vec.{Vec}
+use Rattle.spread_journal.specs.JournalText.{journal_text}
 use Rattle.spread_rules.specs.declared.event.Entry.{Entry}
 use Rattle.spread_rules.specs.declared.fill.Fill.{Fill}
 use Rattle.spread_rules.specs.Rulebook.{Rules, IsListed}
 use Rattle.spread_host.specs.DayText.{DayLine, day_lines_of}
 use Rattle.spread_host.specs.DayLines.{journal_of}
+use Rattle.spread_host.specs.JournalParts.{part_of}
+use Rattle.spread_rules.specs.Journal.{restricted}
 use Rattle.spread_host.specs.Output.{fill_lines, month_lines, outgoing_lines_from}
 use Rattle.spread_host.specs.Totals.{IsSummable}
 use Rattle.spread_rules.specs.Ends.{AppendsPrefix}
@@ -20,6 +23,12 @@ pub record IsJournalOf (input : List ℕ) (journal : List Entry) : Type 0 where
   pub said : day_lines_of input ≡ Ok lines
   pub journal_is : journal ≡ journal_of lines
 
+-- each session's part of the journal is what its whole stream says, and nothing where it had no line
+pub record HasParts (input : List ℕ) (journal : List Entry) : Type 0 where
+  pub lines : List DayLine
+  pub said : day_lines_of input ≡ Ok lines
+  pub part : (session : ℕ) → restricted session journal ≡ part_of session lines
+
 -- the lists' bytes, session by session
 abbrev pub texts_of : {A : Type 0} → List (Vec ℕ A) → List (List ℕ)
 texts_of {A} lists = map (λ (v : Vec ℕ A). v.items) lists
@@ -29,9 +38,10 @@ pub record AreShown (rules : Rules) (fills : List Fill) : Type 0 where
   pub listed : All (λ f. IsListed rules f.instrument) fills
   pub summable : All IsSummable fills
 
--- the text of a day: fills, then what each session is sent, then the months
-abbrev pub day_text : Rules → List Fill → List (List ℕ) → List ℕ
-day_text rules fills texts = fill_lines rules fills ++ outgoing_lines_from 0 texts ++ month_lines rules fills
+-- the text of a day: the journal, fills, then what each session is sent, then the months; or the journal alone
+abbrev pub day_text : Bool → Rules → List Entry → List Fill → List (List ℕ) → List ℕ
+day_text true rules journal fills texts = journal_text journal
+day_text false rules journal fills texts = journal_text journal ++ fill_lines rules fills ++ outgoing_lines_from 0 texts ++ month_lines rules fills
 
 -- the journal of this input would have more than 1,000,000 entries
 pub record IsTooLong (input : List ℕ) : Type 0 where
@@ -45,7 +55,9 @@ IsReadingFault input (faults.DayLine n) = day_lines_of input ≡ Err n
 IsReadingFault input faults.JournalFull = IsTooLong input
 IsReadingFault input (faults.NoMemory place) = place ≡ 0
 IsReadingFault input (faults.Rule fault) = ⊥
+IsReadingFault input (faults.Link fault) = ⊥
 IsReadingFault input (faults.Spawn session) = ⊥
+IsReadingFault input (faults.Journal fault) = ⊥
 IsReadingFault input faults.Read = ⊥
 IsReadingFault input faults.Write = ⊥
 IsReadingFault input (faults.NumbersSpent place) = ⊥
@@ -56,14 +68,14 @@ texts_below zero rules stamp journal = []
 texts_below (suc n) rules stamp journal = texts_below n rules stamp journal ++ outgoing_bytes rules stamp journal n ∷ []
 
 -- the text of a journal's day
-abbrev pub text_of_journal : Rules → List ℕ → List Entry → List ℕ
-text_of_journal rules stamp journal = day_text rules (meaning_of_journal rules journal).fills (texts_below 16 rules stamp journal)
+abbrev pub text_of_day : Bool → Rules → List ℕ → List Entry → List ℕ
+text_of_day journal_only rules stamp journal = day_text journal_only rules journal (meaning_of_journal rules journal).fills (texts_below 16 rules stamp journal)
 
 -- a prefix of the text of this input's day was written, and nothing else
-pub record IsPartOut (rules : Rules) (stamp input : List ℕ) (old new : Option (List ℕ)) : Type 0 where
+pub record IsPartOut (journal_only : Bool) (rules : Rules) (stamp input : List ℕ) (old new : Option (List ℕ)) : Type 0 where
   pub journal : List Entry
   pub is_of : IsJournalOf input journal
-  pub part : AppendsPrefix old new (text_of_journal rules stamp journal)
+  pub part : AppendsPrefix old new (text_of_day journal_only rules stamp journal)
 
 -- the input's journal, whose entries would need a number above 999,999,999 at that place
 pub record IsSpent (rules : Rules) (input : List ℕ) (place : ℕ) : Type 0 where
@@ -84,4 +96,6 @@ IsReplayFault rules input (faults.NumbersSpent place) = IfSome input (λ i. IsSp
 IsReplayFault rules input faults.Read = Unit {0}
 IsReplayFault rules input faults.Write = Unit {0}
 IsReplayFault rules input (faults.Rule fault) = ⊥
+IsReplayFault rules input (faults.Link fault) = ⊥
 IsReplayFault rules input (faults.Spawn session) = ⊥
+IsReplayFault rules input (faults.Journal fault) = ⊥

@@ -7,4 +7,5 @@ pub mod Output
 pub mod Sums
 pub mod Totals
 pub mod Days
+pub mod Checks
 pub mod Working

@@ -12,6 +12,7 @@ ghost use Rattle.spread_host.specs.declared.fault.HostFault.{HostFault};
 use crate::fault::HostFault;
 use crate::output::{put_fills, put_months, put_sessions};
 use crate::working::work_entries;
+use spread_journal::writing::text_of_journal;
 use spread_match::ranges::ranges;
 use spread_rules::event::Entry;
 use spread_rules::fill::Fill;
@@ -63,36 +64,41 @@ fn text_of<A: Allocator + Copy>(
     alloc: A,
     rulebook: &Rulebook,
     day: &Day<A>,
+    journal_only: bool,
 ) -> Result<Vec<u8, A>, AllocError>
     requires lists { length day.now.out.items ≤ 16 }
     requires shown { AreShown rulebook.now day.now.fills.items }
-    ensures { IfOk result (λ text. text.items ≡ day_text rulebook.now day.now.fills.items (texts_of day.now.out.items)) }
+    ensures { IfOk result (λ text. text.items ≡ day_text journal_only rulebook.now day.now.journal.items day.now.fills.items (texts_of day.now.out.items)) }
 {
-    let mut text = Vec::new(alloc);
+    let mut text = text_of_journal(alloc, &day.journal)?;
+    if journal_only {
+        return Ok(text);
+    }
     put_fills(&mut text, rulebook, &day.fills)?;
     put_sessions(&mut text, &day.out)?;
     put_months(&mut text, rulebook, &day.fills)?;
     Ok(text)
 }
 
-/// Writes the text of a day, and nothing else. Its fills are of the rulebook's instruments and in range, and its lists at
+/// Writes the text of a day, or of its journal alone, and nothing else. Its fills are of the rulebook's instruments and in range, and its lists at
 /// most sixteen. Answers NoMemory, its place one more than the journal's length, with nothing written, or Write, with a
 /// prefix of the text written.
 pub fn write_day<K: Sink, A: Allocator + Copy>(
     alloc: A,
     rulebook: &Rulebook,
     day: &Day<A>,
+    journal_only: bool,
     sink: &mut K,
 ) -> Result<(), HostFault>
     requires works { K.has_failed sink.old ≡ false }
     requires lists { length day.now.out.items ≤ 16 }
     requires shown { AreShown rulebook.now day.now.fills.items }
-    ensures ok { OnOk result (Appends (K.written sink.old) (K.written sink.new) (day_text rulebook.now day.now.fills.items (texts_of day.now.out.items))) }
+    ensures ok { OnOk result (Appends (K.written sink.old) (K.written sink.new) (day_text journal_only rulebook.now day.now.journal.items day.now.fills.items (texts_of day.now.out.items))) }
     ensures sound { OnOk result (K.has_failed sink.new ≡ false) }
     ensures memory { IfErr result (λ f. f ≢ HostFault.Write → (f ≡ HostFault.NoMemory (length day.now.journal.items + 1)) × (sink.new ≡ sink.old)) }
-    ensures write { IsErrOf result HostFault.Write → (K.has_failed sink.new ≡ true) × AppendsPrefix (K.written sink.old) (K.written sink.new) (day_text rulebook.now day.now.fills.items (texts_of day.now.out.items)) }
+    ensures write { IsErrOf result HostFault.Write → (K.has_failed sink.new ≡ true) × AppendsPrefix (K.written sink.old) (K.written sink.new) (day_text journal_only rulebook.now day.now.journal.items day.now.fills.items (texts_of day.now.out.items)) }
 {
-    let text = match text_of(alloc, rulebook, day) {
+    let text = match text_of(alloc, rulebook, day, journal_only) {
         Ok(text) => text,
         Err(_) => return Err(HostFault::NoMemory(day.journal.len() as u64 + 1)),
     };

@@ -3,6 +3,8 @@ ghost use Rattle.std.specs.Prelude.{◌≡◌};
 ghost use Rattle.spread_host.specs.Faults.{number_of, of_lines};
 
 use crate::day_lines::LinesFault;
+use gate_link::LinkFault;
+use spread_journal::fault::JournalFault;
 use spread_rules::rule_fault::RuleFault;
 use thiserror::Error;
 
@@ -15,6 +17,9 @@ pub enum HostFault {
     /// The rulebook was refused.
     #[error("rules: {0}")]
     Rule(RuleFault),
+    /// The link of gateways and sequencer was refused.
+    #[error("link: {0}")]
+    Link(LinkFault),
     /// The thread of this session could not be started.
     #[error("thread {0}")]
     Spawn(u8),
@@ -34,22 +39,27 @@ pub enum HostFault {
     /// A message of the entry of this place would bear a number above 999,999,999.
     #[error("numbers spent")]
     NumbersSpent(u64),
+    /// The journal text was refused.
+    #[error("{0}")]
+    Journal(JournalFault),
 }
 
 impl HostFault {
-    /// Its number: 1, 2, and 4 to 9.
+    /// Its number, 1 to 10.
     pub fn number(&self) -> u8
         ensures { result ≡ number_of self.now }
     {
         match self {
             HostFault::DayLine(_) => 1,
             HostFault::Rule(_) => 2,
+            HostFault::Link(_) => 3,
             HostFault::Spawn(_) => 4,
             HostFault::JournalFull => 5,
             HostFault::NoMemory(_) => 6,
             HostFault::Read => 7,
             HostFault::Write => 8,
             HostFault::NumbersSpent(_) => 9,
+            HostFault::Journal(_) => 10,
         }
     }
 }

@@ -1,6 +1,7 @@
 //! A day, from day lines or from sessions in threads, to its journal, fills, outgoing messages and totals.
 #![tactic(auto)]
 
+pub mod check;
 pub mod day;
 pub mod day_journal;
 pub mod day_lines;

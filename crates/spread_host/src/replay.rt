@@ -13,16 +13,15 @@ ghost use Rattle.spread_match.specs.Sound.{KeepsOrder};
 ghost use Rattle.spread_report.specs.Sessions.{bytes_of};
 ghost use Rattle.spread_host.specs.DayText.{byte_of, lines_said, day_lines_of};
 ghost use Rattle.spread_host.specs.DayLines.{journal_of};
-ghost use Rattle.spread_host.specs.Days.{IsJournalOf, IsReadingFault, IsReplayFault, IsPartOut, text_of_journal};
+ghost use Rattle.spread_host.specs.Days.{IsJournalOf, HasParts, IsReadingFault, IsReplayFault, IsPartOut, text_of_day};
 ghost use Rattle.spread_host.specs.Working.{outgoing_bytes};
 ghost use Rattle.spread_host.specs.declared.fault.HostFault.{HostFault};
 
 use crate::day::{Day, day_of, write_day};
+use crate::day_journal::day_journal;
 use crate::day_lines::{LinesFault, put_field_ends, read_lines};
 use crate::fault::HostFault;
 use crate::lanes::journal_of_lines;
-use crate::day_journal::day_journal;
-use spread_match::laws::lawful;
 use spread_rules::event::Entry;
 use spread_rules::id::Id;
 use spread_rules::rulebook::Rulebook;
@@ -40,9 +39,11 @@ fn read_journal_of<A: Allocator + Copy>(
     text: &mut [u8],
 ) -> Result<Vec<Entry, A>, HostFault>
     ensures journal { IfOk result (λ journal. IsJournalOf text.old journal.items) }
-    ensures few { IfOk result (λ journal. length journal.items ≤ 1000000) }
+    ensures parts { IfOk result (λ journal. HasParts text.old journal.items) }
+    ensures lawful { IfOk result (λ journal. IsLawful journal.items) }
     ensures fault { IfErr result (IsReadingFault text.old) }
 {
+    day_journal();
     put_field_ends(text);
     let lines = match read_lines(alloc, text) {
         Ok(lines) => lines,
@@ -59,7 +60,7 @@ fn read_journal_of<A: Allocator + Copy>(
     Ok(journal)
 }
 
-/// Reads day lines to their end, works their journal, and writes the day's text and nothing else.
+/// Reads day lines to their end, works their journal, and writes the day's text, or the journal text alone, and nothing else.
 ///
 /// Faults, the first that applies: Read, where the source failed or gave more than 16,777,216 bytes; DayLine, naming the
 /// first bad line, lines counted from 1; JournalFull, above 1,000,000 entries; NumbersSpent; Write, after which a prefix
@@ -70,6 +71,7 @@ pub fn replay<S: Source, K: Sink, A: Allocator + Copy>(
     stamp: Id,
     source: &mut S,
     sink: &mut K,
+    journal_only: bool,
 ) -> Result<Day<A>, HostFault>
     requires source_works { S.has_failed source.old ≡ false }
     requires sink_works { K.has_failed sink.old ≡ false }
@@ -80,6 +82,7 @@ pub fn replay<S: Source, K: Sink, A: Allocator + Copy>(
 
     // The journal is that of the bytes read.
     ensures journal { IfOk result (λ day. IfSome (S.left source.old) (λ input. IsJournalOf input day.journal.items)) }
+    ensures parts { IfOk result (λ day. IfSome (S.left source.old) (λ input. HasParts input day.journal.items)) }
     ensures lawful { IfOk result (λ day. IsLawful day.journal.items) }
 
     // What the journal's entries came to.
@@ -93,12 +96,12 @@ pub fn replay<S: Source, K: Sink, A: Allocator + Copy>(
     ensures totals { IfOk result (λ day. (f : Fill) → Contains day.fills.items f → filled f.order day.fills.items ≤ f.total) }
 
     // What was written, and nothing else.
-    ensures written { IfOk result (λ day. Appends (K.written sink.old) (K.written sink.new) (text_of_journal rulebook.now stamp day.journal.items)) }
+    ensures written { IfOk result (λ day. Appends (K.written sink.old) (K.written sink.new) (text_of_day journal_only rulebook.now stamp day.journal.items)) }
     ensures write_sound { OnOk result (K.has_failed sink.new ≡ false) }
 
     // When each fault comes, and what is out then.
     ensures read { IsErrOf result HostFault.Read → (S.has_failed source.new ≡ true) ⊎ IfSome (S.left source.old) (λ input. LIMIT < length input) }
-    ensures write { IsErrOf result HostFault.Write → (K.has_failed sink.new ≡ true) × IfSome (S.left source.old) (λ input. IsPartOut rulebook.now stamp input (K.written sink.old) (K.written sink.new)) }
+    ensures write { IsErrOf result HostFault.Write → (K.has_failed sink.new ≡ true) × IfSome (S.left source.old) (λ input. IsPartOut journal_only rulebook.now stamp input (K.written sink.old) (K.written sink.new)) }
     ensures nothing_written { IfErr result (λ f. f ≢ HostFault.Write → sink.new ≡ sink.old) }
     ensures fault { IfErr result (IsReplayFault rulebook.now (S.left source.old)) }
 {
@@ -107,8 +110,6 @@ pub fn replay<S: Source, K: Sink, A: Allocator + Copy>(
         Err(ReadFault::Read) => return Err(HostFault::Read),
         Err(ReadFault::NoMemory) => return Err(HostFault::NoMemory(0)),
     };
-    lawful();
-    day_journal();
     let journal = match read_journal_of(alloc, &mut text) {
         Ok(journal) => journal,
         Err(fault) => return Err(fault),
@@ -117,7 +118,7 @@ pub fn replay<S: Source, K: Sink, A: Allocator + Copy>(
         Ok(day) => day,
         Err(fault) => return Err(fault),
     };
-    match write_day(alloc, rulebook, &day, sink) {
+    match write_day(alloc, rulebook, &day, journal_only, sink) {
         Ok(()) => Ok(day),
         Err(fault) => Err(fault),
     }

@@ -12,6 +12,7 @@ pub mod Accounts
 pub mod Past
 pub mod Ready
 pub mod Most
+pub mod Renewed
 pub mod Entries
 pub mod Lawful
 pub mod Ranging

@@ -1,5 +1,5 @@
 -- a market that can be worked on still can after an entry
-use Rattle.std.proofs.Common.{◌≡◌, ℕ, zero, suc, ◌==◌, ◌<◌, ◌≤◌, ℤ, Bool, true, false, not, ◌||◌, List, ◌++◌, ◌∷◌, [], length, get_or, Contains, All, Option, Some, None, Result, Ok, Err, refl, subst, sym, ap, arith}
+use Rattle.std.proofs.Common.{◌≡◌, ℕ, zero, suc, ◌==◌, ◌<◌, ◌≤◌, ℤ, not, ◌||◌, List, length, get_or, All, Option, Some, None, Result, Ok, Err, refl, subst, sym, ap, arith}
 use Rattle.std.proofs.lemmas.List.Elements.{All-contains, All-filter, Contains-get_or}
 use Rattle.std.specs.List.{find}
 use Rattle.spread_rules.specs.declared.order.Order.{Order}
@@ -10,7 +10,7 @@ use Rattle.spread_rules.specs.declared.event.Event.{Event}
 use Rattle.spread_rules.specs.declared.event.Event.TheVariants.{Logon, New, Cancel, TestReply, Gap, Resend, Reject, Close}
 use Rattle.spread_rules.specs.declared.outcome.OrderStatus.{OrderStatus}
 use Rattle.spread_rules.specs.Candidates.{all_on, HasSmallPrice}
-use Rattle.spread_rules.specs.Clearing.{Trading, next, turn, turns, traded, begin, clear, removed}
+use Rattle.spread_rules.specs.Clearing.{Trading, next, turn, turns, traded, begin, clear}
 use Rattle.spread_rules.specs.Journal.{IsPrice}
 use Rattle.spread_rules.specs.Meaning.{is_own, has_id, judged, order_of, resting, entered_as, cancelled}
 use Rattle.spread_rules.specs.Rulebook.{Rules, month_count, references_of}

@@ -100,6 +100,9 @@ fn renew_one(status: &mut OrderStatus, fill: &Fill)
 fn renew(statuses: &mut [OrderStatus], fill: &Fill)
     ensures { statuses.new ≡ map (renewed_by fill.now) statuses.old }
 {
+    if fill.leaves > 0 {
+        return;
+    }
     for status in statuses.iter_mut() {
         renew_one(status, fill);
     }

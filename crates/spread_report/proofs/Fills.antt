@@ -5,7 +5,7 @@ use Rattle.std.specs.declared.vec.Vec.{Vec}
 use Rattle.spread_report.specs.declared.line.SessionLine.{SessionLine}
 use Rattle.spread_report.specs.declared.fault.DeskFault.{DeskFault}
 use Rattle.spread_report.specs.Sessions.{Sent, SendResult}
-use Rattle.spread_report.proofs.Runs.{sends_both, works_after, works_no_more}
+use Rattle.spread_report.proofs.Runs.{sent_both, result_after, result_no_more}
 use Rattle.spread_rules.specs.declared.fill.Fill.{Fill}
 use Rattle.spread_rules.specs.Rulebook.{Rules}
 use Rattle.spread_report.specs.EntryMessages.{AddressedMessage, fill_reports, fills_reports, reports_of, report_count}
@@ -48,7 +48,7 @@ module _ {A : Type 0} (stamp : List ℕ) (a b d : List SessionLine) (x y z : Lis
       ap (λ (m : ℕ). fills_reports rules place i (take k fs) ++ fill_reports rules place m f) is_n
       ∙ (ap (λ (h : Fill). fills_reports rules place i (take k fs) ++ fill_reports rules place (i + reports_of (take k fs)) h) is_f
       ∙ sym (fills_reports_more rules place i fs k e below)) in
-      subst (λ (l : List AddressedMessage). Sent stamp a d x z l) same (sends_both stamp a b d x y z (fills_reports rules place i (take k fs)) (fill_reports rules place n f) p q)
+      subst (λ (l : List AddressedMessage). Sent stamp a d x z l) same (sent_both stamp a b d x y z (fills_reports rules place i (take k fs)) (fill_reports rules place n f) p q)
 
   -- one fill was not reported
   pub fills_stop : (T U : Type 0) (fault : DeskFault) → k < length fs → f ≡ get_or fs k e → n ≡ i + reports_of (take k fs)
@@ -64,5 +64,5 @@ module _ {A : Type 0} (stamp : List ℕ) (a b d : List SessionLine) (x y z : Lis
       ap (λ (l : List AddressedMessage). l ++ rest) same
       ∙ (sym (fills_reports-append rules place i (take (k + 1) fs) (drop (k + 1) fs)) ∙ ap (λ (l : List Fill). fills_reports rules place i l) (take-append-drop (k + 1) fs)) in
       subst (λ (l : List AddressedMessage). SendResult {T = U} stamp a d x z l (Err fault)) all
-      (works_no_more stamp a d x z (fills_reports rules place i (take k fs) ++ fill_reports rules place n f) rest T U fault
-      (works_after stamp a b d x y z (fills_reports rules place i (take k fs)) (fill_reports rules place n f) {T = T} (Err fault) p w))
+      (result_no_more stamp a d x z (fills_reports rules place i (take k fs) ++ fill_reports rules place n f) rest T U fault
+      (result_after stamp a b d x y z (fills_reports rules place i (take k fs)) (fill_reports rules place n f) {T = T} (Err fault) p w))

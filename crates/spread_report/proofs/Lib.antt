@@ -1,3 +1,4 @@
+pub mod FrameRows
 pub mod Runs
 pub mod Steps
 pub mod Fills

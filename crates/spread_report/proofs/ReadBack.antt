@@ -18,7 +18,8 @@ use Rattle.spread_report.specs.declared.line.SessionLine.{SessionLine}
 use Rattle.spread_report.specs.declared.line.CompIds.{CompIds}
 use Rattle.spread_report.specs.EntryMessages.{MessageContent, numbered, gap_fill, AddressedMessage, text, number}
 use Rattle.spread_report.specs.Outgoing.{WorkedEntry, new_seq_no, head_of, gap_fields, content_text, is_spent, text_under, next_under, spent_under, text_for, line_for, spent_for, bytes_to, line_after, spends, line_at_entry, entry_messages, entry_bytes, entry_line, entry_spends, bytes_from, line_from, spends_from, line_before_logon}
-use Rattle.spread_report.specs.Messages.{as_message, texts_to, entry_texts, texts_from}
+use Rattle.spread_report.proofs.FrameRows.{no_row, rows_both, message_row}
+use Rattle.spread_report.specs.Messages.{IsRow, as_message, texts_to, entry_texts, texts_from}
 use Rattle.spread_report.specs.Ranges.{AreNames, EntryInRange}
 use Rattle.spread_report.proofs.Bodies.{FitsReport, IsShortHead, fields_fit, body_short}
 use Rattle.spread_report.proofs.InRange.{FitsContent, FitsAddressed, id_plain, id_short, entry_fits}
@@ -37,27 +38,18 @@ pub record LineFits (line : SessionLine) : Type 0 where
 -- ---- one message
 
 -- a text that is nothing or one frame
-pub record IsMessage (t : List ℕ) : Type 0 where
-  pub read : (more : List ℕ) → frames (t ++ more) ≡ as_message t ++ frames more
-  pub whole : AllByRecursion IsFrame (as_message t)
-  pub joined : concat (as_message t) ≡ t
-
-nothing : IsMessage []
-nothing = record { read = λ more. refl; whole = tt; joined = refl }
+abbrev IsOne : List ℕ → Type 0
+IsOne t = IsRow (as_message t) t
 
 module _ (stamp : List ℕ) (stamp_id : is_id stamp ≡ true) where
   written : (ids : CompIds) (kind n : ℕ) (d : Bool) (fs : List Field) → IdsFit (Some ids) → kind ≢ 1 → n < 2 ^ 64 → AllByRecursion FitsReport fs → length fs ≤ 18
-      → IsMessage (message_text (head_of stamp ids kind n d) fs)
+      → IsOne (message_text (head_of stamp ids kind n d) fs)
   written ids kind n d fs i k small fit few =
       let short : IsShortHead (head_of stamp ids kind n d) = record { number = small; sender = id_short ids.host i.1; target = id_short ids.client i.0; stamp = id_short stamp stamp_id } in
       let fits : FitsMessage (head_of stamp ids kind n d) fs =
       ((k, (small, id_plain ids.host i.1, id_plain ids.client i.0, id_plain stamp stamp_id)), fields_fit fs fit, body_short (head_of stamp ids kind n d) fs short fit few) in
       let lawful : IsFrame (message_text (head_of stamp ids kind n d) fs) = written_frame (head_of stamp ids kind n d) fs fits in
-      record {
-        read = λ more. read_first (message_text (head_of stamp ids kind n d) fs) more lawful;
-        whole = (lawful, tt);
-        joined = append-nil (message_text (head_of stamp ids kind n d) fs);
-      }
+      message_row (head_of stamp ids kind n d) fs lawful (λ more. read_first (message_text (head_of stamp ids kind n d) fs) more lawful)
 
   below_of : (a b : ℕ) → nat_lt a b ≡ true → a < b
   below_of a b e = grind (arith, nat_tests)
@@ -74,21 +66,21 @@ module _ (stamp : List ℕ) (stamp_id : is_id stamp ≡ true) where
   new_small next last h = new_by (last == 0) (nat_lt next (last + 2)) next last h (not_below next (last + 2))
 
   gap_is : (ids : CompIds) (next first last : ℕ) (b : Bool) → nat_lt first next ≡ b → IdsFit (Some ids) → next ≤ 1000000000
-      → IsMessage (if b then message_text (head_of stamp ids 52 first true) (gap_fields next last) else [])
+      → IsOne (if b then message_text (head_of stamp ids 52 first true) (gap_fields next last) else [])
   gap_is ids next first last true e i h =
       let below : first < next = below_of first next e in
       written ids 52 first true (gap_fields next last) i (omega arith) (omega (arith, below, h))
       (record { fits = (omega arith, omega arith, new_small next last h); short = tt }, (record { fits = (omega arith, omega arith, refl); short = omega arith }, tt)) (omega arith)
-  gap_is ids next first last false e i h = nothing
+  gap_is ids next first last false e i h = no_row
 
-  content_is : (ids : CompIds) (next : ℕ) (m : MessageContent) → IdsFit (Some ids) → next ≤ 1000000000 → FitsContent m → is_spent next m ≡ false → IsMessage (content_text stamp ids next m)
+  content_is : (ids : CompIds) (next : ℕ) (m : MessageContent) → IdsFit (Some ids) → next ≤ 1000000000 → FitsContent m → is_spent next m ≡ false → IsOne (content_text stamp ids next m)
   content_is ids next (numbered kind fields) i h fit spent =
       let small : next ≤ 999999999 = not_below 999999999 next spent in
       written ids kind next false fields i fit.0 (omega (arith, small)) fit.1 fit.2
   content_is ids next (gap_fill first last) i h fit spent = gap_is ids next first last (nat_lt first next) refl i h
 
-  under_is : (o : Option CompIds) (next : ℕ) (m : MessageContent) → IdsFit o → next ≤ 1000000000 → FitsContent m → spent_under o next m ≡ false → IsMessage (text_under stamp o next m)
-  under_is None next m i h fit spent = nothing
+  under_is : (o : Option CompIds) (next : ℕ) (m : MessageContent) → IdsFit o → next ≤ 1000000000 → FitsContent m → spent_under o next m ≡ false → IsOne (text_under stamp o next m)
+  under_is None next m i h fit spent = no_row
   under_is (Some ids) next m i h fit spent = content_is ids next m i h fit spent
 
   next_small : (o : Option CompIds) (next : ℕ) (m : MessageContent) → next ≤ 1000000000 → spent_under o next m ≡ false → next_under o next m ≤ 1000000000
@@ -98,43 +90,15 @@ module _ (stamp : List ℕ) (stamp_id : is_id stamp ≡ true) where
       omega (arith, small)
   next_small (Some ids) next (gap_fill first last) h spent = h
 
-  for_is : (s : ℕ) (line : SessionLine) (m : AddressedMessage) → LineFits line → FitsAddressed m → spent_for s line m ≡ false → IsMessage (text_for stamp s line m) × LineFits (line_for s line m)
+  for_is : (s : ℕ) (line : SessionLine) (m : AddressedMessage) → LineFits line → FitsAddressed m → spent_for s line m ≡ false → IsOne (text_for stamp s line m) × LineFits (line_for s line m)
   for_is s line m h fit =
       elim (m.to == s) as (λ b. b && spent_under line.comp_ids line.next m.content ≡ false
-      → IsMessage (if b then text_under stamp line.comp_ids line.next m.content else []) × LineFits (if b then record { next = next_under line.comp_ids line.next m.content; comp_ids = line.comp_ids } else line)) [
+      → IsOne (if b then text_under stamp line.comp_ids line.next m.content else []) × LineFits (if b then record { next = next_under line.comp_ids line.next m.content; comp_ids = line.comp_ids } else line)) [
         | true ↦ λ spent. (under_is line.comp_ids line.next m.content h.ids h.next fit spent, record { next = next_small line.comp_ids line.next m.content h.next spent; ids = h.ids })
-        | false ↦ λ spent. (nothing, h)
+        | false ↦ λ spent. (no_row, h)
       ]
 
   -- ---- more messages
-
-  -- what a row of messages reads as
-  pub record IsRow (t : List ℕ) (ts : List (List ℕ)) : Type 0 where
-    pub read : (more : List ℕ) → frames (t ++ more) ≡ ts ++ frames more
-    pub whole : AllByRecursion IsFrame ts
-    pub joined : concat ts ≡ t
-
-  all_both : (xs ys : List (List ℕ)) → AllByRecursion IsFrame xs → AllByRecursion IsFrame ys → AllByRecursion IsFrame (xs ++ ys)
-  all_both [] ys a b = b
-  all_both (x ∷ xs) ys a b = (a.0, all_both xs ys a.1 b)
-
-  row_after : (t u : List ℕ) (us : List (List ℕ)) → IsMessage t → IsRow u us → IsRow (t ++ u) (as_message t ++ us)
-  row_after t u us m r = record {
-    read = λ more.
-        ap (λ (x : List ℕ). frames x) (append_assoc t u more)
-        ∙ (m.read (u ++ more) ∙ (ap (λ (x : List (List ℕ)). as_message t ++ x) (r.read more) ∙ sym (append_assoc (as_message t) us (frames more))));
-    whole = all_both (as_message t) us m.whole r.whole;
-    joined = concat-append (as_message t) us ∙ (ap (λ (x : List ℕ). x ++ concat us) m.joined ∙ ap (λ (x : List ℕ). t ++ x) r.joined);
-  }
-
-  rows_both : (t u : List ℕ) (ts us : List (List ℕ)) → IsRow t ts → IsRow u us → IsRow (t ++ u) (ts ++ us)
-  rows_both t u ts us m r = record {
-    read = λ more.
-        ap (λ (x : List ℕ). frames x) (append_assoc t u more)
-        ∙ (m.read (u ++ more) ∙ (ap (λ (x : List (List ℕ)). ts ++ x) (r.read more) ∙ sym (append_assoc ts us (frames more))));
-    whole = all_both ts us m.whole r.whole;
-    joined = concat-append ts us ∙ (ap (λ (x : List ℕ). x ++ concat us) m.joined ∙ ap (λ (x : List ℕ). t ++ x) r.joined);
-  }
 
   or_first : (a b : Bool) → a || b ≡ false → a ≡ false
   or_first true b e = e
@@ -144,12 +108,12 @@ module _ (stamp : List ℕ) (stamp_id : is_id stamp ≡ true) where
   or_second true b e = cc
   or_second false b e = e
 
-  to_is : (s : ℕ) (line : SessionLine) (ms : List AddressedMessage) → LineFits line → AllByRecursion FitsAddressed ms → spends s line ms ≡ false → IsRow (bytes_to stamp s line ms) (texts_to stamp s line ms) × LineFits (line_after s line ms)
-  to_is s line [] h fit spent = (record { read = λ more. refl; whole = tt; joined = refl }, h)
+  to_is : (s : ℕ) (line : SessionLine) (ms : List AddressedMessage) → LineFits line → AllByRecursion FitsAddressed ms → spends s line ms ≡ false → IsRow (texts_to stamp s line ms) (bytes_to stamp s line ms) × LineFits (line_after s line ms)
+  to_is s line [] h fit spent = (no_row, h)
   to_is s line (m ∷ ms) h fit spent =
       let first = for_is s line m h fit.0 (or_first (spent_for s line m) (spends s (line_for s line m) ms) spent) in
       let rest = to_is s (line_for s line m) ms first.1 fit.1 (or_second (spent_for s line m) (spends s (line_for s line m) ms) spent) in
-      (row_after (text_for stamp s line m) (bytes_to stamp s (line_for s line m) ms) (texts_to stamp s (line_for s line m) ms) first.0 rest.0, rest.1)
+      (rows_both (as_message (text_for stamp s line m)) (texts_to stamp s (line_for s line m) ms) (text_for stamp s line m) (bytes_to stamp s (line_for s line m) ms) first.0 rest.0, rest.1)
 
   -- ---- entries
 
@@ -168,10 +132,10 @@ module _ (stamp : List ℕ) (stamp_id : is_id stamp ≡ true) where
   opened s line session (Close reason) h fit = h
 
   module _ (rules : Rules) (names : AreNames rules) (s : ℕ) where
-    pub from_is : (line : SessionLine) (ws : List WorkedEntry) → LineFits line → AllByRecursion (EntryInRange rules) ws → spends_from rules s line ws ≡ false → IsRow (bytes_from stamp rules s line ws) (texts_from stamp rules s line ws)
-    from_is line [] h fit spent = record { read = λ more. refl; whole = tt; joined = refl }
+    pub from_is : (line : SessionLine) (ws : List WorkedEntry) → LineFits line → AllByRecursion (EntryInRange rules) ws → spends_from rules s line ws ≡ false → IsRow (texts_from stamp rules s line ws) (bytes_from stamp rules s line ws)
+    from_is line [] h fit spent = no_row
     from_is line (w ∷ ws) h fit spent =
         let first = to_is s (line_at_entry s line w.entry.session w.entry.event) (entry_messages rules w) (opened s line w.entry.session w.entry.event h fit.0.event) (entry_fits rules names w fit.0)
         (or_first (entry_spends rules s line w) (spends_from rules s (entry_line rules s line w) ws) spent) in
-        rows_both (entry_bytes stamp rules s line w) (bytes_from stamp rules s (entry_line rules s line w) ws) (entry_texts stamp rules s line w) (texts_from stamp rules s (entry_line rules s line w) ws) first.0
+        rows_both (entry_texts stamp rules s line w) (texts_from stamp rules s (entry_line rules s line w) ws) (entry_bytes stamp rules s line w) (bytes_from stamp rules s (entry_line rules s line w) ws) first.0
         (from_is (entry_line rules s line w) ws first.1 fit.1 (or_second (entry_spends rules s line w) (spends_from rules s (entry_line rules s line w) ws) spent))

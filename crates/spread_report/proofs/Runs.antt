@@ -1,13 +1,17 @@
 -- Messages, and more messages after them.
-use Rattle.std.proofs.Common.{◌≡◌, ◌≢◌, ℕ, ◌+◌, ◌<◌, ◌≤◌, ◌==◌, Bool, true, false, cond, List, [], ◌∷◌, ◌++◌, ◌||◌, length, get_or, take, refl, sym, ap, ◌∙◌, arith, append_assoc, append-nil, length-append, Ok, Err, Result}
+use Rattle.std.proofs.Common.{Option, ◌≡◌, ◌≢◌, ℕ, ◌+◌, ◌<◌, ◌≤◌, ◌==◌, Bool, true, false, cond, List, [], ◌∷◌, ◌++◌, ◌||◌, length, get_or, take, subst, refl, sym, ap, ◌∙◌, arith, append_assoc, append-nil, length-append, Ok, Err, Result}
 use Rattle.std.proofs.Math.Seq.{take-append_seam}
 use Rattle.std.proofs.lemmas.List.{take-append-le, take-take}
 use Rattle.std.specs.declared.vec.Vec.{Vec}
 use Rattle.spread_report.specs.declared.line.SessionLine.{SessionLine}
+use Rattle.std.specs.Prelude.{if◌then◌else◌}
+use Rattle.spread_report.specs.declared.line.CompIds.{CompIds}
 use Rattle.spread_report.specs.declared.fault.DeskFault.{DeskFault}
 use Rattle.spread_report.specs.declared.fault.DeskFault.TheVariants.{NoMemory, NumbersSpent}
 use Rattle.spread_report.specs.EntryMessages.{AddressedMessage, MessageContent}
-use Rattle.spread_report.specs.Outgoing.{bytes_to, line_after, spends, text_for, line_for, spent_for}
+use Rattle.spread_report.specs.Outgoing.{next_under, bytes_to, line_after, spends, text_for, line_for, spent_for}
+use Rattle.spread_report.specs.Messages.{IsRow, as_message, texts_to}
+use Rattle.spread_report.proofs.FrameRows.{rows_both}
 use Rattle.spread_report.specs.Sessions.{bytes_of, line_at, Sent, OnlyAppended, NumbersRunOut, SendResult}
 
 pub line_after-append : (s : ℕ) (l : SessionLine) (xs ys : List AddressedMessage) → line_after s l (xs ++ ys) ≡ line_after s (line_after s l xs) ys
@@ -19,6 +23,28 @@ bytes_to-append stamp s l [] ys = refl
 bytes_to-append stamp s l (m ∷ ms) ys =
     ap (λ (t : List ℕ). text_for stamp s l m ++ t) (bytes_to-append stamp s (line_for s l m) ms ys)
     ∙ sym (append_assoc (text_for stamp s l m) (bytes_to stamp s (line_for s l m) ms) (bytes_to stamp s (line_after s (line_for s l m) ms) ys))
+
+pub texts_to-append : (stamp : List ℕ) (s : ℕ) (l : SessionLine) (xs ys : List AddressedMessage) → texts_to stamp s l (xs ++ ys) ≡ texts_to stamp s l xs ++ texts_to stamp s (line_after s l xs) ys
+texts_to-append stamp s l [] ys = refl
+texts_to-append stamp s l (m ∷ ms) ys =
+    ap (λ (t : List (List ℕ)). as_message (text_for stamp s l m) ++ t) (texts_to-append stamp s (line_for s l m) ms ys)
+    ∙ sym (append_assoc (as_message (text_for stamp s l m)) (texts_to stamp s (line_for s l m) ms) (texts_to stamp s (line_after s (line_for s l m) ms) ys))
+
+abbrev chosen : Bool → ℕ → SessionLine → AddressedMessage → SessionLine
+chosen b s l m = if b then record { next = next_under l.comp_ids l.next m.content; comp_ids = l.comp_ids } else l
+
+for_ids : (s : ℕ) (l : SessionLine) (m : AddressedMessage) → (line_for s l m).comp_ids ≡ l.comp_ids
+for_ids s l m = elim (m.to == s) as (λ b. (chosen b s l m).comp_ids ≡ l.comp_ids) [ true ↦ refl | false ↦ refl ]
+
+pub ids_after : (s : ℕ) (l : SessionLine) (ms : List AddressedMessage) → (line_after s l ms).comp_ids ≡ l.comp_ids
+ids_after s l [] = refl
+ids_after s l (m ∷ ms) = ids_after s (line_for s l m) ms ∙ for_ids s l m
+
+pub row-append : (stamp : List ℕ) (s : ℕ) (l k : SessionLine) (xs ys : List AddressedMessage) → k ≡ line_after s l xs
+    → IsRow (texts_to stamp s l xs) (bytes_to stamp s l xs) → IsRow (texts_to stamp s k ys) (bytes_to stamp s k ys) → IsRow (texts_to stamp s l (xs ++ ys)) (bytes_to stamp s l (xs ++ ys))
+row-append stamp s l k xs ys e p q =
+    let after : IsRow (texts_to stamp s (line_after s l xs) ys) (bytes_to stamp s (line_after s l xs) ys) = subst (λ (j : SessionLine). IsRow (texts_to stamp s j ys) (bytes_to stamp s j ys)) e q in
+    rw (texts_to-append stamp s l xs ys, bytes_to-append stamp s l xs ys) (rows_both (texts_to stamp s l xs) (texts_to stamp s (line_after s l xs) ys) (bytes_to stamp s l xs) (bytes_to stamp s (line_after s l xs) ys) p after)
 
 or_assoc : (a b d : Bool) → a || (b || d) ≡ (a || b) || d
 or_assoc true b d = refl
@@ -48,8 +74,8 @@ begins_both u v w t e h =
 
 module _ {A : Type 0} (stamp : List ℕ) (a b d : List SessionLine) (x y z : List (Vec ℕ A)) (ms ns : List AddressedMessage) where
   -- these were sent, and then those
-  pub sends_both : Sent stamp a b x y ms → Sent stamp b d y z ns → Sent stamp a d x z (ms ++ ns)
-  sends_both p q = record {
+  pub sent_both : Sent stamp a b x y ms → Sent stamp b d y z ns → Sent stamp a d x z (ms ++ ns)
+  sent_both p q = record {
     lines = q.lines ∙ p.lines;
     lists = q.lists ∙ p.lists;
     bytes = λ s below.
@@ -62,13 +88,15 @@ module _ {A : Type 0} (stamp : List ℕ) (a b d : List SessionLine) (x y z : Lis
     unspent = λ s below.
         spends-append s (line_at a s) ms ns
         ∙ or_none (spends s (line_at a s) ms) (spends s (line_after s (line_at a s) ms) ns) (p.unspent s below) (ap (λ (l : SessionLine). spends s l ns) (sym (p.line s below)) ∙ q.unspent s below);
+    row = λ s below. row-append stamp s (line_at a s) (line_at b s) ms ns (p.line s below) (p.row s below) (q.row s below);
   }
 
   -- these were sent, and then not all of those
-  grown_after : Sent stamp a b x y ms → OnlyAppended b d y z → OnlyAppended a d x z
-  grown_after p q = record {
+  appended_after : Sent stamp a b x y ms → OnlyAppended b d y z → OnlyAppended a d x z
+  appended_after p q = record {
     lines = q.lines ∙ p.lines;
     lists = q.lists ∙ p.lists;
+    comp_ids = λ s below. q.comp_ids s below ∙ (ap (λ (l : SessionLine). l.comp_ids) (p.line s below) ∙ ids_after s (line_at a s) ms);
     begins = λ s below. begins_both (bytes_of x s) (bytes_to stamp s (line_at a s) ms) (bytes_of y s) (bytes_of z s) (p.bytes s below) (q.begins s below);
   }
 
@@ -83,10 +111,10 @@ module _ {A : Type 0} (stamp : List ℕ) (a b d : List SessionLine) (x y z : Lis
   }
 
   -- these were sent, and this became of those
-  pub works_after : {T : Type 0} (r : Result T DeskFault) → Sent stamp a b x y ms → SendResult stamp b d y z ns r → SendResult stamp a d x z (ms ++ ns) r
-  works_after (Ok t) p w = sends_both p w
-  works_after (Err NoMemory) p w = grown_after p w
-  works_after (Err NumbersSpent) p w = (grown_after p w.0, spends_after p w.1)
+  pub result_after : {T : Type 0} (r : Result T DeskFault) → Sent stamp a b x y ms → SendResult stamp b d y z ns r → SendResult stamp a d x z (ms ++ ns) r
+  result_after (Ok t) p w = sent_both p w
+  result_after (Err NoMemory) p w = appended_after p w
+  result_after (Err NumbersSpent) p w = (appended_after p w.0, spends_after p w.1)
 
 module _ {A : Type 0} (stamp : List ℕ) (a b : List SessionLine) (x y : List (Vec ℕ A)) (ms ns : List AddressedMessage) where
   spends_first : NumbersRunOut a ms → NumbersRunOut a (ms ++ ns)
@@ -99,6 +127,6 @@ module _ {A : Type 0} (stamp : List ℕ) (a b : List SessionLine) (x y : List (V
   }
 
   -- where these were not sent, more were not
-  pub works_no_more : (T U : Type 0) (f : DeskFault) → SendResult {T = T} stamp a b x y ms (Err f) → SendResult {T = U} stamp a b x y (ms ++ ns) (Err f)
-  works_no_more T U NoMemory w = w
-  works_no_more T U NumbersSpent w = (w.0, spends_first w.1)
+  pub result_no_more : (T U : Type 0) (f : DeskFault) → SendResult {T = T} stamp a b x y ms (Err f) → SendResult {T = U} stamp a b x y (ms ++ ns) (Err f)
+  result_no_more T U NoMemory w = w
+  result_no_more T U NumbersSpent w = (w.0, spends_first w.1)

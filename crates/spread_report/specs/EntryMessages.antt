@@ -1,5 +1,5 @@
 -- Which messages an entry of the journal sends, and their fields.
-use Rattle.std.specs.Prelude.{◌≡◌, ℕ, ◌+◌, ◌-◌, ◌==◌, ℤ, if◌then◌else◌, List, [], ◌∷◌, ◌++◌, codes, Option, Some, None}
+use Rattle.std.specs.Prelude.{◌≡◌, ℕ, ◌+◌, ◌-◌, ◌==◌, nat_le, ◌&&◌, Bool, ℤ, if◌then◌else◌, List, [], ◌∷◌, ◌++◌, codes, Option, Some, None}
 use Rattle.fix_wire.specs.declared.writer.Value.TheVariants.{Text, Number, Price, Pair}
 use Rattle.fix_wire.specs.declared.writer.Field.{Field}
 use Rattle.spread_rules.specs.declared.order.Order.{Order}
@@ -39,6 +39,10 @@ price tag z = record { tag = tag; value = Price z }
 
 abbrev pub pair : ℕ → ℕ → ℕ → Field
 pair tag a b = record { tag = tag; value = Pair a b }
+
+-- 1 to 9 digits
+abbrev pub has_tag : Field → Bool
+has_tag f = nat_le 1 f.tag && nat_le f.tag 999999999
 
 -- Side, tag 54
 abbrev pub side_number : Side → ℕ

@@ -1,5 +1,7 @@
 -- The messages that a session is sent, one by one.
-use Rattle.std.specs.Prelude.{ℕ, List, [], ◌∷◌, ◌++◌}
+use Rattle.std.specs.Prelude.{◌≡◌, ℕ, List, [], ◌∷◌, ◌++◌}
+use Rattle.std.specs.List.{AllByRecursion, concat}
+use Rattle.fix_wire.specs.Frames.{IsFrame, frames}
 use Rattle.spread_rules.specs.Rulebook.{Rules}
 use Rattle.spread_report.specs.declared.line.SessionLine.{SessionLine}
 use Rattle.spread_report.specs.EntryMessages.{AddressedMessage}
@@ -29,3 +31,9 @@ messages_starting next rules stamp worked s = texts_from stamp rules s (line_bef
 -- all messages that session s is sent over a journal
 abbrev pub messages_to : Rules → List ℕ → List WorkedEntry → ℕ → List (List ℕ)
 messages_to rules stamp worked s = messages_starting 1 rules stamp worked s
+
+-- The text is these messages one after the other, each a whole frame, and it is read back as them, whatever follows.
+pub record IsRow (messages : List (List ℕ)) (text : List ℕ) : Type 0 where
+  pub joined : concat messages ≡ text
+  pub whole : AllByRecursion IsFrame messages
+  pub read : (more : List ℕ) → frames (text ++ more) ≡ messages ++ frames more

@@ -6,6 +6,7 @@ use Rattle.spread_report.specs.declared.fault.DeskFault.{DeskFault}
 use Rattle.spread_report.specs.declared.fault.DeskFault.TheVariants.{NoMemory, NumbersSpent}
 use Rattle.spread_rules.specs.Rulebook.{Rules}
 use Rattle.spread_report.specs.EntryMessages.{AddressedMessage}
+use Rattle.spread_report.specs.Messages.{IsRow, texts_to}
 use Rattle.spread_report.specs.Outgoing.{WorkedEntry, entry_spends, bytes_to, line_after, spends, line_before_logon}
 
 -- the texts of the sessions' lists
@@ -23,18 +24,20 @@ bytes_of lists s = text_at (texts_of lists) s
 abbrev pub line_at : List SessionLine → ℕ → SessionLine
 line_at lines s = slice_index_or lines s (line_before_logon 1)
 
--- to each session exactly what these messages send it was appended, and its line went on with them
+-- to each session exactly what these messages send it was appended, a row of whole frames, and its line went on with them
 pub record Sent {A : Type 0} (stamp : List ℕ) (a b : List SessionLine) (x y : List (Vec ℕ A)) (ms : List AddressedMessage) : Type 0 where
   pub lines : length b ≡ length a
   pub lists : length y ≡ length x
   pub bytes : (s : ℕ) → s < 16 → bytes_of y s ≡ bytes_of x s ++ bytes_to stamp s (line_at a s) ms
   pub line : (s : ℕ) → s < 16 → line_at b s ≡ line_after s (line_at a s) ms
   pub unspent : (s : ℕ) → s < 16 → spends s (line_at a s) ms ≡ false
+  pub row : (s : ℕ) → s < 16 → IsRow (texts_to stamp s (line_at a s) ms) (bytes_to stamp s (line_at a s) ms)
 
--- to some sessions something was appended
+-- to some sessions something was appended, and their CompIDs stayed
 pub record OnlyAppended {A : Type 0} (a b : List SessionLine) (x y : List (Vec ℕ A)) : Type 0 where
   pub lines : length b ≡ length a
   pub lists : length y ≡ length x
+  pub comp_ids : (s : ℕ) → s < 16 → (line_at b s).comp_ids ≡ (line_at a s).comp_ids
   pub begins : (s : ℕ) → s < 16 → take (length (bytes_of x s)) (bytes_of y s) ≡ bytes_of x s
 
 -- one of the messages would bear a number above 999,999,999

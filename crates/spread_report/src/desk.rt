@@ -3,6 +3,7 @@ ghost use Rattle.std.specs.Prelude.{◌≡◌, ℕ, ◌<◌, ◌++◌, false, le
 ghost use Rattle.spread_rules.specs.declared.fill.Fill.{Fill};
 ghost use Rattle.spread_report.specs.Conditions.{FitsFill, FitsOutcome};
 ghost use Rattle.spread_report.specs.Desk.{desk_starting, desk_at};
+ghost use Rattle.spread_report.specs.Messages.{IsRow, entry_texts};
 ghost use Rattle.spread_report.specs.Outgoing.{entry_bytes, entry_line, entry_spends, worked_at};
 ghost use Rattle.spread_report.specs.Sessions.{bytes_of, line_at, KeepsBytes, RunsOut};
 ghost use Rattle.spread_report.specs.declared.fault.DeskFault.TheVariants.{NumbersSpent};
@@ -84,6 +85,7 @@ impl Desk {
         ensures bytes { OnOk result ((s : ℕ) → s < 16 → bytes_of lists.new s ≡ bytes_of lists.old s ++ entry_bytes self.old.stamp rules.now s (line_at self.old.lines s) (worked_at place entry.now outcome.now fills.now)) }
         ensures lines { OnOk result ((s : ℕ) → s < 16 → line_at self.new.lines s ≡ entry_line rules.now s (line_at self.old.lines s) (worked_at place entry.now outcome.now fills.now)) }
         ensures unspent { OnOk result ((s : ℕ) → s < 16 → entry_spends rules.now s (line_at self.old.lines s) (worked_at place entry.now outcome.now fills.now) ≡ false) }
+        ensures whole { OnOk result ((s : ℕ) → s < 16 → IsRow (entry_texts self.old.stamp rules.now s (line_at self.old.lines s) (worked_at place entry.now outcome.now fills.now)) (entry_bytes self.old.stamp rules.now s (line_at self.old.lines s) (worked_at place entry.now outcome.now fills.now))) }
         ensures spent { IsErrOf result NumbersSpent → RunsOut rules.now self.old.lines (worked_at place entry.now outcome.now fills.now) }
         ensures stamp { self.new.stamp ≡ self.old.stamp }
         ensures desk_kept { OnErr result (self.new ≡ self.old) }

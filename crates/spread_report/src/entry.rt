@@ -6,13 +6,14 @@ ghost use Rattle.spread_report.specs.EntryMessages.{messages_of};
 ghost use Rattle.std.specs.Prelude.{OnOk, OnErr, IsErrOf};
 ghost use Rattle.spread_report.specs.declared.fault.DeskFault.TheVariants.{NumbersSpent};
 ghost use Rattle.spread_report.specs.Sessions.{SendResult, KeepsBytes, RunsOut, bytes_of, line_at};
+ghost use Rattle.spread_report.specs.Messages.{IsRow, entry_texts};
 ghost use Rattle.spread_report.specs.Outgoing.{line_at_entry, entry_bytes, entry_line, entry_spends, worked_at};
 
 use crate::entries::{cancel_entry, new_entry};
 use crate::fault::DeskFault;
 use crate::line::{CompIds, SessionLine};
 use crate::messages::{heartbeat, logon, logout, reject, resend_request};
-use crate::rollback::{cut_back, lengths_of};
+use crate::rollback::{cut_back, lengths_of, numbers_of, restore};
 use crate::send::fill_gap;
 use spread_rules::event::{Entry, Event};
 use spread_rules::fill::Fill;
@@ -92,21 +93,19 @@ pub fn send_entry<A: Allocator + Copy>(
     ensures bytes { OnOk result ((s : ℕ) → s < 16 → bytes_of lists.new s ≡ bytes_of lists.old s ++ entry_bytes stamp.now rules.now s (line_at lines.old s) (worked_at place entry.now outcome.now fills.now)) }
     ensures lines { OnOk result ((s : ℕ) → s < 16 → line_at lines.new s ≡ entry_line rules.now s (line_at lines.old s) (worked_at place entry.now outcome.now fills.now)) }
     ensures unspent { OnOk result ((s : ℕ) → s < 16 → entry_spends rules.now s (line_at lines.old s) (worked_at place entry.now outcome.now fills.now) ≡ false) }
+    ensures whole { OnOk result ((s : ℕ) → s < 16 → IsRow (entry_texts stamp.now rules.now s (line_at lines.old s) (worked_at place entry.now outcome.now fills.now)) (entry_bytes stamp.now rules.now s (line_at lines.old s) (worked_at place entry.now outcome.now fills.now))) }
     ensures spent { IsErrOf result NumbersSpent → RunsOut rules.now lines.old (worked_at place entry.now outcome.now fills.now) }
     ensures lines_kept { OnErr result (lines.new ≡ lines.old) }
     ensures lists_kept { OnErr result (KeepsBytes lists.old lists.new) }
     ensures count { length lists.new ≡ 16 }
 {
     let lengths = lengths_of(lists);
-    let mut before = [SessionLine {
-        next: 1,
-        comp_ids: None,
-    }; 16];
-    before.copy_from_slice(lines);
+    let numbers = numbers_of(lines);
+    let comp_ids = lines[entry.session as usize].comp_ids;
     note_comp_ids(lines, entry.session, &entry.event);
     let result = send_messages(stamp, lines, lists, rules, place, entry, outcome, fills);
     if result.is_err() {
-        lines.copy_from_slice(&before);
+        restore(lines, &numbers, entry.session, comp_ids);
         cut_back(lists, &lengths);
     }
     result

@@ -5,7 +5,7 @@ ghost use Rattle.fix_wire.specs.Frames.{IsFrame, frames};
 ghost use Rattle.spread_rules.specs.Ids.{is_id};
 ghost use Rattle.spread_rules.specs.Rulebook.{Rules};
 ghost use Rattle.spread_report.specs.Outgoing.{WorkedEntry, entry_bytes, entry_line, entry_spends, outgoing_starting, spends_from, line_before_logon};
-ghost use Rattle.spread_report.specs.Messages.{messages_starting};
+ghost use Rattle.spread_report.specs.Messages.{IsRow, entry_texts, messages_starting};
 ghost use Rattle.spread_report.specs.Desk.{DeskState, desk_starting};
 ghost use Rattle.spread_report.specs.Running.{HasSent};
 ghost use Rattle.spread_report.specs.Sessions.{text_at, line_at, RunsOut};
@@ -35,6 +35,7 @@ pub fn running()
         ((s : ℕ) → s < 16 → text_at new s ≡ text_at texts s ++ entry_bytes desk.stamp rules s (line_at desk.lines s) w) →
         ((s : ℕ) → s < 16 → line_at after.lines s ≡ entry_line rules s (line_at desk.lines s) w) →
         ((s : ℕ) → s < 16 → entry_spends rules s (line_at desk.lines s) w ≡ false) →
+        ((s : ℕ) → s < 16 → IsRow (entry_texts desk.stamp rules s (line_at desk.lines s) w) (entry_bytes desk.stamp rules s (line_at desk.lines s) w)) →
         HasSent rules stamp next (worked ++ w ∷ []) after new }
     ensures same { (rules : Rules) (stamp : List ℕ) (next : ℕ) (worked : List WorkedEntry) (desk after : DeskState) (texts new : List (List ℕ)) →
         HasSent rules stamp next worked desk texts → after ≡ desk → length new ≡ 16 → ((s : ℕ) → s < 16 → text_at new s ≡ text_at texts s) →

@@ -127,12 +127,15 @@ pub fn cancel_reject<A: Allocator + Copy>(
     ensures { SendResult stamp.now lines.old lines.new lists.old lists.new (numbered_message session 57 (place_field place ∷ text 11 id.now ∷ text 41 original.now ∷ number 39 status ∷ number 434 1 ∷ number 102 reason ∷ []) ∷ []) result }
 {
     let named = if place == 0 {
-        text_field!(37, known_id(b"NONE"))
+        Value::Text(known_id(b"NONE"))
     } else {
-        number_field!(37, place)
+        Value::Number(place)
     };
     let fields = [
-        named,
+        Field {
+            tag: 37,
+            value: named,
+        },
         text_field!(11, *id),
         text_field!(41, *original),
         number_field!(39, status as u64),

@@ -1,7 +1,8 @@
 //! One message of one session, appended to its list.
-ghost use Rattle.std.specs.Prelude.{◌≡◌, ◌<◌, ◌∷◌, [], length};
+ghost use Rattle.std.specs.Prelude.{◌≡◌, ◌≢◌, ◌<◌, ◌∷◌, [], length, true};
+ghost use Rattle.std.specs.List.{list_all};
 ghost use Rattle.std.specs.Prelude.{◌≤◌};
-ghost use Rattle.spread_report.specs.EntryMessages.{numbered_message, gap_fill};
+ghost use Rattle.spread_report.specs.EntryMessages.{numbered_message, gap_fill, has_tag};
 ghost use Rattle.spread_report.specs.Outgoing as outgoing;
 ghost use Rattle.spread_report.specs.Sessions.{SendResult};
 
@@ -27,6 +28,9 @@ pub fn send<A: Allocator + Copy>(
     requires lines { length lines.old ≡ 16 }
     requires lists { length lists.old ≡ 16 }
     requires session { session < 16 }
+    requires kind { kind ≢ 1 }
+    requires tags { list_all has_tag fields.now ≡ true }
+    requires few { length fields.now ≤ 18 }
     ensures { SendResult stamp.now lines.old lines.new lists.old lists.new (numbered_message session kind fields.now ∷ []) result }
 {
     let at = session as usize;

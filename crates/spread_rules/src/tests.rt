@@ -135,22 +135,28 @@ fn spread_meets_two_months(rt: HostRuntime) {
 
 #[test]
 fn direct_before_implied(rt: HostRuntime) {
-    let sell = order(2, H6, Side::Sell, 2, 10000);
-    let spread = order(3, Instrument::Spread(0, 1), Side::Sell, 3, 200);
-    let far = order(4, M6, Side::Sell, 4, 9800);
+    let all = [
+        order(2, H6, Side::Sell, 2, 10000),
+        order(3, Instrument::Spread(0, 1), Side::Sell, 3, 200),
+        order(4, M6, Side::Sell, 4, 9800),
+    ];
+    let pair = [
+        order(3, Instrument::Spread(0, 1), Side::Sell, 3, 200),
+        order(4, M6, Side::Sell, 4, 9800),
+    ];
     let buy = order(5, H6, Side::Buy, 6, 10000);
     let direct = Choice {
         price: 10000,
         quantity: 2,
         members: Members::Direct(2),
     };
-    assert_eq!(rt; plain_best(&[sell, spread, far], &buy), Some(direct));
+    assert_eq!(rt; plain_best(&all, &buy), Some(direct));
     let implied = Choice {
         price: 10000,
         quantity: 3,
         members: Members::Implied(3, 4),
     };
-    assert_eq!(rt; plain_best(&[spread, far], &buy), Some(implied));
+    assert_eq!(rt; plain_best(&pair, &buy), Some(implied));
 }
 
 #[test]

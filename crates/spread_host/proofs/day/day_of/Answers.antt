@@ -1,14 +1,20 @@
-use Rattle.std.proofs.Common.{All, get_or, ap, sym, subst, List}
+use Rattle.std.proofs.Common.{◌≡◌, ap, sym, ◌∙◌, subst, List}
+use Rattle.spread_rules.specs.declared.event.Entry.{Entry}
 use Rattle.spread_rules.specs.declared.fill.Fill.{Fill}
-use Rattle.spread_rules.specs.Rulebook.{Rules}
-use Rattle.spread_match.specs.Ranges.{IsFillInRange}
-use Rattle.spread_host.specs.Days.{AreShown}
+use Rattle.spread_rules.specs.Meaning.{meaning_of_journal}
+use Rattle.spread_host.specs.Days.{AreShown, texts_below}
 use Rattle.spread_host.proofs.SixteenTexts.{all_texts}
 use Rattle.spread_host.proofs.Shown.{shown_of}
 use Rattle.spread_host.proofs.day.day_of.Goals as goal
 
 pub returns-in-Ok-clause-texts : goal.returns-in-Ok-clause-texts
-returns-in-Ok-clause-texts g c = all_texts c.in-Ok.worked.out.items c.args.rulebook.now c.args.stamp c.args.journal.items c.in-Ok.ensures.lists c.in-Ok.ensures.out
+returns-in-Ok-clause-texts g c =
+    all_texts c.in-Ok.worked.out.items c.args.rulebook.now c.args.stamp c.deref.result.now c.in-Ok.ensures.lists c.in-Ok.ensures.out
+    ∙ ap (λ (es : List Entry). texts_below 16 c.args.rulebook.now c.args.stamp es) c.deref.ensures.value
 
 pub returns-in-Ok-clause-shown : goal.returns-in-Ok-clause-shown
-returns-in-Ok-clause-shown g c = subst (λ (fs : List Fill). AreShown c.args.rulebook.now fs) (sym c.in-Ok.ensures.fills) (shown_of c.args.rulebook.now _ (c.ranges.ensures.fills c.args.rulebook.now c.args.journal.items c.months.ensures.lawful c.requires.fits))
+returns-in-Ok-clause-shown g c =
+    let rules = c.args.rulebook.now in
+    let journal = c.args.journal.items in
+    let are : c.in-Ok.worked.fills.items ≡ (meaning_of_journal rules journal).fills = c.in-Ok.ensures.fills ∙ ap (λ (es : List Entry). (meaning_of_journal rules es).fills) c.deref.ensures.value in
+    subst (λ (fs : List Fill). AreShown rules fs) (sym are) (shown_of rules (meaning_of_journal rules journal).fills (c.ranges-2.ensures.fills rules journal c.months.ensures.lawful c.requires.fits))

@@ -1,3 +1,5 @@
+use Rattle.std.proofs.Common.{sym}
+use Rattle.spread_match.proofs.Renewed.{none_renewed}
 use Rattle.std.proofs.Common.{◌≡◌, List, set, get_or, ap, ◌∙◌}
 use Rattle.spread_rules.specs.declared.outcome.OrderStatus.{OrderStatus}
 use Rattle.spread_match.specs.Kept.{renewed_by}
@@ -12,3 +14,6 @@ loop-status-preserved c =
     ap (λ (o : OrderStatus). set c.loop-status.statuses c.loop-status.status-index o) (c.renew_one.ensures ∙ ap f at)
     ∙ ap (λ (xs : List OrderStatus). set xs c.loop-status.status-index (f (get_or c.args.statuses.now c.loop-status.status-index c.status-item.result))) c.loop-status.invariant
     ∙ map_next f c.args.statuses.now c.loop-status.status-index c.status-item.result c.loop-status-test.true
+
+pub returns-then-fill-gt0 : goal.returns-then-fill-gt0
+returns-then-fill-gt0 c = sym (none_renewed c.args.fill.now c.args.statuses.now c.if-fill-gt0.true)

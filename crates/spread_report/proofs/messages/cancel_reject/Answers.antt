@@ -1,18 +1,23 @@
-use Rattle.std.proofs.Common.{◌≡◌, List, ℕ, [], ◌∷◌, ap, sym, ◌∙◌}
+use Rattle.std.proofs.Common.{◌≡◌, List, ℕ, [], ◌∷◌, ap, sym, ◌∙◌, codes}
 use Rattle.fix_wire.specs.declared.writer.Field.{Field}
-use Rattle.spread_report.specs.EntryMessages.{AddressedMessage, numbered_message, text, number, place_field}
-use Rattle.spread_report.proofs.Steps.{works_same, named_none, named_place}
+use Rattle.fix_wire.specs.declared.writer.Value.{Value}
+use Rattle.fix_wire.specs.declared.writer.Value.TheVariants.{Text}
+use Rattle.spread_report.specs.EntryMessages.{numbered_message, text, number, place_field}
+use Rattle.spread_report.proofs.Steps.{result_same, named_none, named_place}
 use Rattle.spread_report.proofs.messages.cancel_reject.Goals.{then-place-eq0, else-place-eq0}
 use Rattle.spread_report.proofs.messages.cancel_reject.Goals as goal
 
+abbrev with_37 : Value → Field
+with_37 v = record { tag = 37; value = v }
+
 pub returns : goal.returns
 returns g c =
-    let named : c.if-place-eq0.named ≡ place_field c.args.place =
+    let named : with_37 c.if-place-eq0.named ≡ place_field c.args.place =
     elim c.if-place-eq0.branch [
-      | then-place-eq0 w ↦ w.named-is ∙ (ap (λ (t : List ℕ). text 37 t) w.known_id.ensures ∙ sym (named_none c.args.place w.if-place-eq0.true))
-      | else-place-eq0 w ↦ w.named-is ∙ sym (named_place c.args.place w.if-place-eq0.false)
+      | then-place-eq0 w ↦ ap with_37 w.named-is ∙ (ap (λ (t : List ℕ). text 37 t) w.known_id.ensures ∙ sym (named_none c.args.place w.if-place-eq0.true))
+      | else-place-eq0 w ↦ ap with_37 w.named-is ∙ sym (named_place c.args.place w.if-place-eq0.false)
     ] in
-    works_same c.args.stamp.now c.args.lines.now c.send.new.lines c.args.lists.now c.send.new.lists
-    (numbered_message c.args.session 57 (c.if-place-eq0.named ∷ text 11 c.args.id.now ∷ text 41 c.args.original.now ∷ number 39 c.args.status ∷ number 434 1 ∷ number 102 c.args.reason ∷ []) ∷ []) (numbered_message c.args.session 57 (place_field c.args.place ∷ text 11 c.args.id.now ∷ text 41 c.args.original.now ∷ number 39 c.args.status ∷ number 434 1 ∷ number 102 c.args.reason ∷ []) ∷ []) c.send.result
+    result_same c.args.stamp.now c.args.lines.now c.send.new.lines c.args.lists.now c.send.new.lists
+    (numbered_message c.args.session 57 (with_37 c.if-place-eq0.named ∷ text 11 c.args.id.now ∷ text 41 c.args.original.now ∷ number 39 c.args.status ∷ number 434 1 ∷ number 102 c.args.reason ∷ []) ∷ []) (numbered_message c.args.session 57 (place_field c.args.place ∷ text 11 c.args.id.now ∷ text 41 c.args.original.now ∷ number 39 c.args.status ∷ number 434 1 ∷ number 102 c.args.reason ∷ []) ∷ []) c.send.result
     (ap (λ (f : Field). numbered_message c.args.session 57 (f ∷ text 11 c.args.id.now ∷ text 41 c.args.original.now ∷ number 39 c.args.status ∷ number 434 1 ∷ number 102 c.args.reason ∷ []) ∷ []) named)
     c.send.ensures

@@ -1,12 +1,14 @@
 use Rattle.std.proofs.Common.{◌≡◌, ℕ, ◌+◌, ◌<◌, true, false, nat_lt, refl, arith, rules}
 use Rattle.spread_report.specs.EntryMessages.{numbered}
-use Rattle.spread_report.proofs.Steps.{sent_line, spent_line, grown_line, grown_none}
+use Rattle.spread_report.proofs.Steps.{sent_off, sent_line, spent_line, appended_line, appended_none}
+use Rattle.spread_report.specs.Outgoing.{head_of}
+use Rattle.spread_report.proofs.FrameRows.{written_row}
 use Rattle.spread_report.proofs.send.send.Goals as goal
 
 pub returns-then-line-gt-GREATEST_NUMBER : goal.returns-then-line-gt-GREATEST_NUMBER
 returns-then-line-gt-GREATEST_NUMBER g c =
     let spent : nat_lt 999999999 c.index-lines-at.result.next ≡ true = search (rules, c.if-line-gt-GREATEST_NUMBER.true) in (
-      grown_none c.args.lines.now c.args.lists.now,
+      appended_none c.args.lines.now c.args.lists.now,
       spent_line c.args.stamp.now c.args.lines.now c.args.session (numbered c.args.kind c.args.fields.now) c.index-lines-at.result c.in-Some.ids
           c.requires.lines c.requires.session c.index-lines-at.is c.in-Some.is spent,
     )
@@ -17,8 +19,12 @@ returns-in-Ok g c =
     sent_line c.args.stamp.now c.args.lines.now c.args.lists.now c.args.session (numbered c.args.kind c.args.fields.now) c.index-lines-at.result c.index-lists-at.result c.in-Some.ids
     c.write_message.new.out (c.index-lines-at.result.next + 1) c.requires.lines c.requires.lists c.requires.session c.index-lines-at.is c.in-Some.is
     c.in-Ok.ensures.ok refl unspent
+    (written_row (head_of c.args.stamp.now c.in-Some.ids c.args.kind c.index-lines-at.result.next false) c.args.fields.now c.requires.kind c.requires.tags c.requires.few c.in-Ok.ensures.short c.in-Ok.ensures.lawful)
 
 pub returns-in-Err : goal.returns-in-Err
 returns-in-Err g c =
-    grown_line c.args.lines.now c.args.lists.now c.args.session c.index-lists-at.result
+    appended_line c.args.lines.now c.args.lists.now c.args.session c.index-lists-at.result
     c.write_message.new.out c.requires.lists c.requires.session c.in-Err.ensures.err
+
+pub returns-in-None : goal.returns-in-None
+returns-in-None g c = sent_off c.args.stamp.now c.args.lines.now c.args.lists.now c.args.session c.index-lines-at.result c.requires.lines c.requires.session c.index-lines-at.is (numbered c.args.kind c.args.fields.now) c.in-None.is

@@ -3,7 +3,7 @@ use Rattle.spread_rules.specs.declared.order.Order.{Order}
 use Rattle.spread_rules.specs.declared.fill.Fill.{Fill}
 use Rattle.spread_rules.specs.Clearing.{clear, removed, Trading, begin}
 use Rattle.spread_rules.specs.declared.outcome.OrderStatus.{OrderStatus}
-use Rattle.spread_match.specs.Trade.{IsTradable, IsSmall}
+use Rattle.spread_match.specs.Trade.{IsTradable}
 use Rattle.spread_match.specs.Best.{IsNearFirst, in_months}
 use Rattle.spread_rules.specs.Candidates.{HasSmallPrice}
 use Rattle.spread_match.specs.Kept.{settled, renewed}
@@ -12,7 +12,7 @@ use Rattle.spread_match.proofs.Listing.{small_references}
 use Rattle.spread_match.proofs.floor.Floor.take.Goals as goal
 use Rattle.spread_rules.specs.Candidates.{all_on}
 use Rattle.spread_rules.specs.Meaning.{order_of, outcome_of, resting}
-use Rattle.spread_rules.specs.Rulebook.{Rules, month_count, references_of}
+use Rattle.spread_rules.specs.Rulebook.{month_count, references_of}
 use Rattle.spread_match.specs.State.{Standing}
 
 pub trade-left-requires : goal.trade-left-requires
