@@ -17,3 +17,5 @@ pub mod Joining
 pub mod Filling
 pub mod Draining
 pub mod Parts
+pub mod LiveFaults
+pub mod Silent

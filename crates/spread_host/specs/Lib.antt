@@ -13,3 +13,4 @@ pub mod Workers
 pub mod Turning
 pub mod Handing
 pub mod Streams
+pub mod LiveDays
