@@ -3,7 +3,7 @@ ghost use Rattle.std.specs.Prelude.{◌≡◌, ◌≤◌, ◌<◌, ℕ, [], IfOk
 ghost use Rattle.gate_link.specs.Rows.{row};
 ghost use Rattle.gate_link.specs.Lanes.{taken, ArePairs};
 ghost use Rattle.gate_link.specs.Links.{IsLinkOf, journal_of, room_of, session_count};
-ghost use Rattle.gate_link.specs.Opening.{AreFresh, IsRefusal, fault_number};
+ghost use Rattle.gate_link.specs.Opening.{AreFresh, Between, IsRefusal, fault_number};
 
 use crate::gateway::Gateway;
 use crate::lane::SessionLane;
@@ -48,6 +48,7 @@ pub fn link<A: Allocator + Copy>(
     ring: usize,
     journal: usize,
 ) -> Result<(Vec<Gateway<A>, A>, Sequencer<A>), LinkFault>
+    ensures ranges { IfOk result (λ r. Between 1 16 sessions × Between 1 4096 ring × (journal ≤ 1000000)) }
     ensures pairs { IfOk result (λ r. IsLinkOf r.1 r.0.items) }
     ensures gateways { IfOk result (λ r. (vec_len r.0 ≡ sessions) × AreFresh ring r.0.items) }
     ensures sequencer { IfOk result (λ r. (journal_of r.1 ≡ []) × (room_of r.1 ≡ journal) × (session_count r.1 ≡ sessions)) }

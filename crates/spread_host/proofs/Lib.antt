@@ -11,3 +11,11 @@ pub mod SessionLines
 pub mod SixteenTexts
 pub mod Shown
 pub mod Theorems
+pub mod SentAndOwed
+pub mod Starting
+pub mod Joining
+pub mod Filling
+pub mod Draining
+pub mod Parts
+pub mod LiveFaults
+pub mod Silent

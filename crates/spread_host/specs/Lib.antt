@@ -9,3 +9,8 @@ pub mod Totals
 pub mod Days
 pub mod Checks
 pub mod Working
+pub mod Workers
+pub mod Turning
+pub mod Handing
+pub mod Streams
+pub mod LiveDays

@@ -8,9 +8,12 @@ pub mod day_lines;
 pub mod fault;
 pub mod lanes;
 pub mod laws;
+pub mod live;
 pub mod output;
 pub mod replay;
 #[cfg(test)]
 mod tests;
 pub mod totals;
+mod turns;
+pub mod worker;
 pub mod working;
