@@ -13,6 +13,14 @@ pub enum Request<'a> {
         stamp: &'a str,
         journal_only: bool,
     },
+    /// A file of raw bytes for each session, session 0 first.
+    Live {
+        rules: &'a str,
+        sessions: Vec<&'a str>,
+        stamp: &'a str,
+        ring: u32,
+        entries: u32,
+    },
     /// A journal text.
     Check { rules: &'a str, journal: &'a str },
 }
@@ -71,6 +79,38 @@ fn replay_command<'a>(alloc: Global) -> Result<Command<'a>, AllocError> {
         .arg(journal_only)
 }
 
+fn number_word<'a>(
+    alloc: Global,
+    name: &'a str,
+    default: &'a str,
+    help: &'a str,
+) -> Result<Arg<'a>, AllocError> {
+    Ok(Arg::new(alloc, name)
+        .long(name)
+        .value_name("N")
+        .help(help)
+        .default_value(default)
+        .value_parser(ValueParser::unsigned(0, 4_294_967_295))
+        .action(ArgAction::Set))
+}
+
+fn live_command<'a>(alloc: Global) -> Result<Command<'a>, AllocError> {
+    let sessions = Arg::new(alloc, "SESSION")
+        .required(true)
+        .num_args(1..)
+        .help("A file of raw bytes for each session, session 0 first")
+        .action(ArgAction::Append);
+    let ring = number_word(alloc, "ring", "256", "How many events wait between a session's thread and the sequencer, 1 to 4096")?;
+    let entries = number_word(alloc, "entries", "100000", "How many entries the journal has room for, at most 1000000")?;
+    Command::new(alloc, "live")
+        .about("Runs a thread for each session's file, and writes what `replay` writes")
+        .arg(rules_word(alloc))?
+        .arg(sessions)?
+        .arg(stamp_word(alloc))?
+        .arg(ring)?
+        .arg(entries)
+}
+
 fn check_command<'a>(alloc: Global) -> Result<Command<'a>, AllocError> {
     let journal = Arg::new(alloc, "JOURNAL")
         .required(true)
@@ -87,6 +127,7 @@ fn exchange_command<'a>(alloc: Global) -> Result<Command<'a>, AllocError> {
         .about("A matching host for futures months and calendar spreads, reached by FIX 4.2 messages")
         .subcommand_required(true)
         .subcommand(replay_command(alloc)?)?
+        .subcommand(live_command(alloc)?)?
         .subcommand(check_command(alloc)?)
 }
 
@@ -98,6 +139,15 @@ pub fn read_words<'a>(alloc: Global, words: &'a [String]) -> Result<Request<'a>,
         return Ok(Request::Check {
             rules: found.get_str("RULES").unwrap_or(""),
             journal: found.get_str("JOURNAL").unwrap_or(""),
+        });
+    }
+    if let Some(found) = matches.subcommand_matches("live") {
+        return Ok(Request::Live {
+            rules: found.get_str("RULES").unwrap_or(""),
+            sessions: found.get_strs("SESSION").unwrap_or(&[]).to_vec(alloc)?,
+            stamp: found.get_str("stamp").unwrap_or(""),
+            ring: found.get_one("ring").unwrap_or(256),
+            entries: found.get_one("entries").unwrap_or(100_000),
         });
     }
     let Some(found) = matches.subcommand_matches("replay") else {
