@@ -22,7 +22,10 @@ pub enum Request<'a> {
         entries: u32,
     },
     /// A journal text.
-    Check { rules: &'a str, journal: &'a str },
+    Check {
+        rules: &'a str,
+        journal: &'a str,
+    },
 }
 
 /// Why the words ask for nothing.
@@ -48,7 +51,8 @@ impl From<Error> for Refused {
     }
 }
 
-const RULES_HELP: &str = "The rulebook: a line `tick N`, then a line `month NAME REFERENCE` for each month in order of expiry";
+const RULES_HELP: &str =
+    "The rulebook: a line `tick N`, then a line `month NAME REFERENCE` for each month in order of expiry";
 
 fn rules_word<'a>(alloc: Global) -> Arg<'a> {
     Arg::new(alloc, "RULES")
@@ -73,7 +77,9 @@ fn replay_command<'a>(alloc: Global) -> Result<Command<'a>, AllocError> {
         .help("Write the journal text alone")
         .action(ArgAction::SetTrue);
     Command::new(alloc, "replay")
-        .about("Reads day lines from standard input, and writes the journal, fills, outgoing messages and month totals")
+        .about(
+            "Reads day lines from standard input, and writes the journal, fills, outgoing messages and month totals",
+        )
         .arg(rules_word(alloc))?
         .arg(stamp_word(alloc))?
         .arg(journal_only)
@@ -85,13 +91,15 @@ fn number_word<'a>(
     default: &'a str,
     help: &'a str,
 ) -> Result<Arg<'a>, AllocError> {
-    Ok(Arg::new(alloc, name)
-        .long(name)
-        .value_name("N")
-        .help(help)
-        .default_value(default)
-        .value_parser(ValueParser::unsigned(0, 4_294_967_295))
-        .action(ArgAction::Set))
+    Ok(
+        Arg::new(alloc, name)
+            .long(name)
+            .value_name("N")
+            .help(help)
+            .default_value(default)
+            .value_parser(ValueParser::unsigned(0, 4_294_967_295))
+            .action(ArgAction::Set),
+    )
 }
 
 fn live_command<'a>(alloc: Global) -> Result<Command<'a>, AllocError> {
@@ -100,8 +108,18 @@ fn live_command<'a>(alloc: Global) -> Result<Command<'a>, AllocError> {
         .num_args(1..)
         .help("A file of raw bytes for each session, session 0 first")
         .action(ArgAction::Append);
-    let ring = number_word(alloc, "ring", "256", "How many events wait between a session's thread and the sequencer, 1 to 4096")?;
-    let entries = number_word(alloc, "entries", "100000", "How many entries the journal has room for, at most 1000000")?;
+    let ring = number_word(
+        alloc,
+        "ring",
+        "256",
+        "How many events wait between a session's thread and the sequencer, 1 to 4096",
+    )?;
+    let entries = number_word(
+        alloc,
+        "entries",
+        "100000",
+        "How many entries the journal has room for, at most 1000000",
+    )?;
     Command::new(alloc, "live")
         .about("Runs a thread for each session's file, and writes what `replay` writes")
         .arg(rules_word(alloc))?
@@ -124,7 +142,9 @@ fn check_command<'a>(alloc: Global) -> Result<Command<'a>, AllocError> {
 
 fn exchange_command<'a>(alloc: Global) -> Result<Command<'a>, AllocError> {
     Command::new(alloc, "exchange")
-        .about("A matching host for futures months and calendar spreads, reached by FIX 4.2 messages")
+        .about(
+            "A matching host for futures months and calendar spreads, reached by FIX 4.2 messages",
+        )
         .subcommand_required(true)
         .subcommand(replay_command(alloc)?)?
         .subcommand(live_command(alloc)?)?
