@@ -1,8 +1,7 @@
 -- Sums of a month leg by leg.
-use Rattle.std.proofs.Common.{◌≡◌, ◌≢◌, ℕ, zero, suc, ◌+◌, ◌*◌, ◌^◌, ◌<◌, ◌≤◌, ◌==◌, Bool, true, false, ◌&&◌, cond, ℤ, pos, neg_ℤ, ◌+ℤ◌, ◌*ℤ◌, ◌≤ℤ◌, List, [], ◌∷◌, ◌++◌, length, get_or, set, take, All, refl, sym, ap, ◌∙◌, subst, arith, FitsSigned, to_z, of_z, mul_comm}
+use Rattle.std.proofs.Common.{◌≡◌, ℕ, zero, suc, ◌+◌, ◌*◌, ◌^◌, ◌<◌, ◌≤◌, ◌==◌, Bool, true, false, ◌&&◌, cond, ℤ, pos, neg_ℤ, ◌+ℤ◌, ◌*ℤ◌, ◌≤ℤ◌, List, [], ◌∷◌, length, get_or, set, take, All, refl, sym, ap, ◌∙◌, subst, arith, FitsSigned, to_z, of_z, mul_comm}
 use Rattle.std.specs.Prelude.{fold, unsigned_abs}
 use Rattle.std.specs.Int.{w64, w128}
-use Rattle.std.specs.List.{flat_map}
 use Rattle.std.proofs.lemmas.Bool.Decides.{nat_tests}
 use Rattle.std.proofs.lemmas.Int.{ints, to_z-of_z, unsigned_abs-mul}
 use Rattle.std.proofs.lemmas.List.Elements.{All-set, All-replicate, All-take}
@@ -17,7 +16,7 @@ use Rattle.spread_rules.specs.declared.order.Instrument.TheVariants.{Outright, S
 use Rattle.spread_rules.specs.declared.fill.Fill.{Fill}
 use Rattle.spread_rules.specs.Legs.{Leg, is_side, legs_by, legs_in, legs, quantities, money, quantity_in, money_in, other_side}
 use Rattle.spread_host.specs.declared.totals.MonthTotals.{MonthTotals}
-use Rattle.spread_host.specs.Totals.{totals_of, AreTotals, IsSummable}
+use Rattle.spread_host.specs.Totals.{AreTotals, IsSummable}
 use Rattle.spread_host.specs.Sums.{added, none, with_leg, with_fill, twelve, IsSmallLeg, HasRoom}
 
 -- ---- the money of one leg

@@ -1,5 +1,5 @@
 -- Sums of a month leg by leg, and the room that they take.
-use Rattle.std.specs.Prelude.{◌≡◌, ℕ, ◌+◌, ◌*◌, ◌^◌, ◌<◌, ◌≤◌, ℤ, pos, neg_ℤ, ◌≤ℤ◌, ◌+ℤ◌, ◌*ℤ◌, List, [], ◌∷◌, length, get_or, set, fold, replicate, All}
+use Rattle.std.specs.Prelude.{ℕ, ◌+◌, ◌*◌, ◌≤◌, ℤ, pos, neg_ℤ, ◌≤ℤ◌, ◌+ℤ◌, ◌*ℤ◌, List, get_or, set, fold, replicate}
 use Rattle.spread_rules.specs.declared.order.Side.{Side}
 use Rattle.spread_rules.specs.declared.order.Side.TheVariants.{Buy, Sell}
 use Rattle.spread_rules.specs.declared.fill.Fill.{Fill}

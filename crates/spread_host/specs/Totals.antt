@@ -1,11 +1,9 @@
 -- The sums of each month, as the code keeps them.
-use Rattle.std.specs.Prelude.{◌≡◌, ℕ, ◌+◌, ◌*◌, ◌^◌, ◌<◌, ◌≤◌, ℤ, pos, neg_ℤ, ◌≤ℤ◌, ◌+ℤ◌, ◌*ℤ◌, List, length, get_or, All}
-use Rattle.spread_rules.specs.declared.order.Side.{Side}
-use Rattle.spread_rules.specs.declared.order.Side.TheVariants.{Buy, Sell}
+use Rattle.std.specs.Prelude.{◌≡◌, ℕ, ◌<◌, ◌≤◌, pos, neg_ℤ, ◌≤ℤ◌, List, get_or}
 use Rattle.spread_rules.specs.declared.order.Instrument.{Instrument}
 use Rattle.spread_rules.specs.declared.order.Instrument.TheVariants.{Outright, Spread}
 use Rattle.spread_rules.specs.declared.fill.Fill.{Fill}
-use Rattle.spread_rules.specs.Legs.{Leg, quantities, money, bought, sold, paid, received}
+use Rattle.spread_rules.specs.Legs.{bought, sold, paid, received}
 use Rattle.spread_host.specs.declared.totals.MonthTotals.{MonthTotals}
 
 -- what these fills sum to in a month

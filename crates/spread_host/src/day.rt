@@ -1,9 +1,10 @@
 //! A day: its journal, what the journal's entries came to, and its text.
-ghost use Rattle.std.specs.Prelude.{◌≡◌, ℕ, ◌<◌, ◌≤◌, ◌+◌, IfOk, IfErr, OnOk, IsErrOf, ◌≢◌, length, true, false};
+ghost use Rattle.std.specs.Prelude.{◌≡◌, ℕ, ◌<◌, ◌≤◌, ◌+◌, IfOk, IfErr, OnOk, IsErrOf, ◌≢◌, All, length, true, false};
 ghost use Rattle.std.specs.Io.KnownBytes.{Appends};
 ghost use Rattle.spread_rules.specs.Ends.{AppendsPrefix};
 ghost use Rattle.spread_rules.specs.Journal.{IsLawful};
 ghost use Rattle.spread_rules.specs.Meaning.{meaning_of_journal};
+ghost use Rattle.spread_journal.specs.JournalText.{HasByteIds};
 ghost use Rattle.spread_report.specs.Messages.{IsRow, messages_to};
 ghost use Rattle.spread_report.specs.Sessions.{bytes_of};
 ghost use Rattle.spread_host.specs.Days.{AreShown, day_text, texts_of, texts_below};
@@ -70,7 +71,8 @@ fn text_of<A: Allocator + Copy>(
 ) -> Result<Vec<u8, A>, AllocError>
     requires lists { length day.now.out.items ≤ 16 }
     requires shown { AreShown rulebook.now day.now.fills.items }
-    ensures { IfOk result (λ text. text.items ≡ day_text journal_only rulebook.now day.now.journal.items day.now.fills.items (texts_of day.now.out.items)) }
+    ensures text { IfOk result (λ text. text.items ≡ day_text journal_only rulebook.now day.now.journal.items day.now.fills.items (texts_of day.now.out.items)) }
+    ensures bytes { OnOk result (All (λ e. HasByteIds e.event) day.now.journal.items) }
 {
     let mut text = text_of_journal(alloc, &day.journal)?;
     if journal_only {
@@ -82,7 +84,7 @@ fn text_of<A: Allocator + Copy>(
     Ok(text)
 }
 
-/// Writes the text of a day, or of its journal alone, and nothing else. Its fills are of the rulebook's instruments and in range, and its lists at
+/// Writes the text of a day, or of its journal alone, and nothing else. The ids written are of bytes. Its fills are of the rulebook's instruments and in range, and its lists at
 /// most sixteen. Answers NoMemory, its place one more than the journal's length, with nothing written, or Write, with a
 /// prefix of the text written.
 pub fn write_day<K: Sink, A: Allocator + Copy>(
@@ -97,6 +99,7 @@ pub fn write_day<K: Sink, A: Allocator + Copy>(
     requires shown { AreShown rulebook.now day.now.fills.items }
     ensures ok { OnOk result (Appends (K.written sink.old) (K.written sink.new) (day_text journal_only rulebook.now day.now.journal.items day.now.fills.items (texts_of day.now.out.items))) }
     ensures sound { OnOk result (K.has_failed sink.new ≡ false) }
+    ensures bytes { OnOk result (All (λ e. HasByteIds e.event) day.now.journal.items) }
     ensures memory { IfErr result (λ f. f ≢ HostFault.Write → (f ≡ HostFault.NoMemory (length day.now.journal.items + 1)) × (sink.new ≡ sink.old)) }
     ensures write { IsErrOf result HostFault.Write → (K.has_failed sink.new ≡ true) × AppendsPrefix (K.written sink.old) (K.written sink.new) (day_text journal_only rulebook.now day.now.journal.items day.now.fills.items (texts_of day.now.out.items)) }
 {

@@ -9,6 +9,8 @@ ghost use Rattle.spread_rules.specs.Journal.{IsLawful};
 ghost use Rattle.spread_rules.specs.Legs.{bought, sold, paid, received};
 ghost use Rattle.spread_rules.specs.Meaning.{meaning_of_journal, filled};
 ghost use Rattle.spread_rules.specs.Quiet.{IsQuiet};
+ghost use Rattle.spread_journal.specs.JournalReading.{ReadsJournal};
+ghost use Rattle.spread_journal.specs.JournalText.{journal_text};
 ghost use Rattle.spread_match.specs.Sound.{KeepsOrder};
 ghost use Rattle.spread_report.specs.Messages.{IsRow, messages_to};
 ghost use Rattle.spread_report.specs.Sessions.{bytes_of};
@@ -23,6 +25,7 @@ use crate::day_journal::day_journal;
 use crate::day_lines::{LinesFault, put_field_ends, read_lines};
 use crate::fault::HostFault;
 use crate::lanes::journal_of_lines;
+use spread_journal::laws::read_back;
 use spread_rules::event::Entry;
 use spread_rules::id::Id;
 use spread_rules::rulebook::Rulebook;
@@ -85,6 +88,7 @@ pub fn replay<S: Source, K: Sink, A: Allocator + Copy>(
     ensures journal { IfOk result (λ day. IfSome (S.left source.old) (λ input. IsJournalOf input day.journal.items)) }
     ensures parts { IfOk result (λ day. IfSome (S.left source.old) (λ input. HasParts input day.journal.items)) }
     ensures lawful { IfOk result (λ day. IsLawful day.journal.items) }
+    ensures read_again { IfOk result (λ day. ReadsJournal (journal_text day.journal.items) (Ok day.journal.items)) }
 
     // What the journal's entries came to.
     ensures fills { IfOk result (λ day. day.fills.items ≡ (meaning_of_journal rulebook.now day.journal.items).fills) }
@@ -107,6 +111,7 @@ pub fn replay<S: Source, K: Sink, A: Allocator + Copy>(
     ensures nothing_written { IfErr result (λ f. f ≢ HostFault.Write → sink.new ≡ sink.old) }
     ensures fault { IfErr result (IsReplayFault rulebook.now (S.left source.old)) }
 {
+    read_back();
     let mut text = match read_all(alloc, source) {
         Ok(text) => text,
         Err(ReadFault::Read) => return Err(HostFault::Read),

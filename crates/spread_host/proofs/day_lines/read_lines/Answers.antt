@@ -1,5 +1,5 @@
-use Rattle.std.proofs.Common.{◌≡◌, ◌∙◌, ◌+◌, ◌++◌, ap, List, [], ◌∷◌, Ok, length, ℕ, arith, length-append, Result}
-use Rattle.spread_host.specs.DayText.{DayLine, lines_of, behind, session_lines}
+use Rattle.std.proofs.Common.{◌∙◌, ap, List, length, ℕ, arith, length-append}
+use Rattle.spread_host.specs.DayText.{lines_of, behind, session_lines}
 use Rattle.spread_host.specs.LinesRead.{said_by}
 use Rattle.spread_host.proofs.Said.{lines_cut, lines_last, took, last_took}
 use Rattle.spread_host.proofs.day_lines.read_lines.Goals as goal

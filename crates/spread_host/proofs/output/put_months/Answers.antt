@@ -1,7 +1,7 @@
-use Rattle.std.proofs.Common.{◌≡◌, ◌<◌, ℕ, length, get_or, arith}
+use Rattle.std.proofs.Common.{◌<◌, length, arith}
 use Rattle.std.proofs.lemmas.List.{length-map}
 use Rattle.spread_rules.specs.declared.rulebook.Month.{Month}
-use Rattle.spread_rules.specs.Rulebook.{names_of, month_count}
+use Rattle.spread_rules.specs.Rulebook.{names_of}
 use Rattle.spread_host.proofs.MonthLines.{months_step}
 use Rattle.spread_host.proofs.output.put_months.Goals as goal
 

@@ -1,4 +1,4 @@
-use Rattle.std.proofs.Common.{◌≡◌, ◌++◌, ◌≤◌, take}
+use Rattle.std.proofs.Common.{◌≡◌, ◌++◌, take}
 use Rattle.spread_rules.specs.Rulebook.{names_of}
 use Rattle.spread_host.specs.Output.{month_lines_from}
 use Rattle.spread_host.proofs.output.put_months.Given as goal

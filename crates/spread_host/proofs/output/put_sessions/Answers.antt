@@ -1,4 +1,4 @@
-use Rattle.std.proofs.Common.{rules, ◌≡◌, ◌<◌, ℕ, List, [], length, map, get_or, Vec, sym, ap, ◌∙◌}
+use Rattle.std.proofs.Common.{ℕ, [], map, Vec, sym, ap, ◌∙◌}
 use Rattle.std.proofs.lemmas.List.{length-map, get_or-map}
 use Rattle.spread_host.proofs.SessionLines.{sessions_step}
 use Rattle.spread_host.proofs.output.put_sessions.Goals as goal

@@ -1,11 +1,10 @@
-use Rattle.std.proofs.Common.{◌≡◌, ℕ, List, ap, sym, ◌∙◌, refl, arith, Ok, Err, Result, subst, length, ◌<◌, ◌≤◌, map}
+use Rattle.std.proofs.Common.{◌≡◌, ℕ, List, ap, sym, ◌∙◌, refl, arith, Err, subst, length}
 use Rattle.spread_rules.specs.declared.event.Entry.{Entry}
 use Rattle.spread_rules.specs.Journal.{IsLawful, restricted}
-use Rattle.spread_host.specs.DayText.{DayLine, lines_said}
-use Rattle.spread_host.specs.LinesRead.{said_by, HaveSessions}
+use Rattle.spread_host.specs.DayText.{lines_said}
+use Rattle.spread_host.specs.LinesRead.{said_by}
 use Rattle.spread_host.specs.declared.day_lines.Line.{Line}
 use Rattle.spread_host.specs.DayLines.{journal_of}
-use Rattle.spread_host.specs.JournalParts.{part_of}
 use Rattle.spread_host.proofs.DayJournals.{said_of_sessions}
 use Rattle.spread_host.proofs.replay.read_journal_of.Goals as goal
 

@@ -1,9 +1,10 @@
-use Rattle.std.proofs.Common.{◌≡◌, ℕ, List, Option, ap, sym, subst, ◌∙◌, Err}
+use Rattle.std.proofs.Common.{◌≡◌, ℕ, List, ap, sym, subst, ◌∙◌, Err}
 use Rattle.spread_rules.specs.declared.event.Entry.{Entry}
 use Rattle.spread_report.specs.Messages.{IsRow, messages_to}
 use Rattle.spread_report.specs.Sessions.{bytes_of}
 use Rattle.spread_host.specs.Working.{outgoing_bytes, worked_entries}
 use Rattle.spread_rules.specs.Ends.{AppendsPrefix}
+use Rattle.spread_rules.specs.Journal.{IsLawful}
 use Rattle.spread_host.specs.Days.{IsJournalOf, IsPartOut}
 use Rattle.spread_host.specs.declared.fault.HostFault.{HostFault}
 use Rattle.spread_host.specs.declared.fault.HostFault.TheVariants as faults
@@ -56,3 +57,10 @@ returns-in-Ok-write_day-clause-outgoing g c s h = c.in-Ok-day_of.ensures.out s h
 pub returns-in-Ok-write_day-clause-whole_frames : goal.returns-in-Ok-write_day-clause-whole_frames
 returns-in-Ok-write_day-clause-whole_frames g c s h =
     subst (λ (es : List Entry). IsRow (messages_to c.args.rulebook.now c.args.stamp (worked_entries c.args.rulebook.now es) s) (bytes_of c.in-Ok-day_of.day.out.items s)) (sym c.in-Ok-day_of.ensures.journal) (c.in-Ok-day_of.ensures.whole s h)
+
+pub returns-in-Ok-write_day-clause-read_again : goal.returns-in-Ok-write_day-clause-read_again
+returns-in-Ok-write_day-clause-read_again g c =
+    c.read_back.ensures.read c.in-Ok-day_of.day.journal.items record {
+      lawful = subst (λ (es : List Entry). IsLawful es) (sym c.in-Ok-day_of.ensures.journal) c.in-Ok-read_journal_of.ensures.lawful;
+      bytes = c.in-Ok-write_day.ensures.bytes;
+    }

@@ -1,8 +1,4 @@
-use Rattle.std.proofs.Common.{◌≡◌, ℕ, ◌+◌, ◌*◌, ◌≤◌, ◌<◌, ◌^◌, get_or, take, length, subst, sym, List, All, arith}
-use Rattle.std.specs.Prelude.{fold}
-use Rattle.spread_host.specs.declared.totals.MonthTotals.{MonthTotals}
-use Rattle.spread_host.specs.Totals.{AreTotals}
-use Rattle.spread_host.specs.Sums.{HasRoom, with_fill, twelve}
+use Rattle.std.proofs.Common.{arith}
 use Rattle.spread_host.proofs.Sums.{room_taken, sums_taken}
 use Rattle.spread_host.proofs.totals.month_totals.Goals as goal
 

@@ -1,4 +1,4 @@
-use Rattle.std.proofs.Common.{◌≡◌, ℤ, pos, ◌+ℤ◌, ◌*ℤ◌, rules}
+use Rattle.std.proofs.Common.{rules}
 use Rattle.spread_host.proofs.Sums.{added_buy, added_sell}
 use Rattle.spread_host.proofs.totals.MonthTotals.add.Goals as goal
 
