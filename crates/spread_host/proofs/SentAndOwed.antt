@@ -1,5 +1,5 @@
 -- What a worker hands back.
-use Rattle.std.proofs.Common.{◌≡◌, ℕ, ◌+◌, ◌-◌, List, [], ◌++◌, length, take, drop, sym, ap, ◌∙◌}
+use Rattle.std.proofs.Common.{◌≡◌, ℕ, ◌+◌, ◌-◌, List, ◌++◌, length, take, drop, sym, ap, ◌∙◌}
 use Rattle.std.proofs.lemmas.List.{drop-drop, length-drop, take-append-drop}
 use Rattle.std.proofs.Math.Seq.{take-length}
 use Rattle.fix_session.specs.Steps.{new_session}

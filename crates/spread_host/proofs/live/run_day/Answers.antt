@@ -1,4 +1,4 @@
-use Rattle.std.proofs.Common.{◌≡◌, ◌∙◌, length}
+use Rattle.std.proofs.Common.{◌∙◌}
 use Rattle.gate_link.proofs.Rowing.{row_past}
 use Rattle.spread_host.specs.Streams.{whole_stream}
 use Rattle.spread_host.proofs.LiveFaults.{of_threads, of_entries}

@@ -1,4 +1,4 @@
-use Rattle.std.proofs.Common.{rules, arith, ◌≡◌, ◌<◌, ◌∙◌, sym, length, get_or, vec_len, refl}
+use Rattle.std.proofs.Common.{rules, arith, ◌≡◌, ◌<◌, ◌∙◌, sym, length, get_or, vec_len}
 use Rattle.std.specs.Vec.Iter.{into_iter_items}
 use Rattle.gate_link.specs.Opening.{IsFresh}
 use Rattle.spread_host.proofs.Draining.{next_is}
