@@ -103,7 +103,7 @@ step_is parties d a m l d2 a2 lives taken passed = by_same (are_same m.comp_ids 
     by_same true s (inr (inl n)) = by_above a refl s n
     by_same true s (inr (inr n)) = by_due m.logout refl s n
 
--- where a place after the first is live, the first message session_comp_ids the session
+-- where a place after the first is live, the first message opened the session
 opened_some : (m : MessageView) (ms : List MessageView) (p : ℕ) → live (m ∷ ms) (suc p) ≡ true → (o : CompIds) × (session_comp_ids (m ∷ ms) ≡ Some o)
 opened_some m ms zero e = by_opens m.logon refl
   where

@@ -1,12 +1,11 @@
 -- What a session says is in range and in order.
-use Rattle.std.proofs.Common.{◌≡◌, ℕ, zero, suc, ◌+◌, ◌<◌, ◌≤◌, Bool, true, false, cond, ◌&&◌, not, ltb, leb, List, [], ◌∷◌, ◌++◌, Option, Some, None, option_map, length, take, refl, sym, ap, ◌∙◌, subst, arith, ◌⊎◌, inl, inr}
+use Rattle.std.proofs.Common.{◌≡◌, ℕ, ◌<◌, ◌≤◌, Bool, true, false, ◌&&◌, not, List, [], ◌∷◌, ◌++◌, Option, Some, None, option_map, refl, sym, ap, ◌∙◌, subst, arith}
 use Rattle.std.specs.Prelude.{nat_le, nat_lt, if◌then◌else◌, Result, Ok, Err, option_and_then}
 use Rattle.std.specs.List.{All, cons_option}
-use Rattle.std.proofs.lemmas.Bool.{false≢true}
 use Rattle.std.proofs.lemmas.Bool.Decides.{nat_tests}
 use Rattle.std.proofs.lemmas.List.Elements.{All-nil, All-cons, All-head, All-tail}
 use Rattle.spread_rules.specs.Ids.{is_id, id_of}
-use Rattle.spread_rules.specs.Journal.{IsNumber, FitsEvent, is_reject_reason, is_logon, is_close, is_end, is_running, is_in_order}
+use Rattle.spread_rules.specs.Journal.{IsNumber, FitsEvent, is_logon, is_close, is_end, is_running, is_in_order}
 use Rattle.spread_rules.specs.declared.event.Event.{Event}
 use Rattle.spread_rules.specs.declared.event.Event.TheVariants as events
 use Rattle.fix_wire.specs.declared.values.Unread.{Unread}
@@ -24,7 +23,7 @@ use Rattle.fix_session.specs.declared.session.Session.{Session}
 use Rattle.fix_session.specs.declared.session.Verdict.{Verdict}
 use Rattle.fix_session.specs.Table.{meaning_of}
 use Rattle.fix_session.specs.View.{◌>>=◌, MessageView, are_same, is_opening, id_in, read_ok, number_at, logon_of, logon_event, event_of_accepted, due_after_accepted, view_with, view}
-use Rattle.fix_session.specs.Steps.{new_session, running, closed, verdict_of, closes, opens, step_below, step_above, step_due, step_running, step_at, step_or_stay, judge, ended, event_in, events_said, session_after, events_at_end}
+use Rattle.fix_session.specs.Steps.{new_session, running, closed, verdict_of, closes, opens, step_below, step_above, step_due, step_running, step_at, step_or_stay, judge, event_in, events_said, session_after, events_at_end}
 use Rattle.fix_session.proofs.Given.{Holds, IsGiven, FitsMeaning, meaning_holds}
 use Rattle.fix_session.proofs.Judged.{cons_two}
 

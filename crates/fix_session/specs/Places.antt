@@ -6,7 +6,7 @@ use Rattle.spread_rules.specs.declared.event.Event.TheVariants as variant
 use Rattle.fix_session.specs.declared.session.Logon.{Logon}
 use Rattle.fix_session.specs.View.{CompIds, MessageView, are_same, logon_comp_ids, logon_event}
 
--- the place behind
+-- the place after it, or the first
 abbrev pub first_after : Option ℕ → ℕ
 first_after None = 0
 first_after (Some q) = suc q

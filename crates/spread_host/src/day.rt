@@ -4,9 +4,10 @@ ghost use Rattle.std.specs.Io.KnownBytes.{Appends};
 ghost use Rattle.spread_rules.specs.Ends.{AppendsPrefix};
 ghost use Rattle.spread_rules.specs.Journal.{IsLawful};
 ghost use Rattle.spread_rules.specs.Meaning.{meaning_of_journal};
+ghost use Rattle.spread_report.specs.Messages.{IsRow, messages_to};
 ghost use Rattle.spread_report.specs.Sessions.{bytes_of};
 ghost use Rattle.spread_host.specs.Days.{AreShown, day_text, texts_of, texts_below};
-ghost use Rattle.spread_host.specs.Working.{outgoing_bytes, IsWorkFault};
+ghost use Rattle.spread_host.specs.Working.{outgoing_bytes, worked_entries, IsWorkFault};
 ghost use Rattle.spread_host.specs.declared.fault.HostFault.{HostFault};
 
 use crate::fault::HostFault;
@@ -43,6 +44,7 @@ pub fn day_of<A: Allocator + Copy>(
     ensures fills { IfOk result (λ day. day.fills.items ≡ (meaning_of_journal rulebook.now journal.items).fills) }
     ensures lists { IfOk result (λ day. length day.out.items ≡ 16) }
     ensures out { IfOk result (λ day. (s : ℕ) → s < 16 → bytes_of day.out.items s ≡ outgoing_bytes rulebook.now stamp journal.items s) }
+    ensures whole { IfOk result (λ day. (s : ℕ) → s < 16 → IsRow (messages_to rulebook.now stamp (worked_entries rulebook.now journal.items) s) (bytes_of day.out.items s)) }
     ensures texts { IfOk result (λ day. texts_of day.out.items ≡ texts_below 16 rulebook.now stamp journal.items) }
     ensures shown { IfOk result (λ day. AreShown rulebook.now day.fills.items) }
     ensures fault { IfErr result (IsWorkFault rulebook.now journal.items) }

@@ -10,11 +10,12 @@ ghost use Rattle.spread_rules.specs.Legs.{bought, sold, paid, received};
 ghost use Rattle.spread_rules.specs.Meaning.{meaning_of_journal, filled};
 ghost use Rattle.spread_rules.specs.Quiet.{IsQuiet};
 ghost use Rattle.spread_match.specs.Sound.{KeepsOrder};
+ghost use Rattle.spread_report.specs.Messages.{IsRow, messages_to};
 ghost use Rattle.spread_report.specs.Sessions.{bytes_of};
 ghost use Rattle.spread_host.specs.DayText.{byte_of, lines_said, day_lines_of};
 ghost use Rattle.spread_host.specs.DayLines.{journal_of};
 ghost use Rattle.spread_host.specs.Days.{IsJournalOf, HasParts, IsReadingFault, IsReplayFault, IsPartOut, text_of_day};
-ghost use Rattle.spread_host.specs.Working.{outgoing_bytes};
+ghost use Rattle.spread_host.specs.Working.{outgoing_bytes, worked_entries};
 ghost use Rattle.spread_host.specs.declared.fault.HostFault.{HostFault};
 
 use crate::day::{Day, day_of, write_day};
@@ -88,6 +89,7 @@ pub fn replay<S: Source, K: Sink, A: Allocator + Copy>(
     // What the journal's entries came to.
     ensures fills { IfOk result (λ day. day.fills.items ≡ (meaning_of_journal rulebook.now day.journal.items).fills) }
     ensures outgoing { IfOk result (λ day. (s : ℕ) → s < 16 → bytes_of day.out.items s ≡ outgoing_bytes rulebook.now stamp day.journal.items s) }
+    ensures whole_frames { IfOk result (λ day. (s : ℕ) → s < 16 → IsRow (messages_to rulebook.now stamp (worked_entries rulebook.now day.journal.items) s) (bytes_of day.out.items s)) }
     ensures lists { IfOk result (λ day. length day.out.items ≡ 16) }
     ensures bought_is_sold { IfOk result (λ day. (month : ℕ) → bought month day.fills.items ≡ sold month day.fills.items) }
     ensures paid_is_received { IfOk result (λ day. (month : ℕ) → paid month day.fills.items ≡ received month day.fills.items) }

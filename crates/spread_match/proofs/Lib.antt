@@ -13,6 +13,8 @@ pub mod Past
 pub mod Ready
 pub mod Most
 pub mod Renewed
+pub mod Fitting
 pub mod Entries
 pub mod Lawful
 pub mod Ranging
+pub mod Named

@@ -8,8 +8,8 @@ use Rattle.spread_report.specs.declared.fault.DeskFault.TheVariants.{NoMemory, N
 use Rattle.spread_report.specs.EntryMessages.{AddressedMessage}
 use Rattle.std.proofs.lemmas.Bool.{cases_eq}
 use Rattle.std.specs.declared.vec.Vec.{Vec}
-use Rattle.std.specs.Prelude.{OnErr, Result, Ok, Bool, true, false, ◌==◌, if◌then◌else◌, Option, ◌∷◌, refl}
-use Rattle.std.proofs.lemmas.List.{ext_get_or, get_or_default, length-set}
+use Rattle.std.specs.Prelude.{OnErr, Result, Ok, ◌==◌, if◌then◌else◌, Option, refl}
+use Rattle.std.proofs.lemmas.List.{ext_get_or, get_or_default}
 use Rattle.std.proofs.lemmas.Bool.{eq-eqb, ne_eqb}
 use Rattle.spread_rules.specs.declared.event.Event.{Event}
 use Rattle.spread_rules.specs.declared.event.Event.TheVariants.{Logon, New, Cancel, TestReply, Gap, Resend, Reject, Close}

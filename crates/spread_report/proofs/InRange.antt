@@ -1,11 +1,10 @@
 -- Every message of an entry in range is in range.
-use Rattle.std.proofs.Common.{◌≡◌, ◌≢◌, ℕ, zero, suc, ◌+◌, ◌-◌, ◌*◌, ◌<◌, ◌≤◌, ◌^◌, ◌==◌, Bool, true, false, ◌&&◌, if◌then◌else◌, ◌||◌, List, [], ◌∷◌, ◌++◌, length, get_or, codes, refl, sym, ap, ◌∙◌, arith, length-append, Option, Some, None}
+use Rattle.std.proofs.Common.{◌≡◌, ◌≢◌, ℕ, ◌+◌, ◌*◌, ◌<◌, ◌≤◌, ◌^◌, ◌==◌, Bool, true, false, ◌&&◌, if◌then◌else◌, ◌||◌, List, [], ◌∷◌, ◌++◌, length, get_or, codes, refl, arith, length-append, Option, Some, None}
 use Rattle.std.specs.Prelude.{ℤ, unsigned_abs, nat_le}
 use Rattle.std.specs.List.{AllByRecursion}
 use Rattle.std.proofs.lemmas.Bool.{leb-true}
 use Rattle.std.proofs.lemmas.Bool.Decides.{nat_tests}
 use Rattle.fix_wire.specs.declared.writer.Field.{Field}
-use Rattle.fix_wire.specs.Layout.{FitsField}
 use Rattle.spread_rules.specs.Ids.{is_id, is_plain}
 use Rattle.spread_rules.specs.Rulebook.{Rules, IsListed, month_count, names_of, symbol_of}
 use Rattle.spread_rules.specs.Journal.{FitsEvent, FitsTicket}
@@ -16,15 +15,14 @@ use Rattle.spread_rules.specs.declared.order.Instrument.{Instrument}
 use Rattle.spread_rules.specs.declared.order.Instrument.TheVariants.{Outright, Spread}
 use Rattle.spread_rules.specs.declared.fill.Fill.{Fill}
 use Rattle.spread_rules.specs.declared.event.Ticket.{Ticket}
-use Rattle.spread_rules.specs.declared.event.Entry.{Entry}
 use Rattle.spread_rules.specs.declared.event.Event.{Event}
 use Rattle.spread_rules.specs.declared.event.Event.TheVariants.{Logon, New, Cancel, TestReply, Gap, Resend, Reject, Close}
 use Rattle.spread_rules.specs.declared.outcome.Outcome.{Outcome}
 use Rattle.spread_rules.specs.declared.outcome.Outcome.TheVariants.{Rested, Filled, Ended, Cancelled, Refused, CancelRefused, Session}
-use Rattle.spread_report.specs.EntryMessages.{MessageContent, numbered, gap_fill, AddressedMessage, text, number, price, pair, side_number, other_side, Traded, ExecutionReport, original_field, reason_field, last_fields, legs_field, report_fields, numbered_message, report, new_report, rejected_report, ended_report, cancelled_report, fill_status, fill_report, report_count, leg_reports, reports_by, fill_reports, fills_reports, reports_of, new_messages, place_field, cancel_messages, close_messages, event_messages, messages_of}
+use Rattle.spread_report.specs.EntryMessages.{MessageContent, numbered, gap_fill, AddressedMessage, text, number, price, pair, side_number, other_side, Traded, ExecutionReport, original_field, reason_field, last_fields, legs_field, report_fields, numbered_message, report, new_report, rejected_report, ended_report, cancelled_report, fill_status, fill_report, report_count, reports_by, fill_reports, fills_reports, reports_of, new_messages, place_field, cancel_messages, close_messages, event_messages}
 use Rattle.spread_report.specs.Outgoing.{WorkedEntry, entry_messages}
 use Rattle.spread_report.specs.Ranges.{AreNames, FillInRange, OutcomeInRange, EntryInRange}
-use Rattle.spread_report.proofs.Bodies.{FitsReport, IsShortText}
+use Rattle.spread_report.proofs.Bodies.{FitsReport}
 use Rattle.spread_report.proofs.Symbols.{joined_id}
 
 -- ---- ids

@@ -1,13 +1,10 @@
 -- What a session is sent is a row of whole frames, read as the messages that were written.
-use Rattle.std.proofs.Common.{◌≡◌, ◌≢◌, ℕ, ◌+◌, ◌<◌, ◌≤◌, ◌^◌, ◌==◌, nat_lt, Bool, true, false, ◌&&◌, ◌||◌, if◌then◌else◌, List, [], ◌∷◌, ◌++◌, length, refl, sym, ap, ◌∙◌, arith, append_assoc, append-nil, Option, Some, None, subst}
-use Rattle.std.specs.List.{AllByRecursion, concat}
-use Rattle.std.proofs.lemmas.List.Folds.{concat-append}
-use Rattle.std.proofs.lemmas.Bool.{leb-true}
+use Rattle.std.proofs.Common.{◌≡◌, ◌≢◌, ℕ, ◌+◌, ◌<◌, ◌≤◌, ◌^◌, ◌==◌, nat_lt, Bool, true, false, ◌&&◌, ◌||◌, if◌then◌else◌, List, [], ◌∷◌, length, refl, arith, Option, Some, None}
+use Rattle.std.specs.List.{AllByRecursion}
 use Rattle.std.proofs.lemmas.Bool.Decides.{nat_tests}
 use Rattle.fix_wire.specs.declared.writer.Field.{Field}
-use Rattle.fix_wire.specs.declared.writer.Head.{Head}
 use Rattle.fix_wire.specs.Layout.{FitsMessage, message_text}
-use Rattle.fix_wire.specs.Frames.{IsFrame, frames}
+use Rattle.fix_wire.specs.Frames.{IsFrame}
 use Rattle.fix_wire.proofs.Written.{written_frame, read_first}
 use Rattle.spread_rules.specs.Ids.{is_id}
 use Rattle.spread_rules.specs.Rulebook.{Rules}
@@ -16,8 +13,8 @@ use Rattle.spread_rules.specs.declared.event.Event.TheVariants.{Logon, New, Canc
 use Rattle.spread_rules.specs.Journal.{FitsEvent}
 use Rattle.spread_report.specs.declared.line.SessionLine.{SessionLine}
 use Rattle.spread_report.specs.declared.line.CompIds.{CompIds}
-use Rattle.spread_report.specs.EntryMessages.{MessageContent, numbered, gap_fill, AddressedMessage, text, number}
-use Rattle.spread_report.specs.Outgoing.{WorkedEntry, new_seq_no, head_of, gap_fields, content_text, is_spent, text_under, next_under, spent_under, text_for, line_for, spent_for, bytes_to, line_after, spends, line_at_entry, entry_messages, entry_bytes, entry_line, entry_spends, bytes_from, line_from, spends_from, line_before_logon}
+use Rattle.spread_report.specs.EntryMessages.{MessageContent, numbered, gap_fill, AddressedMessage}
+use Rattle.spread_report.specs.Outgoing.{WorkedEntry, new_seq_no, head_of, gap_fields, content_text, is_spent, text_under, next_under, spent_under, text_for, line_for, spent_for, bytes_to, line_after, spends, line_at_entry, entry_messages, entry_bytes, entry_line, entry_spends, bytes_from, spends_from}
 use Rattle.spread_report.proofs.FrameRows.{no_row, rows_both, message_row}
 use Rattle.spread_report.specs.Messages.{IsRow, as_message, texts_to, entry_texts, texts_from}
 use Rattle.spread_report.specs.Ranges.{AreNames, EntryInRange}

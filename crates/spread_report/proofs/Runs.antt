@@ -1,14 +1,13 @@
 -- Messages, and more messages after them.
-use Rattle.std.proofs.Common.{Option, ◌≡◌, ◌≢◌, ℕ, ◌+◌, ◌<◌, ◌≤◌, ◌==◌, Bool, true, false, cond, List, [], ◌∷◌, ◌++◌, ◌||◌, length, get_or, take, subst, refl, sym, ap, ◌∙◌, arith, append_assoc, append-nil, length-append, Ok, Err, Result}
+use Rattle.std.proofs.Common.{◌≡◌, ℕ, ◌≤◌, ◌==◌, Bool, true, false, List, [], ◌∷◌, ◌++◌, ◌||◌, length, take, subst, refl, sym, ap, ◌∙◌, arith, append_assoc, length-append, Ok, Err, Result}
 use Rattle.std.proofs.Math.Seq.{take-append_seam}
-use Rattle.std.proofs.lemmas.List.{take-append-le, take-take}
+use Rattle.std.proofs.lemmas.List.{take-take}
 use Rattle.std.specs.declared.vec.Vec.{Vec}
 use Rattle.spread_report.specs.declared.line.SessionLine.{SessionLine}
 use Rattle.std.specs.Prelude.{if◌then◌else◌}
-use Rattle.spread_report.specs.declared.line.CompIds.{CompIds}
 use Rattle.spread_report.specs.declared.fault.DeskFault.{DeskFault}
 use Rattle.spread_report.specs.declared.fault.DeskFault.TheVariants.{NoMemory, NumbersSpent}
-use Rattle.spread_report.specs.EntryMessages.{AddressedMessage, MessageContent}
+use Rattle.spread_report.specs.EntryMessages.{AddressedMessage}
 use Rattle.spread_report.specs.Outgoing.{next_under, bytes_to, line_after, spends, text_for, line_for, spent_for}
 use Rattle.spread_report.specs.Messages.{IsRow, as_message, texts_to}
 use Rattle.spread_report.proofs.FrameRows.{rows_both}

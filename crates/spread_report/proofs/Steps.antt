@@ -1,5 +1,5 @@
 -- One message of one session.
-use Rattle.std.proofs.Common.{◌≡◌, ◌≢◌, ℕ, ◌+◌, ◌<◌, ◌≤◌, ◌==◌, nat_lt, codes, subst, Bool, true, false, List, [], ◌∷◌, ◌++◌, ◌||◌, ◌&&◌, map, length, get_or, take, refl, sym, ap, ◌∙◌, inl, inr, arith, append_assoc, append-nil, Option, Some, None, Ok, Err, Result}
+use Rattle.std.proofs.Common.{◌≡◌, ◌≢◌, ℕ, ◌<◌, nat_lt, codes, subst, Bool, true, false, List, [], ◌∷◌, ◌++◌, ◌||◌, map, length, get_or, refl, sym, ap, ◌∙◌, inl, inr, arith, append-nil, Option, Some, None, Result}
 use Rattle.std.proofs.Math.ListN.{set}
 use Rattle.std.proofs.lemmas.List.{map-set, get_or-set_other, get_or-set_same, length-map, length-set, take_all, get_or_default, get_or-map, set-get_or}
 use Rattle.std.proofs.lemmas.Bool.{cases_eq, eq-eqb, ne_eqb}
@@ -7,7 +7,6 @@ use Rattle.std.specs.declared.vec.Vec.{Vec}
 use Rattle.spread_report.specs.declared.line.SessionLine.{SessionLine}
 use Rattle.spread_report.specs.declared.line.CompIds.{CompIds}
 use Rattle.spread_report.specs.declared.fault.DeskFault.{DeskFault}
-use Rattle.spread_report.specs.declared.fault.DeskFault.TheVariants.{NoMemory, NumbersSpent}
 use Rattle.spread_report.specs.EntryMessages.{AddressedMessage, MessageContent, gap_fill, text, number, place_field}
 use Rattle.spread_report.specs.Outgoing.{bytes_to, line_after, spends, text_under, next_under, spent_under, content_text, next_after, is_spent, line_before_logon, new_seq_no, head_of}
 use Rattle.fix_wire.specs.Layout.{message_text}

@@ -15,3 +15,4 @@ pub mod Symbols
 pub mod Names
 pub mod MonthLines
 pub mod Drafts
+pub mod RulebookOnce

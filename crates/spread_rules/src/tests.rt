@@ -3,6 +3,7 @@ ghost use Rattle.spread_rules.specs.Candidates.{HasSmallPrice};
 
 use crate::candidate::{Choice, Members};
 use crate::id::Id;
+use crate::laws::{one_rulebook, quiet};
 use crate::memory::NoMemory;
 use crate::order::{Instrument, Order, Side};
 use crate::plain::plain_best;
@@ -51,6 +52,8 @@ fn rulebook_read(rt: HostRuntime) -> Result<(), Fail> {
     for (symbol, instrument) in symbols {
         assert_eq!(rt; rules.find(symbol), instrument);
     }
+    one_rulebook();
+    quiet();
     Ok(())
 }
 

@@ -1,4 +1,4 @@
-use Rattle.std.proofs.Common.{sym, subst, ◌∙◌, ap, ◌≡◌, true}
+use Rattle.std.proofs.Common.{sym, subst, ◌≡◌, true}
 use Rattle.std.specs.List.{All}
 use Rattle.spread_rules.specs.Journal.{FitsEvent, is_in_order}
 use Rattle.fix_wire.specs.Frames.{frames}

@@ -1,7 +1,6 @@
-use Rattle.std.proofs.Common.{◌≡◌, List, ℕ, [], ◌∷◌, ap, sym, ◌∙◌, codes}
+use Rattle.std.proofs.Common.{◌≡◌, List, ℕ, [], ◌∷◌, ap, sym, ◌∙◌}
 use Rattle.fix_wire.specs.declared.writer.Field.{Field}
 use Rattle.fix_wire.specs.declared.writer.Value.{Value}
-use Rattle.fix_wire.specs.declared.writer.Value.TheVariants.{Text}
 use Rattle.spread_report.specs.EntryMessages.{numbered_message, text, number, place_field}
 use Rattle.spread_report.proofs.Steps.{result_same, named_none, named_place}
 use Rattle.spread_report.proofs.messages.cancel_reject.Goals.{then-place-eq0, else-place-eq0}

@@ -1,5 +1,5 @@
 use Rattle.std.proofs.Common.{List, ℕ, [], ◌∷◌, ap}
-use Rattle.spread_report.specs.EntryMessages.{AddressedMessage, numbered_message, text, close_messages}
+use Rattle.spread_report.specs.EntryMessages.{numbered_message, text, close_messages}
 use Rattle.spread_report.proofs.Steps.{result_same}
 use Rattle.spread_report.proofs.messages.logout.Goals as goal
 

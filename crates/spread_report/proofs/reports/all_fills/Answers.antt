@@ -1,4 +1,4 @@
-use Rattle.std.proofs.Common.{◌≡◌, ◌+◌, ◌∙◌, ap, sym, ℕ, arith}
+use Rattle.std.proofs.Common.{ap, ℕ, arith}
 use Rattle.spread_report.specs.EntryMessages.{report_count}
 use Rattle.spread_rules.specs.declared.fill.Fill.{Fill}
 use Rattle.spread_report.proofs.Fills.{fills_more, fills_stop, reports_of_more}

@@ -1,5 +1,5 @@
-use Rattle.std.proofs.Common.{◌≡◌, ℕ, ◌+◌, ◌<◌, ◌∙◌, ◌++◌, [], ◌∷◌, List, ap, true, false, nat_lt, refl, arith, rules}
-use Rattle.spread_report.proofs.Steps.{gap_line, gap_none, gap_text, appended_line, sent_off}
+use Rattle.std.proofs.Common.{◌≡◌, [], ◌∷◌, true, nat_lt, refl, arith, rules}
+use Rattle.spread_report.proofs.Steps.{gap_line, gap_text, appended_line, sent_off}
 use Rattle.spread_report.specs.EntryMessages.{number, text, gap_fill}
 use Rattle.spread_report.specs.Outgoing.{head_of}
 use Rattle.spread_report.proofs.FrameRows.{written_row}

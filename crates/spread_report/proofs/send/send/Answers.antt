@@ -1,4 +1,4 @@
-use Rattle.std.proofs.Common.{◌≡◌, ℕ, ◌+◌, ◌<◌, true, false, nat_lt, refl, arith, rules}
+use Rattle.std.proofs.Common.{◌≡◌, ◌+◌, true, false, nat_lt, refl, rules}
 use Rattle.spread_report.specs.EntryMessages.{numbered}
 use Rattle.spread_report.proofs.Steps.{sent_off, sent_line, spent_line, appended_line, appended_none}
 use Rattle.spread_report.specs.Outgoing.{head_of}

@@ -1,4 +1,4 @@
-use Rattle.std.proofs.Common.{◌≡◌, ◌<◌, ℕ, ◌+◌, length, drop, refl, arith, length-drop}
+use Rattle.std.proofs.Common.{◌<◌, length, drop, refl, arith, length-drop}
 use Rattle.spread_report.proofs.Symbols.{written_joined}
 use Rattle.spread_report.proofs.symbol.write_joined.Goals as goal
 

@@ -1,4 +1,4 @@
-use Rattle.std.proofs.Common.{◌≡◌, false, None, [], ◌∷◌, ◌++◌, ◌∙◌, sym, ap, refl, rules, option_map}
+use Rattle.std.proofs.Common.{◌≡◌, false, None, ◌∙◌, sym, ap, refl, rules, option_map}
 use Rattle.std.specs.List.{list_any}
 use Rattle.rtrb.specs.Ring.{sent}
 use Rattle.spread_rules.specs.Journal.{is_close}
