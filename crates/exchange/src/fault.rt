@@ -1,6 +1,6 @@
 //! The fault lines and the statuses.
-use spread_host::fault::HostFault;
 use gate_link::LinkFault;
+use spread_host::fault::HostFault;
 use spread_journal::fault::JournalFault;
 use spread_rules::rule_fault::RuleFault;
 use std::fmt;

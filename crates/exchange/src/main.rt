@@ -5,16 +5,20 @@ mod fault;
 mod words;
 
 use fault::Fault;
-use spread_host::fault::HostFault;
 use spread_host::check::check;
+use spread_host::day::write_day;
+use spread_host::fault::HostFault;
+use spread_host::live::{Caps, run_day};
 use spread_host::replay::replay;
+use spread_host::worker::Gate;
 use spread_rules::id::Id;
 use spread_rules::rulebook::Rulebook;
 use spread_rules::sink::ToWriter;
 use spread_rules::source::FromReader;
-use std::alloc::AllocGlobal;
 use std::fs::Files;
 use std::process::ExitCode;
+use std::sync::Wait;
+use std::thread::Threads;
 use std::{fs, io};
 use words::{Refused, Request, read_words};
 
@@ -34,36 +38,116 @@ fn read_rules<'a>(rt: &(impl Files + AllocGlobal), path: &'a str) -> Result<Rule
     }
 }
 
-fn run<'a>(
+fn read_stamp<'a>(stamp: &str) -> Result<Id, Fault<'a>> {
+    match Id::new(stamp.as_bytes()) {
+        Some(stamp) => Ok(stamp),
+        None => Err(Fault::Stamp),
+    }
+}
+
+/// Day lines from standard input.
+fn run_replay<'a>(
     rt: &(impl Input + Print + Files + AllocGlobal),
+    rules: &'a str,
+    stamp: &str,
+    journal_only: bool,
+) -> Result<(), Fault<'a>> {
+    let stamp = read_stamp(stamp)?;
+    let rulebook = read_rules(rt, rules)?;
+    let mut source = FromReader::new(rt.reader());
+    let mut sink = ToWriter::new(io::writer(rt));
+    let _day = replay(
+        rt.alloc(),
+        &rulebook,
+        stamp,
+        &mut source,
+        &mut sink,
+        journal_only,
+    )?;
+    Ok(())
+}
+
+/// A gate that lets every message pass.
+struct Open;
+
+impl Gate for Open {
+    fn before(&self, _session: u8, _message: u32) {}
+}
+
+/// The bytes of each session's file.
+fn read_streams<'a>(
+    rt: &(impl Files + AllocGlobal),
+    paths: &[&'a str],
+) -> Result<Vec<Vec<u8>>, Fault<'a>> {
+    let mut streams = Vec::new(rt.alloc());
+    for path in paths {
+        let stream = read_file(rt, path)?;
+        if streams.push(stream).is_err() {
+            return Err(Fault::Host(HostFault::NoMemory(0)));
+        }
+    }
+    Ok(streams)
+}
+
+/// A thread for each session's file.
+fn run_live<'a>(
+    rt: &(impl Print + Files + AllocGlobal + Threads + Wait + Sync),
+    rules: &'a str,
+    sessions: &[&'a str],
+    stamp: &str,
+    caps: Caps,
+) -> Result<(), Fault<'a>> {
+    let stamp = read_stamp(stamp)?;
+    let rulebook = read_rules(rt, rules)?;
+    let streams = read_streams(rt, sessions)?;
+    let day = run_day(rt, rt.alloc(), &rulebook, stamp, streams, &Open, caps)?;
+    let mut sink = ToWriter::new(io::writer(rt));
+    write_day(rt.alloc(), &rulebook, &day, false, &mut sink)?;
+    Ok(())
+}
+
+/// A journal text.
+fn run_check<'a>(
+    rt: &(impl Print + Files + AllocGlobal),
+    rules: &'a str,
+    journal: &'a str,
+) -> Result<(), Fault<'a>> {
+    let rulebook = read_rules(rt, rules)?;
+    let text = read_file(rt, journal)?;
+    let mut sink = ToWriter::new(io::writer(rt));
+    let _fills = check(rt.alloc(), &rulebook, &text, &mut sink)?;
+    Ok(())
+}
+
+fn run<'a>(
+    rt: &(impl Input + Print + Files + AllocGlobal + Threads + Wait + Sync),
     request: &Request<'a>,
 ) -> Result<(), Fault<'a>> {
-    let mut sink = ToWriter::new(io::writer(rt));
     match request {
         Request::Replay {
             rules,
             stamp,
             journal_only,
+        } => run_replay(rt, rules, stamp, *journal_only),
+        Request::Live {
+            rules,
+            sessions,
+            stamp,
+            ring,
+            entries,
         } => {
-            let Some(stamp) = Id::new(stamp.as_bytes()) else {
-                return Err(Fault::Stamp);
+            let caps = Caps {
+                ring: *ring as usize,
+                journal: *entries as usize,
             };
-            let rulebook = read_rules(rt, rules)?;
-            let mut source = FromReader::new(rt.reader());
-            let _day = replay(rt.alloc(), &rulebook, stamp, &mut source, &mut sink, *journal_only)?;
-            Ok(())
+            run_live(rt, rules, sessions, stamp, caps)
         }
-        Request::Check { rules, journal } => {
-            let rulebook = read_rules(rt, rules)?;
-            let text = read_file(rt, journal)?;
-            let _fills = check(rt.alloc(), &rulebook, &text, &mut sink)?;
-            Ok(())
-        }
+        Request::Check { rules, journal } => run_check(rt, rules, journal),
     }
 }
 
-/// Says why there is nothing, and gives the status.
-fn refuse(rt: &(impl Input + Print + Files + AllocGlobal), refused: Refused) -> ExitCode {
+/// Says why there is nothing to run, and gives the status.
+fn refuse(rt: &(impl Print + Eprint), refused: Refused) -> ExitCode {
     match refused {
         Refused::NoMemory => {
             let _ = eprintln!(rt; "exchange: no memory");

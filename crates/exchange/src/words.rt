@@ -13,8 +13,19 @@ pub enum Request<'a> {
         stamp: &'a str,
         journal_only: bool,
     },
+    /// A file of raw bytes for each session, session 0 first.
+    Live {
+        rules: &'a str,
+        sessions: Vec<&'a str>,
+        stamp: &'a str,
+        ring: u32,
+        entries: u32,
+    },
     /// A journal text.
-    Check { rules: &'a str, journal: &'a str },
+    Check {
+        rules: &'a str,
+        journal: &'a str,
+    },
 }
 
 /// Why the words ask for nothing.
@@ -40,7 +51,8 @@ impl From<Error> for Refused {
     }
 }
 
-const RULES_HELP: &str = "The rulebook: a line `tick N`, then a line `month NAME REFERENCE` for each month in order of expiry";
+const RULES_HELP: &str =
+    "The rulebook: a line `tick N`, then a line `month NAME REFERENCE` for each month in order of expiry";
 
 fn rules_word<'a>(alloc: Global) -> Arg<'a> {
     Arg::new(alloc, "RULES")
@@ -65,10 +77,56 @@ fn replay_command<'a>(alloc: Global) -> Result<Command<'a>, AllocError> {
         .help("Write the journal text alone")
         .action(ArgAction::SetTrue);
     Command::new(alloc, "replay")
-        .about("Reads day lines from standard input, and writes the journal, fills, outgoing messages and month totals")
+        .about(
+            "Reads day lines from standard input, and writes the journal, fills, outgoing messages and month totals",
+        )
         .arg(rules_word(alloc))?
         .arg(stamp_word(alloc))?
         .arg(journal_only)
+}
+
+fn number_word<'a>(
+    alloc: Global,
+    name: &'a str,
+    default: &'a str,
+    help: &'a str,
+) -> Result<Arg<'a>, AllocError> {
+    Ok(
+        Arg::new(alloc, name)
+            .long(name)
+            .value_name("N")
+            .help(help)
+            .default_value(default)
+            .value_parser(ValueParser::unsigned(0, 4_294_967_295))
+            .action(ArgAction::Set),
+    )
+}
+
+fn live_command<'a>(alloc: Global) -> Result<Command<'a>, AllocError> {
+    let sessions = Arg::new(alloc, "SESSION")
+        .required(true)
+        .num_args(1..)
+        .help("A file of raw bytes for each session, session 0 first")
+        .action(ArgAction::Append);
+    let ring = number_word(
+        alloc,
+        "ring",
+        "256",
+        "How many events wait between a session's thread and the sequencer, 1 to 4096",
+    )?;
+    let entries = number_word(
+        alloc,
+        "entries",
+        "100000",
+        "How many entries the journal has room for, at most 1000000",
+    )?;
+    Command::new(alloc, "live")
+        .about("Runs a thread for each session's file, and writes what `replay` writes")
+        .arg(rules_word(alloc))?
+        .arg(sessions)?
+        .arg(stamp_word(alloc))?
+        .arg(ring)?
+        .arg(entries)
 }
 
 fn check_command<'a>(alloc: Global) -> Result<Command<'a>, AllocError> {
@@ -84,9 +142,12 @@ fn check_command<'a>(alloc: Global) -> Result<Command<'a>, AllocError> {
 
 fn exchange_command<'a>(alloc: Global) -> Result<Command<'a>, AllocError> {
     Command::new(alloc, "exchange")
-        .about("A matching host for futures months and calendar spreads, reached by FIX 4.2 messages")
+        .about(
+            "A matching host for futures months and calendar spreads, reached by FIX 4.2 messages",
+        )
         .subcommand_required(true)
         .subcommand(replay_command(alloc)?)?
+        .subcommand(live_command(alloc)?)?
         .subcommand(check_command(alloc)?)
 }
 
@@ -98,6 +159,15 @@ pub fn read_words<'a>(alloc: Global, words: &'a [String]) -> Result<Request<'a>,
         return Ok(Request::Check {
             rules: found.get_str("RULES").unwrap_or(""),
             journal: found.get_str("JOURNAL").unwrap_or(""),
+        });
+    }
+    if let Some(found) = matches.subcommand_matches("live") {
+        return Ok(Request::Live {
+            rules: found.get_str("RULES").unwrap_or(""),
+            sessions: found.get_strs("SESSION").unwrap_or(&[]).to_vec(alloc)?,
+            stamp: found.get_str("stamp").unwrap_or(""),
+            ring: found.get_one("ring").unwrap_or(256),
+            entries: found.get_one("entries").unwrap_or(100_000),
         });
     }
     let Some(found) = matches.subcommand_matches("replay") else {

@@ -1,0 +1,53 @@
+//! Matching, and what the sessions are sent.
+use crate::fault::Fault;
+use crate::reports::send_all;
+use crate::timing::{nanos, tell};
+use crate::wire::{bytes_of, scanned};
+use spread_books::list::ListBook;
+use spread_journal::reading::read_journal;
+use spread_match::journal::work;
+use spread_match::market::Market;
+use spread_match::ranges::ranges;
+use spread_rules::rulebook::Rulebook;
+use std::alloc::AllocGlobal;
+use std::time::CpuClock;
+
+fn rulebook_of(text: &[u8]) -> Result<Rulebook, Fault> {
+    Rulebook::read(text).map_err(|_| Fault::Input)
+}
+
+/// Works the entries of a journal.
+pub fn time_match(
+    rt: &(impl CpuClock + Print + AllocGlobal),
+    rules: &[u8],
+    text: &[u8],
+) -> Result<(), Fault> {
+    ranges();
+    let rulebook = rulebook_of(rules)?;
+    let journal = read_journal(rt.alloc(), text)?;
+    let mut market = Market::new(rt.alloc(), &rulebook, ListBook::new(rt.alloc()));
+    let start = nanos(rt)?;
+    let worked = work(rt.alloc(), &mut market, &journal)?;
+    let used = nanos(rt)?.saturating_sub(start);
+    tell(rt, "match", journal.len() as u64, "entries", used)?;
+    println!(rt; "# {} fills", worked.fills.len())?;
+    Ok(())
+}
+
+/// Writes what the sessions of a worked journal are sent.
+pub fn time_report(
+    rt: &(impl CpuClock + Print + AllocGlobal),
+    rules: &[u8],
+    text: &[u8],
+) -> Result<(), Fault> {
+    ranges();
+    let rulebook = rulebook_of(rules)?;
+    let journal = read_journal(rt.alloc(), text)?;
+    let mut market = Market::new(rt.alloc(), &rulebook, ListBook::new(rt.alloc()));
+    let worked = work(rt.alloc(), &mut market, &journal)?;
+    let start = nanos(rt)?;
+    let lists = send_all(rt.alloc(), &rulebook, &journal, &worked)?;
+    let used = nanos(rt)?.saturating_sub(start);
+    tell(rt, "report", scanned(&lists), "messages", used)?;
+    tell(rt, "report-bytes", bytes_of(&lists), "bytes", used)
+}

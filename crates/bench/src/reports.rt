@@ -1,0 +1,118 @@
+//! What the sessions of a worked journal are sent.
+ghost use Rattle.std.specs.Prelude.{ℕ, ◌<◌, ◌≤◌, length, slice_index_or};
+ghost use Rattle.std.specs.Bool.{OnTrue};
+ghost use Rattle.spread_rules.specs.declared.fill.Fill.{Fill};
+ghost use Rattle.spread_rules.specs.Rulebook.{IsListed};
+ghost use Rattle.spread_report.specs.Conditions.{FitsFill, FitsOutcome};
+
+use crate::content::id;
+use crate::fault::Fault;
+use spread_match::journal::Worked;
+use spread_report::{Desk, DeskFault};
+use spread_rules::event::{Entry, Event};
+use spread_rules::fill::Fill;
+use spread_rules::order::Instrument;
+use spread_rules::outcome::Outcome;
+use spread_rules::rulebook::Rulebook;
+use std::alloc::{AllocError, Allocator};
+
+/// Whether the rulebook has the instrument.
+fn is_listed(rules: &Rulebook, instrument: Instrument) -> bool
+    ensures { OnTrue result (IsListed rules.now instrument) }
+{
+    match instrument {
+        Instrument::Outright(month) => month < rules.months(),
+        Instrument::Spread(near, far) => near < far && far < rules.months(),
+    }
+}
+
+fn fits_fill(rules: &Rulebook, fill: &Fill) -> bool
+    ensures { OnTrue result (FitsFill rules.now fill.now) }
+{
+    is_listed(rules, fill.instrument) && fill.session < 16 && fill.leaves <= fill.total
+}
+
+fn fit_fills(rules: &Rulebook, fills: &[Fill]) -> bool
+    ensures { OnTrue result ((k : ℕ) (d : Fill) → k < length fills.now → FitsFill rules.now (slice_index_or fills.now k d)) }
+{
+    for fill in fills {
+        if !fits_fill(rules, fill) {
+            return false;
+        }
+    }
+    true
+}
+
+fn fits_outcome(rules: &Rulebook, event: &Event, outcome: &Outcome) -> bool
+    ensures { OnTrue result (FitsOutcome rules.now event.now outcome.now) }
+{
+    match (event, outcome) {
+        (Event::New(ticket), Outcome::Ended { left }) => *left <= ticket.quantity,
+        (Event::Cancel { .. }, Outcome::Cancelled(order)) => {
+            is_listed(rules, order.instrument) && order.leaves <= order.quantity
+        }
+        _ => true,
+    }
+}
+
+/// Sends what an entry sends. The ranges that the desk asks for are tested here.
+fn send<A: Allocator + Copy>(
+    desk: &mut Desk,
+    rules: &Rulebook,
+    place: u64,
+    entry: &Entry,
+    outcome: &Outcome,
+    fills: &[Fill],
+    lists: &mut Vec<Vec<u8, A>, A>,
+) -> Result<(), Fault> {
+    if entry.session >= 16 || lists.len() != 16 {
+        return Err(Fault::Input);
+    }
+    if !fits_outcome(rules, &entry.event, outcome) || !fit_fills(rules, fills) {
+        return Err(Fault::Input);
+    }
+    match desk.outgoing(rules, place, entry, outcome, fills, lists) {
+        Ok(()) => Ok(()),
+        Err(DeskFault::NoMemory) => Err(Fault::NoMemory),
+        Err(DeskFault::NumbersSpent) => Err(Fault::Input),
+    }
+}
+
+/// How many fills at the front the entry of that place made.
+fn made_at(fills: &[Fill], place: u64) -> usize
+    ensures { result ≤ length fills.now }
+{
+    fills
+        .iter()
+        .position(|fill| fill.at != place)
+        .unwrap_or(fills.len())
+}
+
+/// Sixteen empty lists.
+fn new_lists<A: Allocator + Copy>(alloc: A) -> Result<Vec<Vec<u8, A>, A>, AllocError> {
+    let mut lists = Vec::new(alloc);
+    for _ in 0..16u8 {
+        lists.push(Vec::new(alloc))?;
+    }
+    Ok(lists)
+}
+
+/// What each session is sent for the entries of a worked journal.
+pub fn send_all<A: Allocator + Copy>(
+    alloc: A,
+    rules: &Rulebook,
+    journal: &[Entry],
+    worked: &Worked<A>,
+) -> Result<Vec<Vec<u8, A>, A>, Fault> {
+    let mut lists = new_lists(alloc)?;
+    let mut desk = Desk::new(id(b"20260105-14:30:00"));
+    let mut rest = worked.fills.as_slice();
+    let mut place = 0u64;
+    for (entry, outcome) in journal.iter().zip(worked.outcomes.iter()) {
+        place = place.wrapping_add(1);
+        let (fills, others) = rest.split_at(made_at(rest, place));
+        send(&mut desk, rules, place, entry, outcome, fills, &mut lists)?;
+        rest = others;
+    }
+    Ok(lists)
+}

@@ -1,0 +1,167 @@
+//! Frames and messages.
+ghost use Rattle.std.specs.Prelude.{◌≤◌, length};
+
+use crate::content::{fill_fields, head};
+use crate::fault::Fault;
+use crate::timing::{nanos, tell};
+use fix_session::{Session, Verdict};
+use fix_wire::{Framer, Next, write_message};
+use spread_rules::memory::NoMemory;
+use std::alloc::{AllocGlobal, Allocator};
+use std::time::CpuClock;
+
+/// A piece of a stream, as a connection would give it.
+pub const PIECE: usize = 4096;
+
+/// How many messages a framer can hold at most, and more.
+const HELD: u32 = 8192;
+
+/// Passes every message that stands, and counts them.
+fn pass_messages(framer: &mut Framer) -> u64 {
+    let mut passed = 0u64;
+    for _ in 0..HELD {
+        let Next::Message(_) = framer.next() else {
+            break;
+        };
+        framer.pass();
+        passed = passed.wrapping_add(1);
+    }
+    passed
+}
+
+fn scan_piece(framer: &mut Framer, piece: &[u8]) -> u64 {
+    let mut rest = piece;
+    let mut passed = 0u64;
+    for _ in 0..HELD {
+        if rest.is_empty() {
+            break;
+        }
+        let taken = framer.put(rest);
+        rest = &rest[taken..];
+        passed = passed.wrapping_add(pass_messages(framer));
+    }
+    passed
+}
+
+/// Puts a stream in pieces, passes every message, and counts them.
+pub fn scan(stream: &[u8]) -> u64 {
+    let mut framer = Framer::new();
+    let mut passed = 0u64;
+    for piece in stream.chunks(PIECE) {
+        passed = passed.wrapping_add(scan_piece(&mut framer, piece));
+    }
+    passed
+}
+
+/// Judges and passes every message that stands, and counts the events.
+fn judge_messages(framer: &mut Framer, session: &mut Session) -> u64 {
+    let mut events = 0u64;
+    for _ in 0..HELD {
+        let Next::Message(message) = framer.next() else {
+            break;
+        };
+        let (verdict, after) = session.judge(&message);
+        framer.pass();
+        *session = after;
+        if let Verdict::Event(_) = verdict {
+            events = events.wrapping_add(1);
+        }
+    }
+    events
+}
+
+fn judge_piece(framer: &mut Framer, session: &mut Session, piece: &[u8]) -> u64 {
+    let mut rest = piece;
+    let mut events = 0u64;
+    for _ in 0..HELD {
+        if rest.is_empty() {
+            break;
+        }
+        let taken = framer.put(rest);
+        rest = &rest[taken..];
+        events = events.wrapping_add(judge_messages(framer, session));
+    }
+    events
+}
+
+/// Puts a session's stream in pieces, judges every message, and counts the events.
+pub fn judge(stream: &[u8]) -> u64 {
+    let mut framer = Framer::new();
+    let mut session = Session::new();
+    let mut events = 0u64;
+    for piece in stream.chunks(PIECE) {
+        events = events.wrapping_add(judge_piece(&mut framer, &mut session, piece));
+    }
+    events
+}
+
+/// Writes so many reports of fills, each over the one before, and counts the bytes.
+fn write_reports<A: Allocator + Copy>(alloc: A, reports: u32) -> Result<u64, NoMemory> {
+    let mut out = Vec::new(alloc);
+    let mut bytes = 0u64;
+    for serial in 0..u64::from(reports) {
+        out.clear();
+        write_message(&mut out, &head(b'8', serial + 2), &fill_fields(serial))?;
+        bytes = bytes.wrapping_add(out.len() as u64);
+    }
+    Ok(bytes)
+}
+
+/// Scans streams, and counts their messages.
+pub fn scanned(streams: &[Vec<u8>]) -> u64 {
+    let mut passed = 0u64;
+    for stream in streams {
+        passed = passed.wrapping_add(scan(stream));
+    }
+    passed
+}
+
+fn judged(streams: &[Vec<u8>]) -> u64 {
+    let mut events = 0u64;
+    for stream in streams {
+        events = events.wrapping_add(judge(stream));
+    }
+    events
+}
+
+pub fn bytes_of(streams: &[Vec<u8>]) -> u64 {
+    let mut bytes = 0u64;
+    for stream in streams {
+        bytes = bytes.wrapping_add(stream.len() as u64);
+    }
+    bytes
+}
+
+/// Scans streams, and tells the bytes and the messages.
+pub fn time_scan(
+    rt: &(impl CpuClock + Print),
+    phase: &str,
+    streams: &[Vec<u8>],
+) -> Result<(), Fault> {
+    let start = nanos(rt)?;
+    let passed = scanned(streams);
+    let used = nanos(rt)?.saturating_sub(start);
+    tell(rt, phase, bytes_of(streams), "bytes", used)?;
+    println!(rt; "# {passed} messages passed")?;
+    Ok(())
+}
+
+/// Frames and judges streams.
+pub fn time_judge(rt: &(impl CpuClock + Print), streams: &[Vec<u8>]) -> Result<(), Fault> {
+    let messages = scanned(streams);
+    let start = nanos(rt)?;
+    let events = judged(streams);
+    let used = nanos(rt)?.saturating_sub(start);
+    tell(rt, "judge", messages, "messages", used)?;
+    println!(rt; "# {events} events")?;
+    Ok(())
+}
+
+/// Writes so many reports.
+pub fn time_write(rt: &(impl CpuClock + Print + AllocGlobal), reports: u32) -> Result<(), Fault> {
+    let start = nanos(rt)?;
+    let bytes = write_reports(rt.alloc(), reports)?;
+    let used = nanos(rt)?.saturating_sub(start);
+    tell(rt, "write", u64::from(reports), "messages", used)?;
+    tell(rt, "write-bytes", bytes, "bytes", used)
+}
