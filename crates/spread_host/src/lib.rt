@@ -9,6 +9,8 @@ pub mod fault;
 pub mod lanes;
 pub mod laws;
 pub mod live;
+#[cfg(test)]
+mod live_tests;
 pub mod output;
 pub mod replay;
 #[cfg(test)]

@@ -58,7 +58,7 @@ fn start_all<'s, E, R: Wait + Threads + Sync, G: Gate, A: Allocator + Send + 's>
     requires room { (vec_len handles ≡ 0) × (vec_len gateways ≤ vec_capacity handles) }
     ensures most { vec_len result.0 ≤ vec_len gateways }
     ensures all { IfNone result.1 (vec_len result.0 ≡ vec_len gateways) }
-    ensures refused { IfSome result.1 (λ session. session < length streams.entry.now) }
+    ensures refused { IfSome result.1 (λ session. (session ≡ vec_len result.0) × (session < length streams.entry.now)) }
     ensures started { AreStarted streams.entry.now gateways.items result.0.items }
 {
     let mut handles = handles;
