@@ -14,4 +14,6 @@ pub mod sent;
 #[cfg(test)]
 mod tests;
 pub mod totals;
+#[cfg(test)]
+mod twice;
 pub mod working;
