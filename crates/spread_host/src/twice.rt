@@ -1,5 +1,5 @@
 //! Days worked a second time, by a plain matcher over one list of orders.
-ghost use Rattle.std.specs.Prelude.{◌≡◌, true, All, IfOk};
+ghost use Rattle.std.specs.Prelude.{◌≡◌, ◌≤◌, true, All, IfOk, length};
 ghost use Rattle.spread_rules.specs.Candidates.{HasSmallPrice};
 ghost use Rattle.spread_rules.specs.Journal.{IsLawful};
 
@@ -313,7 +313,9 @@ fn plain_matcher_agrees(rt: HostRuntime) -> Result<(), Fail> {
 }
 
 /// Where the lines of the months begin.
-fn months_at(text: &[u8]) -> usize {
+fn months_at(text: &[u8]) -> usize
+    ensures { result ≤ length text.now }
+{
     for place in 0..text.len() {
         if text[place..].starts_with(b"M H6 ") {
             return place;
