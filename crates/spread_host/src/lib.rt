@@ -18,4 +18,6 @@ mod tests;
 pub mod totals;
 mod turns;
 pub mod worker;
+#[cfg(test)]
+mod twice;
 pub mod working;

@@ -130,3 +130,6 @@ pub fn replay<S: Source, K: Sink, A: Allocator + Copy>(
         Err(fault) => Err(fault),
     }
 }
+
+#[cfg(test)]
+mod tests;
