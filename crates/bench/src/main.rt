@@ -3,6 +3,7 @@
 
 mod content;
 mod fault;
+mod hostile;
 mod journals;
 mod market;
 mod reports;
@@ -12,6 +13,7 @@ mod wire;
 
 use content::{order_stream, repeated};
 use fault::Fault;
+use hostile::hostile_stream;
 use journals::{RULES, journal_text};
 use market::{time_match, time_report};
 use rings::time_link;
@@ -31,7 +33,7 @@ Measures one phase in the processor time of its thread, and prints a line
 
 scan [STREAM..]         frames of order messages, put in pieces of 4,096 bytes
 garbage                 the same over openings that become no frame
-hostile                 the same over openings whose bodies begin as one should
+hostile                 the same over openings whose long bodies fail at their last field
 write                   reports of fills, written one over another
 judge [STREAM..]        order messages framed and judged
 match [RULES JOURNAL]   entries of a journal worked by the market
@@ -70,7 +72,8 @@ fn time_garbage(rt: &(impl CpuClock + Print + AllocGlobal)) -> Result<(), Fault>
 }
 
 fn time_hostile(rt: &(impl CpuClock + Print + AllocGlobal)) -> Result<(), Fault> {
-    let streams = garbage(rt, b"8=FIX.4.2\x019=4000\x0135=0\x01", 40_000)?;
+    let mut streams = Vec::new(rt.alloc());
+    streams.push(hostile_stream(rt.alloc(), 2_000)?)?;
     time_scan(rt, "hostile", &streams)
 }
 
