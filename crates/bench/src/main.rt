@@ -3,6 +3,7 @@
 
 mod content;
 mod fault;
+mod hostile;
 mod journals;
 mod market;
 mod reports;
@@ -12,14 +13,16 @@ mod wire;
 
 use content::{order_stream, repeated};
 use fault::Fault;
+use hostile::hostile_stream;
 use journals::{RULES, journal_text};
 use market::{time_match, time_report};
-use rings::time_link;
+use rings::{time_link, time_threads};
 use std::alloc::AllocGlobal;
 use std::env::Env;
 use std::fs::Files;
 use std::process::ExitCode;
-use std::time::CpuClock;
+use std::thread::Threads;
+use std::time::{Clock, CpuClock};
 use std::{env, fs};
 use wire::{time_judge, time_scan, time_write};
 
@@ -31,12 +34,13 @@ Measures one phase in the processor time of its thread, and prints a line
 
 scan [STREAM..]         frames of order messages, put in pieces of 4,096 bytes
 garbage                 the same over openings that become no frame
-hostile                 the same over openings whose bodies begin as one should
+hostile                 the same over openings whose long bodies fail at their last field
 write                   reports of fills, written one over another
 judge [STREAM..]        order messages framed and judged
 match [RULES JOURNAL]   entries of a journal worked by the market
 report [RULES JOURNAL]  what its sessions are sent, written
 link [STREAM..]         messages framed, judged, sent through rings and taken, in one thread
+threads [STREAM..]      the same in two threads, by the clock
 all                     every phase over its own input
 
 A STREAM holds the raw bytes of a session; there are at most 16.";
@@ -70,7 +74,8 @@ fn time_garbage(rt: &(impl CpuClock + Print + AllocGlobal)) -> Result<(), Fault>
 }
 
 fn time_hostile(rt: &(impl CpuClock + Print + AllocGlobal)) -> Result<(), Fault> {
-    let streams = garbage(rt, b"8=FIX.4.2\x019=4000\x0135=0\x01", 40_000)?;
+    let mut streams = Vec::new(rt.alloc());
+    streams.push(hostile_stream(rt.alloc(), 2_000)?)?;
     time_scan(rt, "hostile", &streams)
 }
 
@@ -84,8 +89,8 @@ fn journal(rt: &(impl Files + AllocGlobal), files: &[String]) -> Result<(Vec<u8>
     Ok((rules, fs::read(rt, files[1].as_str())?))
 }
 
-fn time_wire(
-    rt: &(impl CpuClock + Print + Files + AllocGlobal),
+fn time_wire<R: Clock + CpuClock + Print + Files + AllocGlobal + Threads + Sync>(
+    rt: &R,
     phase: &str,
     files: &[String],
 ) -> Result<(), Fault> {
@@ -95,6 +100,7 @@ fn time_wire(
         "hostile" => time_hostile(rt),
         "write" => time_write(rt, 1_000_000),
         "judge" => time_judge(rt, &streams(rt, files, 1_000_000)?),
+        "threads" => time_threads(rt, &streams(rt, files, 900_000)?),
         _ => time_link(rt, &streams(rt, files, 900_000)?),
     }
 }
@@ -111,32 +117,36 @@ fn time_market(
     }
 }
 
-fn time_phase(
-    rt: &(impl CpuClock + Print + Files + AllocGlobal),
+fn time_phase<R: Clock + CpuClock + Print + Files + AllocGlobal + Threads + Sync>(
+    rt: &R,
     phase: &str,
     files: &[String],
 ) -> Result<(), Fault> {
     match phase {
         "match" | "report" => time_market(rt, phase, files),
-        "scan" | "garbage" | "hostile" | "write" | "judge" | "link" => {
+        "scan" | "garbage" | "hostile" | "write" | "judge" | "link" | "threads" => {
             time_wire(rt, phase, files)
         }
         _ => Err(Fault::Words),
     }
 }
 
-const PHASES: [&str; 8] = [
-    "scan", "garbage", "hostile", "write", "judge", "match", "report", "link",
+const PHASES: [&str; 9] = [
+    "scan", "garbage", "hostile", "write", "judge", "match", "report", "link", "threads",
 ];
 
-fn time_all(rt: &(impl CpuClock + Print + Files + AllocGlobal)) -> Result<(), Fault> {
+fn time_all<R: Clock + CpuClock + Print + Files + AllocGlobal + Threads + Sync>(
+    rt: &R,
+) -> Result<(), Fault> {
     for phase in PHASES {
         time_phase(rt, phase, &[])?;
     }
     Ok(())
 }
 
-fn run(rt: &(impl Env + CpuClock + Print + Files + AllocGlobal)) -> Result<(), Fault> {
+fn run<R: Env + Clock + CpuClock + Print + Files + AllocGlobal + Threads + Sync>(
+    rt: &R,
+) -> Result<(), Fault> {
     let words: Vec<String> = env::args(rt)?.collect(rt.alloc())?;
     let Some((phase, files)) = words.as_slice().get(1..).and_then(|w| w.split_first()) else {
         println!(rt; "{HELP}")?;

@@ -1,10 +1,12 @@
-//! Gateways, rings and the sequencer in one thread.
+//! Gateways, rings and the sequencer, in one thread and in two.
 use crate::fault::Fault;
 use crate::timing::{nanos, tell};
 use crate::wire::{PIECE, scanned};
 use gate_link::{Gateway, Sequencer, Step, Turn, link};
-use std::alloc::{AllocGlobal, Allocator};
-use std::time::CpuClock;
+use std::alloc::{AllocGlobal, Allocator, Global};
+use std::thread;
+use std::thread::{Threads, join_mut};
+use std::time::{Clock, CpuClock, Instant};
 
 /// More than a framer can hold messages, and than the rings of the benchmark have room.
 const MOST: u32 = 8192;
@@ -89,6 +91,106 @@ pub fn time_link(
     work_streams(gateways.as_mut_slice(), &mut sequencer, streams);
     let used = nanos(rt)?.saturating_sub(start);
     tell(rt, "link", messages, "messages", used)?;
+    println!(rt; "# {} entries", sequencer.journal().len())?;
+    Ok(())
+}
+
+/// Steps until no message stands, and lets other threads run where the ring is full.
+fn send_standing<A: Allocator>(gateway: &mut Gateway<A>) {
+    for _ in 0..u64::MAX {
+        match gateway.step() {
+            Step::Sent | Step::Skipped => {}
+            Step::Full => thread::yield_now(),
+            Step::Need | Step::Closed => return,
+        }
+    }
+}
+
+fn send_piece<A: Allocator>(gateway: &mut Gateway<A>, piece: &[u8]) {
+    let mut rest = piece;
+    for _ in 0..MOST {
+        if rest.is_empty() {
+            break;
+        }
+        let taken = gateway.put(rest);
+        rest = &rest[taken..];
+        send_standing(gateway);
+    }
+}
+
+/// Sends the close of a session's end.
+fn close<A: Allocator>(gateway: &mut Gateway<A>) {
+    for _ in 0..u64::MAX {
+        match gateway.end() {
+            Step::Closed => return,
+            Step::Full => thread::yield_now(),
+            _ => {}
+        }
+    }
+}
+
+fn send_stream<A: Allocator>(gateway: &mut Gateway<A>, stream: &[u8]) {
+    for piece in stream.chunks(PIECE) {
+        send_piece(gateway, piece);
+    }
+    close(gateway);
+}
+
+/// Sends the streams of all sessions, one after another.
+fn send_streams<A: Allocator>(gateways: &mut [Gateway<A>], streams: &[Vec<u8>]) {
+    for (gateway, stream) in gateways.iter_mut().zip(streams.iter()) {
+        send_stream(gateway, stream);
+    }
+}
+
+/// Takes a session's events until its close, or until the journal is full.
+fn take_session<A: Allocator>(sequencer: &mut Sequencer<A>, session: u8) {
+    for _ in 0..u64::MAX {
+        if usize::from(session) >= sequencer.sessions() {
+            return;
+        }
+        match sequencer.turn(session) {
+            Turn::Took => {}
+            Turn::Empty => thread::yield_now(),
+            Turn::Done | Turn::JournalFull => return,
+        }
+    }
+}
+
+fn take_sessions<A: Allocator>(sequencer: &mut Sequencer<A>) {
+    for session in 0..16u8 {
+        take_session(sequencer, session);
+    }
+}
+
+/// One thread sends, another takes.
+fn send_and_take<R: Threads + Sync>(
+    rt: &R,
+    gateways: &mut [Gateway<Global>],
+    sequencer: &mut Sequencer<Global>,
+    streams: &[Vec<u8>],
+) {
+    join_mut(
+        rt,
+        &mut || send_streams(gateways, streams),
+        &mut || take_sessions(sequencer),
+    );
+}
+
+/// The same in two threads, by the clock: one frames, judges and sends, the other takes.
+pub fn time_threads<R: Clock + Print + AllocGlobal + Threads + Sync>(
+    rt: &R,
+    streams: &[Vec<u8>],
+) -> Result<(), Fault> {
+    let messages = scanned(streams);
+    let Ok((mut gateways, mut sequencer)) = link(rt.alloc(), streams.len(), 256, 1_000_000) else {
+        return Err(Fault::NoMemory);
+    };
+    let start = Instant::now(rt)?;
+    send_and_take(rt, gateways.as_mut_slice(), &mut sequencer, streams);
+    let used = start.elapsed(rt)?;
+    let used = u64::try_from(used.as_nanos()).unwrap_or(u64::MAX);
+    tell(rt, "threads", messages, "messages", used)?;
     println!(rt; "# {} entries", sequencer.journal().len())?;
     Ok(())
 }
