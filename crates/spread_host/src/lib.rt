@@ -17,7 +17,7 @@ pub mod replay;
 mod tests;
 pub mod totals;
 mod turns;
-pub mod worker;
 #[cfg(test)]
 mod twice;
+pub mod worker;
 pub mod working;

@@ -7,6 +7,7 @@ ghost use Rattle.spread_rules.specs.Legs.{bought, sold, paid, received};
 ghost use Rattle.spread_rules.specs.Meaning.{meaning_of_journal, filled};
 ghost use Rattle.spread_rules.specs.Quiet.{IsQuiet};
 ghost use Rattle.spread_match.specs.Sound.{KeepsOrder};
+ghost use Rattle.spread_report.specs.Messages.{IsRow, messages_to};
 ghost use Rattle.spread_report.specs.Sessions.{bytes_of};
 ghost use Rattle.gate_link.specs.declared.gateway.Gateway.{Gateway};
 ghost use Rattle.gate_link.specs.Links.{IsLinkOf, room_of};
@@ -15,7 +16,7 @@ ghost use Rattle.spread_host.specs.Handing.{AreStarted, AreKept};
 ghost use Rattle.spread_host.specs.Days.{AreShown, texts_of, texts_below};
 ghost use Rattle.spread_host.specs.LiveDays.{IsRunDayFault};
 ghost use Rattle.spread_host.specs.Streams.{whole_at, all_events, IsLiveFault};
-ghost use Rattle.spread_host.specs.Working.{outgoing_bytes};
+ghost use Rattle.spread_host.specs.Working.{outgoing_bytes, worked_entries};
 ghost use Rattle.spread_host.specs.declared.fault.HostFault.{HostFault};
 
 use crate::day::{Day, day_of};
@@ -190,6 +191,7 @@ pub fn run_day<R: Threads + Wait + Sync, G: Gate, A: Allocator + Copy + Send>(
     // What the journal's entries came to.
     ensures fills { IfOk result (λ day. day.fills.items ≡ (meaning_of_journal rulebook.now day.journal.items).fills) }
     ensures outgoing { IfOk result (λ day. (s : ℕ) → s < 16 → bytes_of day.out.items s ≡ outgoing_bytes rulebook.now stamp day.journal.items s) }
+    ensures whole_frames { IfOk result (λ day. (s : ℕ) → s < 16 → IsRow (messages_to rulebook.now stamp (worked_entries rulebook.now day.journal.items) s) (bytes_of day.out.items s)) }
     ensures no_stream { IfOk result (λ day. (s : ℕ) → s < 16 → length streams.items ≤ s → bytes_of day.out.items s ≡ []) }
     ensures lists { IfOk result (λ day. length day.out.items ≡ 16) }
     ensures texts { IfOk result (λ day. texts_of day.out.items ≡ texts_below 16 rulebook.now stamp day.journal.items) }

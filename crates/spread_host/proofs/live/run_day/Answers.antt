@@ -1,6 +1,10 @@
-use Rattle.std.proofs.Common.{◌∙◌}
+use Rattle.std.proofs.Common.{◌∙◌, List, sym, subst}
+use Rattle.spread_rules.specs.declared.event.Entry.{Entry}
+use Rattle.spread_report.specs.Messages.{IsRow, messages_to}
+use Rattle.spread_report.specs.Sessions.{bytes_of}
 use Rattle.gate_link.proofs.Rowing.{row_past}
 use Rattle.spread_host.specs.Streams.{whole_stream}
+use Rattle.spread_host.specs.Working.{worked_entries}
 use Rattle.spread_host.proofs.LiveFaults.{of_threads, of_entries}
 use Rattle.spread_host.proofs.Silent.{silent}
 use Rattle.spread_host.proofs.Theorems.{JournalHolds, day_holds}
@@ -12,6 +16,11 @@ pub returns-in-Ok-day_of-clause-no_stream : goal.returns-in-Ok-day_of-clause-no_
 returns-in-Ok-day_of-clause-no_stream g c s low past =
     let none = c.in-Ok.ensures.journal s ∙ row_past whole_stream c.args.streams.items s past in
     c.in-Ok-day_of.ensures.out s low ∙ silent c.args.rulebook.now c.args.stamp c.in-Ok.journal.items s none
+
+-- what a session is sent is whole messages
+pub returns-in-Ok-day_of-clause-whole_frames : goal.returns-in-Ok-day_of-clause-whole_frames
+returns-in-Ok-day_of-clause-whole_frames g c s h =
+    subst (λ (es : List Entry). IsRow (messages_to c.args.rulebook.now c.args.stamp (worked_entries c.args.rulebook.now es) s) (bytes_of c.in-Ok-day_of.day.out.items s)) (sym c.in-Ok-day_of.ensures.journal) (c.in-Ok-day_of.ensures.whole s h)
 
 -- what holds of every lawful journal holds of this one
 holds : (g : _) (c : In-Ok-day_of g) → JournalHolds c.args.rulebook.now c.in-Ok-day_of.day.journal.items c.in-Ok-day_of.day.fills.items
