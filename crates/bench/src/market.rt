@@ -1,7 +1,7 @@
 //! Matching, and what the sessions are sent.
 use crate::fault::Fault;
 use crate::reports::send_all;
-use crate::timing::{nanos, tell};
+use crate::timing::{RUNS, nanos, tell};
 use crate::wire::{bytes_of, scanned};
 use spread_books::list::ListBook;
 use spread_journal::reading::read_journal;
@@ -45,9 +45,13 @@ pub fn time_report(
     let journal = read_journal(rt.alloc(), text)?;
     let mut market = Market::new(rt.alloc(), &rulebook, ListBook::new(rt.alloc()));
     let worked = work(rt.alloc(), &mut market, &journal)?;
-    let start = nanos(rt)?;
-    let lists = send_all(rt.alloc(), &rulebook, &journal, &worked)?;
-    let used = nanos(rt)?.saturating_sub(start);
-    tell(rt, "report", scanned(&lists), "messages", used)?;
-    tell(rt, "report-bytes", bytes_of(&lists), "bytes", used)
+    let mut lists = Vec::new(rt.alloc());
+    let mut least = u64::MAX;
+    for _ in 0..RUNS {
+        let start = nanos(rt)?;
+        lists = send_all(rt.alloc(), &rulebook, &journal, &worked)?;
+        least = least.min(nanos(rt)?.saturating_sub(start));
+    }
+    tell(rt, "report", scanned(&lists), "messages", least)?;
+    tell(rt, "report-bytes", bytes_of(&lists), "bytes", least)
 }

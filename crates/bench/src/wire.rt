@@ -3,7 +3,7 @@ ghost use Rattle.std.specs.Prelude.{◌≤◌, length};
 
 use crate::content::{fill_fields, head};
 use crate::fault::Fault;
-use crate::timing::{nanos, tell};
+use crate::timing::{RUNS, nanos, tell};
 use fix_session::{Session, Verdict};
 use fix_wire::{Framer, Next, write_message};
 use spread_rules::memory::NoMemory;
@@ -138,10 +138,14 @@ pub fn time_scan(
     phase: &str,
     streams: &[Vec<u8>],
 ) -> Result<(), Fault> {
-    let start = nanos(rt)?;
-    let passed = scanned(streams);
-    let used = nanos(rt)?.saturating_sub(start);
-    tell(rt, phase, bytes_of(streams), "bytes", used)?;
+    let mut passed = 0u64;
+    let mut least = u64::MAX;
+    for _ in 0..RUNS {
+        let start = nanos(rt)?;
+        passed = scanned(streams);
+        least = least.min(nanos(rt)?.saturating_sub(start));
+    }
+    tell(rt, phase, bytes_of(streams), "bytes", least)?;
     println!(rt; "# {passed} messages passed")?;
     Ok(())
 }
@@ -149,19 +153,27 @@ pub fn time_scan(
 /// Frames and judges streams.
 pub fn time_judge(rt: &(impl CpuClock + Print), streams: &[Vec<u8>]) -> Result<(), Fault> {
     let messages = scanned(streams);
-    let start = nanos(rt)?;
-    let events = judged(streams);
-    let used = nanos(rt)?.saturating_sub(start);
-    tell(rt, "judge", messages, "messages", used)?;
+    let mut events = 0u64;
+    let mut least = u64::MAX;
+    for _ in 0..RUNS {
+        let start = nanos(rt)?;
+        events = judged(streams);
+        least = least.min(nanos(rt)?.saturating_sub(start));
+    }
+    tell(rt, "judge", messages, "messages", least)?;
     println!(rt; "# {events} events")?;
     Ok(())
 }
 
 /// Writes so many reports.
 pub fn time_write(rt: &(impl CpuClock + Print + AllocGlobal), reports: u32) -> Result<(), Fault> {
-    let start = nanos(rt)?;
-    let bytes = write_reports(rt.alloc(), reports)?;
-    let used = nanos(rt)?.saturating_sub(start);
-    tell(rt, "write", u64::from(reports), "messages", used)?;
-    tell(rt, "write-bytes", bytes, "bytes", used)
+    let mut bytes = 0u64;
+    let mut least = u64::MAX;
+    for _ in 0..RUNS {
+        let start = nanos(rt)?;
+        bytes = write_reports(rt.alloc(), reports)?;
+        least = least.min(nanos(rt)?.saturating_sub(start));
+    }
+    tell(rt, "write", u64::from(reports), "messages", least)?;
+    tell(rt, "write-bytes", bytes, "bytes", least)
 }
