@@ -17,4 +17,3 @@ pub mod Fitting
 pub mod Entries
 pub mod Lawful
 pub mod Ranging
-pub mod Named
