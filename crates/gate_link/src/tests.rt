@@ -6,6 +6,7 @@ ghost use Rattle.gate_link.specs.declared.gateway.Gateway.{Gateway};
 ghost use Rattle.std.specs.declared.alloc.Global.{Global};
 ghost use denote.Param.Send.{IsSync};
 
+use crate::laws::{owed, schedule};
 use crate::{Gateway, LinkFault, Sequencer, Settle, Step, Turn, link};
 use spread_rules::event::{Event, Ticket};
 use spread_rules::id::Id;
@@ -294,4 +295,11 @@ fn a_gateway_that_moves(rt: HostRuntime) -> Result<(), Fail> {
         assert_eq!(rt; entry.event, of_day(n));
     }
     Ok(())
+}
+
+/// The laws hold of nothing but definitions, and want nothing.
+#[test]
+fn laws_hold() {
+    owed();
+    schedule();
 }
