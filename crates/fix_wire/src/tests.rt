@@ -426,3 +426,18 @@ fn laws_are_called() {
     laws::frame_by_frame();
     laws::read_back();
 }
+
+/// Bytes at which no frame stands are passed over, and what stands after the message is left.
+#[test]
+fn first_messages(rt: HostRuntime) -> Result<(), Fail> {
+    let mut text = Vec::new(rt.alloc());
+    text.extend_from_slice(b"8=FIX.")?;
+    text.extend_from_slice(LOGOUT)?;
+    text.extend_from_slice(HEARTBEAT)?;
+    let (message, rest) = first_message(&text).ok_or("no frame")?;
+    assert_eq!(rt; message.bytes(), LOGOUT);
+    assert_eq!(rt; rest, HEARTBEAT);
+    assert!(rt; first_message(b"").is_none());
+    assert!(rt; first_message(&LOGOUT[1..]).is_none());
+    Ok(())
+}
