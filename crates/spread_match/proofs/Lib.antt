@@ -3,6 +3,7 @@ pub mod FrontFacts
 pub mod Whole
 pub mod After
 pub mod Found
+pub mod InOrder
 pub mod Listing
 pub mod Turns
 pub mod Tradable

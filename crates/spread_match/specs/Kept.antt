@@ -1,5 +1,5 @@
 -- what a market keeps in place of the past: a status for each New entry, renewed by each fill
-use Rattle.std.specs.Prelude.{ℕ, ◌-◌, ◌==◌, ◌≤◌, Bool, ◌&&◌, ◌||◌, cond, if◌then◌else◌, List, [], ◌∷◌, ◌++◌, map, fold, All}
+use Rattle.std.specs.Prelude.{ℕ, ◌-◌, ◌==◌, ◌≤◌, ◌<◌, ⊤, Bool, ◌&&◌, ◌||◌, cond, if◌then◌else◌, List, [], ◌∷◌, ◌++◌, map, fold, All}
 use Rattle.spread_rules.specs.declared.order.Order.{Order}
 use Rattle.spread_rules.specs.declared.fill.Fill.{Fill}
 use Rattle.spread_rules.specs.Clearing.{removed, reduced}
@@ -35,6 +35,15 @@ kept_with m place session event e = record { orders = e.orders; statuses = renew
 abbrev pub kept_after : Rules → Standing → ℕ → ℕ → Event → Standing
 kept_after rules m place session event = kept_with m place session event (kept_meaning rules m place session event)
 
+-- how the entry of a new order stands
+abbrev pub entered_status : Order → OrderStatus
+entered_status o = record { session = o.session; id = o.id; place = o.place; status = 4 }
+
+-- each status stands before those of later places
+abbrev pub AreInOrder : List OrderStatus → Type 0
+AreInOrder [] = ⊤
+AreInOrder (s ∷ ss) = All (λ t. s.place < t.place) ss × AreInOrder ss
+
 -- what the book does with the new order once it has traded
 abbrev pub settled : Bool → Order → ℕ → List Order → List Order
 settled immediate own left xs = if left == 0 || immediate then removed own.place xs else if left == own.leaves then xs else reduced own.place (own.leaves - left) xs
@@ -43,3 +52,4 @@ settled immediate own left xs = if left == 0 || immediate then removed own.place
 pub record IsReady (months : ℕ) (m : Standing) : Type 0 where
   pub tradable : IsTradable months m.orders
   pub below : All (λ o. o.place ≤ m.last) m.orders
+  pub noted : All (λ s. s.place ≤ m.last) m.statuses

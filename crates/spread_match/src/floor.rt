@@ -1,5 +1,5 @@
 //! What a market keeps, and what each kind of entry does to it.
-ghost use Rattle.std.specs.Prelude.{◌≡◌, ℕ, ℤ, pos, ◌<ℤ◌, ◌<◌, ◌≤◌, List, All, OnOk, OnErr, IfOk, IfSome, ◌++◌, [], map, vec_len, drop, length};
+ghost use Rattle.std.specs.Prelude.{◌≡◌, ℕ, ℤ, pos, ◌<ℤ◌, ◌<◌, ◌≤◌, List, All, OnOk, OnErr, IfOk, ◌++◌, ◌∷◌, [], drop, length};
 ghost use Rattle.std.specs.List.{find};
 ghost use Rattle.spread_rules.specs.declared.order.Order.{Order};
 ghost use Rattle.spread_rules.specs.declared.event.Event.TheVariants.{New, Cancel};
@@ -11,9 +11,10 @@ ghost use Rattle.spread_rules.specs.Meaning.{has_id, is_own, judged, judged_by, 
 ghost use Rattle.spread_rules.specs.Rulebook.{month_count, references_of, find_symbol};
 ghost use Rattle.spread_match.specs.State.{nothing_yet};
 ghost use Rattle.spread_match.specs.Best.{in_months, is_ordered};
-ghost use Rattle.spread_match.specs.Kept.{renewed_by, renewed, kept_meaning, kept_after, kept_with, settled, IsReady};
+ghost use Rattle.spread_match.specs.Kept.{renewed, entered_status, kept_meaning, kept_after, kept_with, settled, IsReady};
 ghost use Rattle.spread_match.specs.Trade.{IsPriced, IsNewest};
 
+use crate::statuses::Statuses;
 use crate::trade::trade;
 use spread_books::book::Book;
 use spread_rules::event::{Entry, Event, Ticket};
@@ -30,7 +31,7 @@ use std::marker::Model;
 #[derive(Drop)]
 pub struct Floor<B: Book, A: Allocator + Copy> {
     book: B,
-    statuses: Vec<OrderStatus, A>,
+    statuses: Statuses<A>,
     last: u64,
 }
 
@@ -39,30 +40,19 @@ impl<B: Book, A: Allocator + Copy> Model for Floor<B, A> {
 
     ghost Value = { Standing };
 
-    ghost view = { λ m. record { orders = B.orders m.book; statuses = m.statuses.items; last = m.last } };
-}
-
-fn find_status(statuses: &[OrderStatus], session: u8, id: &Id) -> Option<OrderStatus>
-    ensures { result ≡ find (has_id session id.now) statuses.now }
-{
-    for status in statuses {
-        if status.session == session && status.id.is(id) {
-            return Some(*status);
-        }
-    }
-    None
+    ghost view = { λ m. record { orders = B.orders m.book; statuses = m.statuses; last = m.last } };
 }
 
 /// The instrument, or why the ticket is refused.
-fn judge(
+fn judge<A: Allocator + Copy>(
     rules: &Rulebook,
-    statuses: &[OrderStatus],
+    statuses: &Statuses<A>,
     session: u8,
     ticket: &Ticket,
 ) -> Result<Instrument, u8>
     ensures { result ≡ judged rules.now ticket.now (find (has_id session ticket.now.id) statuses.now) }
 {
-    match find_status(statuses, session, &ticket.id) {
+    match statuses.find(session, &ticket.id) {
         Some(_) => Err(6),
         None => judge_fields(rules, ticket, rules.find(ticket.symbol.bytes())),
     }
@@ -89,39 +79,12 @@ fn judge_fields(
     }
 }
 
-fn renew_one(status: &mut OrderStatus, fill: &Fill)
-    ensures { status.new ≡ renewed_by fill.now status.old }
-{
-    if status.place == fill.order && fill.leaves == 0 {
-        status.status = 2;
-    }
-}
-
-fn renew(statuses: &mut [OrderStatus], fill: &Fill)
-    ensures { statuses.new ≡ map (renewed_by fill.now) statuses.old }
-{
-    if fill.leaves > 0 {
-        return;
-    }
-    for status in statuses.iter_mut() {
-        renew_one(status, fill);
-    }
-}
-
-fn renew_all<A: Allocator + Copy>(statuses: &mut Vec<OrderStatus, A>, fills: &[Fill])
-    ensures { statuses.new.items ≡ renewed fills.now statuses.old.items }
-{
-    for fill in fills {
-        renew(statuses, fill);
-    }
-}
-
 /// By the fills from that one on.
-fn renew_from<A: Allocator + Copy>(statuses: &mut Vec<OrderStatus, A>, fills: &[Fill], from: usize)
+fn renew_from<A: Allocator + Copy>(statuses: &mut Statuses<A>, fills: &[Fill], from: usize)
     requires { from ≤ length fills.now }
-    ensures { statuses.new.items ≡ renewed (drop from fills.now) statuses.old.items }
+    ensures { statuses.new ≡ renewed (drop from fills.now) statuses.old }
 {
-    renew_all(statuses, &fills[from..]);
+    statuses.renew(&fills[from..]);
 }
 
 /// What becomes of an order of which so much is left.
@@ -174,7 +137,7 @@ impl<B: Book, A: Allocator + Copy> Floor<B, A> {
     {
         Floor {
             book,
-            statuses: Vec::new(alloc),
+            statuses: Statuses::new(alloc),
             last: 0,
         }
     }
@@ -194,11 +157,13 @@ impl<B: Book, A: Allocator + Copy> Floor<B, A> {
         ticket: &Ticket,
         reason: u8,
     ) -> Result<Outcome, NoMemory>
+        requires noted { All (λ s. s.place ≤ self.old.last) self.old.statuses }
+        requires place { self.old.last < place }
         ensures outcome { IfOk result (λ o. o ≡ Refused reason) }
         ensures after { OnOk result (self.new ≡ kept_with self.old place session (New ticket.now) (only (Refused reason) self.old.orders)) }
         ensures err { OnErr result (self.new ≡ self.old) }
     {
-        self.statuses.push(OrderStatus {
+        self.statuses.add(OrderStatus {
             session,
             id: ticket.id,
             place,
@@ -206,6 +171,27 @@ impl<B: Book, A: Allocator + Copy> Floor<B, A> {
         })?;
         self.last = place;
         Ok(Outcome::Refused(reason))
+    }
+
+    /// The new order stands in the book, and its entry among the statuses.
+    fn stand(&mut self, order: &Order) -> Result<(), NoMemory>
+        requires orders { All (λ o. o.place < order.now.place) self.old.orders }
+        requires statuses { All (λ s. s.place < order.now.place) self.old.statuses }
+        ensures ok { OnOk result (self.new ≡ record self.old { orders = self.old.orders ++ order.now ∷ []; statuses = self.old.statuses ++ entered_status order.now ∷ [] }) }
+        ensures err { OnErr result (self.new ≡ self.old) }
+    {
+        self.book.add(*order)?;
+        let status = OrderStatus {
+            session: order.session,
+            id: order.id,
+            place: order.place,
+            status: 4,
+        };
+        let noted = self.statuses.add(status);
+        if noted.is_err() {
+            self.book.remove(status.place);
+        }
+        noted
     }
 
     /// Clears a ticket that is not refused. All growth comes first.
@@ -232,17 +218,10 @@ impl<B: Book, A: Allocator + Copy> Floor<B, A> {
     {
         let before = fills.len();
         fills.reserve(3 * self.book.len().min(ticket.quantity as usize))?;
-        self.statuses.reserve(1)?;
         let order = new_order(place, session, ticket, instrument);
-        self.book.add(order)?;
+        self.stand(&order)?;
         let left = trade(&mut self.book, rules.months(), rules, order, fills);
         settle(&mut self.book, ticket.immediate, &order, left.leaves);
-        self.statuses.push_reserved(OrderStatus {
-            session,
-            id: ticket.id,
-            place,
-            status: 4,
-        });
         renew_from(&mut self.statuses, fills, before);
         self.last = place;
         Ok(outcome_with(ticket.immediate, left.leaves))
@@ -284,7 +263,7 @@ impl<B: Book, A: Allocator + Copy> Floor<B, A> {
                 self.book.remove(order.place);
                 Outcome::Cancelled(order)
             }
-            None => match find_status(&self.statuses, session, original) {
+            None => match self.statuses.find(session, original) {
                 Some(status) => Outcome::CancelRefused {
                     reason: 0,
                     place: status.place,
