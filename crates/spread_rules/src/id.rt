@@ -1,5 +1,5 @@
 //! Ids: client order ids, CompIDs, symbols and stamps.
-ghost use Rattle.std.specs.Prelude.{◌≡◌, ◌≤◌, ◌<◌, ◌+◌, ◌++◌, ◌∷◌, ℕ, List, length, true};
+ghost use Rattle.std.specs.Prelude.{◌≡◌, ◌≤◌, ◌<◌, ◌+◌, ◌-◌, ◌++◌, ◌∷◌, ℕ, List, length, replicate, true};
 ghost use Rattle.std.specs.Str.{bytes_eq};
 ghost use Rattle.spread_rules.specs.Ids.{id_of, is_plain};
 
@@ -58,6 +58,13 @@ impl Id {
         ensures plain { is_plain self.now ≡ true }
     {
         &self.bytes[..self.len]
+    }
+
+    /// Its bytes with zeros behind them.
+    pub(crate) fn padded(&self) -> &[u8; 32]
+        ensures { result.now ≡ self.now ++ replicate (32 - length self.now) 0 }
+    {
+        &self.bytes
     }
 
     /// Whether it is that id.

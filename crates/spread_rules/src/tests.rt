@@ -3,7 +3,8 @@ ghost use Rattle.spread_rules.specs.Candidates.{HasSmallPrice};
 
 use crate::candidate::{Choice, Members};
 use crate::id::Id;
-use crate::laws::{one_rulebook, quiet};
+use crate::id_key::IdKey;
+use crate::laws::{one_key, one_rulebook, quiet};
 use crate::memory::NoMemory;
 use crate::order::{Instrument, Order, Side};
 use crate::plain::plain_best;
@@ -196,6 +197,29 @@ fn negative_prices(rt: HostRuntime) {
         plain_best(&resting, &order(4, H6, Side::Buy, 1, -100)),
         Some(choice)
     );
+}
+
+#[test]
+fn keys_of_ids(rt: HostRuntime) {
+    let rows: [&[u8]; 6] = [
+        b"C1",
+        b"C1\0",
+        b"12345678C",
+        b"1234567812345678C",
+        b"123456781234567812345678C",
+        b"\0",
+    ];
+    for (i, a) in rows.iter().enumerate() {
+        for (j, b) in rows.iter().enumerate() {
+            if let (Some(one), Some(other)) = (Id::new(a), Id::new(b)) {
+                assert_eq!(rt; IdKey::new(1, &one) == IdKey::new(1, &other), i == j);
+                assert!(rt; IdKey::new(1, &one) != IdKey::new(2, &other));
+            } else {
+                assert!(rt; false);
+            }
+        }
+    }
+    one_key();
 }
 
 #[test]
