@@ -1,5 +1,5 @@
 -- statuses in order of place: one more, and those that a fill renews
-use Rattle.std.proofs.Common.{◌≡◌, nat_lt, Result, Ok, Err, inl, inr, ℕ, zero, suc, ◌==◌, ◌<◌, ◌≤◌, Bool, true, false, ◌&&◌, ◌+◌, take, cond, List, [], ◌∷◌, ◌++◌, map, length, get_or, set, All, refl, ap, ◌∙◌, subst, sym, arith}
+use Rattle.std.proofs.Common.{◌≡◌, nat_lt, Result, Ok, Err, ℕ, zero, suc, ◌==◌, ◌<◌, ◌≤◌, Bool, true, false, ◌&&◌, ◌+◌, take, cond, List, [], ◌∷◌, ◌++◌, map, length, get_or, set, All, refl, ap, ◌∙◌, subst, sym, arith}
 use Rattle.std.proofs.lemmas.Bool.Decides.{nat_tests}
 use Rattle.std.proofs.lemmas.List.Elements.{All-nil, All-head, All-tail, All-push, All-map}
 use Rattle.std.proofs.lemmas.List.{take_more}

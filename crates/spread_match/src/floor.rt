@@ -181,15 +181,15 @@ impl<B: Book, A: Allocator + Copy> Floor<B, A> {
         ensures err { OnErr result (self.new ≡ self.old) }
     {
         self.book.add(*order)?;
-        let status = OrderStatus {
+        let place = order.place;
+        let noted = self.statuses.add(OrderStatus {
             session: order.session,
             id: order.id,
-            place: order.place,
+            place,
             status: 4,
-        };
-        let noted = self.statuses.add(status);
+        });
         if noted.is_err() {
-            self.book.remove(status.place);
+            self.book.remove(place);
         }
         noted
     }

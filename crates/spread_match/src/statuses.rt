@@ -1,44 +1,68 @@
 //! How each New entry so far stands, found by its session and id, and by its place.
-ghost use Rattle.std.specs.Prelude.{◌≡◌, ◌≢◌, ◌<◌, length, slice_index_or, List, All, [], ◌++◌, ◌∷◌, map, OnOk, OnErr, IfSome, IfNone};
+ghost use Rattle.std.specs.Prelude.{◌≡◌, ◌≢◌, ◌<◌, length, slice_get, slice_index_or, List, All, [], ◌++◌, ◌∷◌, map, OnOk, OnErr, IfSome, IfNone};
 ghost use Rattle.spread_rules.specs.declared.outcome.OrderStatus.{OrderStatus};
+ghost use Rattle.std.specs.Prelude.{ℕ, cond, Some, None};
 ghost use Rattle.std.specs.List.{find};
+ghost use Rattle.std.specs.Option.{option_or};
+ghost use Rattle.std.specs.Ordering.{is_eq};
+ghost use Rattle.std.specs.BTreeMap.{get};
+ghost use Rattle.spread_rules.specs.declared.id_key.IdKey.{IdKey};
+ghost use Rattle.spread_rules.specs.IdKeys.{id_key_cmp};
 ghost use Rattle.spread_rules.specs.Meaning.{has_id};
 ghost use Rattle.spread_match.specs.Kept.{renewed_by, renewed, AreInOrder};
 
 use spread_rules::fill::Fill;
 use spread_rules::id::Id;
+use spread_rules::id_key::IdKey;
 use spread_rules::memory::NoMemory;
 use spread_rules::outcome::OrderStatus;
 use std::alloc::Allocator;
+use std::collections::BTreeMap;
 use std::marker::Model;
 
 /// The status of each New entry so far, in order of place.
 #[derive(Drop)]
 pub struct Statuses<A: Allocator + Copy> {
     rows: Vec<OrderStatus, A>,
+    /// Of each session and id, where its earliest status stands.
+    first: BTreeMap<IdKey, usize, A>,
 }
 
 impl<A: Allocator + Copy> Model for Statuses<A> {
     ghost use Rattle.std.specs.Prelude.{List};
     ghost use Rattle.spread_rules.specs.declared.outcome.OrderStatus.{OrderStatus};
+    ghost use Rattle.std.specs.BTreeMap.{get};
+    ghost use Rattle.spread_rules.specs.IdKeys.{id_key_cmp};
     ghost use Rattle.spread_match.specs.Kept.{AreInOrder};
+    ghost use Rattle.spread_match.specs.Statuses.{IsIndex};
 
     ghost Value = { List OrderStatus };
 
     ghost view = { λ m. m.rows.items };
 
-    ghost invariant = { λ m. AreInOrder m.rows.items };
+    ghost invariant = { λ m. AreInOrder m.rows.items × IsIndex (get id_key_cmp m.first) m.rows.items };
 }
 
-fn find_status(statuses: &[OrderStatus], session: u8, id: &Id) -> Option<OrderStatus>
-    ensures { result ≡ find (has_id session id.now) statuses.now }
+/// Notes where a status stands, where its session and id have none yet.
+fn note_first<A: Allocator + Copy>(
+    first: &mut BTreeMap<IdKey, usize, A>,
+    key: IdKey,
+    at: usize,
+) -> Result<(), NoMemory>
+    ensures ok { OnOk result ((q : IdKey) → get id_key_cmp first.new q ≡ option_or (get id_key_cmp first.old q) (cond (is_eq (id_key_cmp key q)) (Some at) None)) }
+    ensures err { OnErr result ((q : IdKey) → get id_key_cmp first.new q ≡ get id_key_cmp first.old q) }
 {
-    for status in statuses {
-        if status.session == session && status.id.is(id) {
-            return Some(*status);
-        }
+    if first.contains_key(&key) {
+        return Ok(());
     }
-    None
+    first.insert(key, at)?;
+    Ok(())
+}
+
+fn status_at(statuses: &[OrderStatus], at: usize) -> Option<OrderStatus>
+    ensures { result ≡ slice_get statuses.now at }
+{
+    statuses.get(at).copied()
 }
 
 /// Where the status of that place stands.
@@ -74,6 +98,7 @@ impl<A: Allocator + Copy> Statuses<A> {
     {
         Statuses {
             rows: Vec::new(alloc),
+            first: BTreeMap::new(alloc),
         }
     }
 
@@ -81,7 +106,8 @@ impl<A: Allocator + Copy> Statuses<A> {
     pub fn find(&self, session: u8, id: &Id) -> Option<OrderStatus>
         ensures { result ≡ find (has_id session id.now) self.now }
     {
-        find_status(&self.rows, session, id)
+        let at = self.first.get(&IdKey::new(session, id))?;
+        status_at(&self.rows, *at)
     }
 
     /// The status of one entry more, whose place is above all others.
@@ -90,7 +116,10 @@ impl<A: Allocator + Copy> Statuses<A> {
         ensures ok { OnOk result (self.new ≡ self.old ++ status ∷ []) }
         ensures err { OnErr result (self.new ≡ self.old) }
     {
-        self.rows.push(status)?;
+        self.rows.reserve(1)?;
+        let key = IdKey::new(status.session, &status.id);
+        note_first(&mut self.first, key, self.rows.len())?;
+        self.rows.push_reserved(status);
         Ok(())
     }
 

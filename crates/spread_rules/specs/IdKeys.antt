@@ -1,6 +1,8 @@
 -- A session and an id as six numbers.
 use Rattle.std.specs.Prelude.{ℕ, ◌-◌, ◌<◌, ◌≤◌, List, ◌++◌, length, take, drop, replicate, get_or}
 use Rattle.std.specs.Int.{w64, from_le_bytes}
+use Rattle.std.specs.declared.cmp.Ordering.{Ordering}
+use Rattle.std.specs.Ordering.{nat_cmp, ordering_then}
 use Rattle.spread_rules.specs.declared.id_key.IdKey.{IdKey}
 
 -- eight bytes from there on, of the id with zeros behind it up to 32 bytes
@@ -21,3 +23,7 @@ key_of session id = record {
 pub record IsIdBytes (id : List ℕ) : Type 0 where
   pub most : length id ≤ 32
   pub small : (i : ℕ) → get_or id i 0 < 256
+
+-- the order of keys: number by number
+abbrev pub id_key_cmp : IdKey → IdKey → Ordering
+id_key_cmp a b = ordering_then (nat_cmp a.session b.session) (ordering_then (nat_cmp a.first b.first) (ordering_then (nat_cmp a.second b.second) (ordering_then (nat_cmp a.third b.third) (ordering_then (nat_cmp a.fourth b.fourth) (nat_cmp a.size b.size)))))
