@@ -1,4 +1,5 @@
 //! Worked rows: messages of a session as its client writes them, and what the session says to them.
+use crate::laws::{closed_after, closes_once, judged, lawful, said_after};
 use crate::{Session, Verdict};
 use fix_wire::{Framer, Message, Next};
 use spread_rules::event::{Event, Ticket};
@@ -642,4 +643,14 @@ fn many_messages_above_a_gap(rt: HostRuntime) -> Result<(), Fail> {
     ];
     assert_eq!(rt; got.as_slice(), want.as_slice());
     Ok(())
+}
+
+/// The laws hold of nothing but definitions, and want nothing.
+#[test]
+fn laws_hold() {
+    judged();
+    lawful();
+    said_after();
+    closed_after();
+    closes_once();
 }

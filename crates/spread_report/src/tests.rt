@@ -4,6 +4,7 @@ ghost use Rattle.std.specs.Bool.{OnTrue};
 ghost use Rattle.spread_rules.specs.Rulebook.{IsListed};
 ghost use Rattle.spread_report.specs.Conditions.{FitsFill, FitsOutcome};
 
+use crate::laws::{read_back, running};
 use crate::{Desk, DeskFault};
 use spread_rules::event::{Entry, Event, Ticket};
 use spread_rules::fill::Fill;
@@ -862,4 +863,11 @@ fn stamps(rt: HostRuntime) -> Result<(), Fail> {
         )
     );
     Ok(())
+}
+
+/// The laws hold of nothing but definitions, and want nothing.
+#[test]
+fn laws_hold() {
+    read_back();
+    running();
 }

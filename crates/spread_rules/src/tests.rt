@@ -1,13 +1,15 @@
 ghost use Rattle.std.specs.Prelude.{neg_ℤ, pos, ◌≤ℤ◌};
 ghost use Rattle.spread_rules.specs.Candidates.{HasSmallPrice};
 
-use crate::candidate::{Choice, Members};
+use crate::candidate::{
+    Choice, Counterparty, Members, Rank, better, candidate_for, chosen, is_within, price_at, ranking,
+};
 use crate::id::Id;
 use crate::id_key::IdKey;
 use crate::laws::{one_key, one_rulebook, quiet};
 use crate::memory::NoMemory;
 use crate::order::{Instrument, Order, Side};
-use crate::plain::plain_best;
+use crate::plain::{plain_best, plain_candidate};
 use crate::rule_fault::RuleFault;
 use crate::rulebook::Rulebook;
 use crate::sink::{Sink, ToWriter};
@@ -34,6 +36,7 @@ fn rulebook_read(rt: HostRuntime) -> Result<(), Fail> {
     for month in 0..rules.months() {
         let name: &[u8] = [b"H6", b"M6", b"U6"][month as usize % 3];
         assert_eq!(rt; rules.name(month), name);
+        assert_eq!(rt; rules.name_id(month).bytes(), name);
         assert_eq!(rt;
             rules.reference(month),
             [10000, 9800, 9500][month as usize % 3]
@@ -135,6 +138,47 @@ fn spread_meets_two_months(rt: HostRuntime) {
     assert_eq!(rt; plain_best(&resting, &buy), Some(choice));
     let low = order(4, Instrument::Spread(0, 1), Side::Buy, 1, 199);
     assert_eq!(rt; plain_best(&resting, &low), None);
+}
+
+/// A buyer of H6 at 10000 meets the H6-M6 spread at 200 with M6 at 9700 for less than a direct seller asks.
+#[test]
+fn candidates_ranked(rt: HostRuntime) {
+    let buy = order(5, H6, Side::Buy, 6, 10000);
+    let pair = Counterparty::Implied(
+        order(3, Instrument::Spread(0, 1), Side::Sell, 3, 200),
+        order(4, M6, Side::Sell, 4, 9700),
+    );
+    assert_eq!(rt; price_at(&buy, &pair), Some(9900));
+    assert!(rt; is_within(&buy, 10000));
+    assert!(rt; !is_within(&buy, 10001));
+    let direct = candidate_for(
+        &buy,
+        Counterparty::Direct(order(2, H6, Side::Sell, 2, 10000)),
+    );
+    match better(&buy, direct, candidate_for(&buy, pair)) {
+        None => assert!(rt; false, "no candidate"),
+        Some(best) => {
+            let rank = Rank {
+                cost: 9900,
+                implied: true,
+                month: 1,
+                first: 3,
+                second: 4,
+            };
+            assert_eq!(rt; ranking(&buy, &best), rank);
+            let choice = Choice {
+                price: 9900,
+                quantity: 3,
+                members: Members::Implied(3, 4),
+            };
+            assert_eq!(rt; chosen(&buy, &best), choice);
+        }
+    }
+    let resting = [order(2, H6, Side::Sell, 2, 10000)];
+    match plain_candidate(&resting, &buy) {
+        None => assert!(rt; false, "no candidate"),
+        Some(found) => assert_eq!(rt; found.price, 10000),
+    }
 }
 
 #[test]
