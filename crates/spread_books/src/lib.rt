@@ -2,6 +2,10 @@
 #![tactic(auto)]
 
 pub mod book;
+mod first_from;
+pub mod index;
 pub mod list;
+mod own_key;
+mod queue_key;
 #[cfg(test)]
 mod tests;
