@@ -1,9 +1,11 @@
-ghost use Rattle.std.specs.Prelude.{◌≡◌};
+ghost use Rattle.std.specs.Prelude.{◌≡◌, []};
 
 use crate::book::Book;
+use crate::index::IndexBook;
 use crate::list::ListBook;
 use spread_rules::id::Id;
 use spread_rules::order::{Instrument, Order, Side};
+use std::process::Abort;
 use std::test::Fail;
 
 fn id(text: &[u8]) -> Id {
@@ -36,9 +38,10 @@ fn is(found: Option<Order>, want: &Order) -> bool {
     }
 }
 
-#[test]
-fn list_book(rt: HostRuntime) -> Result<(), Fail> {
-    let mut book = ListBook::new(rt.alloc());
+/// Three sellers of one month, the second and the third at the better price.
+fn sellers<B: Book>(rt: &impl Abort, book: &mut B) -> Result<(), Fail>
+    requires { B.orders book.old ≡ [] }
+{
     assert_eq!(rt; book.len(), 0);
     let first = sell(2, b"a", 10000);
     let second = sell(3, b"b", 9900);
@@ -67,9 +70,14 @@ fn list_book(rt: HostRuntime) -> Result<(), Fail> {
     Ok(())
 }
 
-#[test]
-fn buyers_queue_by_the_highest_price(rt: HostRuntime) -> Result<(), Fail> {
-    let mut book = ListBook::new(rt.alloc());
+/// Buyers queue by the highest price, the least one at the end.
+fn buyers<B: Book>(rt: &impl Abort, book: &mut B) -> Result<(), Fail>
+    requires { B.orders book.old ≡ [] }
+{
+    let least = Order {
+        side: Side::Buy,
+        ..sell(1, b"l", i64::MIN)
+    };
     let low = Order {
         side: Side::Buy,
         ..sell(2, b"a", -300)
@@ -78,8 +86,66 @@ fn buyers_queue_by_the_highest_price(rt: HostRuntime) -> Result<(), Fail> {
         side: Side::Buy,
         ..sell(3, b"b", -200)
     };
+    book.add(least)?;
+    assert!(rt; is(book.front(Instrument::Outright(0), Side::Buy), &least));
     book.add(low)?;
+    assert!(rt; is(book.front(Instrument::Outright(0), Side::Buy), &low));
     book.add(high)?;
     assert!(rt; is(book.front(Instrument::Outright(0), Side::Buy), &high));
     Ok(())
+}
+
+fn stands_alone<B: Book>(rt: &impl Abort, book: &B, order: &Order) {
+    assert!(rt; is(book.front(order.instrument, Side::Sell), order));
+    assert_eq!(rt; book.front(order.instrument, Side::Buy), None);
+}
+
+/// A month, and spreads of every two numbers of a kind, stand in queues of their own. Of two orders with one id the earlier is found.
+fn queues_apart<B: Book>(rt: &impl Abort, book: &mut B) -> Result<(), Fail>
+    requires { B.orders book.old ≡ [] }
+{
+    let far = Order {
+        instrument: Instrument::Spread(0, 3),
+        ..sell(1, b"a", 5)
+    };
+    let near = Order {
+        instrument: Instrument::Spread(3, 0),
+        ..sell(2, b"a", 4)
+    };
+    let last = Order {
+        instrument: Instrument::Outright(255),
+        ..sell(3, b"a\0", 3)
+    };
+    let most = Order {
+        instrument: Instrument::Spread(255, 255),
+        ..sell(4, b"a", i64::MAX)
+    };
+    book.add(far)?;
+    book.add(near)?;
+    book.add(last)?;
+    book.add(most)?;
+    stands_alone(rt, book, &far);
+    stands_alone(rt, book, &near);
+    stands_alone(rt, book, &last);
+    stands_alone(rt, book, &most);
+    assert_eq!(rt; book.front(Instrument::Spread(0, 0), Side::Sell), None);
+    assert_eq!(rt; book.front(Instrument::Outright(3), Side::Sell), None);
+    assert!(rt; is(book.find(1, &id(b"a")), &far));
+    assert!(rt; is(book.find(1, &id(b"a\0")), &last));
+    assert_eq!(rt; book.find(1, &id(b"a\0\0")), None);
+    Ok(())
+}
+
+#[test]
+fn list_book(rt: HostRuntime) -> Result<(), Fail> {
+    sellers(&rt, &mut ListBook::new(rt.alloc()))?;
+    buyers(&rt, &mut ListBook::new(rt.alloc()))?;
+    queues_apart(&rt, &mut ListBook::new(rt.alloc()))
+}
+
+#[test]
+fn index_book(rt: HostRuntime) -> Result<(), Fail> {
+    sellers(&rt, &mut IndexBook::new(rt.alloc()))?;
+    buyers(&rt, &mut IndexBook::new(rt.alloc()))?;
+    queues_apart(&rt, &mut IndexBook::new(rt.alloc()))
 }
