@@ -90,7 +90,7 @@ head_size h = ap length (line_is h.duplicate h.kind (decimal h.number) h.sender 
 
 -- ---- as the code appends them
 
-step : (o o1 o2 a b : List ℕ) → o2 ≡ o1 ++ b → o1 ≡ o ++ a → o2 ≡ o ++ (a ++ b)
+pub step : (o o1 o2 a b : List ℕ) → o2 ≡ o1 ++ b → o1 ≡ o ++ a → o2 ≡ o ++ (a ++ b)
 step o o1 o2 a b e f = e ∙ ap (λ t. t ++ b) f ∙ append_assoc o a b
 
 pub head_appended : (h : Head) (o o1 o2 o3 o4 o5 o6 o7 o8 : List ℕ) →

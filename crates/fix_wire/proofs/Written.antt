@@ -376,3 +376,13 @@ read_back_is h fs fits = record {
   same = written_fields h fs fits;
   first = λ more. read_first (message_text h fs) more (written_frame h fs fits);
 }
+
+-- ---- room made behind a list leaves the list at the front
+
+pub front_stays : (ok : Bool) (o r fill : List ℕ) (start n : ℕ) → r ≡ cond ok (take n o ++ fill) o → start ≡ length o → start ≤ n → take start r ≡ o
+front_stays true o r fill start n e s l = ap (take start) (e ∙ ap (λ t. t ++ fill) (take_all n o (omega (arith, s, l)))) ∙ take_at o fill start (sym s)
+front_stays false o r fill start n e s l = ap (take start) e ∙ take_all start o (omega (arith, s))
+
+-- what was written to all of a list's places is what it has
+pub written_back : (r x : List ℕ) (k end : ℕ) → length r ≡ k → take end (take k (r ++ drop (length r) x)) ≡ take end r
+written_back r x k end e = ap (take end) (take_at r (drop (length r) x) k e)

@@ -1,10 +1,11 @@
 //! A message in its one spelling: its parts, and the call that appends it.
-ghost use Rattle.std.specs.Prelude.{◌≡◌, ◌++◌, ◌≤◌, ◌*◌, ◌+◌, ◌^◌, ◌-◌, min, OnOk, OnErr, length};
+ghost use Rattle.std.specs.Prelude.{◌≡◌, ◌++◌, ◌≤◌, ◌*◌, ◌+◌, ◌^◌, ◌-◌, min, OnOk, OnErr, length, take};
+ghost use Rattle.std.specs.List.{AllByRecursion};
 ghost use Rattle.std.specs.Vec.{vec_len, vec_capacity};
-ghost use Rattle.fix_wire.specs.Layout.{body_text, message_text, FitsKind, FitsTags, FitsBody, IsReadBack};
+ghost use Rattle.fix_wire.specs.Layout.{body_text, message_text, FitsKind, FitsTags, FitsBody, FitsTypes, FitsValueOf, IsReadBack};
 
 use crate::lengths::body_length;
-use crate::spelling::{append_begin, append_checksum, append_fields, append_head};
+use crate::spelling::{put_begin, put_checksum, put_fields, put_head};
 use spread_rules::id::Id;
 use spread_rules::memory::NoMemory;
 use std::alloc::Allocator;
@@ -55,11 +56,26 @@ pub fn write_message<A: Allocator>(
     // Where the kind isn't byte 1, tags have 1 to 9 digits and the body fits, it is a lawful frame with exactly its fields.
     ensures lawful { OnOk result (FitsKind head.now → FitsTags fields.now → FitsBody head.now fields.now → IsReadBack head.now fields.now) }
 {
-    out.reserve(room_for(fields.len()))?;
+    let most = room_for(fields.len());
+    out.reserve(most)?;
     let start = out.as_slice().len();
-    append_begin(out, body_length(head, fields));
-    append_head(out, head);
-    append_fields(out, fields);
-    append_checksum(out, start);
+    let _ = out.resize(start + most, 0);
+    let end = put_message(out.as_mut_slice(), start, head, fields);
+    out.truncate(end);
     Ok(())
+}
+
+/// Writes a message at that place, and tells where it ends.
+fn put_message(room: &mut [u8], start: usize, head: &Head, fields: &[Field]) -> usize
+    requires within { start + 64 * length fields.now + 240 ≤ length room.old }
+    ensures text { take result room.new ≡ take start room.old ++ message_text head.now fields.now }
+    ensures size { length room.new ≡ length room.old }
+    ensures short { length (body_text head.now fields.now) ≤ 64 * length fields.now + 180 }
+    ensures types { FitsTypes head.now }
+    ensures values { AllByRecursion FitsValueOf fields.now }
+{
+    let body = put_begin(room, start, body_length(head, fields));
+    let rest = put_head(room, body, head);
+    let end = put_fields(room, rest, fields);
+    put_checksum(room, start, end)
 }
