@@ -1,5 +1,5 @@
 -- The first message of a text is found in as many bytes as a framer has room for.
-use Rattle.std.proofs.Common.{◌≡◌, ℕ, ◌<◌, ◌≤◌, true, false, List, [], ◌∷◌, ◌++◌, length, take, drop, min, Some, None, sym, ap, ◌∙◌, subst, arith}
+use Rattle.std.proofs.Common.{◌≡◌, ℕ, ◌<◌, ◌≤◌, false, List, [], ◌∷◌, length, take, drop, min, Some, None, sym, subst, arith}
 use Rattle.std.proofs.lemmas.List.{take-append-drop, length-take-le, take_all}
 use Rattle.fix_wire.specs.declared.frame.Front.TheVariants.{Frame, Partial, Garbled}
 use Rattle.fix_wire.specs.Frames.{frame_at, may_begin, frames, IsFrame}

@@ -41,13 +41,11 @@ body_is h fs = ap (λ t. flat_map field_text (head_fields h) ++ t) (sym (flat_ma
 
 -- ---- fields one after another
 
-pub length_more : (fs : List given.Field) (i : ℕ) (f : given.Field) → i < length fs → f ≡ get_or fs i f →
-    length (flat_map (λ f. field_text (field_of_given f)) (take (i + 1) fs)) ≡ length (flat_map (λ f. field_text (field_of_given f)) (take i fs)) + length (field_text (field_of_given f))
-length_more fs i f l e =
+pub fields_more : (before : List ℕ) (fs : List given.Field) (i : ℕ) (f : given.Field) → i < length fs → f ≡ get_or fs i f →
+    (before ++ flat_map (λ f. field_text (field_of_given f)) (take i fs)) ++ field_text (field_of_given f) ≡ before ++ flat_map (λ f. field_text (field_of_given f)) (take (i + 1) fs)
+fields_more before fs i f l e =
     let g = λ (x : given.Field). field_text (field_of_given x) in
-    ap (λ t. length (flat_map g t)) (take_more fs i f l ∙ ap (λ x. take i fs ++ x ∷ []) (sym e))
-    ∙ ap length (sym (flat_map_more g [] (take i fs) f))
-    ∙ length-append (flat_map g (take i fs)) (g f)
+    flat_map_more g before (take i fs) f ∙ ap (λ t. before ++ flat_map g t) (sym (take_more fs i f l ∙ ap (λ x. take i fs ++ x ∷ []) (sym e)))
 
 -- what holds of each of the first, and of the next, holds of one more
 pub all_more : (P : given.Field → Type 0) (fs : List given.Field) (i : ℕ) (f : given.Field) → i < length fs → f ≡ get_or fs i f → AllByRecursion P (take i fs) → P f → AllByRecursion P (take (i + 1) fs)
@@ -57,22 +55,10 @@ all_more P fs i f l e all one = subst (AllByRecursion P) (sym (take_more fs i f 
     all_append [] h = (one, tt)
     all_append (x ∷ xs) h = (h.0, all_append xs h.1)
 
--- a message as the code appends it
-pub message_appended : (h : Head) (fs : List given.Field) (n start : ℕ) (o o1 o2 o3 o4 : List ℕ) → n ≡ length (body_text h fs) → start ≡ length o →
-    o1 ≡ o ++ (begin_text ++ (decimal n ++ 1 ∷ [])) → o2 ≡ o1 ++ flat_map field_text (head_fields h) → o3 ≡ o2 ++ flat_map (λ f. field_text (field_of_given f)) fs →
+-- the CheckSum behind what it sums
+pub message_closed : (h : Head) (fs : List given.Field) (start : ℕ) (o o3 o4 : List ℕ) → start ≡ length o → o3 ≡ o ++ summed_text (body_text h fs) →
     o4 ≡ o3 ++ checksum_field (sum (drop start o3) % 256) → o4 ≡ o ++ message_text h fs
-message_appended h fs n start o o1 o2 o3 o4 len begins e1 e2 e3 e4 =
-    let head = flat_map field_text (head_fields h) in
-    let rest = flat_map (λ f. field_text (field_of_given f)) fs in
-    let front = begin_text ++ (decimal n ++ 1 ∷ []) in
-    let all : o3 ≡ o ++ ((front ++ head) ++ rest) =
-    e3 ∙ ap (λ t. t ++ rest) (e2 ∙ ap (λ t. t ++ head) e1 ∙ append_assoc o front head) ∙ append_assoc o (front ++ head) rest in
-    let same : (front ++ head) ++ rest ≡ summed_text (body_text h fs) =
-    append_assoc front head rest
-    ∙ ap (λ t. front ++ t) (body_is h fs)
-    ∙ ap (λ t. begin_text ++ t) (append_assoc (decimal n) (1 ∷ []) (body_text h fs))
-    ∙ ap (λ k. begin_text ++ (decimal k ++ 1 ∷ body_text h fs)) len in
-    let written = all ∙ ap (λ t. o ++ t) same in
+message_closed h fs start o o3 o4 begins written e4 =
     let summed = ap (drop start) written ∙ drop_at o (summed_text (body_text h fs)) start (sym begins) in
     e4 ∙ ap (λ t. o3 ++ checksum_field (sum t % 256)) summed
     ∙ ap (λ t. t ++ checksum_field (sum (summed_text (body_text h fs)) % 256)) written
@@ -376,13 +362,3 @@ read_back_is h fs fits = record {
   same = written_fields h fs fits;
   first = λ more. read_first (message_text h fs) more (written_frame h fs fits);
 }
-
--- ---- room made behind a list leaves the list at the front
-
-pub front_stays : (ok : Bool) (o r fill : List ℕ) (start n : ℕ) → r ≡ cond ok (take n o ++ fill) o → start ≡ length o → start ≤ n → take start r ≡ o
-front_stays true o r fill start n e s l = ap (take start) (e ∙ ap (λ t. t ++ fill) (take_all n o (omega (arith, s, l)))) ∙ take_at o fill start (sym s)
-front_stays false o r fill start n e s l = ap (take start) e ∙ take_all start o (omega (arith, s))
-
--- what was written to all of a list's places is what it has
-pub written_back : (r x : List ℕ) (k end : ℕ) → length r ≡ k → take end (take k (r ++ drop (length r) x)) ≡ take end r
-written_back r x k end e = ap (take end) (take_at r (drop (length r) x) k e)

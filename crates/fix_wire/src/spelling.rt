@@ -1,9 +1,9 @@
 //! The parts of a message, each written into room behind the part before it. A writer is told where to begin, and tells where
 //! it ended: so the place stays in a register, which a list's own length would not.
-ghost use Rattle.std.specs.Prelude.{◌≡◌, ◌++◌, ◌∷◌, [], ◌<◌, ◌≤◌, ◌*◌, ◌+◌, ◌%◌, sum, take, drop, length, decimal};
-ghost use Rattle.std.specs.List.{flat_map};
+ghost use Rattle.std.specs.Prelude.{◌≡◌, ◌++◌, ◌∷◌, [], ◌<◌, ◌≤◌, ◌*◌, ◌+◌, ◌%◌, sum, set, take, drop, length, decimal, ◌/◌, ◌^◌};
+ghost use Rattle.std.specs.List.{flat_map, AllByRecursion};
 ghost use Rattle.fix_wire.specs.Frames.{begin_text, checksum_field};
-ghost use Rattle.fix_wire.specs.Layout.{two_digits, price_text, value_text, field_text, head_fields, field_of_given};
+ghost use Rattle.fix_wire.specs.Layout.{two_digits, price_text, value_text, field_text, head_fields, field_of_given, body_text, summed_text, FitsTypes, FitsValueOf, FitsValue};
 ghost use Rattle.fix_wire.specs.Spelling.{kind_text, orig_text};
 
 use crate::frame::{BEGIN_TEXT, checksum, checksum_digits};
@@ -35,10 +35,14 @@ fn put_byte(room: &mut [u8], at: usize, byte: u8) -> usize
 
 /// The last two digits of a number.
 #[inline(always)]
-fn last_two(number: u64) -> [u8; 2]
-    ensures { result ≡ two_digits number }
+fn put_two(room: &mut [u8], at: usize, number: u64) -> usize
+    requires within { at + 2 ≤ length room.old }
+    ensures text { take result room.new ≡ take at room.old ++ two_digits number }
+    ensures end { result ≡ at + 2 }
+    ensures size { length room.new ≡ length room.old }
 {
-    [b'0' + (number / 10 % 10) as u8, b'0' + (number % 10) as u8]
+    let ones = put_byte(room, at, b'0' + (number / 10 % 10) as u8);
+    put_byte(room, ones, b'0' + (number % 10) as u8)
 }
 
 /// A number of at most four digits.
@@ -53,17 +57,35 @@ fn put_short(room: &mut [u8], at: usize, number: u64) -> usize
     if number < 10 {
         put_byte(room, at, b'0' + number as u8)
     } else if number < 100 {
-        put(room, at, &last_two(number))
+        put_two(room, at, number)
     } else if number < 1_000 {
         let rest = put_byte(room, at, b'0' + (number / 100) as u8);
-        put(room, rest, &last_two(number))
+        put_two(room, rest, number)
     } else {
-        let rest = put(room, at, &last_two(number / 100));
-        put(room, rest, &last_two(number))
+        let rest = put_two(room, at, number / 100);
+        put_two(room, rest, number)
+    }
+}
+
+/// A number of at least five digits.
+fn put_long(room: &mut [u8], at: usize, number: u64) -> usize
+    requires long { 10000 ≤ number }
+    requires within { at + 20 ≤ length room.old }
+    ensures text { take result room.new ≡ take at room.old ++ decimal number }
+    ensures most { result ≤ at + 20 }
+    ensures size { length room.new ≡ length room.old }
+{
+    if number < 100_000_000 {
+        let tens = put_short(room, at, number / 10_000);
+        let ones = put_two(room, tens, number / 100);
+        put_two(room, ones, number)
+    } else {
+        put(room, at, Buffer::new().format(number).as_bytes())
     }
 }
 
 /// A number. Most have few digits, and those are written without a loop.
+#[inline(always)]
 fn put_number(room: &mut [u8], at: usize, number: u64) -> usize
     requires within { at + 20 ≤ length room.old }
     ensures text { take result room.new ≡ take at room.old ++ decimal number }
@@ -72,12 +94,8 @@ fn put_number(room: &mut [u8], at: usize, number: u64) -> usize
 {
     if number < 10_000 {
         put_short(room, at, number)
-    } else if number < 100_000_000 {
-        let tens = put_short(room, at, number / 10_000);
-        let ones = put(room, tens, &last_two(number / 100));
-        put(room, ones, &last_two(number))
     } else {
-        put(room, at, Buffer::new().format(number).as_bytes())
+        put_long(room, at, number)
     }
 }
 
@@ -94,13 +112,14 @@ fn put_price(room: &mut [u8], at: usize, price: i64) -> usize
     }
     let point = put_number(room, whole, size / 100);
     let part = put_byte(room, point, b'.');
-    put(room, part, &last_two(size % 100))
+    put_two(room, part, size % 100)
 }
 
 fn put_value(room: &mut [u8], at: usize, value: &Value) -> usize
     requires within { at + 41 ≤ length room.old }
     ensures text { take result room.new ≡ take at room.old ++ value_text value.now }
     ensures most { result ≤ at + 41 }
+    ensures fits { FitsValue value.now }
     ensures size { length room.new ≡ length room.old }
 {
     match value {
@@ -119,6 +138,7 @@ fn put_field(room: &mut [u8], at: usize, field: &Field) -> usize
     requires within { at + 63 ≤ length room.old }
     ensures text { take result room.new ≡ take at room.old ++ field_text (field_of_given field.now) }
     ensures most { result ≤ at + 63 }
+    ensures fits { FitsValueOf field.now }
     ensures size { length room.new ≡ length room.old }
 {
     let equals = put_number(room, at, u64::from(field.tag));
@@ -127,10 +147,11 @@ fn put_field(room: &mut [u8], at: usize, field: &Field) -> usize
     put_byte(room, end, 1)
 }
 
-pub(crate) fn put_fields(room: &mut [u8], at: usize, fields: &[Field]) -> usize
+fn put_fields(room: &mut [u8], at: usize, fields: &[Field]) -> usize
     requires within { at + 64 * length fields.now ≤ length room.old }
     ensures text { take result room.new ≡ take at room.old ++ flat_map (λ f. field_text (field_of_given f)) fields.now }
     ensures most { result ≤ at + 64 * length fields.now }
+    ensures values { AllByRecursion FitsValueOf fields.now }
     ensures size { length room.new ≡ length room.old }
 {
     let mut end = at;
@@ -142,9 +163,10 @@ pub(crate) fn put_fields(room: &mut [u8], at: usize, fields: &[Field]) -> usize
 
 /// MsgType, MsgSeqNum, and PossDupFlag in a duplicate; then the tag of SenderCompID.
 fn put_kind(room: &mut [u8], at: usize, head: &Head) -> usize
-    requires within { at + 40 ≤ length room.old }
+    requires within { at + 37 ≤ length room.old }
     ensures text { take result room.new ≡ take at room.old ++ kind_text head.now }
-    ensures most { result ≤ at + 40 }
+    ensures most { result ≤ at + 37 }
+    ensures range { head.now.number < 2 ^ 64 }
     ensures size { length room.new ≡ length room.old }
 {
     let kind = [b'3', b'5', b'=', head.kind, 1, b'3', b'4', b'='];
@@ -172,10 +194,11 @@ fn put_orig_time(room: &mut [u8], at: usize, head: &Head) -> usize
     }
 }
 
-pub(crate) fn put_head(room: &mut [u8], at: usize, head: &Head) -> usize
-    requires within { at + 200 ≤ length room.old }
+fn put_head(room: &mut [u8], at: usize, head: &Head) -> usize
+    requires within { at + 180 ≤ length room.old }
     ensures text { take result room.new ≡ take at room.old ++ flat_map field_text (head_fields head.now) }
-    ensures most { result ≤ at + 200 }
+    ensures most { result ≤ at + 180 }
+    ensures types { FitsTypes head.now }
     ensures size { length room.new ≡ length room.old }
 {
     let sender = put_kind(room, at, head);
@@ -188,8 +211,22 @@ pub(crate) fn put_head(room: &mut [u8], at: usize, head: &Head) -> usize
     put_byte(room, end, 1)
 }
 
+/// MsgType to the last field.
+fn put_body(room: &mut [u8], at: usize, head: &Head, fields: &[Field]) -> usize
+    requires within { at + 64 * length fields.now + 180 ≤ length room.old }
+    ensures text { take result room.new ≡ take at room.old ++ body_text head.now fields.now }
+    ensures end { result ≡ at + length (body_text head.now fields.now) }
+    ensures most { result ≤ at + 64 * length fields.now + 180 }
+    ensures size { length room.new ≡ length room.old }
+    ensures types { FitsTypes head.now }
+    ensures values { AllByRecursion FitsValueOf fields.now }
+{
+    let rest = put_head(room, at, head);
+    put_fields(room, rest, fields)
+}
+
 /// BeginString, and the BodyLength of a body of that length.
-pub(crate) fn put_begin(room: &mut [u8], at: usize, body_length: usize) -> usize
+fn put_begin(room: &mut [u8], at: usize, body_length: usize) -> usize
     requires within { at + 33 ≤ length room.old }
     ensures text { take result room.new ≡ take at room.old ++ (begin_text ++ (decimal body_length ++ 1 ∷ [])) }
     ensures most { result ≤ at + 33 }
@@ -198,6 +235,40 @@ pub(crate) fn put_begin(room: &mut [u8], at: usize, body_length: usize) -> usize
     let length = put(room, at, &BEGIN_TEXT);
     let end = put_number(room, length, body_length as u64);
     put_byte(room, end, 1)
+}
+
+/// Three digits of a number, in place of the three bytes that stand there.
+fn set_three(room: &mut [u8], at: usize, number: usize)
+    requires three { number < 1000 }
+    requires within { at + 3 ≤ length room.old }
+    ensures { room.new ≡ set (set (set room.old at (48 + number / 100)) (at + 1) (48 + number / 10 % 10)) (at + 2) (48 + number % 10) }
+{
+    room[at] = b'0' + (number / 100) as u8;
+    room[at + 1] = b'0' + (number / 10 % 10) as u8;
+    room[at + 2] = b'0' + (number % 10) as u8;
+}
+
+/// BeginString to the last field. Most bodies have a length of three digits, so three are left open and set once the body is
+/// written. A body of another length is written again, behind its length.
+pub(crate) fn put_summed(room: &mut [u8], start: usize, head: &Head, fields: &[Field]) -> usize
+    requires within { start + 64 * length fields.now + 220 ≤ length room.old }
+    ensures text { take result room.new ≡ take start room.old ++ summed_text (body_text head.now fields.now) }
+    ensures least { start ≤ result }
+    ensures most { result ≤ start + 64 * length fields.now + 220 }
+    ensures size { length room.new ≡ length room.old }
+    ensures short { length (body_text head.now fields.now) ≤ 64 * length fields.now + 180 }
+    ensures types { FitsTypes head.now }
+    ensures values { AllByRecursion FitsValueOf fields.now }
+{
+    let body = put(room, start, b"8=FIX.4.2\x019=000\x01");
+    let end = put_body(room, body, head, fields);
+    let count = end - body;
+    if 100 <= count && count < 1_000 {
+        set_three(room, start + 12, count);
+        return end;
+    }
+    let second = put_begin(room, start, count);
+    put_body(room, second, head, fields)
 }
 
 /// The CheckSum of all bytes from one place to the other.

@@ -4,8 +4,7 @@ ghost use Rattle.std.specs.List.{AllByRecursion};
 ghost use Rattle.std.specs.Vec.{vec_len, vec_capacity};
 ghost use Rattle.fix_wire.specs.Layout.{body_text, message_text, FitsKind, FitsTags, FitsBody, FitsTypes, FitsValueOf, IsReadBack};
 
-use crate::lengths::body_length;
-use crate::spelling::{put_begin, put_checksum, put_fields, put_head};
+use crate::spelling::{put_checksum, put_summed};
 use spread_rules::id::Id;
 use spread_rules::memory::NoMemory;
 use std::alloc::Allocator;
@@ -74,8 +73,6 @@ fn put_message(room: &mut [u8], start: usize, head: &Head, fields: &[Field]) -> 
     ensures types { FitsTypes head.now }
     ensures values { AllByRecursion FitsValueOf fields.now }
 {
-    let body = put_begin(room, start, body_length(head, fields));
-    let rest = put_head(room, body, head);
-    let end = put_fields(room, rest, fields);
+    let end = put_summed(room, start, head, fields);
     put_checksum(room, start, end)
 }

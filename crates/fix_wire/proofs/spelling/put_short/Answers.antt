@@ -1,4 +1,4 @@
-use Rattle.std.proofs.Common.{◌<◌, ◌++◌, ◌∷◌, [], take, sym, ap, ◌∙◌}
+use Rattle.std.proofs.Common.{◌++◌, take, sym, ap, ◌∙◌}
 use Rattle.std.proofs.lemmas.Fmt.{decimal_digit}
 use Rattle.fix_wire.proofs.HeadText.{step}
 use Rattle.fix_wire.proofs.Numbers.{two_only, three_digits, four_digits}
@@ -10,18 +10,14 @@ returns-then-number-lt10-clause-text c =
 
 pub returns-then-number-lt100-clause-text : goal.returns-then-number-lt100-clause-text
 returns-then-number-lt100-clause-text c =
-    c.put.ensures.text
-    ∙ ap (λ t. take c.args.at c.args.room.now ++ t) (c.last_two.ensures ∙ sym (two_only c.args.number c.if-number-lt10.false c.if-number-lt100.true))
+    c.put_two.ensures.text ∙ ap (λ t. take c.args.at c.args.room.now ++ t) (sym (two_only c.args.number c.if-number-lt10.false c.if-number-lt100.true))
 
 pub returns-then-number-lt1000-clause-text : goal.returns-then-number-lt1000-clause-text
 returns-then-number-lt1000-clause-text c =
-    let ones = c.put-then-number-lt1000.ensures.text ∙ ap (λ t. take c.put_byte-rest.result c.put_byte-rest.new.room ++ t) c.last_two-then-number-lt1000.ensures in
-    step _ _ _ _ _ ones c.put_byte-rest.ensures.text
+    step _ _ _ _ _ c.put_two-then-number-lt1000.ensures.text c.put_byte-rest.ensures.text
     ∙ ap (λ t. take c.args.at c.args.room.now ++ t) (sym (three_digits c.args.number c.if-number-lt100.false c.if-number-lt1000.true))
 
 pub returns-else-number-lt1000-clause-text : goal.returns-else-number-lt1000-clause-text
 returns-else-number-lt1000-clause-text c =
-    let tens = c.put-rest.ensures.text ∙ ap (λ t. take c.args.at c.args.room.now ++ t) c.last_two-else-number-lt1000.ensures in
-    let ones = c.put-else-number-lt1000.ensures.text ∙ ap (λ t. take c.put-rest.result c.put-rest.new.room ++ t) c.last_two-else-number-lt1000-2.ensures in
-    step _ _ _ _ _ ones tens
+    step _ _ _ _ _ c.put_two-else-number-lt1000.ensures.text c.put_two-rest.ensures.text
     ∙ ap (λ t. take c.args.at c.args.room.now ++ t) (sym (four_digits c.args.number c.if-number-lt1000.false c.requires.short))

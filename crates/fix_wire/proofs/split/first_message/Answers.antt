@@ -1,4 +1,4 @@
-use Rattle.std.proofs.Common.{rules, ◌≡◌, ℕ, ◌∷◌, ◌≤◌, length, take, drop, sym, ap, ◌∙◌, arith, List}
+use Rattle.std.proofs.Common.{rules, ℕ, ◌∷◌, length, drop, sym, ap, ◌∙◌, arith, List}
 use Rattle.std.proofs.lemmas.List.{take_rest, length-take-le, length-drop}
 use Rattle.fix_wire.specs.Frames.{frames}
 use Rattle.fix_wire.proofs.Splits.{near_lawful, near_within, near_first, near_partial, near_nothing}
