@@ -1,5 +1,5 @@
 -- Words of the code alone: what it finds at the front of a text, and digits up to a limit.
-use Rattle.std.specs.Prelude.{ℕ, ◌+◌, Bool, ◌||◌, nat_lt, if◌then◌else◌, List, Option, Some, None, option_map, length, take, drop, find, unwrap_or, ◌==◌, [], min}
+use Rattle.std.specs.Prelude.{ℕ, ◌+◌, Bool, ◌||◌, nat_lt, if◌then◌else◌, List, Option, Some, None, option_map, length, take, drop, find, unwrap_or, ◌==◌, [], min, slice_range}
 use Rattle.std.specs.Char.{is_ascii_digit}
 use Rattle.std.specs.List.{position_or_len, list_all}
 use Rattle.fix_wire.specs.declared.frame.Front.{Front}
@@ -32,8 +32,9 @@ field_up_to end body = if nat_lt end (length body) then option_map (λ f. (f, dr
 abbrev pub first_field : List ℕ → Option (TagValue × List ℕ)
 first_field body = field_up_to (position_or_len is_end body) body
 
-abbrev pub leading_field_view : LeadingField → TagValue × List ℕ
-leading_field_view p = (record { tag = p.tag; value = p.value.now }, p.rest.now)
+-- a field that stands in front of a body, and the fields after it
+abbrev pub leading_field_view : List ℕ → LeadingField → TagValue × List ℕ
+leading_field_view body p = (record { tag = p.tag; value = slice_range body p.start p.end }, drop (p.end + 1) body)
 
 -- the value of the first field of a body with that tag
 abbrev pub value_of : ℕ → List ℕ → Option (List ℕ)

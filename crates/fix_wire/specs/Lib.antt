@@ -7,6 +7,7 @@ pub mod Fronts
 pub mod Held
 pub mod FramerFields
 pub mod Lent
+pub mod Tabled
 pub mod Layout
 pub mod Spelling
 pub mod Pieces

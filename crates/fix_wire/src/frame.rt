@@ -1,5 +1,5 @@
 //! What stands at the front of a text.
-ghost use Rattle.std.specs.Prelude.{◌≡◌, ℕ, ◌+◌, ◌%◌, ◌≤◌, ◌<◌, ◌^◌, length, take, drop, sum, option_map, option_and_then, is_some, true};
+ghost use Rattle.std.specs.Prelude.{◌≡◌, ℕ, ◌+◌, ◌%◌, ◌≤◌, ◌<◌, ◌^◌, length, take, drop, sum, option_map, option_and_then, is_some, true, IfSome};
 ghost use Rattle.std.specs.List.{position_or_len};
 ghost use Rattle.std.specs.Str.{bytes_eq};
 ghost use Rattle.memchr.specs.Find.{is_byte};
@@ -33,12 +33,12 @@ pub enum Front {
     Garbled,
 }
 
-/// A field, and the fields after it.
+/// Where the first field of a text stands: its value is from start to end, where its byte 1 is.
 #[derive(Clone, Copy)]
-pub struct LeadingField<'a> {
+pub struct LeadingField {
     pub tag: u32,
-    pub value: &'a [u8],
-    pub rest: &'a [u8],
+    pub start: usize,
+    pub end: usize,
 }
 
 /// The place of the first such byte, or the length where there is none.
@@ -114,8 +114,11 @@ pub(crate) fn next_begin(text: &[u8]) -> usize
 }
 
 /// The first field of a body.
-pub(crate) fn first_field(body: &[u8]) -> Option<LeadingField<'_>>
-    ensures { option_map leading_field_view result ≡ first_field body.now }
+pub(crate) fn first_field(body: &[u8]) -> Option<LeadingField>
+    ensures field { option_map (leading_field_view body.now) result ≡ first_field body.now }
+    ensures order { IfSome result (λ p. p.start ≤ p.end) }
+    ensures within { IfSome result (λ p. p.end < length body.now) }
+    ensures range { IfSome result (λ p. p.end + 1 < 2 ^ 64) }
 {
     let end = near_place_of(1, body);
     if end == body.len() {
@@ -129,21 +132,21 @@ pub(crate) fn first_field(body: &[u8]) -> Option<LeadingField<'_>>
     match limited_digits(&text[..digits]) {
         Some(tag) => Some(LeadingField {
             tag: tag as u32,
-            value: &text[digits + 1..],
-            rest: &body[end + 1..],
+            start: digits + 1,
+            end,
         }),
         None => None,
     }
 }
 
 /// Whether a text is a row of fields.
-fn are_fields(text: &[u8]) -> bool
+pub(crate) fn are_fields(text: &[u8]) -> bool
     ensures { result ≡ is_some (fields_of_body text.now) }
 {
     let mut rest = text;
     while !rest.is_empty() {
         match first_field(rest) {
-            Some(field) => rest = field.rest,
+            Some(field) => rest = &rest[field.end + 1..],
             None => return false,
         }
     }

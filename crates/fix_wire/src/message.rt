@@ -1,12 +1,13 @@
 //! A message, which is a lawful frame.
 ghost use Rattle.std.specs.Prelude.{◌≡◌, ℕ, ◌+◌, ◌<◌, ◌≤◌, ◌^◌, length, List, Option, IsSome, IfSome, ◌↔◌, option_map, Some, is_some, true};
 ghost use Rattle.std.specs.Option.{option_copied};
-ghost use Rattle.fix_wire.specs.Fronts.{value_of};
 ghost use Rattle.fix_wire.specs.Frames.{IsFrame, header, body_at};
 ghost use Rattle.fix_wire.specs.Fields.{fields_of_body};
+ghost use Rattle.fix_wire.specs.Tabled.{IsTable};
 ghost use Rattle.fix_wire.specs.Messages.{kind, get, number};
 
-use crate::frame::{FrameHeader, Front, first_field, front_of, header_of};
+use crate::frame::{FrameHeader, Front, front_of, header_of};
+use crate::table::{FieldTable, first_value, table_of, value_of};
 use crate::values::read_number;
 
 /// The length of the longest frame: `8=FIX.4.2|9=`, eight digits, byte 1, 4,096 bytes of body and seven of CheckSum.
@@ -17,8 +18,10 @@ pub const LONGEST: usize = 4124;
 pub struct Message<'a> {
     frame: &'a [u8],
     head: FrameHeader,
+    table: FieldTable,
     pub ghost lawful: { IsFrame frame.now },
     pub ghost claimed: { header frame.now ≡ Some head },
+    pub ghost tabled: { IsTable (body_at frame.now head) table },
 }
 
 impl<'a> Message<'a> {
@@ -30,9 +33,8 @@ impl<'a> Message<'a> {
         if bytes.len() > LONGEST {
             return None;
         }
-        let head = header_of(bytes)?;
         match front_of(bytes) {
-            Front::Frame(n) if n == bytes.len() => Some(Message { frame: bytes, head }),
+            Front::Frame(n) if n == bytes.len() => Some(Message::of_frame(bytes)),
             _ => None,
         }
     }
@@ -56,17 +58,14 @@ impl<'a> Message<'a> {
     pub fn kind(&self) -> &'a [u8]
         ensures { result.now ≡ kind self.now.frame.now }
     {
-        match first_field(self.body()) {
-            Some(field) => field.value,
-            None => &[],
-        }
+        first_value(self.body(), &self.table)
     }
 
     /// The value of the first field with that tag.
     pub fn get(&self, tag: u32) -> Option<&'a [u8]>
         ensures { option_copied result ≡ get tag self.now.frame.now }
     {
-        value_in(self.body(), tag)
+        value_of(self.body(), &self.table, tag)
     }
 
     /// Its number, where it can be read and is at least 1.
@@ -86,26 +85,8 @@ impl<'a> Message<'a> {
         ensures { result.frame.now ≡ frame.now }
     {
         let head = header_of(frame).unwrap();
-        Message { frame, head }
+        let body = &frame[head.body_start..head.body_start + head.body_length];
+        let table = table_of(body).unwrap();
+        Message { frame, head, table }
     }
-}
-
-/// The value of the first field of a body with that tag.
-fn value_in(text: &[u8], tag: u32) -> Option<&[u8]>
-    requires { is_some (fields_of_body text.now) ≡ true }
-    ensures { option_copied result ≡ value_of tag text.now }
-{
-    let mut rest = text;
-    while !rest.is_empty() {
-        match first_field(rest) {
-            Some(field) => {
-                if field.tag == tag {
-                    return Some(field.value);
-                }
-                rest = field.rest;
-            }
-            None => return None,
-        }
-    }
-    None
 }

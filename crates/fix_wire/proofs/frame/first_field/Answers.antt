@@ -1,11 +1,12 @@
-use Rattle.std.proofs.Common.{◌+◌, ◌<◌, ◌≤◌, take, length, arith}
-use Rattle.std.proofs.lemmas.List.{take_rest, length-take-le}
+use Rattle.std.proofs.Common.{◌+◌, ◌<◌, ◌≤◌, take, length, refl, arith}
+use Rattle.std.proofs.lemmas.List.{length-take-le}
+use Rattle.std.proofs.lemmas.Slice.{between_is}
 use Rattle.fix_wire.specs.Texts.{is_end, is_equals}
 use Rattle.fix_wire.proofs.Rows.{first_field_found, place_within}
 use Rattle.fix_wire.proofs.frame.first_field.Goals as goal
 
-pub returns-in-Some : goal.returns-in-Some
-returns-in-Some c =
+pub returns-in-Some-clause-field : goal.returns-in-Some-clause-field
+returns-in-Some-clause-field c =
     let body = c.args.body.now in
     let end = c.near_place_of-end.result in
     let digits = c.near_place_of-digits.result in
@@ -15,4 +16,4 @@ returns-in-Some c =
     let within = place_within is_equals (take end body) in
     let m : c.near_place_of-digits.result < c.near_place_of-end.result = omega (arith, within, len, c.near_place_of-digits.ensures, c.if-digits-end.false) in
     let few : c.near_place_of-digits.result ≤ 9 = c.if-digits-gt9.false in
-    first_field_found body end digits c.in-Some.tag _ _ c.near_place_of-end.ensures l c.near_place_of-digits.ensures m c.if-digits-eq0.false few c.if-text-eq48.false c.in-Some.ensures (take_rest (take end body) (digits + 1)) (take_rest body (end + 1))
+    first_field_found body end digits c.in-Some.tag _ _ c.near_place_of-end.ensures l c.near_place_of-digits.ensures m c.if-digits-eq0.false few c.if-text-eq48.false c.in-Some.ensures (between_is body (digits + 1) end) refl

@@ -1,0 +1,59 @@
+-- A table of fields, one place after another.
+use Rattle.std.proofs.Common.{◌≡◌, ℕ, zero, suc, ◌+◌, ◌-◌, ◌<◌, ◌≤◌, List, Some, set, get_or, length, take, drop, refl, sym, ap, ◌∙◌, arith, add-one, ◌⊎◌, inl, inr}
+use Rattle.std.specs.List.{between}
+use Rattle.std.proofs.lemmas.List.{drop-drop, length-drop, length-set, get_or-set_same, get_or-set_other}
+use Rattle.std.proofs.lemmas.Bool.{cases_lt}
+use Rattle.fix_wire.specs.declared.frame.LeadingField.{LeadingField}
+use Rattle.fix_wire.specs.declared.table.FieldPlace.{FieldPlace}
+use Rattle.fix_wire.specs.Fronts.{first_field, leading_field_view}
+use Rattle.fix_wire.specs.Tabled.{nowhere, place_at, start_of, field_at, IsPlaced, IsTable}
+
+between_drop : (xs : List ℕ) (from start end : ℕ) → between start end (drop from xs) ≡ between (from + start) (from + end) xs
+between_drop xs from start end =
+    let e : (from + end) - (from + start) ≡ end - start = omega arith in
+    ap (λ t. take (end - start) t) (drop-drop start from xs) ∙ sym (ap (λ n. take n (drop (from + start) xs)) e)
+
+start_kept : (places : List FieldPlace) (n : ℕ) (p : FieldPlace) (i : ℕ) → i ≤ n → start_of (set places n p) i ≡ start_of places i
+start_kept places n p zero l = refl
+start_kept places n p (suc i) l = ap (λ (q : FieldPlace). q.end + 1) (get_or-set_other places n i p nowhere (omega arith))
+
+-- the place, in the body, of a field that stands in front of what follows `rest`
+abbrev pub moved : ℕ → LeadingField → FieldPlace
+moved rest f = record { tag = f.tag; start = rest + f.start; end = rest + f.end }
+
+moved_first : (body : List ℕ) (rest : ℕ) (f : LeadingField) → Some (leading_field_view (drop rest body) f) ≡ first_field (drop rest body) → f.start ≤ f.end → f.end < length (drop rest body) → IsPlaced body rest (moved rest f)
+moved_first body rest f e order within =
+    let len = length-drop rest body in
+    let value = between_drop body rest f.start f.end in
+    let next = drop-drop (f.end + 1) rest body in
+    let sum : rest + (f.end + 1) ≡ (rest + f.end) + 1 = omega arith in
+    record {
+      order = omega arith;
+      within = omega (arith, len);
+      is_first =
+          sym e ∙ ap (λ v. Some (record { tag = f.tag; value = v }, drop (f.end + 1) (drop rest body))) value
+          ∙ ap (λ r. Some (field_at body (moved rest f), r)) (next ∙ ap (λ n. drop n body) sum);
+    }
+
+pub table_more : (body : List ℕ) (places : List FieldPlace) (count rest : ℕ) (f : LeadingField) → IsTable body (record { places = places; count = count; rest = rest }) → count < 24 →
+    Some (leading_field_view (drop rest body) f) ≡ first_field (drop rest body) → f.start ≤ f.end → f.end < length (drop rest body) →
+    IsTable body (record { places = set places count (moved rest f); count = count + 1; rest = rest + f.end + 1 })
+table_more body places count rest f t room e order within =
+    let p = moved rest f in
+    let len = length-drop rest body in
+    let here : get_or (set places count p) count nowhere ≡ p = get_or-set_same places count p nowhere (omega (arith, t.size, room)) in
+    let first = moved_first body rest f e order within in
+    record {
+      size = length-set places count p ∙ t.size;
+      few = omega (arith, room);
+      within = omega (arith, len, within);
+      rest = sym (ap (start_of (set places count p)) (add-one count) ∙ ap (λ (q : FieldPlace). q.end + 1) here);
+      placed = λ i l. by_index i l (cases_lt i count) here first;
+    }
+  where
+    by_index : (i : ℕ) → i < count + 1 → (i < count) ⊎ (count ≤ i) → get_or (set places count (moved rest f)) count nowhere ≡ moved rest f → IsPlaced body rest (moved rest f) →
+        IsPlaced body (start_of (set places count (moved rest f)) i) (place_at (set places count (moved rest f)) i)
+    by_index i l (inl less) here first = rw (start_kept places count (moved rest f) i (omega arith), get_or-set_other places count i (moved rest f) nowhere (omega arith)) (t.placed i less)
+    by_index i l (inr more) here first =
+        let same : i ≡ count = omega arith in
+        rw (same, here, start_kept places count (moved rest f) count (omega arith), sym t.rest) first

@@ -1,0 +1,115 @@
+//! Where the first fields of a body stand, so that a field is found by its tag without a walk.
+ghost use Rattle.std.specs.Prelude.{◌≡◌, ℕ, ◌≤◌, ◌<◌, length, is_some, true, unwrap_or, [], IfSome};
+ghost use Rattle.std.specs.Option.{option_copied};
+ghost use Rattle.fix_wire.specs.Fields.{fields_of_body};
+ghost use Rattle.fix_wire.specs.Messages.{first_value};
+ghost use Rattle.fix_wire.specs.Fronts.{value_of};
+ghost use Rattle.fix_wire.specs.Tabled.{IsTable};
+
+use crate::frame::{are_fields, first_field};
+
+/// Where a field of a body stands: its value is from start to end, where its byte 1 is.
+#[derive(Clone, Copy)]
+pub struct FieldPlace {
+    pub tag: u32,
+    pub start: u16,
+    pub end: u16,
+}
+
+/// How many fields a table has at most. The messages of this protocol have fewer.
+const MOST: usize = 24;
+
+/// The places of the first fields of a body, and where the fields after them start.
+#[derive(Clone, Copy)]
+pub struct FieldTable {
+    pub places: [FieldPlace; 24],
+    pub count: usize,
+    pub rest: usize,
+}
+
+/// The table of a body, where it is a row of fields.
+pub(crate) fn table_of(body: &[u8]) -> Option<FieldTable>
+    requires { length body.now ≤ 4096 }
+    ensures row { is_some result ≡ is_some (fields_of_body body.now) }
+    ensures table { IfSome result (IsTable body.now) }
+{
+    let nowhere = FieldPlace {
+        tag: 0,
+        start: 0,
+        end: 0,
+    };
+    let mut places = [nowhere; 24];
+    let mut count = 0;
+    let mut rest = 0;
+    while count < MOST && rest < body.len() {
+        let field = first_field(&body[rest..])?;
+        let end = rest + field.end;
+        places[count] = FieldPlace {
+            tag: field.tag,
+            start: (rest + field.start) as u16,
+            end: end as u16,
+        };
+        count += 1;
+        rest = end + 1;
+    }
+    if are_fields(&body[rest..]) {
+        Some(FieldTable {
+            places,
+            count,
+            rest,
+        })
+    } else {
+        None
+    }
+}
+
+/// The value of the first field of a body.
+pub(crate) fn first_value<'a>(body: &'a [u8], table: &FieldTable) -> &'a [u8]
+    requires row { is_some (fields_of_body body.now) ≡ true }
+    requires table { IsTable body.now table.now }
+    ensures { result.now ≡ first_value (unwrap_or (fields_of_body body.now) []) }
+{
+    if table.count > 0 {
+        let place = table.places[0];
+        return &body[place.start as usize..place.end as usize];
+    }
+    match first_field(body) {
+        Some(field) => &body[field.start..field.end],
+        None => &[],
+    }
+}
+
+/// The value of the first field of a body with that tag.
+pub(crate) fn value_of<'a>(body: &'a [u8], table: &FieldTable, tag: u32) -> Option<&'a [u8]>
+    requires row { is_some (fields_of_body body.now) ≡ true }
+    requires table { IsTable body.now table.now }
+    ensures { option_copied result ≡ value_of tag body.now }
+{
+    for i in 0..table.count {
+        let place = table.places[i];
+        if place.tag == tag {
+            return Some(&body[place.start as usize..place.end as usize]);
+        }
+    }
+    value_in(&body[table.rest..], tag)
+}
+
+/// The same without a table, field by field.
+fn value_in(text: &[u8], tag: u32) -> Option<&[u8]>
+    requires { is_some (fields_of_body text.now) ≡ true }
+    ensures { option_copied result ≡ value_of tag text.now }
+{
+    let mut rest = text;
+    while !rest.is_empty() {
+        match first_field(rest) {
+            Some(field) => {
+                if field.tag == tag {
+                    return Some(&rest[field.start..field.end]);
+                }
+                rest = &rest[field.end + 1..];
+            }
+            None => return None,
+        }
+    }
+    None
+}
