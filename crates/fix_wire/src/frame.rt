@@ -3,7 +3,7 @@ ghost use Rattle.std.specs.Prelude.{◌≡◌, ℕ, ◌+◌, ◌%◌, ◌≤◌,
 ghost use Rattle.std.specs.List.{position_or_len};
 ghost use Rattle.std.specs.Str.{bytes_eq};
 ghost use Rattle.memchr.specs.Find.{is_byte};
-ghost use Rattle.fix_wire.specs.Texts.{strip_prefix, is_cut_short};
+ghost use Rattle.fix_wire.specs.Texts.{is_end, strip_prefix, is_cut_short};
 ghost use Rattle.fix_wire.specs.Frames.{begin_text, header, header_after, body_at, is_body, is_intact, is_length_open, checksum_field, frame_length};
 ghost use Rattle.fix_wire.specs.Fields.{fields_of_body};
 ghost use Rattle.fix_wire.specs.Held.{from_first_start};
@@ -11,6 +11,7 @@ ghost use Rattle.fix_wire.specs.Fronts.{front_of, first_field, leading_field_vie
 
 use crate::values::limited_digits;
 use memchr::memchr;
+use std::simd::prelude::*;
 
 /// `8=FIX.4.2|9=`
 pub(crate) const BEGIN_TEXT: [u8; 12] = *b"8=FIX.4.2\x019=";
@@ -61,6 +62,36 @@ fn near_place_of(byte: u8, text: &[u8]) -> usize
         }
     }
     text.len()
+}
+
+/// How many of the sixteen bytes at a place come before the first byte 1 among them.
+fn run_at(text: &[u8], at: usize) -> usize
+    requires { at + 16 ≤ length text.now }
+    ensures { result ≡ position_or_len is_end (take 16 (drop at text.now)) }
+{
+    let ends = u8x16::from_slice(&text[at..])
+        .simd_eq(u8x16::splat(1))
+        .to_bitmask();
+    if ends == 0 {
+        16
+    } else {
+        ends.trailing_zeros() as usize
+    }
+}
+
+/// The place of the first byte 1, or the length: sixteen bytes at a time, since few fields are longer.
+fn field_end(text: &[u8]) -> usize
+    ensures { result ≡ position_or_len is_end text.now }
+{
+    let mut at = 0;
+    while text.len() - at >= 16 {
+        let run = run_at(text, at);
+        if run < 16 {
+            return at + run;
+        }
+        at += 16;
+    }
+    at + near_place_of(1, &text[at..])
 }
 
 fn header_after(rest: &[u8]) -> Option<FrameHeader>
@@ -120,7 +151,7 @@ pub(crate) fn first_field(body: &[u8]) -> Option<LeadingField>
     ensures within { IfSome result (λ p. p.end < length body.now) }
     ensures range { IfSome result (λ p. p.end + 1 < 2 ^ 64) }
 {
-    let end = near_place_of(1, body);
+    let end = field_end(body);
     if end == body.len() {
         return None;
     }
