@@ -3,7 +3,7 @@ use crate::fault::Fault;
 use crate::reports::send_all;
 use crate::timing::{RUNS, nanos, tell};
 use crate::wire::{bytes_of, scanned};
-use spread_books::list::ListBook;
+use spread_books::index::IndexBook;
 use spread_journal::reading::read_journal;
 use spread_match::journal::work;
 use spread_match::market::Market;
@@ -25,7 +25,7 @@ pub fn time_match(
     ranges();
     let rulebook = rulebook_of(rules)?;
     let journal = read_journal(rt.alloc(), text)?;
-    let mut market = Market::new(rt.alloc(), &rulebook, ListBook::new(rt.alloc()));
+    let mut market = Market::new(rt.alloc(), &rulebook, IndexBook::new(rt.alloc()));
     let start = nanos(rt)?;
     let worked = work(rt.alloc(), &mut market, &journal)?;
     let used = nanos(rt)?.saturating_sub(start);
@@ -43,7 +43,7 @@ pub fn time_report(
     ranges();
     let rulebook = rulebook_of(rules)?;
     let journal = read_journal(rt.alloc(), text)?;
-    let mut market = Market::new(rt.alloc(), &rulebook, ListBook::new(rt.alloc()));
+    let mut market = Market::new(rt.alloc(), &rulebook, IndexBook::new(rt.alloc()));
     let worked = work(rt.alloc(), &mut market, &journal)?;
     let mut lists = Vec::new(rt.alloc());
     let mut least = u64::MAX;
