@@ -33,7 +33,11 @@ fn put_byte(room: &mut [u8], at: usize, byte: u8) -> usize
     at + 1
 }
 
-/// The last two digits of a number.
+/// The two digits of each number below 100.
+static PAIRS: [u8; 200] =
+    *b"00010203040506070809101112131415161718192021222324252627282930313233343536373839404142434445464748495051525354555657585960616263646566676869707172737475767778798081828384858687888990919293949596979899";
+
+/// The last two digits of a number. Reading them costs less than dividing.
 #[inline(always)]
 fn put_two(room: &mut [u8], at: usize, number: u64) -> usize
     requires within { at + 2 ≤ length room.old }
@@ -41,8 +45,10 @@ fn put_two(room: &mut [u8], at: usize, number: u64) -> usize
     ensures end { result ≡ at + 2 }
     ensures size { length room.new ≡ length room.old }
 {
-    let ones = put_byte(room, at, b'0' + (number / 10 % 10) as u8);
-    put_byte(room, ones, b'0' + (number % 10) as u8)
+    let pair = (number % 100) as usize * 2;
+    let (tens, ones) = (PAIRS[pair], PAIRS[pair + 1]);
+    let rest = put_byte(room, at, tens);
+    put_byte(room, rest, ones)
 }
 
 /// A number of at most four digits.
