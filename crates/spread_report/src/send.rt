@@ -50,13 +50,9 @@ pub fn send<A: Allocator + Copy>(
                 target: ids.client,
                 stamp: *stamp,
             };
-            let renewed = SessionLine {
-                next: line.next + 1,
-                comp_ids: Some(ids),
-            };
             match write_message(&mut lists[at], &head, fields) {
                 Ok(()) => {
-                    lines[at] = renewed;
+                    lines[at].next = line.next + 1;
                     Ok(())
                 }
                 Err(_) => Err(DeskFault::NoMemory),
