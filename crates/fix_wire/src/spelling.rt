@@ -6,6 +6,7 @@ ghost use Rattle.fix_wire.specs.Frames.{begin_text, checksum_field};
 ghost use Rattle.fix_wire.specs.Layout.{two_digits, price_text, value_text, field_text, head_fields, field_of_given, body_text, summed_text, FitsTypes, FitsValueOf, FitsValue};
 ghost use Rattle.fix_wire.specs.Spelling.{kind_text, orig_text};
 
+use crate::body::Body;
 use crate::frame::{BEGIN_TEXT, checksum, checksum_digits};
 use crate::writer::{Field, Head, Value};
 use itoa::Buffer;
@@ -140,7 +141,9 @@ fn put_value(room: &mut [u8], at: usize, value: &Value) -> usize
     }
 }
 
-fn put_field(room: &mut [u8], at: usize, field: &Field) -> usize
+/// Writes a field at that place, and tells where it ends.
+#[inline(always)]
+pub fn put_field(room: &mut [u8], at: usize, field: &Field) -> usize
     requires within { at + 63 ≤ length room.old }
     ensures text { take result room.new ≡ take at room.old ++ field_text (field_of_given field.now) }
     ensures most { result ≤ at + 63 }
@@ -153,7 +156,7 @@ fn put_field(room: &mut [u8], at: usize, field: &Field) -> usize
     put_byte(room, end, 1)
 }
 
-fn put_fields(room: &mut [u8], at: usize, fields: &[Field]) -> usize
+pub(crate) fn put_fields(room: &mut [u8], at: usize, fields: &[Field]) -> usize
     requires within { at + 64 * length fields.now ≤ length room.old }
     ensures text { take result room.new ≡ take at room.old ++ flat_map (λ f. field_text (field_of_given f)) fields.now }
     ensures most { result ≤ at + 64 * length fields.now }
@@ -218,17 +221,17 @@ fn put_head(room: &mut [u8], at: usize, head: &Head) -> usize
 }
 
 /// MsgType to the last field.
-fn put_body(room: &mut [u8], at: usize, head: &Head, fields: &[Field]) -> usize
-    requires within { at + 64 * length fields.now + 180 ≤ length room.old }
-    ensures text { take result room.new ≡ take at room.old ++ body_text head.now fields.now }
-    ensures end { result ≡ at + length (body_text head.now fields.now) }
-    ensures most { result ≤ at + 64 * length fields.now + 180 }
+fn put_body<B: Body>(room: &mut [u8], at: usize, head: &Head, body: &B) -> usize
+    requires within { at + 64 * length (B.fields body.now) + 180 ≤ length room.old }
+    ensures text { take result room.new ≡ take at room.old ++ body_text head.now (B.fields body.now) }
+    ensures end { result ≡ at + length (body_text head.now (B.fields body.now)) }
+    ensures most { result ≤ at + 64 * length (B.fields body.now) + 180 }
     ensures size { length room.new ≡ length room.old }
     ensures types { FitsTypes head.now }
-    ensures values { AllByRecursion FitsValueOf fields.now }
+    ensures values { AllByRecursion FitsValueOf (B.fields body.now) }
 {
     let rest = put_head(room, at, head);
-    put_fields(room, rest, fields)
+    body.put(room, rest)
 }
 
 /// BeginString, and the BodyLength of a body of that length.
@@ -256,25 +259,30 @@ fn set_three(room: &mut [u8], at: usize, number: usize)
 
 /// BeginString to the last field. Most bodies have a length of three digits, so three are left open and set once the body is
 /// written. A body of another length is written again, behind its length.
-pub(crate) fn put_summed(room: &mut [u8], start: usize, head: &Head, fields: &[Field]) -> usize
-    requires within { start + 64 * length fields.now + 220 ≤ length room.old }
-    ensures text { take result room.new ≡ take start room.old ++ summed_text (body_text head.now fields.now) }
+pub(crate) fn put_summed<B: Body>(
+    room: &mut [u8],
+    start: usize,
+    head: &Head,
+    body: &B,
+) -> usize
+    requires within { start + 64 * length (B.fields body.now) + 220 ≤ length room.old }
+    ensures text { take result room.new ≡ take start room.old ++ summed_text (body_text head.now (B.fields body.now)) }
     ensures least { start ≤ result }
-    ensures most { result ≤ start + 64 * length fields.now + 220 }
+    ensures most { result ≤ start + 64 * length (B.fields body.now) + 220 }
     ensures size { length room.new ≡ length room.old }
-    ensures short { length (body_text head.now fields.now) ≤ 64 * length fields.now + 180 }
+    ensures short { length (body_text head.now (B.fields body.now)) ≤ 64 * length (B.fields body.now) + 180 }
     ensures types { FitsTypes head.now }
-    ensures values { AllByRecursion FitsValueOf fields.now }
+    ensures values { AllByRecursion FitsValueOf (B.fields body.now) }
 {
-    let body = put(room, start, b"8=FIX.4.2\x019=000\x01");
-    let end = put_body(room, body, head, fields);
-    let count = end - body;
+    let first = put(room, start, b"8=FIX.4.2\x019=000\x01");
+    let end = put_body(room, first, head, body);
+    let count = end - first;
     if 100 <= count && count < 1_000 {
         set_three(room, start + 12, count);
         return end;
     }
     let second = put_begin(room, start, count);
-    put_body(room, second, head, fields)
+    put_body(room, second, head, body)
 }
 
 /// The CheckSum of all bytes from one place to the other.

@@ -4,6 +4,7 @@ ghost use Rattle.std.specs.List.{AllByRecursion};
 ghost use Rattle.std.specs.Vec.{vec_len, vec_capacity};
 ghost use Rattle.fix_wire.specs.Layout.{body_text, message_text, FitsKind, FitsTags, FitsBody, FitsTypes, FitsValueOf, IsReadBack};
 
+use crate::body::{Body, FieldList};
 use crate::spelling::{put_checksum, put_summed};
 use spread_rules::id::Id;
 use spread_rules::memory::NoMemory;
@@ -55,24 +56,38 @@ pub fn write_message<A: Allocator>(
     // Where the kind isn't byte 1, tags have 1 to 9 digits and the body fits, it is a lawful frame with exactly its fields.
     ensures lawful { OnOk result (FitsKind head.now → FitsTags fields.now → FitsBody head.now fields.now → IsReadBack head.now fields.now) }
 {
-    let most = room_for(fields.len());
+    write_body(out, head, &FieldList { fields })
+}
+
+/// The same of fields that write themselves.
+pub fn write_body<A: Allocator, B: Body>(
+    out: &mut Vec<u8, A>,
+    head: &Head,
+    body: &B,
+) -> Result<(), NoMemory>
+    ensures ok { OnOk result (out.new.items ≡ out.old.items ++ message_text head.now (B.fields body.now)) }
+    ensures err { OnErr result (out.new.items ≡ out.old.items) }
+    ensures short { OnOk result (length (body_text head.now (B.fields body.now)) ≤ 64 * length (B.fields body.now) + 180) }
+    ensures lawful { OnOk result (FitsKind head.now → FitsTags (B.fields body.now) → FitsBody head.now (B.fields body.now) → IsReadBack head.now (B.fields body.now)) }
+{
+    let most = room_for(body.count());
     out.reserve(most)?;
     let start = out.as_slice().len();
     let _ = out.resize(start + most, 0);
-    let end = put_message(out.as_mut_slice(), start, head, fields);
+    let end = put_message(out.as_mut_slice(), start, head, body);
     out.truncate(end);
     Ok(())
 }
 
 /// Writes a message at that place, and tells where it ends.
-fn put_message(room: &mut [u8], start: usize, head: &Head, fields: &[Field]) -> usize
-    requires within { start + 64 * length fields.now + 240 ≤ length room.old }
-    ensures text { take result room.new ≡ take start room.old ++ message_text head.now fields.now }
+fn put_message<B: Body>(room: &mut [u8], start: usize, head: &Head, body: &B) -> usize
+    requires within { start + 64 * length (B.fields body.now) + 240 ≤ length room.old }
+    ensures text { take result room.new ≡ take start room.old ++ message_text head.now (B.fields body.now) }
     ensures size { length room.new ≡ length room.old }
-    ensures short { length (body_text head.now fields.now) ≤ 64 * length fields.now + 180 }
+    ensures short { length (body_text head.now (B.fields body.now)) ≤ 64 * length (B.fields body.now) + 180 }
     ensures types { FitsTypes head.now }
-    ensures values { AllByRecursion FitsValueOf fields.now }
+    ensures values { AllByRecursion FitsValueOf (B.fields body.now) }
 {
-    let end = put_summed(room, start, head, fields);
+    let end = put_summed(room, start, head, body);
     put_checksum(room, start, end)
 }

@@ -8,3 +8,4 @@ pub mod Bodies
 pub mod InRange
 pub mod ReadBack
 pub mod Running
+pub mod Parts

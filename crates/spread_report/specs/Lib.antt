@@ -1,4 +1,5 @@
 pub mod EntryMessages
+pub mod ReportBodies
 pub mod Outgoing
 pub mod Sessions
 pub mod Conditions

@@ -44,6 +44,7 @@ mod fault;
 pub mod laws;
 pub mod line;
 mod messages;
+mod report_body;
 mod reports;
 mod rollback;
 mod send;

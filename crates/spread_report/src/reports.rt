@@ -11,7 +11,8 @@ ghost use Rattle.spread_rules.specs.Rulebook.{month_count};
 
 use crate::fault::DeskFault;
 use crate::line::SessionLine;
-use crate::send::send;
+use crate::report_body::{FillReport, OrderReport};
+use crate::send::{send, send_body};
 use crate::symbol::symbol_of;
 use fix_wire::{Field, Value};
 use spread_rules::event::Ticket;
@@ -45,21 +46,19 @@ pub fn new_order<A: Allocator + Copy>(
     ensures { SendResult stamp.now lines.old lines.new lists.old lists.new (report session (new_report place ticket.now) ∷ []) result }
 {
     let side = side_digit(ticket.side);
-    let fields = [
-        number_field!(37, place),
-        text_field!(11, ticket.id),
-        pair_field!(17, place, 1),
-        number_field!(20, 0),
-        number_field!(150, 0),
-        number_field!(39, 0),
-        text_field!(55, ticket.symbol),
-        number_field!(54, side),
-        number_field!(38, ticket.quantity as u64),
-        number_field!(151, ticket.quantity as u64),
-        number_field!(14, 0),
-        number_field!(6, 0),
-    ];
-    send(stamp, lines, lists, session, b'8', &fields)
+    let report = OrderReport {
+        order: place,
+        id: ticket.id,
+        place,
+        index: 1,
+        status: 0,
+        symbol: ticket.symbol,
+        side,
+        quantity: ticket.quantity as u64,
+        leaves: ticket.quantity as u64,
+        filled: 0,
+    };
+    send_body(stamp, lines, lists, session, b'8', &report)
 }
 
 /// Reports an order refused.
@@ -229,24 +228,25 @@ pub fn fill_part<A: Allocator + Copy>(
     let digit = side_digit(part.side);
     let status = fill_digit(fill.leaves);
     let filled = fill.total - fill.leaves;
-    let fields = [
-        number_field!(37, fill.order),
-        text_field!(11, fill.id),
-        pair_field!(17, place, index),
-        number_field!(20, 0),
-        number_field!(150, status),
-        number_field!(39, status),
-        text_field!(55, part.symbol),
-        number_field!(54, digit),
-        number_field!(38, fill.total as u64),
-        number_field!(32, fill.quantity as u64),
-        price_field!(31, part.price),
-        number_field!(151, fill.leaves as u64),
-        number_field!(14, filled as u64),
-        number_field!(6, 0),
-        number_field!(442, part.legs as u64),
-    ];
-    send(stamp, lines, lists, fill.session, b'8', &fields)
+    let about = OrderReport {
+        order: fill.order,
+        id: fill.id,
+        place,
+        index,
+        status,
+        symbol: part.symbol,
+        side: digit,
+        quantity: fill.total as u64,
+        leaves: fill.leaves as u64,
+        filled: filled as u64,
+    };
+    let report = FillReport {
+        about,
+        last: fill.quantity as u64,
+        price: part.price,
+        legs: part.legs as u64,
+    };
+    send_body(stamp, lines, lists, fill.session, b'8', &report)
 }
 
 fn other(side: Side) -> Side

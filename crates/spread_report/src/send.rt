@@ -9,7 +9,7 @@ ghost use Rattle.spread_report.specs.Sessions.{SendResult};
 use crate::fault::DeskFault;
 use crate::line::SessionLine;
 use crate::symbol::known_id;
-use fix_wire::{Field, Head, Value, write_message};
+use fix_wire::{Body, Field, FieldList, Head, Value, write_body, write_message};
 use spread_rules::id::Id;
 use std::alloc::Allocator;
 
@@ -17,21 +17,21 @@ use std::alloc::Allocator;
 pub const GREATEST_NUMBER: u64 = 999_999_999;
 
 /// Sends a message that bears the session's next number, and uses it.
-pub fn send<A: Allocator + Copy>(
+pub fn send_body<A: Allocator + Copy, B: Body>(
     stamp: &Id,
     lines: &mut [SessionLine],
     lists: &mut [Vec<u8, A>],
     session: u8,
     kind: u8,
-    fields: &[Field],
+    body: &B,
 ) -> Result<(), DeskFault>
     requires lines { length lines.old ≡ 16 }
     requires lists { length lists.old ≡ 16 }
     requires session { session < 16 }
     requires kind { kind ≢ 1 }
-    requires tags { list_all has_tag fields.now ≡ true }
-    requires few { length fields.now ≤ 18 }
-    ensures { SendResult stamp.now lines.old lines.new lists.old lists.new (numbered_message session kind fields.now ∷ []) result }
+    requires tags { list_all has_tag (B.fields body.now) ≡ true }
+    requires few { length (B.fields body.now) ≤ 18 }
+    ensures { SendResult stamp.now lines.old lines.new lists.old lists.new (numbered_message session kind (B.fields body.now) ∷ []) result }
 {
     let at = session as usize;
     let line = lines[at];
@@ -50,7 +50,7 @@ pub fn send<A: Allocator + Copy>(
                 target: ids.client,
                 stamp: *stamp,
             };
-            match write_message(&mut lists[at], &head, fields) {
+            match write_body(&mut lists[at], &head, body) {
                 Ok(()) => {
                     lines[at].next = line.next + 1;
                     Ok(())
@@ -59,6 +59,26 @@ pub fn send<A: Allocator + Copy>(
             }
         }
     }
+}
+
+/// Sends a message of any fields.
+pub fn send<A: Allocator + Copy>(
+    stamp: &Id,
+    lines: &mut [SessionLine],
+    lists: &mut [Vec<u8, A>],
+    session: u8,
+    kind: u8,
+    fields: &[Field],
+) -> Result<(), DeskFault>
+    requires lines { length lines.old ≡ 16 }
+    requires lists { length lists.old ≡ 16 }
+    requires session { session < 16 }
+    requires kind { kind ≢ 1 }
+    requires tags { list_all has_tag fields.now ≡ true }
+    requires few { length fields.now ≤ 18 }
+    ensures { SendResult stamp.now lines.old lines.new lists.old lists.new (numbered_message session kind fields.now ∷ []) result }
+{
+    send_body(stamp, lines, lists, session, kind, &FieldList { fields })
 }
 
 /// Sends a gap fill, where the asked numbers begin below the next one. It uses no number.

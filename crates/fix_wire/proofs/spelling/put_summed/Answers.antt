@@ -7,31 +7,31 @@ use Rattle.fix_wire.proofs.Room.{ends, front_same, counted, behind, open_text}
 use Rattle.fix_wire.proofs.spelling.put_summed.Goals as goal
 
 pub returns-then-count-lt1000-clause-text : goal.returns-then-count-lt1000-clause-text
-returns-then-count-lt1000-clause-text c =
-    let body = body_text c.args.head.now c.args.fields.now in
+returns-then-count-lt1000-clause-text g c =
+    let body = body_text c.args.head.now (g.B.Body.fields c.args.body.now) in
     let start = length-take-le c.args.start c.args.room.now (omega (arith, c.requires.within)) in
-    let count : c.put_body-end.result - c.put-body.result ≡ length body = omega (arith, c.put_body-end.ensures.end) in
-    counted (take c.args.start c.args.room.now) c.put_body-end.new.room c.set_three.new.room body c.args.start c.put_body-end.result (c.put_body-end.result - c.put-body.result)
-    (step _ _ _ _ _ c.put_body-end.ensures.text c.put-body.ensures.text) start c.set_three.ensures count c.if-count-ge100.true c.if-count-lt1000.true
+    let count : c.put_body-end.result - c.put-first.result ≡ length body = omega (arith, c.put_body-end.ensures.end) in
+    counted (take c.args.start c.args.room.now) c.put_body-end.new.room c.set_three.new.room body c.args.start c.put_body-end.result (c.put_body-end.result - c.put-first.result)
+    (step _ _ _ _ _ c.put_body-end.ensures.text c.put-first.ensures.text) start c.set_three.ensures count c.if-count-ge100.true c.if-count-lt1000.true
 
 pub returns-clause-text : goal.returns-clause-text
-returns-clause-text c =
-    let body = body_text c.args.head.now c.args.fields.now in
+returns-clause-text g c =
+    let body = body_text c.args.head.now (g.B.Body.fields c.args.body.now) in
     let o = take c.args.start c.args.room.now in
     let start = length-take-le c.args.start c.args.room.now (omega (arith, c.requires.within)) in
-    let n = c.put_body-end.result - c.put-body.result in
-    let count : c.put_body-end.result - c.put-body.result ≡ length body = omega (arith, c.put_body-end.ensures.end) in
-    let less : c.args.start ≤ c.put_body-end.result = omega (arith, c.put-body.ensures.end, c.put_body-end.ensures.end) in
-    let first = step o (take c.put-body.result c.put-body.new.room) (take c.put_body-end.result c.put_body-end.new.room) open_text body c.put_body-end.ensures.text c.put-body.ensures.text in
+    let n = c.put_body-end.result - c.put-first.result in
+    let count : c.put_body-end.result - c.put-first.result ≡ length body = omega (arith, c.put_body-end.ensures.end) in
+    let less : c.args.start ≤ c.put_body-end.result = omega (arith, c.put-first.ensures.end, c.put_body-end.ensures.end) in
+    let first = step o (take c.put-first.result c.put-first.new.room) (take c.put_body-end.result c.put_body-end.new.room) open_text body c.put_body-end.ensures.text c.put-first.ensures.text in
     let before = front_same c.put_body-end.new.room o (open_text ++ body) c.args.start c.put_body-end.result first start less in
     let front = begin_text ++ (decimal n ++ 1 ∷ []) in
     behind o (take c.put_begin-second.result c.put_begin-second.new.room) (take c.put_body.result c.put_body.new.room) body n c.put_body.ensures.text
     (c.put_begin-second.ensures.text ∙ ap (λ t. t ++ front) before) count
 
 pub returns-clause-least : goal.returns-clause-least
-returns-clause-least c =
-    let sizes = c.put_begin-second.ensures.size ∙ c.put_body-end.ensures.size ∙ c.put-body.ensures.size in
+returns-clause-least g c =
+    let sizes = c.put_begin-second.ensures.size ∙ c.put_body-end.ensures.size ∙ c.put-first.ensures.size in
     let second = ends c.put_begin-second.new.room c.put_body-end.new.room _ c.put_begin-second.result c.args.start c.put_begin-second.ensures.text
     (omega (arith, c.requires.within, c.put_begin-second.ensures.most, sizes))
-    (omega (arith, c.requires.within, c.put_body-end.ensures.size, c.put-body.ensures.size)) in
+    (omega (arith, c.requires.within, c.put_body-end.ensures.size, c.put-first.ensures.size)) in
     omega (arith, second, c.put_body.ensures.end)

@@ -4,5 +4,5 @@ use Rattle.fix_wire.proofs.Written.{message_closed}
 use Rattle.fix_wire.proofs.writer.put_message.Goals as goal
 
 pub returns-clause-text : goal.returns-clause-text
-returns-clause-text c =
-    message_closed c.args.head.now c.args.fields.now c.args.start _ _ _ (sym (length-take-le c.args.start c.args.room.now (omega (arith, c.requires.within)))) c.put_summed-end.ensures.text c.put_checksum.ensures.text
+returns-clause-text g c =
+    message_closed c.args.head.now (g.B.Body.fields c.args.body.now) c.args.start _ _ _ (sym (length-take-le c.args.start c.args.room.now (omega (arith, c.requires.within)))) c.put_summed-end.ensures.text c.put_checksum.ensures.text
