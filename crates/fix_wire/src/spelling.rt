@@ -122,6 +122,7 @@ fn put_price(room: &mut [u8], at: usize, price: i64) -> usize
     put_two(room, part, size % 100)
 }
 
+#[inline(always)]
 fn put_value(room: &mut [u8], at: usize, value: &Value) -> usize
     requires within { at + 41 ≤ length room.old }
     ensures text { take result room.new ≡ take at room.old ++ value_text value.now }
@@ -259,12 +260,7 @@ fn set_three(room: &mut [u8], at: usize, number: usize)
 
 /// BeginString to the last field. Most bodies have a length of three digits, so three are left open and set once the body is
 /// written. A body of another length is written again, behind its length.
-pub(crate) fn put_summed<B: Body>(
-    room: &mut [u8],
-    start: usize,
-    head: &Head,
-    body: &B,
-) -> usize
+pub(crate) fn put_summed<B: Body>(room: &mut [u8], start: usize, head: &Head, body: &B) -> usize
     requires within { start + 64 * length (B.fields body.now) + 220 ≤ length room.old }
     ensures text { take result room.new ≡ take start room.old ++ summed_text (body_text head.now (B.fields body.now)) }
     ensures least { start ≤ result }

@@ -394,6 +394,67 @@ fn a_written_report(rt: HostRuntime) -> Result<(), Fail> {
 }
 
 #[test]
+fn written_numbers(rt: HostRuntime) -> Result<(), Fail> {
+    let rows: [(u64, &[u8]); 12] = [
+        (0, b"0"),
+        (9, b"9"),
+        (10, b"10"),
+        (99, b"99"),
+        (100, b"100"),
+        (999, b"999"),
+        (1_000, b"1000"),
+        (9_999, b"9999"),
+        (10_007, b"10007"),
+        (99_999_999, b"99999999"),
+        (100_000_000, b"100000000"),
+        (18_446_744_073_709_551_615, b"18446744073709551615"),
+    ];
+    for (number, text) in rows {
+        let mut room = [7; 80];
+        let field = Field {
+            tag: 38,
+            value: Value::Number(number),
+        };
+        let end = put_field(&mut room, 2, &field);
+        assert_eq!(rt; &room[2..5], b"38=".as_slice());
+        assert_eq!(rt; &room[5..end - 1], text);
+        assert_eq!(rt; room[end - 1], 1);
+    }
+    Ok(())
+}
+
+#[test]
+fn written_lengths(rt: HostRuntime) -> Result<(), Fail> {
+    let id = Id::new(b"ABCDEFGHIJKLMNOPQRSTUVWXYZ012345").ok_or("an id")?;
+    let field = Field {
+        tag: 11,
+        value: Value::Text(id),
+    };
+    let fields = [field; 30];
+    // The head has 45 bytes, each field 36.
+    let rows: [(usize, &[u8]); 5] = [
+        (0, b"8=FIX.4.2\x019=45\x0135=0\x01"),
+        (1, b"8=FIX.4.2\x019=81\x0135=0\x01"),
+        (2, b"8=FIX.4.2\x019=117\x0135=0\x01"),
+        (26, b"8=FIX.4.2\x019=981\x0135=0\x01"),
+        (27, b"8=FIX.4.2\x019=1017\x0135=0\x01"),
+    ];
+    for (count, begin) in rows {
+        let list = FieldList {
+            fields: &fields[..count],
+        };
+        let mut out = Vec::new(rt.alloc());
+        write_body(&mut out, &head(b'0', 2, false), &list)?;
+        assert!(rt; out.as_slice().starts_with(begin));
+        assert!(rt; Message::whole(&out).is_some());
+        assert_eq!(rt; list.count(), count);
+        let mut room = [0; 2000];
+        assert_eq!(rt; list.put(&mut room, 20), 20 + 36 * count);
+    }
+    Ok(())
+}
+
+#[test]
 fn written_prices(rt: HostRuntime) -> Result<(), Fail> {
     let rows: [(i64, &[u8]); 6] = [
         (10000, b"100.00"),
