@@ -5,9 +5,7 @@ use Rattle.std.proofs.lemmas.List.Sums.{fails_before_first, passes_at_first}
 use Rattle.std.proofs.lemmas.Bool.{cases_lt, false≢true}
 use Rattle.std.proofs.lemmas.Bool.Decides.{nat_tests}
 use Rattle.fix_wire.specs.Texts.{is_end, is_equals, number_of}
-use Rattle.fix_wire.specs.Fronts.{limited_digits}
-use Rattle.fix_wire.proofs.Digits.{nine_digits}
-use Rattle.fix_wire.proofs.Hundredths.{digits_some}
+use Rattle.std.proofs.lemmas.List.Folds.{list_all_at}
 use Rattle.std.specs.Char.{is_ascii_digit}
 use Rattle.std.proofs.lemmas.List.{length-take-le, get_or-take}
 use Rattle.fix_wire.specs.declared.frame.FrameHeader.{FrameHeader}
@@ -92,30 +90,71 @@ is_tag_is tag some few digits first =
     let d : eqb (get_or tag 0 0) 48 ≡ false = grind (arith, nat_tests) in
     rw (a, b, digits, d)
 
-field_found : (piece : List ℕ) (digits tag : ℕ) → digits ≡ position_or_len is_equals piece → digits < length piece → digits ≢ 0 → digits ≤ 9 → get_or piece 0 0 ≢ 48 → Some tag ≡ limited_digits (take digits piece) →
+-- a text that begins with a tag and `=` is a field
+pub field_found : (piece : List ℕ) (digits tag : ℕ) → digits ≡ position_or_len is_equals piece → digits < length piece → digits ≢ 0 → digits ≤ 9 → get_or piece 0 0 ≢ 48 → list_all is_ascii_digit (take digits piece) ≡ true → tag ≡ number_of (take digits piece) →
     Some (record { tag = tag; value = drop (digits + 1) piece }) ≡ field_of_text piece
-field_found piece digits tag e l some few first found =
-    let known = digits_some (take digits piece) tag found in
+field_found piece digits tag e l some few first known value =
     let len = length-take-le digits piece (omega arith) in
     let same = get_or-take digits piece 0 0 (omega arith) in
-    let shape = is_tag_is (take digits piece) (omega arith) (omega arith) known.0 (λ z. first (sym same ∙ z)) in
+    let shape = is_tag_is (take digits piece) (omega arith) (omega arith) known (λ z. first (sym same ∙ z)) in
     let here : ltb digits (length piece) ≡ true = grind (arith, nat_tests) in
-    let below = nine_digits (take digits piece) (omega arith) known.0 in
-    let value : tag ≡ number_of (take digits piece) = omega (arith, known.1, below) in
     ap (λ t. Some (record { tag = t; value = drop (digits + 1) piece })) value
     ∙ sym (ap (λ x. cond x (Some (record { tag = number_of (take digits piece); value = drop (digits + 1) piece })) None) (ap (λ x. x && is_tag (take digits piece)) here ∙ shape))
     ∙ ap (λ k. field_with k piece) e
 
-pub first_field_found : (body : List ℕ) (end digits tag : ℕ) (value rest : List ℕ) → end ≡ position_or_len is_end body → end < length body → digits ≡ position_or_len is_equals (take end body) → digits < end → digits ≢ 0 → digits ≤ 9 → get_or (take end body) 0 0 ≢ 48 → Some tag ≡ limited_digits (take digits (take end body)) →
-    value ≡ drop (digits + 1) (take end body) → rest ≡ drop (end + 1) body →
-    ◌≡◌ {A = Option (TagValue × List ℕ)} (Some (record { tag = tag; value = value }, rest)) (first_field body)
-first_field_found body end digits tag value rest e l f m some few first found v r =
-    let len = length-take-le end body (omega arith) in
-    let field = field_found (take end body) digits tag f (omega arith) some few first found in
+not_field : (text : List ℕ) (p : ℕ) (b : Bool) → b ≡ is_tag (take p text) → (p < length text → b ≡ false) → (ltb p (length text) && is_tag (take p text)) ≡ false
+not_field text p false e h = ap (λ x. ltb p (length text) && x) (sym e) ∙ and_false (ltb p (length text))
+  where
+    and_false : (x : Bool) → (x && false) ≡ false
+    and_false true = refl
+    and_false false = refl
+not_field text p true e h = by_place (cases_lt p (length text))
+  where
+    by_place : (p < length text) ⊎ (length text ≤ p) → (ltb p (length text) && is_tag (take p text)) ≡ false
+    by_place (inl l) = absurd (false≢true (sym (h l)))
+    by_place (inr m) = let past : ltb p (length text) ≡ false = grind (arith, nat_tests) in ap (λ x. x && is_tag (take p text)) past
+
+-- a text is no field where no `=` stands among its first bytes and no longer front is a tag
+pub no_field : (text : List ℕ) (i : ℕ) → ((j : ℕ) → j < i → eqb (get_or text j 0) 61 ≡ false) → ((p : ℕ) → i ≤ p → p < length text → is_tag (take p text) ≡ false) → None ≡ field_of_text text
+no_field text i before other =
+    let p = position_or_len is_equals text in
+    sym (ap (λ x. cond x (Some (record { tag = number_of (take p text); value = drop (p + 1) text })) None)
+    (not_field text p (is_tag (take p text)) refl (λ l. other p (past (cases_lt p i) l) l)))
+  where
+    past : (position_or_len is_equals text < i) ⊎ (i ≤ position_or_len is_equals text) → position_or_len is_equals text < length text → i ≤ position_or_len is_equals text
+    past (inl less) l = absurd (false≢true (sym (before (position_or_len is_equals text) less) ∙ passes_at_first is_equals text 0 l))
+    past (inr more) l = more
+
+third_false : (a b c d : Bool) → c ≡ false → (((a && b) && c) && d) ≡ false
+third_false true true c d e = ap (λ x. x && d) e
+third_false true false c d e = refl
+third_false false b c d e = refl
+
+second_false : (a b c d : Bool) → b ≡ false → (((a && b) && c) && d) ≡ false
+second_false true b c d e = ap (λ x. (x && c) && d) e
+second_false false b c d e = refl
+
+-- no front past another byte than a digit is a tag
+pub not_digits : (text : List ℕ) (i p : ℕ) → is_ascii_digit (get_or text i 0) ≡ false → i < p → p < length text → is_tag (take p text) ≡ false
+not_digits text i p e l m =
+    let len = length-take-le p text (omega arith) in
+    let t = take p text in
+    third_false (leb 1 (length t)) (leb (length t) 9) (list_all is_ascii_digit t) (not (eqb (get_or t 0 0) 48)) (list_all_at is_ascii_digit (take p text) i 0 (omega (arith, len)) (ap is_ascii_digit (get_or-take p text i 0 l) ∙ e))
+
+-- no front of more than nine bytes is a tag
+pub too_long : (text : List ℕ) (p : ℕ) → 9 < p → p < length text → is_tag (take p text) ≡ false
+too_long text p l m =
+    let len = length-take-le p text (omega arith) in
+    let more : leb (length (take p text)) 9 ≡ false = grind (arith, nat_tests) in
+    let t = take p text in
+    second_false (leb 1 (length t)) (leb (length t) 9) (list_all is_ascii_digit t) (not (eqb (get_or t 0 0) 48)) more
+
+-- a field of what stands before the first byte 1 is the first field of a body
+pub first_field_found : (body : List ℕ) (end : ℕ) (f : TagValue) → end ≡ position_or_len is_end body → end < length body → Some f ≡ field_of_text (take end body) →
+    ◌≡◌ {A = Option (TagValue × List ℕ)} (Some (f, drop (end + 1) body)) (first_field body)
+first_field_found body end f e l field =
     let here : ltb end (length body) ≡ true = grind (arith, nat_tests) in
-    ap (λ x. Some (record { tag = tag; value = x }, rest)) v
-    ∙ ap (λ x. Some (record { tag = tag; value = drop (digits + 1) (take end body) }, x)) r
-    ∙ ap (option_map (λ g. (g, drop (end + 1) body))) field
+    ap (option_map (λ g. (g, drop (end + 1) body))) field
     ∙ sym (ap (λ x. cond x (option_map (λ g. (g, drop (end + 1) body)) (field_of_text (take end body))) None) here)
     ∙ ap (λ k. field_up_to k body) e
 

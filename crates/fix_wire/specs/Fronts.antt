@@ -5,6 +5,7 @@ use Rattle.std.specs.List.{position_or_len, list_all}
 use Rattle.fix_wire.specs.declared.frame.Front.{Front}
 use Rattle.fix_wire.specs.declared.frame.Front.TheVariants.{Frame, Partial, Garbled}
 use Rattle.fix_wire.specs.declared.frame.LeadingField.{LeadingField}
+use Rattle.fix_wire.specs.declared.frame.Tag.{Tag}
 use Rattle.fix_wire.specs.Texts.{is_end, number_of, strip_prefix, is_cut_short}
 use Rattle.fix_wire.specs.Fields.{TagValue, fields_of_body, field_of_text}
 use Rattle.fix_wire.specs.Frames.{begin_text, frame_at, may_begin, is_length_open}
@@ -31,6 +32,10 @@ field_up_to end body = if nat_lt end (length body) then option_map (λ f. (f, dr
 -- the first field of a body, and the fields after it
 abbrev pub first_field : List ℕ → Option (TagValue × List ℕ)
 first_field body = field_up_to (position_or_len is_end body) body
+
+-- a field whose tag is spelled by so many digits
+abbrev pub tag_view : List ℕ → Tag → TagValue
+tag_view text t = record { tag = t.number; value = drop (t.digits + 1) text }
 
 -- a field that stands in front of a body, and the fields after it
 abbrev pub leading_field_view : List ℕ → LeadingField → TagValue × List ℕ

@@ -5,9 +5,9 @@ ghost use Rattle.std.specs.Str.{bytes_eq};
 ghost use Rattle.memchr.specs.Find.{is_byte};
 ghost use Rattle.fix_wire.specs.Texts.{is_end, strip_prefix, is_cut_short};
 ghost use Rattle.fix_wire.specs.Frames.{begin_text, header, header_after, body_at, is_body, is_intact, is_length_open, checksum_field, frame_length};
-ghost use Rattle.fix_wire.specs.Fields.{fields_of_body};
+ghost use Rattle.fix_wire.specs.Fields.{field_of_text, fields_of_body};
 ghost use Rattle.fix_wire.specs.Held.{from_first_start};
-ghost use Rattle.fix_wire.specs.Fronts.{front_of, first_field, leading_field_view, is_header_open};
+ghost use Rattle.fix_wire.specs.Fronts.{front_of, first_field, leading_field_view, tag_view, is_header_open};
 
 use crate::values::limited_digits;
 use memchr::memchr;
@@ -32,6 +32,13 @@ pub enum Front {
     Partial,
     /// neither
     Garbled,
+}
+
+/// A tag, and how many digits spell it.
+#[derive(Clone, Copy)]
+struct Tag {
+    number: u32,
+    digits: usize,
 }
 
 /// Where the first field of a text stands: its value is from start to end, where its byte 1 is.
@@ -144,6 +151,30 @@ pub(crate) fn next_begin(text: &[u8]) -> usize
     1 + place_of(b'8', &text[1..])
 }
 
+/// The tag that the text of a field begins with, and how many digits spell it.
+fn leading_tag(text: &[u8]) -> Option<Tag>
+    ensures field { option_map (tag_view text.now) result ≡ field_of_text text.now }
+    ensures within { IfSome result (λ t. t.digits < length text.now) }
+{
+    let mut number: u64 = 0;
+    for i in 0..text.len() {
+        if text[i] == b'=' {
+            if i == 0 || text[0] == b'0' {
+                return None;
+            }
+            return Some(Tag {
+                number: number as u32,
+                digits: i,
+            });
+        }
+        if i == 9 || !text[i].is_ascii_digit() {
+            return None;
+        }
+        number = number * 10 + u64::from(text[i] - b'0');
+    }
+    None
+}
+
 /// The first field of a body.
 pub(crate) fn first_field(body: &[u8]) -> Option<LeadingField>
     ensures field { option_map (leading_field_view body.now) result ≡ first_field body.now }
@@ -155,19 +186,12 @@ pub(crate) fn first_field(body: &[u8]) -> Option<LeadingField>
     if end == body.len() {
         return None;
     }
-    let text = &body[..end];
-    let digits = near_place_of(b'=', text);
-    if digits == end || digits == 0 || digits > 9 || text[0] == b'0' {
-        return None;
-    }
-    match limited_digits(&text[..digits]) {
-        Some(tag) => Some(LeadingField {
-            tag: tag as u32,
-            start: digits + 1,
-            end,
-        }),
-        None => None,
-    }
+    let tag = leading_tag(&body[..end])?;
+    Some(LeadingField {
+        tag: tag.number,
+        start: tag.digits + 1,
+        end,
+    })
 }
 
 /// Whether a text is a row of fields.
