@@ -1,10 +1,13 @@
 -- The first message of a text is found in as many bytes as a framer has room for.
 use Rattle.std.proofs.Common.{◌≡◌, ℕ, ◌<◌, ◌≤◌, false, List, [], ◌∷◌, length, take, drop, min, Some, None, sym, subst, arith}
-use Rattle.std.proofs.lemmas.List.{take-append-drop, length-take-le, take_all}
+use Rattle.std.proofs.lemmas.List.{take-append-drop, length-take, length-take-le, take-take, take_all}
 use Rattle.fix_wire.specs.declared.frame.Front.TheVariants.{Frame, Partial, Garbled}
 use Rattle.fix_wire.specs.Frames.{frame_at, may_begin, frames, IsFrame}
 use Rattle.fix_wire.specs.Fronts.{front_of}
 use Rattle.fix_wire.proofs.Stays.{frame_stays, frame_within, frame_alone, nothing_stays, begins_short, frame_short}
+use Rattle.fix_wire.specs.declared.table.FieldTable.{FieldTable}
+use Rattle.fix_wire.specs.Tabled.{IsTableOf}
+use Rattle.fix_wire.proofs.TableRows.{table_alone}
 use Rattle.fix_wire.proofs.Scan.{front_frame, front_partial, front_garbled, frames_frame, frames_partial, frames_nothing}
 
 pub near_frame : (text : List ℕ) (n len : ℕ) → Frame len ≡ front_of (take n text) → frame_at text ≡ Some len
@@ -40,3 +43,10 @@ near_nothing text n some e =
     let stays = nothing_stays (take n text) (drop n text) h.0 h.1 in
     let whole = take-append-drop n text in
     nothing_first text some (subst (λ t. frame_at t ≡ None) whole stays.0) (subst (λ t. may_begin t ≡ false) whole stays.1)
+
+pub near_table : (text : List ℕ) (n len : ℕ) (t : FieldTable) → Frame len ≡ front_of (take n text) → IsTableOf (take n text) t → IsTableOf (take len text) t
+near_table text n len t e known =
+    let h = front_frame (frame_at (take n text)) (may_begin (take n text)) len (sym e) in
+    let within = frame_within (take n text) len h in
+    let few = length-take n text in
+    subst (λ (x : List ℕ). IsTableOf x t) (take-take len n text (omega (arith, within.1, few))) (table_alone (take n text) len t h known)

@@ -1,12 +1,15 @@
 -- A table of fields, one place after another.
-use Rattle.std.proofs.Common.{◌≡◌, ℕ, zero, suc, ◌+◌, ◌-◌, ◌<◌, ◌≤◌, List, Some, set, get_or, length, take, drop, refl, sym, ap, ◌∙◌, arith, add-one, ◌⊎◌, inl, inr}
+use Rattle.std.proofs.Common.{subst, unwrap_or, ◌≡◌, ℕ, zero, suc, ◌+◌, ◌-◌, ◌<◌, ◌≤◌, List, Some, set, get_or, length, take, drop, refl, sym, ap, ◌∙◌, arith, add-one, ◌⊎◌, inl, inr}
 use Rattle.std.specs.List.{between}
-use Rattle.std.proofs.lemmas.List.{drop-drop, length-drop, length-set, get_or-set_same, get_or-set_other}
+use Rattle.std.proofs.lemmas.List.{take-append-drop, drop-take, take-take, drop-drop, length-drop, length-set, get_or-set_same, get_or-set_other}
 use Rattle.std.proofs.lemmas.Bool.{cases_lt}
 use Rattle.fix_wire.specs.declared.frame.LeadingField.{LeadingField}
 use Rattle.fix_wire.specs.declared.table.FieldPlace.{FieldPlace}
+use Rattle.fix_wire.specs.declared.table.FieldTable.{FieldTable}
 use Rattle.fix_wire.specs.Fronts.{first_field, leading_field_view}
-use Rattle.fix_wire.specs.Tabled.{nowhere, place_at, start_of, field_at, IsPlaced, IsTable}
+use Rattle.fix_wire.specs.Tabled.{nowhere, place_at, start_of, field_at, IsPlaced, IsTable, IsTableOf}
+use Rattle.fix_wire.specs.Frames.{frame_at, header, frame_length}
+use Rattle.fix_wire.proofs.Stays.{frame_parts, header_stays}
 
 between_drop : (xs : List ℕ) (from start end : ℕ) → between start end (drop from xs) ≡ between (from + start) (from + end) xs
 between_drop xs from start end =
@@ -57,3 +60,15 @@ table_more body places count rest f t room e order within =
     by_index i l (inr more) here first =
         let same : i ≡ count = omega arith in
         rw (same, here, start_kept places count (moved rest f) count (omega arith), sym t.rest) first
+
+-- the table of a text is that of the frame at its front
+pub table_alone : (text : List ℕ) (n : ℕ) (t : FieldTable) → frame_at text ≡ Some n → IsTableOf text t → IsTableOf (take n text) t
+table_alone text n t e known h claims =
+    frame_parts text n e (λ c head keeps len fits.
+    let at = subst (λ (x : List ℕ). header x ≡ Some h) (take-append-drop n text) (header_stays (take n text) (drop n text) h claims) in
+    let same : c ≡ h = ap (λ o. unwrap_or o c) (sym head ∙ at) in
+    let size : h.body_start + (h.body_length + 7) ≡ n = omega (arith, ap frame_length (sym same) ∙ len) in
+    let body = ap (λ k. take h.body_length (drop h.body_start (take k text))) (sym size)
+    ∙ ap (λ x. take h.body_length x) (drop-take h.body_start (h.body_length + 7) text)
+    ∙ take-take h.body_length (h.body_length + 7) (drop h.body_start text) (omega arith) in
+    subst (λ (x : List ℕ). IsTable x t) (sym body) (known h at))

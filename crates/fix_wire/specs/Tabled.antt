@@ -1,7 +1,9 @@
 -- A table of the fields of a body.
 use Rattle.std.specs.Prelude.{◌≡◌, ℕ, zero, suc, ◌+◌, ◌<◌, ◌≤◌, List, Some, get_or, length, drop, slice_range}
+use Rattle.fix_wire.specs.declared.frame.FrameHeader.{FrameHeader}
 use Rattle.fix_wire.specs.declared.table.FieldPlace.{FieldPlace}
 use Rattle.fix_wire.specs.declared.table.FieldTable.{FieldTable}
+use Rattle.fix_wire.specs.Frames.{header, body_at}
 use Rattle.fix_wire.specs.Fields.{TagValue}
 use Rattle.fix_wire.specs.Fronts.{first_field}
 
@@ -38,3 +40,7 @@ pub record IsTable (body : List ℕ) (t : FieldTable) : Type 0 where
   pub within : t.rest ≤ length body
   pub rest : t.rest ≡ start_of t.places t.count
   pub placed : (i : ℕ) → i < t.count → IsPlaced body (start_of t.places i) (place_at t.places i)
+
+-- A table of the body of a text that has a header.
+abbrev pub IsTableOf : List ℕ → FieldTable → Type 0
+IsTableOf text t = (h : FrameHeader) → header text ≡ Some h → IsTable (body_at text h) t

@@ -5,10 +5,14 @@ ghost use Rattle.std.specs.Str.{bytes_eq};
 ghost use Rattle.memchr.specs.Find.{is_byte};
 ghost use Rattle.fix_wire.specs.Texts.{is_end, strip_prefix, is_cut_short};
 ghost use Rattle.fix_wire.specs.Frames.{begin_text, header, header_after, body_at, is_body, is_intact, is_length_open, checksum_field, frame_length};
-ghost use Rattle.fix_wire.specs.Fields.{field_of_text, fields_of_body};
+ghost use Rattle.fix_wire.specs.Fields.{field_of_text};
 ghost use Rattle.fix_wire.specs.Held.{from_first_start};
+ghost use Rattle.fix_wire.specs.Tabled.{IsTable, IsTableOf};
+ghost use Rattle.fix_wire.specs.declared.frame.Front.TheVariants.{Frame};
+ghost use Rattle.std.specs.Bool.{OnTrue};
 ghost use Rattle.fix_wire.specs.Fronts.{front_of, first_field, leading_field_view, tag_view, is_header_open};
 
+use crate::table::{FieldTable, are_fields};
 use crate::values::limited_digits;
 use memchr::memchr;
 use std::simd::prelude::*;
@@ -194,24 +198,13 @@ pub(crate) fn first_field(body: &[u8]) -> Option<LeadingField>
     })
 }
 
-/// Whether a text is a row of fields.
-pub(crate) fn are_fields(text: &[u8]) -> bool
-    ensures { result ≡ is_some (fields_of_body text.now) }
+/// Whether a text is a body, and if so, its table.
+fn is_body(body: &[u8], table: &mut FieldTable) -> bool
+    requires { length body.now ≤ 4096 }
+    ensures body { result ≡ is_body body.now }
+    ensures table { OnTrue result (IsTable body.now table.new) }
 {
-    let mut rest = text;
-    while !rest.is_empty() {
-        match first_field(rest) {
-            Some(field) => rest = &rest[field.end + 1..],
-            None => return false,
-        }
-    }
-    true
-}
-
-fn is_body(body: &[u8]) -> bool
-    ensures { result ≡ is_body body.now }
-{
-    body.starts_with(b"35=") && are_fields(body)
+    body.starts_with(b"35=") && are_fields(body, table)
 }
 
 /// The sum of bytes, modulo 256.
@@ -247,29 +240,31 @@ fn is_trailer(tail: &[u8], sum: u8) -> bool
     tail == checksum_digits(sum).as_slice()
 }
 
-/// Whether the text has what its header announces.
-fn is_intact(text: &[u8], header: FrameHeader) -> bool
+/// Whether the text has what its header announces, and if so, the table of its body.
+fn is_intact(text: &[u8], header: FrameHeader, table: &mut FieldTable) -> bool
     requires start { header.body_start ≤ 21 }
     requires size { header.body_length ≤ 4096 }
     requires whole { frame_length header ≤ length text.now }
-    ensures { result ≡ is_intact text.now header }
+    ensures intact { result ≡ is_intact text.now header }
+    ensures table { OnTrue result (IsTable (body_at text.now header) table.new) }
 {
     let end = header.body_start + header.body_length;
     is_trailer(&text[end..end + 7], checksum(&text[..end]))
-        && is_body(&text[header.body_start..end])
+        && is_body(&text[header.body_start..end], table)
 }
 
-/// What stands at the front of a text.
-pub(crate) fn front_of(text: &[u8]) -> Front
+/// What stands at the front of a text, and the table of a frame that does.
+pub(crate) fn front_of(text: &[u8], table: &mut FieldTable) -> Front
     requires { length text.now < 2 ^ 32 }
-    ensures { result ≡ front_of text.now }
+    ensures front { result ≡ front_of text.now }
+    ensures table { (n : ℕ) → result ≡ Frame n → IsTableOf text.now table.new }
 {
     match header_of(text) {
         Some(header) => {
             let whole = header.body_start + header.body_length + 7;
             if text.len() < whole {
                 Front::Partial
-            } else if is_intact(text, header) {
+            } else if is_intact(text, header, table) {
                 Front::Frame(whole)
             } else {
                 Front::Garbled

@@ -1,16 +1,18 @@
 //! The frames of a stream that comes in pieces.
-ghost use Rattle.std.specs.Prelude.{◌≡◌, ℕ, ◌+◌, ◌-◌, ◌<◌, ◌≤◌, ◌^◌, ◌++◌, List, [], length, take, drop, min, IsTrue, ⊤, IfSome, None, is_some, slice_range};
+ghost use Rattle.std.specs.Prelude.{◌≡◌, ℕ, ◌+◌, ◌-◌, ◌<◌, ◌≤◌, ◌^◌, ◌++◌, List, [], length, take, drop, min, IsTrue, ⊤, IfSome, Some, None, is_some, slice_range};
 ghost use Rattle.std.specs.Bool.{OnTrue, OnFalse};
 ghost use Rattle.std.specs.Borrow.{sem};
 ghost use Rattle.fix_wire.specs.Frames.{frames, frame_at};
 ghost use Rattle.fix_wire.specs.Held.{first_frame, from_first_start, after_first_frame};
 ghost use Rattle.fix_wire.specs.Lent.{lent};
+ghost use Rattle.fix_wire.specs.Tabled.{IsTableOf};
 ghost use denote.Follow.{follows_so};
 ghost use mathlib.Core.Option.{none};
 ghost use Rattle.fix_wire.specs.contracts.framer.Framer.{the_row};
 
 use crate::frame::{Front, front_of, next_begin};
 use crate::message::Message;
+use crate::table::FieldTable;
 use std::marker::Model;
 
 /// How many bytes a framer holds at most.
@@ -93,31 +95,44 @@ impl Framer {
         if self.found > 0 {
             (0, Some(self.found))
         } else {
-            first_start(&self.buffer[self.start..self.end])
+            self.search(&mut FieldTable::empty())
         }
     }
 
+    /// The same, with the table of the frame.
+    fn search(&self, table: &mut FieldTable) -> (usize, Option<usize>)
+        ensures within { result.0 ≤ length self.now }
+        ensures kept { drop result.0 self.now ≡ from_first_start self.now }
+        ensures found { result.1 ≡ frame_at (from_first_start self.now) }
+        ensures fits { IfSome result.1 (λ n. result.0 + n ≤ length self.now) }
+        ensures table { (n : ℕ) → result.1 ≡ Some n → IsTableOf (from_first_start self.now) table.new }
+    {
+        first_start(&self.buffer[self.start..self.end], table)
+    }
+
     /// Lets the bytes at the front go at which no frame stands or may still begin.
-    fn seek(&mut self) -> Option<usize>
+    fn seek(&mut self, table: &mut FieldTable) -> Option<usize>
         ensures kept { self.new ≡ from_first_start self.old }
         ensures found { result ≡ frame_at (from_first_start self.old) }
+        ensures table { (n : ℕ) → result ≡ Some n → IsTableOf (from_first_start self.old) table.new }
     {
-        let (skip, found) = self.first();
+        let (skip, found) = self.search(table);
         self.start += skip;
         self.found = found.unwrap_or(0);
         found
     }
 
-    /// Lends the message at the front, whose length is known where there is one.
-    fn lend(&self, found: Option<usize>) -> Next<'_>
+    /// Lends the message at the front, whose length and table are known where there is one.
+    fn lend(&self, found: Option<usize>, table: &FieldTable) -> Next<'_>
         requires settled { from_first_start self.now ≡ self.now }
         requires found { found ≡ frame_at self.now }
+        requires table { (n : ℕ) → found ≡ Some n → IsTableOf self.now table.now }
         ensures { lent result ≡ first_frame (frames self.now) }
     {
         match found {
             Some(length) => {
                 let frame = &self.buffer[self.start..self.start + length];
-                Next::Message(Message::of_frame(frame))
+                Next::Message(Message::of_frame(frame, table))
             }
             None => Next::Need,
         }
@@ -130,8 +145,9 @@ impl Framer {
         // What is held after Need leaves room for more.
         ensures room { lent result ≡ None → length (from_first_start self.old) ≤ 4123 }
     {
-        let found = self.seek();
-        self.lend(found)
+        let mut table = FieldTable::empty();
+        let found = self.seek(&mut table);
+        self.lend(found, &table)
     }
 
     /// Goes past the message that `next` would lend.
@@ -170,17 +186,18 @@ fn append(buffer: &mut [u8], start: usize, end: usize, piece: &[u8])
     buffer[end..end + piece.len()].copy_from_slice(piece);
 }
 
-/// The first place at which a frame stands or may still begin, and the length of the frame that stands there.
-fn first_start(held: &[u8]) -> (usize, Option<usize>)
+/// The first place at which a frame stands or may still begin, and the length and the table of the frame that stands there.
+fn first_start(held: &[u8], table: &mut FieldTable) -> (usize, Option<usize>)
     requires { length held.now ≤ 8192 }
     ensures within { result.0 ≤ length held.now }
     ensures kept { drop result.0 held.now ≡ from_first_start held.now }
     ensures found { result.1 ≡ frame_at (from_first_start held.now) }
     ensures fits { IfSome result.1 (λ n. result.0 + n ≤ length held.now) }
+    ensures table { (n : ℕ) → result.1 ≡ Some n → IsTableOf (from_first_start held.now) table.new }
 {
     let mut at = 0;
     while at < held.len() {
-        match front_of(&held[at..]) {
+        match front_of(&held[at..], table) {
             Front::Frame(len) => return (at, Some(len)),
             Front::Partial => return (at, None),
             Front::Garbled => at += next_begin(&held[at..]),

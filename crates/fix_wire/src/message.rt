@@ -3,11 +3,11 @@ ghost use Rattle.std.specs.Prelude.{◌≡◌, ℕ, ◌+◌, ◌<◌, ◌≤◌,
 ghost use Rattle.std.specs.Option.{option_copied};
 ghost use Rattle.fix_wire.specs.Frames.{IsFrame, header, body_at};
 ghost use Rattle.fix_wire.specs.Fields.{fields_of_body};
-ghost use Rattle.fix_wire.specs.Tabled.{IsTable};
+ghost use Rattle.fix_wire.specs.Tabled.{IsTable, IsTableOf};
 ghost use Rattle.fix_wire.specs.Messages.{kind, get, number};
 
 use crate::frame::{FrameHeader, Front, front_of, header_of};
-use crate::table::{FieldTable, first_value, table_of, value_of};
+use crate::table::{FieldTable, first_value, value_of};
 use crate::values::read_number;
 
 /// The length of the longest frame: `8=FIX.4.2|9=`, eight digits, byte 1, 4,096 bytes of body and seven of CheckSum.
@@ -33,8 +33,9 @@ impl<'a> Message<'a> {
         if bytes.len() > LONGEST {
             return None;
         }
-        match front_of(bytes) {
-            Front::Frame(n) if n == bytes.len() => Some(Message::of_frame(bytes)),
+        let mut table = FieldTable::empty();
+        match front_of(bytes, &mut table) {
+            Front::Frame(n) if n == bytes.len() => Some(Message::of_frame(bytes, &table)),
             _ => None,
         }
     }
@@ -78,15 +79,18 @@ impl<'a> Message<'a> {
         }
     }
 
-    /// The message of a lawful frame.
-    pub(crate) fn of_frame(frame: &'a [u8]) -> Message<'a>
+    /// The message of a lawful frame, whose table is known.
+    pub(crate) fn of_frame(frame: &'a [u8], table: &FieldTable) -> Message<'a>
         requires short { length frame.now < 2 ^ 32 }
         requires lawful { IsFrame frame.now }
+        requires tabled { IsTableOf frame.now table.now }
         ensures { result.frame.now ≡ frame.now }
     {
         let head = header_of(frame).unwrap();
-        let body = &frame[head.body_start..head.body_start + head.body_length];
-        let table = table_of(body).unwrap();
-        Message { frame, head, table }
+        Message {
+            frame,
+            head,
+            table: *table,
+        }
     }
 }

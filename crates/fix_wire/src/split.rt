@@ -5,6 +5,7 @@ ghost use Rattle.fix_wire.specs.Frames.{frames};
 use crate::frame::{Front, front_of};
 use crate::framer::ROOM;
 use crate::message::Message;
+use crate::table::FieldTable;
 
 /// The first message of a text, and what stands after it. Bytes before it at which no frame stands are passed over.
 pub fn first_message(text: &[u8]) -> Option<(Message<'_>, &[u8])>
@@ -13,10 +14,13 @@ pub fn first_message(text: &[u8]) -> Option<(Message<'_>, &[u8])>
     ensures none { IfNone result (frames text.now ≡ []) }
 {
     let mut rest = text;
+    let mut table = FieldTable::empty();
     while !rest.is_empty() {
         // No frame, and nothing that may still begin one, is longer than a framer's room.
-        match front_of(&rest[..rest.len().min(ROOM)]) {
-            Front::Frame(len) => return Some((Message::of_frame(&rest[..len]), &rest[len..])),
+        match front_of(&rest[..rest.len().min(ROOM)], &mut table) {
+            Front::Frame(len) => {
+                return Some((Message::of_frame(&rest[..len], &table), &rest[len..]));
+            }
             Front::Partial => return None,
             Front::Garbled => rest = &rest[1..],
         }

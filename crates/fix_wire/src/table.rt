@@ -1,12 +1,13 @@
 //! Where the first fields of a body stand, so that a field is found by its tag without a walk.
-ghost use Rattle.std.specs.Prelude.{◌≡◌, ℕ, ◌≤◌, ◌<◌, length, is_some, true, unwrap_or, [], IfSome};
+ghost use Rattle.std.specs.Prelude.{◌≡◌, ℕ, ◌≤◌, ◌<◌, length, is_some, true, unwrap_or, []};
+ghost use Rattle.std.specs.Bool.{OnTrue};
 ghost use Rattle.std.specs.Option.{option_copied};
 ghost use Rattle.fix_wire.specs.Fields.{fields_of_body};
 ghost use Rattle.fix_wire.specs.Messages.{first_value};
 ghost use Rattle.fix_wire.specs.Fronts.{value_of};
 ghost use Rattle.fix_wire.specs.Tabled.{IsTable};
 
-use crate::frame::{are_fields, first_field};
+use crate::frame::first_field;
 
 /// Where a field of a body stands: its value is from start to end, where its byte 1 is.
 #[derive(Clone, Copy)]
@@ -27,24 +28,36 @@ pub struct FieldTable {
     pub rest: usize,
 }
 
-/// The table of a body, where it is a row of fields.
-pub(crate) fn table_of(body: &[u8]) -> Option<FieldTable>
-    requires { length body.now ≤ 4096 }
-    ensures row { is_some result ≡ is_some (fields_of_body body.now) }
-    ensures table { IfSome result (IsTable body.now) }
+impl FieldTable {
+    /// A table of no field, to be filled.
+    pub(crate) fn empty() -> FieldTable {
+        let nowhere = FieldPlace {
+            tag: 0,
+            start: 0,
+            end: 0,
+        };
+        FieldTable {
+            places: [nowhere; 24],
+            count: 0,
+            rest: 0,
+        }
+    }
+}
+
+/// Whether a text is a row of fields, and if so, their table.
+pub(crate) fn are_fields(text: &[u8], table: &mut FieldTable) -> bool
+    requires { length text.now ≤ 4096 }
+    ensures row { result ≡ is_some (fields_of_body text.now) }
+    ensures table { OnTrue result (IsTable text.now table.new) }
 {
-    let nowhere = FieldPlace {
-        tag: 0,
-        start: 0,
-        end: 0,
-    };
-    let mut places = [nowhere; 24];
     let mut count = 0;
     let mut rest = 0;
-    while count < MOST && rest < body.len() {
-        let field = first_field(&body[rest..])?;
+    while count < MOST && rest < text.len() {
+        let Some(field) = first_field(&text[rest..]) else {
+            return false;
+        };
         let end = rest + field.end;
-        places[count] = FieldPlace {
+        table.places[count] = FieldPlace {
             tag: field.tag,
             start: (rest + field.start) as u16,
             end: end as u16,
@@ -52,15 +65,23 @@ pub(crate) fn table_of(body: &[u8]) -> Option<FieldTable>
         count += 1;
         rest = end + 1;
     }
-    if are_fields(&body[rest..]) {
-        Some(FieldTable {
-            places,
-            count,
-            rest,
-        })
-    } else {
-        None
+    table.count = count;
+    table.rest = rest;
+    are_further_fields(&text[rest..])
+}
+
+/// The same of those that have no place in the table.
+fn are_further_fields(text: &[u8]) -> bool
+    ensures { result ≡ is_some (fields_of_body text.now) }
+{
+    let mut rest = text;
+    while !rest.is_empty() {
+        match first_field(rest) {
+            Some(field) => rest = &rest[field.end + 1..],
+            None => return false,
+        }
     }
+    true
 }
 
 /// The value of the first field of a body.

@@ -1,9 +1,11 @@
-use Rattle.std.proofs.Common.{take, Some, sym, ap, ◌∙◌, subst}
+use Rattle.std.proofs.Common.{ℕ, List, take, Some, sym, ap, ◌∙◌, subst}
 use Rattle.fix_wire.specs.Frames.{frame_at, IsFrame}
+use Rattle.fix_wire.specs.Tabled.{IsTableOf}
 use Rattle.fix_wire.specs.Held.{first_frame}
 use Rattle.fix_wire.proofs.Ranges.{range_take}
 use Rattle.fix_wire.proofs.Knows.{skip_within}
 use Rattle.fix_wire.proofs.Stays.{frame_within, frame_alone}
+use Rattle.fix_wire.proofs.TableRows.{table_alone}
 use Rattle.fix_wire.proofs.Scan.{held_frames, no_frames}
 use Rattle.fix_wire.proofs.framer.Framer.lend.Goals as goal
 
@@ -13,6 +15,15 @@ of_frame-requires-clause-lawful c =
     let len = c.in-Some.length in
     let e = sym c.requires.found ∙ c.in-Some.is in
     subst IsFrame (ap (take len) (sym c.self.view_is) ∙ sym (range_take f.buffer f.start len f.end (skip_within f len c.args.self.now c.self.told c.self.invariant c.self.view_is (frame_within c.args.self.now len e).1))) (frame_alone c.args.self.now len e)
+
+pub of_frame-requires-clause-tabled : goal.of_frame-requires-clause-tabled
+of_frame-requires-clause-tabled c =
+    let f = c.self.inside in
+    let now = c.args.self.now in
+    let len = c.in-Some.length in
+    let e = sym c.requires.found ∙ c.in-Some.is in
+    let range = range_take f.buffer f.start len f.end (skip_within f len now c.self.told c.self.invariant c.self.view_is (frame_within now len e).1) in
+    subst (λ (t : List ℕ). IsTableOf t c.args.table.now) (ap (take len) (sym c.self.view_is) ∙ sym range) (table_alone now len c.args.table.now e (c.requires.table len c.in-Some.is))
 
 pub returns-in-Some : goal.returns-in-Some
 returns-in-Some c =
