@@ -2,7 +2,7 @@
 use Rattle.std.proofs.Common.{◌≡◌, ℕ, ◌-◌, ◌<◌, ◌==◌, Bool, true, false, cond, List, [], ◌∷◌, ◌++◌, map, Contains, All, Some, None, Result, Ok, Err, OnOk, OnErr, refl, sym, ap, ◌∙◌, subst, inl, inr}
 use Rattle.std.specs.Ordering.{nat_cmp}
 use Rattle.std.specs.Result.{is_err}
-use Rattle.std.specs.List.{list_any}
+use Rattle.std.specs.List.{list_any, find}
 use Rattle.std.specs.List.Sorted.{IsStrictlySortedBy}
 use Rattle.std.specs.Map.{values_of, keys_of, lookup, remove_entry, set_value}
 use Rattle.std.specs.BTreeMap.{is_at, insert_entry}
@@ -16,8 +16,8 @@ use Rattle.spread_books.specs.declared.own_key.OwnKey.{OwnKey}
 use Rattle.spread_books.specs.Queues.{HasMore}
 use Rattle.spread_books.specs.QueueKeys.{queue_key}
 use Rattle.spread_books.specs.OwnKeys.{own_key}
-use Rattle.spread_books.specs.Index.{queue_key_cmp, own_key_cmp, by_place, IsKept, IsIndexOf, IsIndex}
-use Rattle.spread_books.proofs.Ascending.{Ascends, values_by_place, keys_by_place, found_at, from_found, insert_last, remove_at, set_at}
+use Rattle.spread_books.specs.Index.{Ascends, queue_key_cmp, own_key_cmp, by_place, IsKept, IsIndexOf, IsIndex}
+use Rattle.spread_books.proofs.Ascending.{lookup_is_find, values_by_place, keys_by_place, found_at, from_found, insert_last, remove_at, set_at}
 use Rattle.spread_books.proofs.KeySets.{keys_added, keys_removed, keys_reduced, from_removed}
 use Rattle.spread_books.proofs.KeyOrders.{queue_key_total, queue_key_exact, own_key_total, own_key_exact}
 
@@ -70,6 +70,10 @@ has_more xs es place by o e l h =
 -- one that rests is found
 pub is_found : (xs : List Order) (es : List (ℕ × Order)) (o : Order) → es ≡ map by_place xs → Ascends xs → Contains xs o → lookup (is_at (nat_cmp o.place)) es ≡ Some o
 is_found xs es o e s c = subst (λ (gs : List (ℕ × Order)). lookup (is_at (nat_cmp o.place)) gs ≡ Some o) (sym e) (found_at xs o s c)
+
+-- a look-up in the table is one in the list
+pub looked_up : (xs : List Order) (es : List (ℕ × Order)) (place : ℕ) → es ≡ map by_place xs → lookup (is_at (nat_cmp place)) es ≡ find (λ o. o.place == place) xs
+looked_up xs es place e = ap (λ (gs : List (ℕ × Order)). lookup (is_at (nat_cmp place)) gs) e ∙ lookup_is_find xs place
 
 -- a place that an order has is not empty
 pub not_none : (xs : List Order) (es : List (ℕ × Order)) (place : ℕ) (o : Order) → es ≡ map by_place xs → Ascends xs → Contains xs o → o.place ≡ place → lookup (is_at (nat_cmp place)) es ≡ None → ⊥

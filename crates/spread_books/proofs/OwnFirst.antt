@@ -19,8 +19,8 @@ use Rattle.spread_rules.proofs.IdKeyOnce.{one_key}
 use Rattle.spread_books.specs.declared.own_key.OwnKey.{OwnKey}
 use Rattle.spread_books.specs.OwnKeys.{own_key, own_start}
 use Rattle.spread_books.specs.Firsts.{IsFirstFrom}
-use Rattle.spread_books.specs.Index.{id_key_cmp, own_key_cmp, HasKeys, IsKept}
-use Rattle.spread_books.proofs.Ascending.{Ascends, find_none, find_first}
+use Rattle.spread_books.specs.Index.{Ascends, id_key_cmp, own_key_cmp, HasKeys, IsKept}
+use Rattle.spread_books.proofs.Ascending.{find_none, find_first}
 use Rattle.spread_books.proofs.KeySets.{has_key, key_of_some, is_so}
 use Rattle.spread_books.proofs.KeyOrders.{id_key_total, id_key_exact, own_key_total, own_key_exact}
 

@@ -31,13 +31,17 @@ by_place o = (o.place, o)
 abbrev pub HasKeys : {K : Type 0} → (K → K → Ordering) → (Order → K) → BTreeSet K → List Order → Type 0
 HasKeys {K} cmp key s xs = (k : K) → contains cmp s k ≡ list_any (is_at (cmp k)) (map key xs)
 
+-- the places rise
+abbrev pub Ascends : List Order → Type 0
+Ascends xs = IsStrictlySortedBy nat_cmp (map (λ o. o.place) xs)
+
 pub record IsKept (o : Order) : Type 0 where
   pub in_range : IsInRange o
   pub id : IsIdBytes o.id
 
 pub record IsIndexOf (xs : List Order) (orders : List (ℕ × Order)) (queues : BTreeSet QueueKey) (ids : BTreeSet OwnKey) : Type 0 where
   pub placed : orders ≡ map by_place xs
-  pub ordered : IsStrictlySortedBy nat_cmp (map (λ o. o.place) xs)
+  pub ordered : Ascends xs
   pub queued : HasKeys queue_key_cmp queue_key queues xs
   pub owned : HasKeys own_key_cmp own_key ids xs
   pub kept : (o : Order) → Contains xs o → IsKept o

@@ -1,39 +1,38 @@
-//! A book with an index of its queues and one of its ids.
-ghost use Rattle.std.specs.Prelude.{◌≡◌, ℕ, ◌<◌, ◌++◌, ◌∷◌, [], List, length, slice_get, OnOk, OnErr, All};
-ghost use Rattle.std.specs.Map.{values_of};
+//! A book that has the fronts of its queues at hand.
+ghost use Rattle.std.specs.Prelude.{◌≡◌, ◌==◌, ℕ, ◌<◌, ◌++◌, ◌∷◌, [], List, length, slice_get, OnOk, OnErr, All, Some};
 ghost use Rattle.std.specs.List.{find};
+ghost use Rattle.spread_rules.specs.Candidates.{better_by};
 ghost use Rattle.spread_rules.specs.declared.order.Order.{Order};
+ghost use Rattle.spread_books.specs.Queues.{is_ahead};
+ghost use Rattle.spread_books.specs.FrontTable.{may_be_at, HoldsFronts};
 
 use crate::book::Book;
-use crate::first_from::first_from;
-use crate::own_key::OwnKey;
-use crate::queue_key::QueueKey;
+use crate::front_table::FrontTable;
+use crate::list::is_first;
+use crate::tree::TreeBook;
 use spread_rules::id::Id;
 use spread_rules::memory::NoMemory;
 use spread_rules::order::{Instrument, Order, Side};
 use std::alloc::Allocator;
-use std::collections::{BTreeMap, BTreeSet};
 use std::marker::Model;
 
-/// Resting orders by place, and their keys by queue and by id.
+/// Resting orders in ordered tables, and the fronts of the queues of early months.
 #[derive(Drop)]
 pub struct IndexBook<A: Allocator + Copy> {
-    orders: BTreeMap<u64, Order, A>,
-    queues: BTreeSet<QueueKey, A>,
-    ids: BTreeSet<OwnKey, A>,
+    book: TreeBook<A>,
+    fronts: FrontTable<A>,
 }
 
 impl<A: Allocator + Copy> Model for IndexBook<A> {
     ghost use Rattle.std.specs.Prelude.{List};
-    ghost use Rattle.std.specs.Map.{values_of};
     ghost use Rattle.spread_rules.specs.declared.order.Order.{Order};
-    ghost use Rattle.spread_books.specs.Index.{IsIndex};
+    ghost use Rattle.spread_books.specs.FrontTable.{HoldsFronts};
 
     ghost Value = { List Order };
 
-    ghost view = { λ b. values_of b.orders.entries };
+    ghost view = { λ b. b.book };
 
-    ghost invariant = { λ b. IsIndex b.orders.entries b.queues b.ids };
+    ghost invariant = { λ b. HoldsFronts b.book b.fronts };
 }
 
 impl<A: Allocator + Copy> IndexBook<A> {
@@ -42,10 +41,59 @@ impl<A: Allocator + Copy> IndexBook<A> {
         ensures { result ≡ [] }
     {
         IndexBook {
-            orders: BTreeMap::new(alloc),
-            queues: BTreeSet::new(alloc),
-            ids: BTreeSet::new(alloc),
+            book: TreeBook::new(alloc),
+            fronts: FrontTable::new(alloc),
         }
+    }
+}
+
+/// Before the first order of a book its table gets its slots.
+fn make_room<A: Allocator + Copy>(
+    book: &TreeBook<A>,
+    fronts: &mut FrontTable<A>,
+) -> Result<(), NoMemory>
+    requires { HoldsFronts book.now fronts.old }
+    ensures { HoldsFronts book.now fronts.new }
+{
+    if book.len() == 0 && fronts.is_empty() {
+        fronts.make_room()?;
+    }
+    Ok(())
+}
+
+/// The front of a queue with one more order behind all others.
+fn front_with(front: Option<Order>, order: &Order) -> Order
+    ensures { Some result ≡ better_by (is_ahead order.now.side) front (Some order.now) }
+{
+    match front {
+        None => *order,
+        Some(held) => {
+            if is_first(order.side, order, &held) {
+                *order
+            } else {
+                held
+            }
+        }
+    }
+}
+
+/// After an order is added behind all others.
+fn renew_front<A: Allocator + Copy>(fronts: &mut FrontTable<A>, order: &Order)
+    ensures { (xs : List Order) → HoldsFronts xs fronts.old → HoldsFronts (xs ++ order.now ∷ []) fronts.new }
+{
+    if let Some(front) = fronts.held(order.instrument, order.side) {
+        let next = front_with(front, order);
+        fronts.put(order.instrument, order.side, Some(next));
+    }
+}
+
+/// Whether no other order is known to be the front.
+fn may_be_at(front: Option<Order>, place: u64) -> bool
+    ensures { result ≡ may_be_at front place }
+{
+    match front {
+        None => true,
+        Some(held) => held.place == place,
     }
 }
 
@@ -53,59 +101,51 @@ impl<A: Allocator + Copy> Book for IndexBook<A> {
     ghost orders = { λ b. b };
 
     fn front(&self, instrument: Instrument, side: Side) -> Option<Order> {
-        let start = QueueKey::start(instrument, side);
-        let key = first_from(&self.queues, start)?;
-        if !key.is_in_queue_of(&start) {
-            return None;
+        match self.fronts.held(instrument, side) {
+            Some(front) => front,
+            None => self.book.front(instrument, side),
         }
-        self.orders.get(&key.place()).copied()
     }
 
     fn find(&self, session: u8, id: &Id) -> Option<Order> {
-        let start = OwnKey::start(session, id);
-        let key = first_from(&self.ids, start)?;
-        if !key.has_id_of(&start) {
-            return None;
-        }
-        self.orders.get(&key.place()).copied()
+        self.book.find(session, id)
     }
 
     fn add(&mut self, order: Order) -> Result<(), NoMemory> {
-        let queue = QueueKey::new(&order);
-        let own = OwnKey::new(&order);
-        if self.queues.insert(queue).is_err() {
-            return Err(NoMemory);
-        }
-        if self.ids.insert(own).is_err() {
-            self.queues.remove(&queue);
-            return Err(NoMemory);
-        }
-        if self.orders.insert(order.place, order).is_err() {
-            self.ids.remove(&own);
-            self.queues.remove(&queue);
-            return Err(NoMemory);
-        }
+        make_room(&self.book, &mut self.fronts)?;
+        self.book.add(order)?;
+        renew_front(&mut self.fronts, &order);
         Ok(())
     }
 
     fn reduce(&mut self, place: u64, by: u32) {
-        if let Some(order) = self.orders.get_mut(&place) {
-            order.leaves -= by;
+        if let Some(was) = self.book.lessen(place, by) {
+            if let Some(front) = self.fronts.held(was.instrument, was.side) {
+                if may_be_at(front, place) {
+                    let mut left = was;
+                    left.leaves -= by;
+                    self.fronts.put(was.instrument, was.side, Some(left));
+                }
+            }
         }
     }
 
     fn remove(&mut self, place: u64) {
-        if let Some(order) = self.orders.remove(&place) {
-            self.queues.remove(&QueueKey::new(&order));
-            self.ids.remove(&OwnKey::new(&order));
+        if let Some(order) = self.book.take(place) {
+            if let Some(front) = self.fronts.held(order.instrument, order.side) {
+                if may_be_at(front, place) {
+                    let next = self.book.front(order.instrument, order.side);
+                    self.fronts.put(order.instrument, order.side, next);
+                }
+            }
         }
     }
 
     fn walk(&self, n: usize) -> Option<Order> {
-        self.orders.values().nth(n).copied()
+        self.book.walk(n)
     }
 
     fn len(&self) -> usize {
-        self.orders.len()
+        self.book.len()
     }
 }

@@ -3,9 +3,11 @@
 
 pub mod book;
 mod first_from;
+mod front_table;
 pub mod index;
 pub mod list;
 mod own_key;
 mod queue_key;
 #[cfg(test)]
 mod tests;
+pub mod tree;

@@ -29,7 +29,7 @@ impl<A: Allocator + Copy> Model for ListBook<A> {
 }
 
 /// Whether the first stands ahead of the second in the queue of that side.
-fn is_first(side: Side, a: &Order, b: &Order) -> bool
+pub(crate) fn is_first(side: Side, a: &Order, b: &Order) -> bool
     ensures { result ≡ is_ahead side a.now b.now }
 {
     let ahead = match side {

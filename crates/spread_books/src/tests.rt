@@ -3,6 +3,7 @@ ghost use Rattle.std.specs.Prelude.{◌≡◌, []};
 use crate::book::Book;
 use crate::index::IndexBook;
 use crate::list::ListBook;
+use crate::tree::TreeBook;
 use spread_rules::id::Id;
 use spread_rules::order::{Instrument, Order, Side};
 use std::process::Abort;
@@ -136,16 +137,49 @@ fn queues_apart<B: Book>(rt: &impl Abort, book: &mut B) -> Result<(), Fail>
     Ok(())
 }
 
+/// An order that leaves behind the front leaves it there; a worse and a later one do not go ahead of it; with the last one gone there is none.
+fn one_after_another<B: Book>(rt: &impl Abort, book: &mut B) -> Result<(), Fail>
+    requires { B.orders book.old ≡ [] }
+{
+    let queue = Instrument::Outright(0);
+    let front = sell(1, b"a", 9900);
+    let worse = sell(2, b"b", 10000);
+    let later = sell(3, b"c", 9900);
+    book.add(front)?;
+    book.add(worse)?;
+    book.add(later)?;
+    assert!(rt; is(book.front(queue, Side::Sell), &front));
+    book.remove(2);
+    assert!(rt; is(book.front(queue, Side::Sell), &front));
+    book.remove(1);
+    assert!(rt; is(book.front(queue, Side::Sell), &later));
+    assert_eq!(rt; book.find(1, &id(b"a")), None);
+    book.remove(3);
+    assert_eq!(rt; book.front(queue, Side::Sell), None);
+    assert_eq!(rt; book.len(), 0);
+    Ok(())
+}
+
 #[test]
 fn list_book(rt: HostRuntime) -> Result<(), Fail> {
     sellers(&rt, &mut ListBook::new(rt.alloc()))?;
     buyers(&rt, &mut ListBook::new(rt.alloc()))?;
-    queues_apart(&rt, &mut ListBook::new(rt.alloc()))
+    queues_apart(&rt, &mut ListBook::new(rt.alloc()))?;
+    one_after_another(&rt, &mut ListBook::new(rt.alloc()))
+}
+
+#[test]
+fn tree_book(rt: HostRuntime) -> Result<(), Fail> {
+    sellers(&rt, &mut TreeBook::new(rt.alloc()))?;
+    buyers(&rt, &mut TreeBook::new(rt.alloc()))?;
+    queues_apart(&rt, &mut TreeBook::new(rt.alloc()))?;
+    one_after_another(&rt, &mut TreeBook::new(rt.alloc()))
 }
 
 #[test]
 fn index_book(rt: HostRuntime) -> Result<(), Fail> {
     sellers(&rt, &mut IndexBook::new(rt.alloc()))?;
     buyers(&rt, &mut IndexBook::new(rt.alloc()))?;
-    queues_apart(&rt, &mut IndexBook::new(rt.alloc()))
+    queues_apart(&rt, &mut IndexBook::new(rt.alloc()))?;
+    one_after_another(&rt, &mut IndexBook::new(rt.alloc()))
 }

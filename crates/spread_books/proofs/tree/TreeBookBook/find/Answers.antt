@@ -9,7 +9,7 @@ use Rattle.spread_books.specs.Firsts.{IsFirstFrom}
 use Rattle.spread_books.specs.Index.{own_key_cmp, IsIndexOf}
 use Rattle.spread_books.proofs.Indexes.{is_found}
 use Rattle.spread_books.proofs.OwnFirst.{no_own, own_of_another, own_of_earliest}
-use Rattle.spread_books.proofs.index.IndexBookBook.find.Goals as goal
+use Rattle.spread_books.proofs.tree.TreeBookBook.find.Goals as goal
 
 pub returns-in_err-key : goal.returns-in_err-key
 returns-in_err-key g c =

@@ -12,8 +12,8 @@ use Rattle.spread_books.specs.Index.{IsIndexOf, queue_key_cmp, own_key_cmp}
 use Rattle.spread_books.proofs.KeyOrders.{queue_key_total, queue_key_exact, own_key_total, own_key_exact}
 use Rattle.spread_books.proofs.KeySets.{keys_restored}
 use Rattle.spread_books.proofs.Indexes.{index_added, as_index, seen, from_ok, from_err}
-use Rattle.spread_books.proofs.index.IndexBookBook.add.Given.{Over}
-use Rattle.spread_books.proofs.index.IndexBookBook.add.Goals as goal
+use Rattle.spread_books.proofs.tree.TreeBookBook.add.Given.{Over}
+use Rattle.spread_books.proofs.tree.TreeBookBook.add.Goals as goal
 
 pub invariant_of-self-then-is_err-2 : goal.invariant_of-self-then-is_err-2
 invariant_of-self-then-is_err-2 g c =

@@ -11,7 +11,7 @@ use Rattle.spread_books.specs.Firsts.{IsFirstFrom}
 use Rattle.spread_books.specs.Index.{queue_key_cmp, IsIndexOf}
 use Rattle.spread_books.proofs.Indexes.{is_found}
 use Rattle.spread_books.proofs.QueueFirst.{no_key, key_of_another, key_of_front}
-use Rattle.spread_books.proofs.index.IndexBookBook.front.Goals as goal
+use Rattle.spread_books.proofs.tree.TreeBookBook.front.Goals as goal
 
 pub returns-in_err-key : goal.returns-in_err-key
 returns-in_err-key g c =

@@ -1,0 +1,139 @@
+//! A book over ordered tables: its orders by place, and their keys by queue and by id.
+ghost use Rattle.std.specs.Prelude.{◌≡◌, ◌==◌, ℕ, ◌<◌, ◌++◌, ◌∷◌, [], List, length, slice_get, OnOk, OnErr, All};
+ghost use Rattle.std.specs.Map.{values_of};
+ghost use Rattle.std.specs.List.{find};
+ghost use Rattle.spread_rules.specs.declared.order.Order.{Order};
+ghost use Rattle.spread_rules.specs.Clearing.{reduced, removed};
+ghost use Rattle.spread_books.specs.Queues.{HasMore, HasPlace};
+ghost use Rattle.spread_books.specs.Index.{Ascends};
+
+use crate::book::Book;
+use crate::first_from::first_from;
+use crate::own_key::OwnKey;
+use crate::queue_key::QueueKey;
+use spread_rules::id::Id;
+use spread_rules::memory::NoMemory;
+use spread_rules::order::{Instrument, Order, Side};
+use std::alloc::Allocator;
+use std::collections::{BTreeMap, BTreeSet};
+use std::marker::Model;
+
+/// Resting orders by place, and their keys by queue and by id.
+#[derive(Drop)]
+pub struct TreeBook<A: Allocator + Copy> {
+    orders: BTreeMap<u64, Order, A>,
+    queues: BTreeSet<QueueKey, A>,
+    ids: BTreeSet<OwnKey, A>,
+}
+
+impl<A: Allocator + Copy> Model for TreeBook<A> {
+    ghost use Rattle.std.specs.Prelude.{List};
+    ghost use Rattle.std.specs.Map.{values_of};
+    ghost use Rattle.spread_rules.specs.declared.order.Order.{Order};
+    ghost use Rattle.spread_books.specs.Index.{IsIndex};
+
+    ghost Value = { List Order };
+
+    ghost view = { λ b. values_of b.orders.entries };
+
+    ghost invariant = { λ b. IsIndex b.orders.entries b.queues b.ids };
+}
+
+impl<A: Allocator + Copy> TreeBook<A> {
+    /// A book in which no order rests. Takes no memory yet.
+    pub fn new(alloc: A) -> Self
+        ensures { result ≡ [] }
+    {
+        TreeBook {
+            orders: BTreeMap::new(alloc),
+            queues: BTreeSet::new(alloc),
+            ids: BTreeSet::new(alloc),
+        }
+    }
+
+    /// As `reduce`, and tells which order it was. Takes no memory.
+    pub fn lessen(&mut self, place: u64, by: u32) -> Option<Order>
+        requires { HasMore self.old place by }
+        ensures book { self.new ≡ reduced place by self.old }
+        ensures was { result ≡ find (λ o. o.place == place) self.old }
+        ensures ordered { Ascends self.old }
+    {
+        if let Some(order) = self.orders.get_mut(&place) {
+            let was = *order;
+            order.leaves -= by;
+            return Some(was);
+        }
+        None
+    }
+
+    /// As `remove`, and gives the order. Takes no memory.
+    pub fn take(&mut self, place: u64) -> Option<Order>
+        requires { HasPlace self.old place }
+        ensures book { self.new ≡ removed place self.old }
+        ensures was { result ≡ find (λ o. o.place == place) self.old }
+        ensures ordered { Ascends self.old }
+    {
+        if let Some(order) = self.orders.remove(&place) {
+            self.queues.remove(&QueueKey::new(&order));
+            self.ids.remove(&OwnKey::new(&order));
+            return Some(order);
+        }
+        None
+    }
+}
+
+impl<A: Allocator + Copy> Book for TreeBook<A> {
+    ghost orders = { λ b. b };
+
+    fn front(&self, instrument: Instrument, side: Side) -> Option<Order> {
+        let start = QueueKey::start(instrument, side);
+        let key = first_from(&self.queues, start)?;
+        if !key.is_in_queue_of(&start) {
+            return None;
+        }
+        self.orders.get(&key.place()).copied()
+    }
+
+    fn find(&self, session: u8, id: &Id) -> Option<Order> {
+        let start = OwnKey::start(session, id);
+        let key = first_from(&self.ids, start)?;
+        if !key.has_id_of(&start) {
+            return None;
+        }
+        self.orders.get(&key.place()).copied()
+    }
+
+    fn add(&mut self, order: Order) -> Result<(), NoMemory> {
+        let queue = QueueKey::new(&order);
+        let own = OwnKey::new(&order);
+        if self.queues.insert(queue).is_err() {
+            return Err(NoMemory);
+        }
+        if self.ids.insert(own).is_err() {
+            self.queues.remove(&queue);
+            return Err(NoMemory);
+        }
+        if self.orders.insert(order.place, order).is_err() {
+            self.ids.remove(&own);
+            self.queues.remove(&queue);
+            return Err(NoMemory);
+        }
+        Ok(())
+    }
+
+    fn reduce(&mut self, place: u64, by: u32) {
+        self.lessen(place, by);
+    }
+
+    fn remove(&mut self, place: u64) {
+        self.take(place);
+    }
+
+    fn walk(&self, n: usize) -> Option<Order> {
+        self.orders.values().nth(n).copied()
+    }
+
+    fn len(&self) -> usize {
+        self.orders.len()
+    }
+}
