@@ -156,6 +156,7 @@ pub(crate) fn next_begin(text: &[u8]) -> usize
 }
 
 /// The tag that the text of a field begins with, and how many digits spell it.
+#[inline(always)]
 fn leading_tag(text: &[u8]) -> Option<Tag>
     ensures field { option_map (tag_view text.now) result ≡ field_of_text text.now }
     ensures within { IfSome result (λ t. t.digits < length text.now) }
@@ -180,6 +181,7 @@ fn leading_tag(text: &[u8]) -> Option<Tag>
 }
 
 /// The first field of a body.
+#[inline(always)]
 pub(crate) fn first_field(body: &[u8]) -> Option<LeadingField>
     ensures field { option_map (leading_field_view body.now) result ≡ first_field body.now }
     ensures order { IfSome result (λ p. p.start ≤ p.end) }
