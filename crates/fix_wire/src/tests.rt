@@ -224,6 +224,20 @@ fn one_whole_message(rt: HostRuntime) -> Result<(), Fail> {
 }
 
 #[test]
+fn more_fields_than_a_table_has(rt: HostRuntime) -> Result<(), Fail> {
+    let thirty =
+        b"8=FIX.4.2\x019=222\x0135=D\x0134=2\x01701=v1\x01702=v2\x01703=v3\x01704=v4\x01705=v5\x01706=v6\x01707=v7\x01708=v8\x01709=v9\x01710=v10\x01711=v11\x01712=v12\x01713=v13\x01714=v14\x01715=v15\x01716=v16\x01717=v17\x01718=v18\x01719=v19\x01720=v20\x01721=v21\x01722=v22\x01723=v23\x01724=v24\x01725=v25\x01726=v26\x01727=v27\x0134=9\x0110=068\x01";
+    let message = Message::whole(thirty).ok_or("no frame")?;
+    assert_eq!(rt; message.kind(), b"D".as_slice());
+    assert_eq!(rt; message.number(), Some(2));
+    assert_eq!(rt; message.get(722), Some(b"v22".as_slice()));
+    assert_eq!(rt; message.get(723), Some(b"v23".as_slice()));
+    assert_eq!(rt; message.get(727), Some(b"v27".as_slice()));
+    assert_eq!(rt; message.get(728), None);
+    Ok(())
+}
+
+#[test]
 fn numbers(rt: HostRuntime) {
     assert_eq!(rt; read_number(b"0"), Ok(0));
     assert_eq!(rt; read_number(b"007"), Ok(7));
