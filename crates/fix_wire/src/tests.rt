@@ -410,18 +410,18 @@ fn a_written_report(rt: HostRuntime) -> Result<(), Fail> {
 #[test]
 fn written_numbers(rt: HostRuntime) -> Result<(), Fail> {
     let rows: [(u64, &[u8]); 12] = [
-        (0, b"0"),
-        (9, b"9"),
-        (10, b"10"),
-        (99, b"99"),
-        (100, b"100"),
-        (999, b"999"),
-        (1_000, b"1000"),
-        (9_999, b"9999"),
-        (10_007, b"10007"),
-        (99_999_999, b"99999999"),
-        (100_000_000, b"100000000"),
-        (18_446_744_073_709_551_615, b"18446744073709551615"),
+        (0, b"38=0\x01"),
+        (9, b"38=9\x01"),
+        (10, b"38=10\x01"),
+        (99, b"38=99\x01"),
+        (100, b"38=100\x01"),
+        (999, b"38=999\x01"),
+        (1_000, b"38=1000\x01"),
+        (9_999, b"38=9999\x01"),
+        (10_007, b"38=10007\x01"),
+        (99_999_999, b"38=99999999\x01"),
+        (100_000_000, b"38=100000000\x01"),
+        (18_446_744_073_709_551_615, b"38=18446744073709551615\x01"),
     ];
     for (number, text) in rows {
         let mut room = [7; 80];
@@ -429,10 +429,8 @@ fn written_numbers(rt: HostRuntime) -> Result<(), Fail> {
             tag: 38,
             value: Value::Number(number),
         };
-        let end = put_field(&mut room, 2, &field);
-        assert_eq!(rt; &room[2..5], b"38=".as_slice());
-        assert_eq!(rt; &room[5..end - 1], text);
-        assert_eq!(rt; room[end - 1], 1);
+        assert_eq!(rt; put_field(&mut room, 2, &field), 2 + text.len());
+        assert!(rt; room[2..].starts_with(text));
     }
     Ok(())
 }
