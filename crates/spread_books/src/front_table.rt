@@ -1,5 +1,5 @@
 //! The fronts of queues, to be read with no look-up.
-ghost use Rattle.std.specs.Prelude.{◌≡◌, [], List, Option, None, OnOk, OnErr, replicate, true, false};
+ghost use Rattle.std.specs.Prelude.{◌≡◌, [], None, OnOk, OnErr, replicate, true};
 ghost use Rattle.spread_books.specs.FrontTable.{slot_of, held, with_held};
 
 use spread_rules::memory::NoMemory;

@@ -1,8 +1,6 @@
 //! A book over ordered tables: its orders by place, and their keys by queue and by id.
-ghost use Rattle.std.specs.Prelude.{◌≡◌, ◌==◌, ℕ, ◌<◌, ◌++◌, ◌∷◌, [], List, length, slice_get, OnOk, OnErr, All};
-ghost use Rattle.std.specs.Map.{values_of};
+ghost use Rattle.std.specs.Prelude.{◌≡◌, ◌==◌, []};
 ghost use Rattle.std.specs.List.{find};
-ghost use Rattle.spread_rules.specs.declared.order.Order.{Order};
 ghost use Rattle.spread_rules.specs.Clearing.{reduced, removed};
 ghost use Rattle.spread_books.specs.Queues.{HasMore, HasPlace};
 ghost use Rattle.spread_books.specs.Index.{Ascends};
