@@ -9,7 +9,7 @@ use Rattle.std.specs.BTreeMap.{is_at}
 use Rattle.std.specs.BTreeSet.{BTreeSet, contains}
 use Rattle.spread_rules.specs.declared.order.Order.{Order}
 use Rattle.spread_rules.specs.declared.id_key.IdKey.{IdKey}
-use Rattle.spread_rules.specs.IdKeys.{IsIdBytes}
+use Rattle.spread_rules.specs.IdKeys.{IsIdBytes, id_key_cmp}
 use Rattle.spread_books.specs.declared.queue_key.QueueKey.{QueueKey}
 use Rattle.spread_books.specs.declared.own_key.OwnKey.{OwnKey}
 use Rattle.spread_books.specs.QueueKeys.{queue_key, IsInRange}
@@ -17,9 +17,6 @@ use Rattle.spread_books.specs.OwnKeys.{own_key}
 
 abbrev pub queue_key_cmp : QueueKey → QueueKey → Ordering
 queue_key_cmp a b = ordering_then (nat_cmp a.queue b.queue) (ordering_then (int_cmp a.cost b.cost) (nat_cmp a.place b.place))
-
-abbrev pub id_key_cmp : IdKey → IdKey → Ordering
-id_key_cmp a b = ordering_then (nat_cmp a.session b.session) (ordering_then (nat_cmp a.first b.first) (ordering_then (nat_cmp a.second b.second) (ordering_then (nat_cmp a.third b.third) (ordering_then (nat_cmp a.fourth b.fourth) (nat_cmp a.size b.size)))))
 
 abbrev pub own_key_cmp : OwnKey → OwnKey → Ordering
 own_key_cmp a b = ordering_then (id_key_cmp a.id b.id) (nat_cmp a.place b.place)

@@ -1,6 +1,7 @@
 //! The least candidate, over fronts alone.
 ghost use Rattle.std.specs.Prelude.{◌≡◌, ℕ, ◌<◌, List, All, IfSome, Contains};
-ghost use Rattle.spread_rules.specs.Candidates.{all_on, HasSmallPrice, IsSmallCandidate};
+ghost use Rattle.spread_rules.specs.Candidates.{all_on, HasSmallPrice, IsSmallCandidate, candidate_of, better_of};
+ghost use Rattle.spread_rules.specs.declared.candidate.Counterparty.TheVariants.{Implied};
 ghost use Rattle.spread_books.specs.Queues.{opposite};
 ghost use Rattle.spread_rules.specs.declared.order.Instrument.TheVariants.{Outright};
 ghost use Rattle.spread_match.specs.Best.{IsFair, Keeps, CoversOne, CoversTwo, IsBest, in_months, IsNearFirst, CoversMonth, CoversBelow};
@@ -31,34 +32,42 @@ pub fn with_direct<B: Book>(book: &B, new: &Order) -> Option<Candidate>
     }
 }
 
+/// The pair takes the place of the best, where it ranks before it.
+fn offer_pair(new: &Order, best: &mut Option<Candidate>, first: Order, second: Order)
+    requires first { HasSmallPrice first }
+    requires second { HasSmallPrice second }
+    requires best { IfSome best.old IsSmallCandidate }
+    ensures value { best.new ≡ better_of new.now best.old (candidate_of all_on new.now (Implied first second)) }
+    ensures small { IfSome best.new IsSmallCandidate }
+{
+    let pair = candidate_for(new, Counterparty::Implied(first, second));
+    if pair.is_some() {
+        *best = better(new, *best, pair);
+    }
+}
+
 /// The best with the pairs of two queues.
 pub fn with_queues<B: Book>(
     book: &B,
     new: &Order,
-    best: Option<Candidate>,
+    best: &mut Option<Candidate>,
     of: Instrument,
     side: Side,
     and: Instrument,
     and_side: Side,
-) -> Option<Candidate>
+)
     requires small { All HasSmallPrice (B.orders book.now) }
-    requires fair { IsFair all_on new.now (B.orders book.now) best }
-    requires best { IfSome best IsSmallCandidate }
-    ensures fair { IsFair all_on new.now (B.orders book.now) result }
-    ensures small { IfSome result IsSmallCandidate }
-    ensures keeps { Keeps new.now best result }
-    ensures covers { CoversTwo all_on new.now (B.orders book.now) of side and and_side result }
+    requires fair { IsFair all_on new.now (B.orders book.now) best.old }
+    requires best { IfSome best.old IsSmallCandidate }
+    ensures fair { IsFair all_on new.now (B.orders book.now) best.new }
+    ensures small { IfSome best.new IsSmallCandidate }
+    ensures keeps { Keeps new.now best.old best.new }
+    ensures covers { CoversTwo all_on new.now (B.orders book.now) of side and and_side best.new }
 {
-    match book.front(of, side) {
-        None => best,
-        Some(first) => match book.front(and, and_side) {
-            None => best,
-            Some(second) => better(
-                new,
-                best,
-                candidate_for(new, Counterparty::Implied(first, second)),
-            ),
-        },
+    if let Some(first) = book.front(of, side) {
+        if let Some(second) = book.front(and, and_side) {
+            offer_pair(new, best, first, second);
+        }
     }
 }
 
@@ -66,35 +75,28 @@ pub fn with_queues<B: Book>(
 pub fn with_month<B: Book>(
     book: &B,
     new: &Order,
-    best: Option<Candidate>,
+    best: &mut Option<Candidate>,
     month: u8,
     other_month: u8,
-) -> Option<Candidate>
+)
     requires small { All HasSmallPrice (B.orders book.now) }
     requires listed { All IsNearFirst (B.orders book.now) }
     requires new { new.now.instrument ≡ Outright month }
-    requires fair { IsFair all_on new.now (B.orders book.now) best }
-    requires best { IfSome best IsSmallCandidate }
-    ensures fair { IsFair all_on new.now (B.orders book.now) result }
-    ensures small { IfSome result IsSmallCandidate }
-    ensures keeps { Keeps new.now best result }
-    ensures covers { CoversMonth all_on new.now (B.orders book.now) other_month result }
+    requires fair { IsFair all_on new.now (B.orders book.now) best.old }
+    requires best { IfSome best.old IsSmallCandidate }
+    ensures fair { IsFair all_on new.now (B.orders book.now) best.new }
+    ensures small { IfSome best.new IsSmallCandidate }
+    ensures keeps { Keeps new.now best.old best.new }
+    ensures covers { CoversMonth all_on new.now (B.orders book.now) other_month best.new }
 {
     let far = Instrument::Outright(other_month);
     if month < other_month {
         let spread = Instrument::Spread(month, other_month);
-        with_queues(
-            book,
-            new,
-            best,
-            spread,
-            other(new.side),
-            far,
-            other(new.side),
-        )
+        let side = other(new.side);
+        with_queues(book, new, best, spread, side, far, side);
     } else {
         let spread = Instrument::Spread(other_month, month);
-        with_queues(book, new, best, spread, new.side, far, other(new.side))
+        with_queues(book, new, best, spread, new.side, far, other(new.side));
     }
 }
 
@@ -103,24 +105,22 @@ pub fn with_months<B: Book>(
     book: &B,
     months: u8,
     new: &Order,
-    best: Option<Candidate>,
+    best: &mut Option<Candidate>,
     month: u8,
-) -> Option<Candidate>
+)
     requires small { All HasSmallPrice (B.orders book.now) }
     requires listed { All IsNearFirst (B.orders book.now) }
     requires new { new.now.instrument ≡ Outright month }
-    requires fair { IsFair all_on new.now (B.orders book.now) best }
-    requires best { IfSome best IsSmallCandidate }
-    ensures fair { IsFair all_on new.now (B.orders book.now) result }
-    ensures small { IfSome result IsSmallCandidate }
-    ensures keeps { Keeps new.now best result }
-    ensures covers { CoversBelow all_on new.now (B.orders book.now) months result }
+    requires fair { IsFair all_on new.now (B.orders book.now) best.old }
+    requires best { IfSome best.old IsSmallCandidate }
+    ensures fair { IsFair all_on new.now (B.orders book.now) best.new }
+    ensures small { IfSome best.new IsSmallCandidate }
+    ensures keeps { Keeps new.now best.old best.new }
+    ensures covers { CoversBelow all_on new.now (B.orders book.now) months best.new }
 {
-    let mut found = best;
     for other_month in 0..months {
-        found = with_month(book, new, found, month, other_month);
+        with_month(book, new, best, month, other_month);
     }
-    found
 }
 
 /// The least eligible candidate, over fronts alone.
@@ -131,13 +131,22 @@ pub fn best_candidate<B: Book>(book: &B, months: u8, new: &Order) -> Option<Cand
     ensures best { IsBest all_on new.now (B.orders book.now) result }
     ensures small { IfSome result IsSmallCandidate }
 {
-    let direct = with_direct(book, new);
+    let mut best = with_direct(book, new);
     match new.instrument {
-        Instrument::Outright(month) => with_months(book, months, new, direct, month),
+        Instrument::Outright(month) => with_months(book, months, new, &mut best, month),
         Instrument::Spread(near, far) => {
             let first = Instrument::Outright(near);
             let second = Instrument::Outright(far);
-            with_queues(book, new, direct, first, other(new.side), second, new.side)
+            with_queues(
+                book,
+                new,
+                &mut best,
+                first,
+                other(new.side),
+                second,
+                new.side,
+            );
         }
     }
+    best
 }
