@@ -2,7 +2,8 @@ ghost use Rattle.std.specs.Prelude.{neg_ℤ, pos, ◌≤ℤ◌};
 ghost use Rattle.spread_rules.specs.Candidates.{HasSmallPrice};
 
 use crate::candidate::{
-    Choice, Counterparty, Members, Rank, better, candidate_for, chosen, is_within, price_at, ranking,
+    Choice, Counterparty, Members, Rank, better, candidate_for, chosen, is_within, price_at,
+    ranking,
 };
 use crate::id::Id;
 use crate::id_key::IdKey;
