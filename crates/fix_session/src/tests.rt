@@ -1,6 +1,5 @@
 //! Worked rows: messages of a session as its client writes them, and what the session says to them.
-use crate::laws::{closed_after, closes_once, judged, lawful, said_after};
-use crate::{Session, Verdict};
+use crate::{Session, Verdict, laws};
 use fix_wire::{Framer, Message, Next};
 use spread_rules::event::{Event, Ticket};
 use spread_rules::id::Id;
@@ -648,9 +647,9 @@ fn many_messages_above_a_gap(rt: HostRuntime) -> Result<(), Fail> {
 /// The laws hold of nothing but definitions, and want nothing.
 #[test]
 fn laws_hold() {
-    judged();
-    lawful();
-    said_after();
-    closed_after();
-    closes_once();
+    laws::judged();
+    laws::lawful();
+    laws::said_after();
+    laws::closed_after();
+    laws::closes_once();
 }
