@@ -1,18 +1,19 @@
 //! Where the first fields of a body stand, so that a field is found by its tag without a walk.
-ghost use Rattle.std.specs.Prelude.{◌≡◌, ℕ, ◌≤◌, ◌<◌, length, is_some, true, unwrap_or, []};
+ghost use Rattle.std.specs.Prelude.{◌≡◌, ℕ, ◌≤◌, ◌<◌, length, take, drop, ◌+◌, is_some, true, unwrap_or, []};
 ghost use Rattle.std.specs.Bool.{OnTrue};
+ghost use Rattle.std.specs.List.{position_or_len};
 ghost use Rattle.std.specs.Option.{option_copied};
 ghost use Rattle.fix_wire.specs.Fields.{fields_of_body};
 ghost use Rattle.fix_wire.specs.Messages.{first_value};
 ghost use Rattle.fix_wire.specs.Fronts.{value_of};
-ghost use Rattle.fix_wire.specs.Tabled.{IsTable};
+ghost use Rattle.fix_wire.specs.Tabled.{IsTable, is_same};
 
 use crate::frame::first_field;
+use std::simd::prelude::*;
 
-/// Where a field of a body stands: its value is from start to end, where its byte 1 is.
+/// Where the value of a field of a body stands: from start to end, where its byte 1 is.
 #[derive(Clone, Copy)]
 pub struct FieldPlace {
-    pub tag: u32,
     pub start: u16,
     pub end: u16,
 }
@@ -20,9 +21,10 @@ pub struct FieldPlace {
 /// How many fields a table has at most. The messages of this protocol have fewer.
 const MOST: usize = 24;
 
-/// The places of the first fields of a body, and where the fields after them start.
+/// The tags of the first fields of a body, the places of their values, and where the fields after them start.
 #[derive(Clone, Copy)]
 pub struct FieldTable {
+    pub tags: [u32; 24],
     pub places: [FieldPlace; 24],
     pub count: usize,
     pub rest: usize,
@@ -31,12 +33,9 @@ pub struct FieldTable {
 impl FieldTable {
     /// A table of no field, to be filled.
     pub(crate) fn empty() -> FieldTable {
-        let nowhere = FieldPlace {
-            tag: 0,
-            start: 0,
-            end: 0,
-        };
+        let nowhere = FieldPlace { start: 0, end: 0 };
         FieldTable {
+            tags: [0; 24],
             places: [nowhere; 24],
             count: 0,
             rest: 0,
@@ -57,8 +56,8 @@ pub(crate) fn are_fields(text: &[u8], table: &mut FieldTable) -> bool
             return false;
         };
         let end = rest + field.end;
+        table.tags[count] = field.tag;
         table.places[count] = FieldPlace {
-            tag: field.tag,
             start: (rest + field.start) as u16,
             end: end as u16,
         };
@@ -100,17 +99,47 @@ pub(crate) fn first_value<'a>(body: &'a [u8], table: &FieldTable) -> &'a [u8]
     }
 }
 
+/// How many of the eight tags at a place come before the first that is this one.
+fn tags_before(tag: u32, tags: &[u32], at: usize) -> usize
+    requires { at + 8 ≤ length tags.now }
+    ensures { result ≡ position_or_len (is_same tag) (take 8 (drop at tags.now)) }
+{
+    let same = u32x8::from_slice(&tags[at..])
+        .simd_eq(u32x8::splat(tag))
+        .to_bitmask();
+    if same == 0 {
+        8
+    } else {
+        same.trailing_zeros() as usize
+    }
+}
+
+/// The index of the first of the tags that is this one, or 24: eight at a time.
+fn index_of(tag: u32, tags: &[u32]) -> usize
+    requires { length tags.now ≡ 24 }
+    ensures { result ≡ position_or_len (is_same tag) tags.now }
+{
+    let first = tags_before(tag, tags, 0);
+    if first < 8 {
+        return first;
+    }
+    let second = tags_before(tag, tags, 8);
+    if second < 8 {
+        return 8 + second;
+    }
+    16 + tags_before(tag, tags, 16)
+}
+
 /// The value of the first field of a body with that tag.
 pub(crate) fn value_of<'a>(body: &'a [u8], table: &FieldTable, tag: u32) -> Option<&'a [u8]>
     requires row { is_some (fields_of_body body.now) ≡ true }
     requires table { IsTable body.now table.now }
     ensures { option_copied result ≡ value_of tag body.now }
 {
-    for i in 0..table.count {
+    let i = index_of(tag, &table.tags);
+    if i < table.count {
         let place = table.places[i];
-        if place.tag == tag {
-            return Some(&body[place.start as usize..place.end as usize]);
-        }
+        return Some(&body[place.start as usize..place.end as usize]);
     }
     value_in(&body[table.rest..], tag)
 }

@@ -25,7 +25,7 @@ loop-count-preserved c =
     let some = first_some (drop rest body) (leading_field_view (drop rest body) f) e in
     let next = drop-drop (f.end + 1) rest body in
     let sum : (c.loop-count.rest + c.in-Some.field.end) + 1 ≡ c.loop-count.rest + (c.in-Some.field.end + 1) = omega arith in (
-      table_more body c.loop-count.table.places c.loop-count.count rest f c.loop-count.invariant.0 c.loop-count-test.true e c.in-Some.ensures.order within,
+      table_more body c.loop-count.table.tags c.loop-count.table.places c.loop-count.count rest f c.loop-count.invariant.0 c.loop-count-test.true e c.in-Some.ensures.order within,
       ap (λ n. is_some (fields_of_body (drop n body))) sum
           ∙ ap (λ t. is_some (fields_of_body t)) (sym next)
           ∙ row_some (drop rest body) (leading_field_view (drop rest body) f) some e
