@@ -50,7 +50,7 @@ impl<A: Allocator + Copy> TreeBook<A> {
     }
 
     /// As `reduce`, and tells which order it was. Takes no memory.
-    pub fn lessen(&mut self, place: u64, by: u32) -> Option<Order>
+    pub(crate) fn lessen(&mut self, place: u64, by: u32) -> Option<Order>
         requires { HasMore self.old place by }
         ensures book { self.new ≡ reduced place by self.old }
         ensures was { result ≡ find (λ o. o.place == place) self.old }
@@ -65,7 +65,7 @@ impl<A: Allocator + Copy> TreeBook<A> {
     }
 
     /// As `remove`, and gives the order. Takes no memory.
-    pub fn take(&mut self, place: u64) -> Option<Order>
+    pub(crate) fn take(&mut self, place: u64) -> Option<Order>
         requires { HasPlace self.old place }
         ensures book { self.new ≡ removed place self.old }
         ensures was { result ≡ find (λ o. o.place == place) self.old }
