@@ -114,21 +114,19 @@ pub fn ended<A: Allocator + Copy>(
 {
     let side = side_digit(ticket.side);
     let filled = ticket.quantity - left;
-    let fields = [
-        number_field!(37, place),
-        text_field!(11, ticket.id),
-        pair_field!(17, place, index),
-        number_field!(20, 0),
-        number_field!(150, 4),
-        number_field!(39, 4),
-        text_field!(55, ticket.symbol),
-        number_field!(54, side),
-        number_field!(38, ticket.quantity as u64),
-        number_field!(151, 0),
-        number_field!(14, filled as u64),
-        number_field!(6, 0),
-    ];
-    send(stamp, lines, lists, session, b'8', &fields)
+    let report = OrderReport {
+        order: place,
+        id: ticket.id,
+        place,
+        index,
+        status: 4,
+        symbol: ticket.symbol,
+        side,
+        quantity: ticket.quantity as u64,
+        leaves: 0,
+        filled: filled as u64,
+    };
+    send_body(stamp, lines, lists, session, b'8', &report)
 }
 
 /// Reports a cancelled order to who cancelled it.
