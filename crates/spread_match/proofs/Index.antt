@@ -59,34 +59,6 @@ key_self k =
     ∙ (ap (λ (o : Ordering). ordering_then o (ordering_then (nat_cmp k.fourth k.fourth) (nat_cmp k.size k.size))) (nat_self k.third)
     ∙ (ap (λ (o : Ordering). ordering_then o (nat_cmp k.size k.size)) (nat_self k.fourth) ∙ nat_self k.size))))
 
--- ---- an entry that is looked up
-
--- what stood at each key stays, and the key has this where nothing stood
-pub noted_absent : (key : IdKey) (at : ℕ) (look later : IdKey → Option ℕ) → look key ≡ None → ((q : IdKey) → later q ≡ cond (is_eq (id_key_cmp key q)) (Some at) (look q)) → (q : IdKey) → later q ≡ option_or (look q) (cond (is_eq (id_key_cmp key q)) (Some at) None)
-noted_absent key at look later none h q = h q ∙ by_test (is_eq (id_key_cmp key q)) refl
-  where
-    or_none : (r : Option ℕ) → r ≡ option_or r None
-    or_none None = refl
-    or_none (Some x) = refl
-
-    by_test : (b : Bool) → is_eq (id_key_cmp key q) ≡ b → cond b (Some at) (look q) ≡ option_or (look q) (cond b (Some at) None)
-    by_test true e = let same = exact_id_key key q (equal_is (id_key_cmp key q) e) in ap (λ (r : Option ℕ). option_or r (Some at)) (sym (ap look (sym same) ∙ none))
-    by_test false e = or_none (look q)
-
-pub noted_present : (key : IdKey) (at i : ℕ) (look : IdKey → Option ℕ) → look key ≡ Some i → (q : IdKey) → look q ≡ option_or (look q) (cond (is_eq (id_key_cmp key q)) (Some at) None)
-noted_present key at i look some q = by_test (is_eq (id_key_cmp key q)) refl
-  where
-    or_none : (r : Option ℕ) → r ≡ option_or r None
-    or_none None = refl
-    or_none (Some x) = refl
-
-    by_test : (b : Bool) → is_eq (id_key_cmp key q) ≡ b → look q ≡ option_or (look q) (cond b (Some at) None)
-    by_test true e =
-        let same = exact_id_key key q (equal_is (id_key_cmp key q) e) in
-        let here : look q ≡ Some i = ap look (sym same) ∙ some in
-        here ∙ ap (λ (r : Option ℕ). option_or r (Some at)) (sym here)
-    by_test false e = or_none (look q)
-
 -- ---- one status more
 
 bytes_same : (a b : List ℕ) → a ≡ b → bytes_eq a b ≡ true
