@@ -1,7 +1,7 @@
 -- A table of fields, one place after another.
-use Rattle.std.proofs.Common.{is_some, true, false, eqb, subst, unwrap_or, ◌≡◌, ℕ, zero, suc, ◌+◌, ◌-◌, ◌<◌, ◌≤◌, List, Some, set, get_or, length, take, drop, refl, sym, ap, ◌∙◌, arith, add-one, ◌⊎◌, inl, inr}
+use Rattle.std.proofs.Common.{is_some, true, false, eqb, subst, unwrap_or, ◌≡◌, ℕ, zero, suc, ◌+◌, ◌-◌, ◌<◌, ◌≤◌, List, ◌++◌, Some, set, get_or, length, take, drop, refl, sym, ap, ◌∙◌, arith, add-one, ◌⊎◌, inl, inr}
 use Rattle.std.specs.List.{between}
-use Rattle.std.proofs.lemmas.List.{take-append-drop, drop-take, take-take, drop-drop, length-drop, length-set, get_or-set_same, get_or-set_other}
+use Rattle.std.proofs.lemmas.List.{take-append-drop, drop-take, take-take, drop-drop, length-drop, length-set, get_or-set_same, get_or-set_other, drop-append-le, take-append-le}
 use Rattle.std.proofs.lemmas.Bool.{cases_lt, eqb-false}
 use Rattle.fix_wire.specs.declared.frame.LeadingField.{LeadingField}
 use Rattle.fix_wire.specs.declared.table.FieldPlace.{FieldPlace}
@@ -9,7 +9,7 @@ use Rattle.fix_wire.specs.declared.table.FieldTable.{FieldTable}
 use Rattle.fix_wire.specs.Fields.{fields_of_body}
 use Rattle.fix_wire.proofs.Rows.{row_some, value_behind, first_some}
 use Rattle.fix_wire.specs.Fronts.{value_of, first_field, leading_field_view}
-use Rattle.fix_wire.specs.Tabled.{nowhere, place_at, start_of, field_at, leading_at, IsPlaced, IsTable, IsTableOf}
+use Rattle.fix_wire.specs.Tabled.{nowhere, place_at, start_of, field_at, leading_at, IsPlaced, IsTable, IsBlank, IsTableOf}
 use Rattle.fix_wire.specs.Frames.{frame_at, header, frame_length}
 use Rattle.fix_wire.proofs.Stays.{frame_parts, header_stays}
 
@@ -90,3 +90,24 @@ table_alone text n t e known h claims =
     ∙ ap (λ x. take h.body_length x) (drop-take h.body_start (h.body_length + 7) text)
     ∙ take-take h.body_length (h.body_length + 7) (drop h.body_start text) (omega arith) in
     subst (λ (x : List ℕ). IsTable x t) (sym body) (known h at))
+
+-- bytes that follow change nothing in the table of a frame
+pub table_stays : (text more : List ℕ) (n : ℕ) (t : FieldTable) → frame_at text ≡ Some n → IsTableOf text t → IsTableOf (text ++ more) t
+table_stays text more n t e known h claims =
+    frame_parts text n e (λ c head keeps len fits.
+    let same : c ≡ h = ap (λ o. unwrap_or o c) (sym (header_stays text more c head) ∙ claims) in
+    let size : h.body_start + (h.body_length + 7) ≤ length text = omega (arith, ap frame_length (sym same), fits) in
+    let left = length-drop h.body_start text in
+    let body = ap (λ x. take h.body_length x) (drop-append-le h.body_start text more (omega (arith, size)))
+    ∙ take-append-le h.body_length (drop h.body_start text) more (omega (arith, size, left)) in
+    subst (λ (x : List ℕ). IsTable x t) (sym body) (known h (head ∙ ap Some same)))
+
+-- a table of no field serves every text
+pub table_blank : (text : List ℕ) (t : FieldTable) → IsBlank t → IsTableOf text t
+table_blank text t blank h claims = record {
+  size = blank.size;
+  few = omega (arith, blank.none);
+  within = omega (arith, blank.start);
+  rest = blank.start ∙ sym (ap (start_of t.places) blank.none);
+  placed = λ i l. absurd (omega (arith, blank.none, l));
+}

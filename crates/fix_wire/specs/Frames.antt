@@ -1,7 +1,7 @@
 -- Lawful frames, what may still begin one, and the frames of an input (FIX 4.2: BeginString, BodyLength, body, CheckSum).
 use Rattle.std.specs.Prelude.{◌≡◌, ℕ, zero, suc, ◌+◌, ◌-◌, ◌/◌, ◌%◌, Bool, false, ◌&&◌, ◌||◌, nat_le, nat_lt, if◌then◌else◌, List, [], ◌∷◌, Option, Some, None, option_and_then, is_some, length, take, drop, sum}
 use Rattle.std.specs.Char.{is_ascii_digit}
-use Rattle.std.specs.List.{list_all, position_or_len}
+use Rattle.std.specs.List.{list_all, position_or_len, AllByRecursion, concat}
 use Rattle.std.specs.Str.{bytes_eq}
 use Rattle.fix_wire.specs.declared.frame.FrameHeader.{FrameHeader}
 use Rattle.fix_wire.specs.Texts.{is_end, number_of, strip_prefix, is_cut_short}
@@ -65,6 +65,12 @@ frame_at text = option_and_then (intact_length text) (header text)
 -- the text is one lawful frame
 abbrev pub IsFrame : List ℕ → Type 0
 IsFrame bytes = frame_at bytes ≡ Some (length bytes)
+
+-- the text is lawful frames, one after another
+pub record IsFrameRow (text : List ℕ) : Type 0 where
+  pub row : List (List ℕ)
+  pub whole : AllByRecursion IsFrame row
+  pub joined : concat row ≡ text
 
 -- ---- what may still begin one
 

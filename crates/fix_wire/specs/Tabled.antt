@@ -44,6 +44,12 @@ pub record IsTable (body : List ℕ) (t : FieldTable) : Type 0 where
   pub rest : t.rest ≡ start_of t.places t.count
   pub placed : (i : ℕ) → i < t.count → IsPlaced body (start_of t.places i) (get_or t.tags i 0) (place_at t.places i)
 
+-- A table of no field, which is a table of every body.
+pub record IsBlank (t : FieldTable) : Type 0 where
+  pub size : (length t.tags ≡ 24) × (length t.places ≡ 24)
+  pub none : t.count ≡ 0
+  pub start : t.rest ≡ 0
+
 -- A table of the body of a text that has a header.
 abbrev pub IsTableOf : List ℕ → FieldTable → Type 0
 IsTableOf text t = (h : FrameHeader) → header text ≡ Some h → IsTable (body_at text h) t

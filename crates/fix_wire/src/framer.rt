@@ -26,6 +26,8 @@ pub struct Framer {
     end: usize,
     // The length of the frame at the front, once it is found; else 0.
     found: usize,
+    // Its table, of no field where no frame is found.
+    table: FieldTable,
 }
 
 impl Model for Framer {
@@ -56,6 +58,7 @@ impl Framer {
             start: 0,
             end: 0,
             found: 0,
+            table: FieldTable::empty(),
         }
     }
 
@@ -95,44 +98,39 @@ impl Framer {
         if self.found > 0 {
             (0, Some(self.found))
         } else {
-            self.search(&mut FieldTable::empty())
+            first_start(&self.buffer[self.start..self.end], &mut FieldTable::empty())
         }
     }
 
-    /// The same, with the table of the frame.
-    fn search(&self, table: &mut FieldTable) -> (usize, Option<usize>)
-        ensures within { result.0 ≤ length self.now }
-        ensures kept { drop result.0 self.now ≡ from_first_start self.now }
-        ensures found { result.1 ≡ frame_at (from_first_start self.now) }
-        ensures fits { IfSome result.1 (λ n. result.0 + n ≤ length self.now) }
-        ensures table { (n : ℕ) → result.1 ≡ Some n → IsTableOf (from_first_start self.now) table.new }
-    {
-        first_start(&self.buffer[self.start..self.end], table)
-    }
-
-    /// Lets the bytes at the front go at which no frame stands or may still begin.
-    fn seek(&mut self, table: &mut FieldTable) -> Option<usize>
+    /// Lets the bytes at the front go at which no frame stands or may still begin, and finds the frame that stands there,
+    /// unless it was found before.
+    fn seek(&mut self) -> Option<usize>
         ensures kept { self.new ≡ from_first_start self.old }
         ensures found { result ≡ frame_at (from_first_start self.old) }
-        ensures table { (n : ℕ) → result ≡ Some n → IsTableOf (from_first_start self.old) table.new }
     {
-        let (skip, found) = self.search(table);
+        if self.found > 0 {
+            return Some(self.found);
+        }
+        let mut table = FieldTable::empty();
+        let (skip, found) = first_start(&self.buffer[self.start..self.end], &mut table);
         self.start += skip;
-        self.found = found.unwrap_or(0);
+        if let Some(length) = found {
+            self.found = length;
+            self.table = table;
+        }
         found
     }
 
-    /// Lends the message at the front, whose length and table are known where there is one.
-    fn lend(&self, found: Option<usize>, table: &FieldTable) -> Next<'_>
+    /// Lends the message at the front, whose length is known where there is one.
+    fn lend(&self, found: Option<usize>) -> Next<'_>
         requires settled { from_first_start self.now ≡ self.now }
         requires found { found ≡ frame_at self.now }
-        requires table { (n : ℕ) → found ≡ Some n → IsTableOf self.now table.now }
         ensures { lent result ≡ first_frame (frames self.now) }
     {
         match found {
             Some(length) => {
                 let frame = &self.buffer[self.start..self.start + length];
-                Next::Message(Message::of_frame(frame, table))
+                Next::Message(Message::of_frame(frame, &self.table))
             }
             None => Next::Need,
         }
@@ -145,9 +143,8 @@ impl Framer {
         // What is held after Need leaves room for more.
         ensures room { lent result ≡ None → length (from_first_start self.old) ≤ 4123 }
     {
-        let mut table = FieldTable::empty();
-        let found = self.seek(&mut table);
-        self.lend(found, &table)
+        let found = self.seek();
+        self.lend(found)
     }
 
     /// Goes past the message that `next` would lend.
@@ -161,6 +158,7 @@ impl Framer {
             Some(length) => {
                 self.start += skip + length;
                 self.found = 0;
+                self.table.clear();
                 true
             }
             None => false,

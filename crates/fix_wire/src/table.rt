@@ -6,7 +6,7 @@ ghost use Rattle.std.specs.Option.{option_copied};
 ghost use Rattle.fix_wire.specs.Fields.{fields_of_body};
 ghost use Rattle.fix_wire.specs.Messages.{first_value};
 ghost use Rattle.fix_wire.specs.Fronts.{value_of};
-ghost use Rattle.fix_wire.specs.Tabled.{IsTable, is_same};
+ghost use Rattle.fix_wire.specs.Tabled.{IsTable, IsBlank, is_same};
 
 use crate::frame::first_field;
 use std::simd::prelude::*;
@@ -32,7 +32,9 @@ pub struct FieldTable {
 
 impl FieldTable {
     /// A table of no field, to be filled.
-    pub(crate) fn empty() -> FieldTable {
+    pub(crate) fn empty() -> FieldTable
+        ensures { IsBlank result }
+    {
         let nowhere = FieldPlace { start: 0, end: 0 };
         FieldTable {
             tags: [0; 24],
@@ -40,6 +42,14 @@ impl FieldTable {
             count: 0,
             rest: 0,
         }
+    }
+
+    /// Makes it a table of no field.
+    pub(crate) fn clear(&mut self)
+        ensures { IsBlank self.new }
+    {
+        self.count = 0;
+        self.rest = 0;
     }
 }
 

@@ -500,17 +500,15 @@ fn laws_are_called() {
     laws::read_back();
 }
 
-/// Bytes at which no frame stands are passed over, and what stands after the message is left.
+const LOGOUT_AND_HEARTBEAT: &[u8] =
+    b"8=FIX.4.2\x019=45\x0135=5\x0134=4\x0149=C1\x0152=20260105-14:30:00\x0156=HOST\x0110=183\x018=FIX.4.2\x019=51\x0135=0\x0134=2\x0149=HOST\x0152=20260105-14:30:00\x0156=C1\x01112=T\x0110=211\x01";
+
 #[test]
-fn first_messages(rt: HostRuntime) -> Result<(), Fail> {
-    let mut text = Vec::new(rt.alloc());
-    text.extend_from_slice(b"8=FIX.")?;
-    text.extend_from_slice(LOGOUT)?;
-    text.extend_from_slice(HEARTBEAT)?;
-    let (message, rest) = first_message(&text).ok_or("no frame")?;
-    assert_eq!(rt; message.bytes(), LOGOUT);
-    assert_eq!(rt; rest, HEARTBEAT);
-    assert!(rt; first_message(b"").is_none());
-    assert!(rt; first_message(&LOGOUT[1..]).is_none());
+fn rows_of_frames(rt: HostRuntime) -> Result<(), Fail> {
+    let (first, rest) = first_of_row(LOGOUT_AND_HEARTBEAT).ok_or("no frame")?;
+    assert_eq!(rt; first, LOGOUT);
+    let (second, end) = first_of_row(rest).ok_or("one frame")?;
+    assert_eq!(rt; second, HEARTBEAT);
+    assert!(rt; first_of_row(end).is_none());
     Ok(())
 }

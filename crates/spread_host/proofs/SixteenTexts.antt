@@ -5,7 +5,11 @@ use Rattle.std.proofs.Math.Seq.{get_or-append_seam}
 use Rattle.std.specs.declared.vec.Vec.{Vec}
 use Rattle.spread_rules.specs.declared.event.Entry.{Entry}
 use Rattle.spread_rules.specs.Rulebook.{Rules}
+use Rattle.fix_wire.specs.Frames.{IsFrameRow}
+use Rattle.spread_report.specs.Messages.{IsRow}
 use Rattle.spread_report.specs.Sessions.{bytes_of}
+use Rattle.std.specs.List.{All}
+use Rattle.std.proofs.lemmas.List.Elements.{All-from_get_or}
 use Rattle.spread_host.specs.Working.{outgoing_bytes}
 use Rattle.spread_host.specs.Days.{texts_of, texts_below}
 
@@ -41,3 +45,12 @@ all_texts {A} lists rules stamp journal n each =
     let l : length (texts_of lists) ≡ 16 = length-map lists (λ (v : Vec ℕ A). v.items) ∙ n in
     ext_get_or [] (texts_of lists) (texts_below 16 rules stamp journal) (l ∙ sym (texts_length 16 rules stamp journal))
     (λ i h. each i (omega (arith, l, h)) ∙ sym (text_at 16 i rules stamp journal (omega (arith, l, h))))
+
+row_of : (messages : List (List ℕ)) (text : List ℕ) → IsRow messages text → IsFrameRow text
+row_of messages text r = record { row = messages; whole = r.whole; joined = r.joined }
+
+-- what each session is sent is whole frames
+pub all_rows : {A : Type 0} (lists : List (Vec ℕ A)) (messages : ℕ → List (List ℕ)) → length lists ≡ 16 → ((s : ℕ) → s < 16 → IsRow (messages s) (bytes_of lists s)) → All IsFrameRow (texts_of lists)
+all_rows {A} lists messages n each =
+    let l : length (texts_of lists) ≡ 16 = length-map lists (λ (v : Vec ℕ A). v.items) ∙ n in
+    All-from_get_or IsFrameRow (texts_of lists) [] (λ i h. row_of (messages i) (bytes_of lists i) (each i (omega (arith, l, h))))

@@ -1,5 +1,5 @@
 //! A day in threads: one for each session, and the sequencer in the caller's.
-ghost use Rattle.std.specs.Prelude.{◌≡◌, ◌<◌, ◌≤◌, ℕ, [], length, take, Contains, IsErrOf, IfOk, IfErr, IfNone, IfSome, vec_len, vec_capacity};
+ghost use Rattle.std.specs.Prelude.{◌≡◌, ◌<◌, ◌≤◌, ℕ, [], length, take, All, Contains, IsErrOf, IfOk, IfErr, IfNone, IfSome, vec_len, vec_capacity};
 ghost use Rattle.spread_rules.specs.declared.fill.Fill.{Fill};
 ghost use Rattle.spread_rules.specs.Candidates.{all_on};
 ghost use Rattle.spread_rules.specs.Journal.{restricted, IsLawful};
@@ -7,6 +7,7 @@ ghost use Rattle.spread_rules.specs.Legs.{bought, sold, paid, received};
 ghost use Rattle.spread_rules.specs.Meaning.{meaning_of_journal, filled};
 ghost use Rattle.spread_rules.specs.Quiet.{IsQuiet};
 ghost use Rattle.spread_match.specs.Sound.{KeepsOrder};
+ghost use Rattle.fix_wire.specs.Frames.{IsFrameRow};
 ghost use Rattle.spread_report.specs.Messages.{IsRow, messages_to};
 ghost use Rattle.spread_report.specs.Sessions.{bytes_of};
 ghost use Rattle.gate_link.specs.declared.gateway.Gateway.{Gateway};
@@ -195,6 +196,7 @@ pub fn run_day<R: Threads + Wait + Sync, G: Gate, A: Allocator + Copy + Send>(
     ensures no_stream { IfOk result (λ day. (s : ℕ) → s < 16 → length streams.items ≤ s → bytes_of day.out.items s ≡ []) }
     ensures lists { IfOk result (λ day. length day.out.items ≡ 16) }
     ensures texts { IfOk result (λ day. texts_of day.out.items ≡ texts_below 16 rulebook.now stamp day.journal.items) }
+    ensures rows { IfOk result (λ day. All IsFrameRow (texts_of day.out.items)) }
     ensures shown { IfOk result (λ day. AreShown rulebook.now day.fills.items) }
     ensures bought_is_sold { IfOk result (λ day. (month : ℕ) → bought month day.fills.items ≡ sold month day.fills.items) }
     ensures paid_is_received { IfOk result (λ day. (month : ℕ) → paid month day.fills.items ≡ received month day.fills.items) }

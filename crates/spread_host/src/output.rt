@@ -3,12 +3,13 @@ ghost use Rattle.std.specs.Prelude.{◌≡◌, ◌<◌, ◌≤◌, ◌++◌, ◌
 ghost use Rattle.std.specs.Io.KnownBytes.{Appends};
 ghost use Rattle.spread_rules.specs.Rulebook.{IsListed, symbol_of};
 ghost use Rattle.spread_rules.specs.Ends.{AppendsPrefix};
+ghost use Rattle.fix_wire.specs.Frames.{IsFrameRow};
 ghost use Rattle.spread_host.specs.Totals.{IsSummable};
 ghost use Rattle.spread_host.specs.Output.{fill_line, fill_lines, places_text, trade_text, legs_text, side_digit, lots_text, money_text, totals_line, month_lines, fills_text, shown, outgoing_line, outgoing_lines, outgoing_lines_from};
 
 use crate::fault::HostFault;
 use crate::totals::{MonthTotals, month_totals};
-use fix_wire::first_message;
+use fix_wire::first_of_row;
 use itoa::Buffer;
 use spread_rules::fill::Fill;
 use spread_rules::order::{Instrument, Side};
@@ -217,17 +218,18 @@ fn put_message<A: Allocator>(
     Ok(())
 }
 
-/// A line for each message of these bytes, which this session is sent.
+/// A line for each message of these bytes, which this session is sent. They are whole frames.
 pub fn put_outgoing<A: Allocator>(
     out: &mut Vec<u8, A>,
     session: u8,
     bytes: &[u8],
 ) -> Result<(), AllocError>
+    requires { IsFrameRow bytes.now }
     ensures { OnOk result (out.new.items ≡ out.old.items ++ outgoing_lines session bytes.now) }
 {
     let mut rest = bytes;
-    while let Some((message, later)) = first_message(rest) {
-        put_message(out, session, message.bytes())?;
+    while let Some((message, later)) = first_of_row(rest) {
+        put_message(out, session, message)?;
         rest = later;
     }
     Ok(())
@@ -238,7 +240,8 @@ pub fn put_sessions<A: Allocator, B: Allocator>(
     out: &mut Vec<u8, A>,
     lists: &[Vec<u8, B>],
 ) -> Result<(), AllocError>
-    requires { length lists.now ≤ 16 }
+    requires count { length lists.now ≤ 16 }
+    requires rows { All IsFrameRow (map (λ v. v.items) lists.now) }
     ensures { OnOk result (out.new.items ≡ out.old.items ++ outgoing_lines_from 0 (map (λ v. v.items) lists.now)) }
 {
     for (session, bytes) in lists.iter().enumerate() {

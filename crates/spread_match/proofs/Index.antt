@@ -168,3 +168,43 @@ index_renewed f look rows h = record {
 
 pub index_none : IsIndex (λ k. None) []
 index_none = record { within = λ k i e. cc; finds = λ session id x. refl }
+
+-- ---- where the first status of a key stands, after one status more
+
+or_none : (o : Option ℕ) → o ≡ option_or o None
+or_none None = refl
+or_none (Some n) = refl
+
+-- a key that is new
+pub first_new : (old new : IdKey → Option ℕ) (key : IdKey) (at : ℕ) → None ≡ old key → ((q : IdKey) → new q ≡ cond (is_eq (id_key_cmp key q)) (Some at) (old q))
+    → (q : IdKey) → new q ≡ option_or (old q) (cond (is_eq (id_key_cmp key q)) (Some at) None)
+first_new old new key at none put q = by_test (is_eq (id_key_cmp key q)) refl
+  where
+    by_test : (v : Bool) → is_eq (id_key_cmp key q) ≡ v → new q ≡ option_or (old q) (cond (is_eq (id_key_cmp key q)) (Some at) None)
+    by_test true e =
+        let same : key ≡ q = exact_id_key key q (equal_is (id_key_cmp key q) e) in
+        put q ∙ (ap (λ (b : Bool). cond b (Some at) (old q)) e
+        ∙ (ap (λ (o : Option ℕ). option_or o (Some at)) (none ∙ ap old same)
+        ∙ ap (λ (b : Bool). option_or (old q) (cond b (Some at) None)) (sym e)))
+    by_test false e =
+        put q ∙ (ap (λ (b : Bool). cond b (Some at) (old q)) e
+        ∙ (or_none (old q)
+        ∙ ap (λ (b : Bool). option_or (old q) (cond b (Some at) None)) (sym e)))
+
+-- a key that had a place, which is put back
+pub first_kept : (old mid new : IdKey → Option ℕ) (key : IdKey) (at earlier : ℕ) → Some earlier ≡ old key → ((q : IdKey) → mid q ≡ cond (is_eq (id_key_cmp key q)) (Some at) (old q))
+    → ((q : IdKey) → new q ≡ cond (is_eq (id_key_cmp key q)) (Some earlier) (mid q)) → (q : IdKey) → new q ≡ option_or (old q) (cond (is_eq (id_key_cmp key q)) (Some at) None)
+first_kept old mid new key at earlier some put back q = by_test (is_eq (id_key_cmp key q)) refl
+  where
+    by_test : (v : Bool) → is_eq (id_key_cmp key q) ≡ v → new q ≡ option_or (old q) (cond (is_eq (id_key_cmp key q)) (Some at) None)
+    by_test true e =
+        let same : key ≡ q = exact_id_key key q (equal_is (id_key_cmp key q) e) in
+        back q ∙ (ap (λ (b : Bool). cond b (Some earlier) (mid q)) e
+        ∙ (ap (λ (o : Option ℕ). option_or o (Some at)) (some ∙ ap old same)
+        ∙ ap (λ (b : Bool). option_or (old q) (cond b (Some at) None)) (sym e)))
+    by_test false e =
+        back q ∙ (ap (λ (b : Bool). cond b (Some earlier) (mid q)) e
+        ∙ (put q
+        ∙ (ap (λ (b : Bool). cond b (Some at) (old q)) e
+        ∙ (or_none (old q)
+        ∙ ap (λ (b : Bool). option_or (old q) (cond b (Some at) None)) (sym e)))))

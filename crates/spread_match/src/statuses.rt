@@ -52,10 +52,10 @@ fn note_first<A: Allocator + Copy>(
     ensures ok { OnOk result ((q : IdKey) → get id_key_cmp first.new q ≡ option_or (get id_key_cmp first.old q) (cond (is_eq (id_key_cmp key q)) (Some at) None)) }
     ensures err { OnErr result ((q : IdKey) → get id_key_cmp first.new q ≡ get id_key_cmp first.old q) }
 {
-    if first.contains_key(&key) {
-        return Ok(());
+    if let Some(earlier) = first.insert(key, at)? {
+        // A key that the table has takes no memory.
+        first.insert(key, earlier)?;
     }
-    first.insert(key, at)?;
     Ok(())
 }
 

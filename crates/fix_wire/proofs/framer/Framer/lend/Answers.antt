@@ -3,7 +3,7 @@ use Rattle.fix_wire.specs.Frames.{frame_at, IsFrame}
 use Rattle.fix_wire.specs.Tabled.{IsTableOf}
 use Rattle.fix_wire.specs.Held.{first_frame}
 use Rattle.fix_wire.proofs.Ranges.{range_take}
-use Rattle.fix_wire.proofs.Knows.{skip_within}
+use Rattle.fix_wire.proofs.Knows.{skip_within, knows_table}
 use Rattle.fix_wire.proofs.Stays.{frame_within, frame_alone}
 use Rattle.fix_wire.proofs.TableRows.{table_alone}
 use Rattle.fix_wire.proofs.Scan.{held_frames, no_frames}
@@ -23,7 +23,8 @@ of_frame-requires-clause-tabled c =
     let len = c.in-Some.length in
     let e = sym c.requires.found ∙ c.in-Some.is in
     let range = range_take f.buffer f.start len f.end (skip_within f len now c.self.told c.self.invariant c.self.view_is (frame_within now len e).1) in
-    subst (λ (t : List ℕ). IsTableOf t c.args.table.now) (ap (take len) (sym c.self.view_is) ∙ sym range) (table_alone now len c.args.table.now e (c.requires.table len c.in-Some.is))
+    let tabled = subst (λ (t : List ℕ). IsTableOf t f.table) c.self.view_is (knows_table f c.self.invariant) in
+    subst (λ (t : List ℕ). IsTableOf t f.table) (ap (take len) (sym c.self.view_is) ∙ sym range) (table_alone now len f.table e tabled)
 
 pub returns-in-Some : goal.returns-in-Some
 returns-in-Some c =

@@ -1,6 +1,5 @@
-use Rattle.std.proofs.Common.{ℕ, List, subst, refl, sym, ap, ◌∙◌}
+use Rattle.std.proofs.Common.{refl, sym, ap, ◌∙◌}
 use Rattle.fix_wire.specs.Frames.{frames, frame_at}
-use Rattle.fix_wire.specs.Tabled.{IsTableOf}
 use Rattle.fix_wire.specs.Held.{first_frame, from_first_start}
 use Rattle.fix_wire.proofs.Scan.{start_again, start_frames, room_left}
 use Rattle.fix_wire.proofs.framer.Framer.next.Goals as goal
@@ -10,9 +9,6 @@ lend-requires-clause-settled c = ap from_first_start c.seek-found.ensures.kept �
 
 pub lend-requires-clause-found : goal.lend-requires-clause-found
 lend-requires-clause-found c = c.seek-found.ensures.found ∙ ap frame_at (sym c.seek-found.ensures.kept)
-
-pub lend-requires-clause-table : goal.lend-requires-clause-table
-lend-requires-clause-table c = λ n e. subst (λ (t : List ℕ). IsTableOf t c.seek-found.new.table) (sym c.seek-found.ensures.kept) (c.seek-found.ensures.table n e)
 
 pub returns : goal.returns
 returns c =

@@ -1,22 +1,34 @@
-use Rattle.std.proofs.Common.{◌+◌, drop, sym, ap, ◌∙◌}
+use Rattle.std.proofs.Common.{◌≡◌, ℕ, ◌+◌, List, Some, drop, refl, sym, ap, ◌∙◌, subst, arith}
 use Rattle.std.specs.List.{between}
+use Rattle.fix_wire.specs.FramerFields.{held_of}
 use Rattle.fix_wire.specs.Frames.{frame_at}
+use Rattle.fix_wire.specs.Held.{from_first_start}
+use Rattle.fix_wire.specs.Tabled.{IsTableOf}
 use Rattle.fix_wire.proofs.Ranges.{range_drop}
-use Rattle.fix_wire.proofs.Knows.{knows_found, skip_within}
+use Rattle.fix_wire.proofs.Knows.{skip_within}
+use Rattle.fix_wire.proofs.Stays.{frame_within}
 use Rattle.fix_wire.proofs.framer.Framer.seek.Goals as goal
 
 pub invariant_of-self : goal.invariant_of-self
 invariant_of-self c =
     let f = c.self.inside in
-    let skip = c.search-skip.result.0 in
-    let now_is = range_drop f.buffer f.start skip f.end ∙ ap (λ t. drop skip t) c.self.view_is ∙ c.search-skip.ensures.kept in
+    let skip = c.first_start-skip.result.0 in
+    let now_is = range_drop f.buffer f.start skip f.end ∙ c.first_start-skip.ensures.kept in
+    let found = sym c.first_start-skip.ensures.found ∙ c.in-Some.is in
     record {
-      order = skip_within f skip c.args.self.now c.self.told c.self.invariant c.self.view_is c.search-skip.ensures.within;
+      order = skip_within f skip (held_of f) c.self.told c.self.invariant refl c.first_start-skip.ensures.within;
       room = c.self.invariant.room;
-      known = knows_found c.search-skip.result.1 c.unwrap_or-self-inside.result (between (f.start + skip) f.end f.buffer) c.unwrap_or-self-inside.ensures (c.search-skip.ensures.found ∙ ap frame_at (sym now_is));
+      known = λ some. ap frame_at now_is ∙ found;
+      tabled = λ some. subst (λ (t : List ℕ). IsTableOf t c.first_start-skip.new.table) (sym now_is) (c.first_start-skip.ensures.table c.in-Some.length c.in-Some.is);
+      blank = λ none. absurd (omega (arith, none, (frame_within (from_first_start (held_of f)) c.in-Some.length found).0));
     }
 
-pub returns-clause-kept : goal.returns-clause-kept
-returns-clause-kept c =
+pub returns-in-Some-clause-kept : goal.returns-in-Some-clause-kept
+returns-in-Some-clause-kept c =
     let f = c.self.inside in
-    range_drop f.buffer f.start c.search-skip.result.0 f.end ∙ ap (λ t. drop c.search-skip.result.0 t) c.self.view_is ∙ c.search-skip.ensures.kept
+    range_drop f.buffer f.start c.first_start-skip.result.0 f.end ∙ c.first_start-skip.ensures.kept ∙ ap from_first_start c.self.view_is
+
+pub returns-in_default-clause-kept : goal.returns-in_default-clause-kept
+returns-in_default-clause-kept c =
+    let f = c.self.inside in
+    range_drop f.buffer f.start c.first_start-skip.result.0 f.end ∙ c.first_start-skip.ensures.kept ∙ ap from_first_start c.self.view_is
