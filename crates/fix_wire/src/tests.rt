@@ -1,4 +1,6 @@
 //! Worked frames, values and messages.
+ghost use Rattle.fix_wire.specs.Frames.{IsFrameRow};
+
 use super::*;
 use spread_rules::id::Id;
 use spread_rules::memory::NoMemory;
@@ -500,15 +502,19 @@ fn laws_are_called() {
     laws::read_back();
 }
 
-const LOGOUT_AND_HEARTBEAT: &[u8] =
-    b"8=FIX.4.2\x019=45\x0135=5\x0134=4\x0149=C1\x0152=20260105-14:30:00\x0156=HOST\x0110=183\x018=FIX.4.2\x019=51\x0135=0\x0134=2\x0149=HOST\x0152=20260105-14:30:00\x0156=C1\x01112=T\x0110=211\x01";
+/// A Logon and a sell order.
+fn two_frames() -> &'static [u8]
+    ensures { IsFrameRow result.now }
+{
+    b"8=FIX.4.2\x019=57\x0135=A\x0134=1\x0149=C1\x0152=20260105-14:30:00\x0156=HOST\x0198=0\x01108=30\x0110=220\x018=FIX.4.2\x019=104\x0135=D\x0134=2\x0149=C1\x0152=20260105-14:30:00\x0156=HOST\x0111=a\x0121=1\x0155=H6\x0154=2\x0160=20260105-14:30:00\x0138=5\x0140=2\x0144=100\x0110=168\x01"
+}
 
 #[test]
 fn rows_of_frames(rt: HostRuntime) -> Result<(), Fail> {
-    let (first, rest) = first_of_row(LOGOUT_AND_HEARTBEAT).ok_or("no frame")?;
-    assert_eq!(rt; first, LOGOUT);
+    let (first, rest) = first_of_row(two_frames()).ok_or("no frame")?;
+    assert_eq!(rt; first, LOGON);
     let (second, end) = first_of_row(rest).ok_or("one frame")?;
-    assert_eq!(rt; second, HEARTBEAT);
+    assert_eq!(rt; second, SELL);
     assert!(rt; first_of_row(end).is_none());
     Ok(())
 }

@@ -219,7 +219,7 @@ fn put_message<A: Allocator>(
 }
 
 /// A line for each message of these bytes, which this session is sent. They are whole frames.
-pub fn put_outgoing<A: Allocator>(
+fn put_outgoing<A: Allocator>(
     out: &mut Vec<u8, A>,
     session: u8,
     bytes: &[u8],

@@ -2,7 +2,7 @@ ghost use Rattle.std.specs.Prelude.{◌≡◌, ◌<◌, ◌≤◌, ℤ, pos, neg
 
 use crate::day_lines::{LinesFault, put_field_ends, read_lines};
 use crate::fault::HostFault;
-use crate::output::{fills_text, put_outgoing, write_fills};
+use crate::output::{fills_text, write_fills};
 use crate::totals::{MonthTotals, month_totals};
 use spread_rules::fill::Fill;
 use spread_rules::order::{Instrument, Side};
@@ -224,33 +224,5 @@ fn negative_prices(rt: HostRuntime) -> Result<(), Fail> {
         Err(HostFault::Write)
     );
     assert_eq!(rt; failing.bytes(), b"".as_slice());
-    Ok(())
-}
-
-// ---- outgoing messages
-
-const LOGOUT: &[u8] =
-    b"8=FIX.4.2\x019=45\x0135=5\x0134=6\x0149=HOST\x0152=20260105-14:30:00\x0156=C1\x0110=185\x01";
-
-/// A Logon, and then a Logout.
-const MESSAGES: &[u8] =
-    b"8=FIX.4.2\x019=57\x0135=A\x0134=1\x0149=HOST\x0152=20260105-14:30:00\x0156=C1\x0198=0\x01108=30\x0110=220\x018=FIX.4.2\x019=45\x0135=5\x0134=6\x0149=HOST\x0152=20260105-14:30:00\x0156=C1\x0110=185\x01";
-
-const LINES: &[u8] =
-    b"O 0:8=FIX.4.2|9=57|35=A|34=1|49=HOST|52=20260105-14:30:00|56=C1|98=0|108=30|10=220|\nO 0:8=FIX.4.2|9=45|35=5|34=6|49=HOST|52=20260105-14:30:00|56=C1|10=185|\n";
-
-const LOGOUT_LINE: &[u8] =
-    b"O 12:8=FIX.4.2|9=45|35=5|34=6|49=HOST|52=20260105-14:30:00|56=C1|10=185|\n";
-
-#[test]
-fn outgoing_lines(rt: HostRuntime) -> Result<(), Fail> {
-    let mut out = Vec::new(rt.alloc());
-    put_outgoing(&mut out, 0, MESSAGES)?;
-    assert_eq!(rt; out.as_slice(), LINES);
-    put_outgoing(&mut out, 3, b"")?;
-    assert_eq!(rt; out.as_slice(), LINES);
-    let mut other = Vec::new(rt.alloc());
-    put_outgoing(&mut other, 12, LOGOUT)?;
-    assert_eq!(rt; other.as_slice(), LOGOUT_LINE);
     Ok(())
 }

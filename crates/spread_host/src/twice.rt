@@ -2,9 +2,11 @@
 ghost use Rattle.std.specs.Prelude.{◌≡◌, ◌≤◌, true, All, IfOk, length};
 ghost use Rattle.spread_rules.specs.Candidates.{HasSmallPrice};
 ghost use Rattle.spread_rules.specs.Journal.{IsLawful};
+ghost use Rattle.fix_wire.specs.Frames.{IsFrameRow};
+ghost use Rattle.spread_host.specs.Days.{texts_of};
 
 use crate::check::check;
-use crate::day::{day_of, write_day};
+use crate::day::{Day, day_of, write_day};
 use crate::output::put_sessions;
 use crate::working::work_entries;
 use spread_journal::reading::read_journal;
@@ -324,6 +326,16 @@ fn months_at(text: &[u8]) -> usize
     0
 }
 
+/// The lines of what each session is sent.
+fn sent_lines(alloc: Global, day: &Day<Global>) -> Result<Vec<u8>, Fail>
+    requires lists { length day.now.out.items ≤ 16 }
+    requires rows { All IsFrameRow (texts_of day.now.out.items) }
+{
+    let mut lines = Vec::new(alloc);
+    put_sessions(&mut lines, &day.out)?;
+    Ok(lines)
+}
+
 // The journal, the fills, what each session is sent, and the months, in that order; or the journal alone.
 #[test]
 fn day_written(rt: HostRuntime) -> Result<(), Fail> {
@@ -341,10 +353,29 @@ fn day_written(rt: HostRuntime) -> Result<(), Fail> {
     assert_eq!(rt; alone.bytes(), want.as_slice());
     let (fills, months) = lines.bytes().split_at(months_at(lines.bytes()));
     want.extend_from_slice(fills)?;
-    put_sessions(&mut want, &day.out)?;
+    want.extend_from_slice(&sent_lines(rt.alloc(), &day)?)?;
     want.extend_from_slice(months)?;
     let mut whole = TestSink::new(rt.alloc(), 400_000, 0)?;
     write_day(rt.alloc(), &rules, &day, false, &mut whole)?;
     assert_eq!(rt; whole.bytes(), want.as_slice());
+    Ok(())
+}
+
+/// The Logons of sessions 0 and 12.
+const TWO_LOGONS: &[u8] =
+    b"JOURNAL 1\n0 logon 4331 484f5354 30\n12 logon 4332 484f5354 30\nEND 2\n";
+
+/// Their day.
+const TWO_ANSWERS: &[u8] =
+    b"JOURNAL 1\n0 logon 4331 484f5354 30\n12 logon 4332 484f5354 30\nEND 2\nO 0:8=FIX.4.2|9=57|35=A|34=1|49=HOST|52=20260105-14:30:00|56=C1|98=0|108=30|10=220|\nO 12:8=FIX.4.2|9=57|35=A|34=1|49=HOST|52=20260105-14:30:00|56=C2|98=0|108=30|10=221|\nM H6 0 0 0 0\nM M6 0 0 0 0\nM U6 0 0 0 0\n";
+
+#[test]
+fn outgoing_lines(rt: HostRuntime) -> Result<(), Fail> {
+    let rules = Rulebook::read(MONTHS)?;
+    let journal = read_again(rt.alloc(), TWO_LOGONS)?;
+    let day = day_of(rt.alloc(), &rules, id(b"20260105-14:30:00"), journal)?;
+    let mut sink = TestSink::new(rt.alloc(), 1000, 0)?;
+    write_day(rt.alloc(), &rules, &day, false, &mut sink)?;
+    assert_eq!(rt; sink.bytes(), TWO_ANSWERS);
     Ok(())
 }

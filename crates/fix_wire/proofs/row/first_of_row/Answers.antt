@@ -1,4 +1,4 @@
-use Rattle.std.proofs.Common.{◌≡◌, ◌∷◌, [], List, ℕ, take, drop, Option, IfNone, sym, ap, ◌∙◌, subst}
+use Rattle.std.proofs.Common.{◌≡◌, ◌∷◌, [], List, ℕ, drop, Option, IfNone, sym, ap, ◌∙◌, subst}
 use Rattle.fix_wire.specs.declared.frame.FrameHeader.{FrameHeader}
 use Rattle.fix_wire.specs.Frames.{frames, frame_length, IsFrameRow}
 use Rattle.fix_wire.proofs.FrameRow.{Reads, reads}

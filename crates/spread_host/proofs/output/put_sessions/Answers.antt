@@ -11,7 +11,7 @@ put_outgoing-requires g c =
     subst IsFrameRow
     (sym (c.deref.ensures.value ∙ (ap (λ (v : Vec ℕ g.row.B.Denot). v.items) c.index-lists-session.is
     ∙ sym (get_or-map (λ (v : Vec ℕ g.row.B.Denot). v.items) c.args.lists.now c.loop-session.session c.index-lists-session.result [] c.loop-session-test.true))))
-    (All-get_or IsFrameRow texts c.loop-session.session [] c.requires.rows (simp length-map c.loop-session-test.true))
+    (All-get_or IsFrameRow texts c.loop-session.session [] (simp length-map c.loop-session-test.true) c.requires.rows)
 
 pub loop-session-preserved : goal.loop-session-preserved
 loop-session-preserved g c =

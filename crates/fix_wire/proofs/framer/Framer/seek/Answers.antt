@@ -1,5 +1,4 @@
-use Rattle.std.proofs.Common.{◌≡◌, ℕ, ◌+◌, List, Some, drop, refl, sym, ap, ◌∙◌, subst, arith}
-use Rattle.std.specs.List.{between}
+use Rattle.std.proofs.Common.{ℕ, List, refl, sym, ap, ◌∙◌, subst, arith}
 use Rattle.fix_wire.specs.FramerFields.{held_of}
 use Rattle.fix_wire.specs.Frames.{frame_at}
 use Rattle.fix_wire.specs.Held.{from_first_start}
