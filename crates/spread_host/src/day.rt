@@ -102,8 +102,8 @@ fn text_of<A: Allocator + Copy>(
 }
 
 /// Writes the text of a day, or of its journal alone, and nothing else. The ids written are of bytes. Its fills are of the
-/// rulebook's instruments and in range, and its lists at most sixteen, each of whole frames, or empty. Answers NoMemory, its place one more than the journal's length, with nothing written, or Write, with a
-/// prefix of the text written.
+/// rulebook's instruments and in range, and its lists at most sixteen, each of whole frames, or empty. Answers NoMemory,
+/// its place one more than the journal's length, with nothing written, or Write, with a prefix of the text written.
 pub fn write_day<K: Sink, A: Allocator + Copy>(
     alloc: A,
     rulebook: &Rulebook,
