@@ -7,6 +7,7 @@ pub mod Inlets
 pub mod DayJournals
 pub mod MonthLines
 pub mod EntryByEntry
+pub mod Putting
 pub mod SessionLines
 pub mod SixteenTexts
 pub mod Shown

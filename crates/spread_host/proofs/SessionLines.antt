@@ -1,5 +1,5 @@
 -- The outgoing lines of sessions, one after another.
-use Rattle.std.proofs.Common.{◌≡◌, ℕ, zero, suc, ◌+◌, ◌<◌, List, [], ◌∷◌, ◌++◌, length, take, get_or, sym, ap, ◌∙◌, arith}
+use Rattle.std.proofs.Common.{◌≡◌, ℕ, zero, suc, ◌+◌, ◌<◌, List, [], ◌∷◌, ◌++◌, length, take, get_or, refl, sym, ap, ◌∙◌, arith}
 use Rattle.std.proofs.lemmas.List.{append_assoc, append-nil}
 use Rattle.spread_host.specs.Output.{outgoing_lines, outgoing_lines_from}
 
@@ -18,14 +18,19 @@ sessions_next (bytes ∷ lists) k (suc i) h =
     ∙ (sym (append_assoc (outgoing_lines k bytes) (outgoing_lines_from (suc k) (take i lists)) (outgoing_lines (suc k + i) (get_or lists i [])))
     ∙ ap (λ (m : ℕ). outgoing_lines_from k (take (suc i) (bytes ∷ lists)) ++ outgoing_lines m (get_or lists i [])) f))
 
--- the lines of session i stand behind those of the sessions before
-pub sessions_step : (start out new bytes : List ℕ) (lists : List (List ℕ)) (i : ℕ) → out ≡ start ++ outgoing_lines_from 0 (take i lists)
-    → new ≡ out ++ outgoing_lines i bytes → bytes ≡ get_or lists i [] → i < length lists → new ≡ start ++ outgoing_lines_from 0 (take (i + 1) lists)
-sessions_step start out new bytes lists i was is same lt =
-    let zero_more : 0 + i ≡ i = omega arith in
-    is
-    ∙ (ap (λ (b : List ℕ). out ++ outgoing_lines i b) same
-    ∙ (ap (λ (o : List ℕ). o ++ outgoing_lines i (get_or lists i [])) was
-    ∙ (append_assoc start (outgoing_lines_from 0 (take i lists)) (outgoing_lines i (get_or lists i []))
-    ∙ (ap (λ (m : ℕ). start ++ (outgoing_lines_from 0 (take i lists) ++ outgoing_lines m (get_or lists i []))) (sym zero_more)
-    ∙ ap (λ (x : List ℕ). start ++ x) (sym (sessions_next lists 0 i lt))))))
+-- those of session 0 to i, with the bytes of session i
+pub sessions_next_of : (lists : List (List ℕ)) (i : ℕ) (bytes : List ℕ) → bytes ≡ get_or lists i [] → i < length lists
+    → outgoing_lines_from 0 (take (i + 1) lists) ≡ outgoing_lines_from 0 (take i lists) ++ outgoing_lines i bytes
+sessions_next_of lists i bytes same lt =
+    let e : 0 + i ≡ i = omega arith in
+    sessions_next lists 0 i lt ∙ ap (λ (t : List ℕ). outgoing_lines_from 0 (take i lists) ++ t) (ap (λ (m : ℕ). outgoing_lines m (get_or lists i [])) e ∙ ap (λ (b : List ℕ). outgoing_lines i b) (sym same))
+
+-- the lines of the first sessions stand before those of all others
+pub sessions_rest : (lists : List (List ℕ)) (k n : ℕ) → (rest : List ℕ) × (outgoing_lines_from k lists ≡ outgoing_lines_from k (take n lists) ++ rest)
+sessions_rest lists k zero = (outgoing_lines_from k lists, refl)
+sessions_rest [] k (suc n) = ([], refl)
+sessions_rest (bytes ∷ lists) k (suc n) =
+    let later = sessions_rest lists (suc k) n in (
+      later.0,
+      ap (λ (t : List ℕ). outgoing_lines k bytes ++ t) later.1 ∙ sym (append_assoc (outgoing_lines k bytes) (outgoing_lines_from (suc k) (take n lists)) later.0),
+    )

@@ -4,6 +4,7 @@ pub mod LinesRead
 pub mod DayLines
 pub mod JournalParts
 pub mod Output
+pub mod Pieces
 pub mod Sums
 pub mod Totals
 pub mod Days

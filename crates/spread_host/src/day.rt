@@ -1,5 +1,5 @@
 //! A day: its journal, what the journal's entries came to, and its text.
-ghost use Rattle.std.specs.Prelude.{◌≡◌, ℕ, ◌<◌, ◌≤◌, ◌+◌, IfOk, IfErr, OnOk, IsErrOf, ◌≢◌, All, length, true, false};
+ghost use Rattle.std.specs.Prelude.{◌≡◌, ℕ, ◌<◌, ◌≤◌, ◌+◌, ◌++◌, [], IfOk, IfErr, OnOk, OnErr, IsErrOf, ◌≢◌, All, length, vec_capacity, true, false};
 ghost use Rattle.std.specs.Io.KnownBytes.{Appends};
 ghost use Rattle.spread_rules.specs.Ends.{AppendsPrefix};
 ghost use Rattle.spread_rules.specs.Journal.{IsLawful};
@@ -9,11 +9,13 @@ ghost use Rattle.fix_wire.specs.Frames.{IsFrameRow};
 ghost use Rattle.spread_report.specs.Messages.{IsRow, messages_to};
 ghost use Rattle.spread_report.specs.Sessions.{bytes_of};
 ghost use Rattle.spread_host.specs.Days.{AreShown, day_text, texts_of, texts_below};
+ghost use Rattle.spread_host.specs.Output.{fill_lines, month_lines, outgoing_lines_from};
 ghost use Rattle.spread_host.specs.Working.{outgoing_bytes, worked_entries, IsWorkFault};
 ghost use Rattle.spread_host.specs.declared.fault.HostFault.{HostFault};
 
 use crate::fault::HostFault;
-use crate::output::{put_fills, put_months, put_sessions};
+use crate::outgoing::{PIECE, write_sessions};
+use crate::output::{put_fills, put_months};
 use crate::working::work_entries;
 use spread_journal::writing::text_of_journal;
 use spread_match::ranges::ranges;
@@ -67,38 +69,60 @@ pub fn day_of<A: Allocator + Copy>(
     }
 }
 
-/// About how many bytes the lines of fills and of outgoing messages take.
-fn room_for<A: Allocator>(day: &Day<A>) -> usize {
-    let mut room = day.fills.len().saturating_mul(FILL_LINE);
-    for list in &day.out {
-        let lines = list.len().saturating_add(list.len() / 16);
-        room = room.saturating_add(lines);
-    }
-    room
+/// What is written before the outgoing messages and after them, and room for a piece of these.
+#[derive(Drop)]
+struct Around<A: Allocator> {
+    before: Vec<u8, A>,
+    after: Vec<u8, A>,
+    piece: Vec<u8, A>,
 }
 
-/// The text of a day.
-fn text_of<A: Allocator + Copy>(
+/// The lines of fills stand behind the journal's text. All memory that writing takes is taken here.
+fn texts_around<A: Allocator + Copy>(
     alloc: A,
     rulebook: &Rulebook,
-    day: &Day<A>,
-    journal_only: bool,
-) -> Result<Vec<u8, A>, AllocError>
-    requires lists { length day.now.out.items ≤ 16 }
-    requires rows { All IsFrameRow (texts_of day.now.out.items) }
-    requires shown { AreShown rulebook.now day.now.fills.items }
-    ensures text { IfOk result (λ text. text.items ≡ day_text journal_only rulebook.now day.now.journal.items day.now.fills.items (texts_of day.now.out.items)) }
-    ensures bytes { OnOk result (All (λ e. HasByteIds e.event) day.now.journal.items) }
+    fills: &[Fill],
+    journal: Vec<u8, A>,
+) -> Result<Around<A>, AllocError>
+    requires shown { AreShown rulebook.now fills.now }
+    ensures before { IfOk result (λ t. t.before.items ≡ journal.items ++ fill_lines rulebook.now fills.now) }
+    ensures after { IfOk result (λ t. t.after.items ≡ month_lines rulebook.now fills.now) }
+    ensures piece { IfOk result (λ t. t.piece.items ≡ []) }
+    ensures room { IfOk result (λ t. 0 < vec_capacity t.piece) }
 {
-    let mut text = text_of_journal(alloc, &day.journal)?;
-    if journal_only {
-        return Ok(text);
-    }
-    text.reserve(room_for(day))?;
-    put_fills(&mut text, rulebook, &day.fills)?;
-    put_sessions(&mut text, &day.out)?;
-    put_months(&mut text, rulebook, &day.fills)?;
-    Ok(text)
+    let mut before = journal;
+    before.reserve(fills.len().saturating_mul(FILL_LINE))?;
+    put_fills(&mut before, rulebook, fills)?;
+    let mut after = Vec::new(alloc);
+    put_months(&mut after, rulebook, fills)?;
+    let piece = Vec::with_capacity(alloc, PIECE)?;
+    Ok(Around {
+        before,
+        after,
+        piece,
+    })
+}
+
+/// Writes what stands before the lines of outgoing messages, these, and what stands after them.
+fn write_parts<K: Sink, A: Allocator>(
+    sink: &mut K,
+    around: Around<A>,
+    lists: &[Vec<u8, A>],
+) -> Result<(), Failed>
+    requires works { K.has_failed sink.old ≡ false }
+    requires empty { around.piece.items ≡ [] }
+    requires room { 0 < vec_capacity around.piece }
+    requires lists { length lists.now ≤ 16 }
+    requires rows { All IsFrameRow (texts_of lists.now) }
+    ensures ok { OnOk result (Appends (K.written sink.old) (K.written sink.new) (around.before.items ++ outgoing_lines_from 0 (texts_of lists.now) ++ around.after.items)) }
+    ensures sound { OnOk result (K.has_failed sink.new ≡ false) }
+    ensures failed { OnErr result (K.has_failed sink.new ≡ true) }
+    ensures front { OnErr result (AppendsPrefix (K.written sink.old) (K.written sink.new) (around.before.items ++ outgoing_lines_from 0 (texts_of lists.now) ++ around.after.items)) }
+{
+    let mut piece = around.piece;
+    write_all(sink, &around.before)?;
+    write_sessions(&mut piece, sink, lists)?;
+    write_all(sink, &around.after)
 }
 
 /// Writes the text of a day, or of its journal alone, and nothing else. The ids written are of bytes. Its fills are of the
@@ -121,11 +145,19 @@ pub fn write_day<K: Sink, A: Allocator + Copy>(
     ensures memory { IfErr result (λ f. f ≢ HostFault.Write → (f ≡ HostFault.NoMemory (length day.now.journal.items + 1)) × (sink.new ≡ sink.old)) }
     ensures write { IsErrOf result HostFault.Write → (K.has_failed sink.new ≡ true) × AppendsPrefix (K.written sink.old) (K.written sink.new) (day_text journal_only rulebook.now day.now.journal.items day.now.fills.items (texts_of day.now.out.items)) }
 {
-    let text = match text_of(alloc, rulebook, day, journal_only) {
-        Ok(text) => text,
-        Err(_) => return Err(HostFault::NoMemory(day.journal.len() as u64 + 1)),
+    let place = day.journal.len() as u64 + 1;
+    let Ok(journal) = text_of_journal(alloc, &day.journal) else {
+        return Err(HostFault::NoMemory(place));
     };
-    match write_all(sink, &text) {
+    let written = if journal_only {
+        write_all(sink, &journal)
+    } else {
+        match texts_around(alloc, rulebook, &day.fills, journal) {
+            Ok(around) => write_parts(sink, around, &day.out),
+            Err(_) => return Err(HostFault::NoMemory(place)),
+        }
+    };
+    match written {
         Ok(()) => Ok(()),
         Err(Failed) => Err(HostFault::Write),
     }

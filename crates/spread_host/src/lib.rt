@@ -11,6 +11,7 @@ pub mod laws;
 pub mod live;
 #[cfg(test)]
 mod live_tests;
+pub mod outgoing;
 pub mod output;
 pub mod replay;
 #[cfg(test)]

@@ -1,15 +1,13 @@
 //! The lines of a day's text.
-ghost use Rattle.std.specs.Prelude.{◌≡◌, ◌<◌, ◌≤◌, ◌++◌, ◌∷◌, ◌⊎◌, List, All, map, length, get_or, OnOk, IfOk, IfErr, IsErrOf, true, false};
+ghost use Rattle.std.specs.Prelude.{◌≡◌, ◌<◌, ◌≤◌, ◌++◌, ◌∷◌, ◌⊎◌, List, All, get_or, OnOk, IfOk, IfErr, IsErrOf, true, false};
 ghost use Rattle.std.specs.Io.KnownBytes.{Appends};
 ghost use Rattle.spread_rules.specs.Rulebook.{IsListed, symbol_of};
 ghost use Rattle.spread_rules.specs.Ends.{AppendsPrefix};
-ghost use Rattle.fix_wire.specs.Frames.{IsFrameRow};
 ghost use Rattle.spread_host.specs.Totals.{IsSummable};
-ghost use Rattle.spread_host.specs.Output.{fill_line, fill_lines, places_text, trade_text, legs_text, side_digit, lots_text, money_text, totals_line, month_lines, fills_text, shown, outgoing_line, outgoing_lines, outgoing_lines_from};
+ghost use Rattle.spread_host.specs.Output.{fill_line, fill_lines, places_text, trade_text, legs_text, side_digit, lots_text, money_text, totals_line, month_lines, fills_text};
 
 use crate::fault::HostFault;
 use crate::totals::{MonthTotals, month_totals};
-use fix_wire::first_of_row;
 use itoa::Buffer;
 use spread_rules::fill::Fill;
 use spread_rules::order::{Instrument, Side};
@@ -181,71 +179,6 @@ pub fn put_months<A: Allocator>(
     let totals = month_totals(fills);
     for month in 0..months {
         put_month(out, rulebook.name(month), &totals[month as usize])?;
-    }
-    Ok(())
-}
-
-/// Shows each byte 1 as `|`.
-fn show_field_ends(text: &mut [u8])
-    ensures { text.new ≡ map shown text.old }
-{
-    for byte in text.iter_mut() {
-        *byte = shown_byte(*byte);
-    }
-}
-
-fn shown_byte(byte: u8) -> u8
-    ensures { result ≡ shown byte }
-{
-    if byte == 1 { b'|' } else { byte }
-}
-
-/// One message's line.
-fn put_message<A: Allocator>(
-    out: &mut Vec<u8, A>,
-    session: u8,
-    message: &[u8],
-) -> Result<(), AllocError>
-    ensures { OnOk result (out.new.items ≡ out.old.items ++ outgoing_line session message.now) }
-{
-    out.extend_from_slice(b"O ")?;
-    out.extend_from_slice(Buffer::new().format(session).as_bytes())?;
-    out.push(b':')?;
-    let start = out.len();
-    out.extend_from_slice(message)?;
-    show_field_ends(&mut out[start..]);
-    out.push(b'\n')?;
-    Ok(())
-}
-
-/// A line for each message of these bytes, which this session is sent. They are whole frames.
-fn put_outgoing<A: Allocator>(
-    out: &mut Vec<u8, A>,
-    session: u8,
-    bytes: &[u8],
-) -> Result<(), AllocError>
-    requires { IsFrameRow bytes.now }
-    ensures { OnOk result (out.new.items ≡ out.old.items ++ outgoing_lines session bytes.now) }
-{
-    let mut rest = bytes;
-    while let Some((message, later)) = first_of_row(rest) {
-        put_message(out, session, message)?;
-        rest = later;
-    }
-    Ok(())
-}
-
-/// A line for each message of these lists, session 0 first.
-pub fn put_sessions<A: Allocator, B: Allocator>(
-    out: &mut Vec<u8, A>,
-    lists: &[Vec<u8, B>],
-) -> Result<(), AllocError>
-    requires count { length lists.now ≤ 16 }
-    requires rows { All IsFrameRow (map (λ v. v.items) lists.now) }
-    ensures { OnOk result (out.new.items ≡ out.old.items ++ outgoing_lines_from 0 (map (λ v. v.items) lists.now)) }
-{
-    for (session, bytes) in lists.iter().enumerate() {
-        put_outgoing(out, session as u8, bytes)?;
     }
     Ok(())
 }

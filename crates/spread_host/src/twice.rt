@@ -1,5 +1,5 @@
 //! Days worked a second time, by a plain matcher over one list of orders.
-ghost use Rattle.std.specs.Prelude.{◌≡◌, ◌≤◌, true, All, IfOk, length};
+ghost use Rattle.std.specs.Prelude.{◌≡◌, ◌<◌, ◌≤◌, true, All, IfOk, length};
 ghost use Rattle.spread_rules.specs.Candidates.{HasSmallPrice};
 ghost use Rattle.spread_rules.specs.Journal.{IsLawful};
 ghost use Rattle.fix_wire.specs.Frames.{IsFrameRow};
@@ -7,7 +7,7 @@ ghost use Rattle.spread_host.specs.Days.{texts_of};
 
 use crate::check::check;
 use crate::day::{Day, day_of, write_day};
-use crate::output::put_sessions;
+use crate::outgoing::write_sessions;
 use crate::working::work_entries;
 use spread_journal::reading::read_journal;
 use spread_journal::writing::text_of_journal;
@@ -326,14 +326,16 @@ fn months_at(text: &[u8]) -> usize
     0
 }
 
-/// The lines of what each session is sent.
-fn sent_lines(alloc: Global, day: &Day<Global>) -> Result<Vec<u8>, Fail>
+/// The lines of what each session is sent, written in pieces of so many bytes.
+fn sent_lines(alloc: Global, day: &Day<Global>, room: usize) -> Result<TestSink, Fail>
     requires lists { length day.now.out.items ≤ 16 }
     requires rows { All IsFrameRow (texts_of day.now.out.items) }
+    requires some { 0 < room }
 {
-    let mut lines = Vec::new(alloc);
-    put_sessions(&mut lines, &day.out)?;
-    Ok(lines)
+    let mut sink = TestSink::new(alloc, 300_000, 0)?;
+    let mut piece = Vec::with_capacity(alloc, room)?;
+    write_sessions(&mut piece, &mut sink, &day.out)?;
+    Ok(sink)
 }
 
 // The journal, the fills, what each session is sent, and the months, in that order; or the journal alone.
@@ -353,7 +355,10 @@ fn day_written(rt: HostRuntime) -> Result<(), Fail> {
     assert_eq!(rt; alone.bytes(), want.as_slice());
     let (fills, months) = lines.bytes().split_at(months_at(lines.bytes()));
     want.extend_from_slice(fills)?;
-    want.extend_from_slice(&sent_lines(rt.alloc(), &day)?)?;
+    let sent = sent_lines(rt.alloc(), &day, 4096)?;
+    assert_eq!(rt; sent_lines(rt.alloc(), &day, 1)?.bytes(), sent.bytes());
+    assert_eq!(rt; sent_lines(rt.alloc(), &day, 100)?.bytes(), sent.bytes());
+    want.extend_from_slice(sent.bytes())?;
     want.extend_from_slice(months)?;
     let mut whole = TestSink::new(rt.alloc(), 400_000, 0)?;
     write_day(rt.alloc(), &rules, &day, false, &mut whole)?;

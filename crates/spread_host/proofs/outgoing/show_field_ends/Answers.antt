@@ -1,7 +1,7 @@
 use Rattle.std.proofs.Common.{◌≡◌, ℕ, List, set, get_or, ap, ◌∙◌}
 use Rattle.spread_host.specs.Output.{shown}
 use Rattle.spread_host.proofs.Next.{map_next, map_rest}
-use Rattle.spread_host.proofs.output.show_field_ends.Goals as goal
+use Rattle.spread_host.proofs.outgoing.show_field_ends.Goals as goal
 
 pub loop-byte-preserved : goal.loop-byte-preserved
 loop-byte-preserved c =
