@@ -7,7 +7,7 @@ ghost use Rattle.spread_rules.specs.declared.order.Instrument.TheVariants.{Outri
 ghost use Rattle.spread_match.specs.Best.{IsFair, Keeps, CoversOne, CoversTwo, IsBest, in_months, IsNearFirst, CoversMonth, CoversBelow};
 
 use spread_books::book::Book;
-use spread_rules::candidate::{Candidate, Counterparty, better, candidate_for};
+use spread_rules::candidate::{Candidate, Counterparty, better, candidate_for, pair_meets};
 use spread_rules::order::{Instrument, Order, Side};
 
 pub fn other(side: Side) -> Side
@@ -33,15 +33,15 @@ pub fn with_direct<B: Book>(book: &B, new: &Order) -> Option<Candidate>
 }
 
 /// The pair takes the place of the best, where it ranks before it.
-fn offer_pair(new: &Order, best: &mut Option<Candidate>, first: Order, second: Order)
-    requires first { HasSmallPrice first }
-    requires second { HasSmallPrice second }
+fn offer_pair(new: &Order, best: &mut Option<Candidate>, first: &Order, second: &Order)
+    requires first { HasSmallPrice first.now }
+    requires second { HasSmallPrice second.now }
     requires best { IfSome best.old IsSmallCandidate }
-    ensures value { best.new ≡ better_of new.now best.old (candidate_of all_on new.now (Implied first second)) }
+    ensures value { best.new ≡ better_of new.now best.old (candidate_of all_on new.now (Implied first.now second.now)) }
     ensures small { IfSome best.new IsSmallCandidate }
 {
-    let pair = candidate_for(new, Counterparty::Implied(first, second));
-    if pair.is_some() {
+    if pair_meets(new, first, second) {
+        let pair = candidate_for(new, Counterparty::Implied(*first, *second));
         *best = better(new, *best, pair);
     }
 }
@@ -66,7 +66,7 @@ pub fn with_queues<B: Book>(
 {
     if let Some(first) = book.front(of, side) {
         if let Some(second) = book.front(and, and_side) {
-            offer_pair(new, best, first, second);
+            offer_pair(new, best, &first, &second);
         }
     }
 }
