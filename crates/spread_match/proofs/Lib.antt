@@ -4,6 +4,7 @@ pub mod Whole
 pub mod After
 pub mod Found
 pub mod InOrder
+pub mod Nearby
 pub mod Index
 pub mod Listing
 pub mod Turns

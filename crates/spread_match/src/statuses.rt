@@ -1,5 +1,5 @@
 //! How each New entry so far stands, found by its session and id, and by its place.
-ghost use Rattle.std.specs.Prelude.{◌≡◌, ◌≢◌, ◌<◌, length, slice_get, slice_index_or, List, All, [], ◌++◌, ◌∷◌, map, OnOk, OnErr, IfSome, IfNone};
+ghost use Rattle.std.specs.Prelude.{◌≡◌, ◌≢◌, ◌<◌, ◌≤◌, length, take, slice_get, slice_index_or, List, All, [], ◌++◌, ◌∷◌, map, OnOk, OnErr, IfSome, IfNone};
 ghost use Rattle.spread_rules.specs.declared.outcome.OrderStatus.{OrderStatus};
 ghost use Rattle.std.specs.Prelude.{ℕ, cond, Some, None};
 ghost use Rattle.std.specs.List.{find};
@@ -65,6 +65,21 @@ fn status_at(statuses: &[OrderStatus], at: usize) -> Option<OrderStatus>
     statuses.get(at).copied()
 }
 
+/// No row before this one has that place: two rows differ in place by at least as much as in index.
+fn first_possible(statuses: &[OrderStatus], place: u64) -> usize
+    requires { AreInOrder statuses.now }
+    ensures within { result ≤ length statuses.now }
+    ensures others { All (λ s. s.place ≢ place) (take result statuses.now) }
+{
+    match statuses.last() {
+        Some(newest) if place <= newest.place => {
+            let past = (newest.place - place) as usize;
+            (statuses.len() - 1).saturating_sub(past)
+        }
+        _ => statuses.len(),
+    }
+}
+
 /// Where the status of that place stands.
 fn place_in(statuses: &[OrderStatus], place: u64) -> Option<usize>
     requires { AreInOrder statuses.now }
@@ -72,8 +87,9 @@ fn place_in(statuses: &[OrderStatus], place: u64) -> Option<usize>
     ensures at { (d : OrderStatus) → IfSome result (λ i. (slice_index_or statuses.now i d).place ≡ place) }
     ensures none { IfNone result (All (λ s. s.place ≢ place) statuses.now) }
 {
-    match statuses.binary_search_by_key(&place, |status| status.place) {
-        Ok(at) => Some(at),
+    let from = first_possible(statuses, place);
+    match statuses[from..].binary_search_by_key(&place, |status| status.place) {
+        Ok(at) => Some(from + at),
         Err(_) => None,
     }
 }

@@ -463,6 +463,48 @@ fn cancels_of_filled_and_of_ended_orders(rt: HostRuntime) -> Result<(), Fail> {
     Ok(())
 }
 
+/// What a cancel of an order that no longer rests comes to.
+fn too_late(place: u64, status: u8) -> Outcome {
+    Outcome::CancelRefused {
+        reason: 0,
+        place,
+        status,
+    }
+}
+
+#[test]
+fn first_and_newest_of_many_orders_are_filled(rt: HostRuntime) -> Result<(), Fail> {
+    let journal = [
+        logon(),
+        sell(b"a", b"H6", 1, 10000),
+        logon(),
+        buy(b"b", b"M6-H6", 1, 0),
+        sell(b"c", b"H6", 1, 10010),
+        logon(),
+        sell(b"d", b"H6", 1, 10020),
+        buy(b"e", b"H6", 1, 10000),
+        cancel(b"f", b"a"),
+        cancel(b"g", b"b"),
+        cancel(b"h", b"e"),
+    ];
+    let done = worked(&rt, rt.alloc(), MONTHS, &journal)?;
+    let wanted = [
+        Outcome::Session,
+        Outcome::Rested,
+        Outcome::Session,
+        Outcome::Refused(1),
+        Outcome::Rested,
+        Outcome::Session,
+        Outcome::Rested,
+        Outcome::Filled,
+        too_late(2, 2),
+        too_late(4, 8),
+        too_late(8, 2),
+    ];
+    assert_eq!(rt; done.outcomes.as_slice(), wanted.as_slice());
+    Ok(())
+}
+
 #[test]
 fn price_off_the_tick_is_refused(rt: HostRuntime) -> Result<(), Fail> {
     let journal = [
