@@ -2,8 +2,8 @@ ghost use Rattle.std.specs.Prelude.{neg_ℤ, pos, ◌≤ℤ◌};
 ghost use Rattle.spread_rules.specs.Candidates.{HasSmallPrice};
 
 use crate::candidate::{
-    Choice, Counterparty, Members, Rank, better, candidate_for, chosen, is_within, price_at,
-    ranking,
+    Choice, Counterparty, Members, Rank, better, candidate_for, chosen, is_within, pair_meets,
+    price_at, ranking,
 };
 use crate::id::Id;
 use crate::id_key::IdKey;
@@ -145,10 +145,11 @@ fn spread_meets_two_months(rt: HostRuntime) {
 #[test]
 fn candidates_ranked(rt: HostRuntime) {
     let buy = order(5, H6, Side::Buy, 6, 10000);
-    let pair = Counterparty::Implied(
-        order(3, Instrument::Spread(0, 1), Side::Sell, 3, 200),
-        order(4, M6, Side::Sell, 4, 9700),
-    );
+    let spread = order(3, Instrument::Spread(0, 1), Side::Sell, 3, 200);
+    let far = order(4, M6, Side::Sell, 4, 9700);
+    assert!(rt; pair_meets(&buy, &spread, &far));
+    assert!(rt; !pair_meets(&order(5, H6, Side::Buy, 6, 9899), &spread, &far));
+    let pair = Counterparty::Implied(spread, far);
     assert_eq!(rt; price_at(&buy, &pair), Some(9900));
     assert!(rt; is_within(&buy, 10000));
     assert!(rt; !is_within(&buy, 10001));
