@@ -1,24 +1,22 @@
 //! A book that has the fronts of its queues at hand.
-ghost use Rattle.std.specs.Prelude.{◌≡◌, ◌++◌, ◌∷◌, [], List, Some};
-ghost use Rattle.spread_rules.specs.Candidates.{better_by};
+ghost use Rattle.std.specs.Prelude.{◌≡◌, ◌++◌, ◌∷◌, [], List};
 ghost use Rattle.spread_rules.specs.declared.order.Order.{Order};
-ghost use Rattle.spread_books.specs.Queues.{is_ahead};
 ghost use Rattle.spread_books.specs.FrontTable.{may_be_at, HoldsFronts};
 
 use crate::book::Book;
 use crate::front_table::FrontTable;
-use crate::list::is_first;
-use crate::tree::TreeBook;
+use crate::list::front_with;
+use crate::newest::NewestBook;
 use spread_rules::id::Id;
 use spread_rules::memory::NoMemory;
 use spread_rules::order::{Instrument, Order, Side};
 use std::alloc::Allocator;
 use std::marker::Model;
 
-/// Resting orders in ordered tables, and the fronts of the queues of early months.
+/// Resting orders in ordered tables with the newest beside them, and the fronts of the queues of early months.
 #[derive(Drop)]
 pub struct IndexBook<A: Allocator + Copy> {
-    book: TreeBook<A>,
+    book: NewestBook<A>,
     fronts: FrontTable<A>,
 }
 
@@ -40,7 +38,7 @@ impl<A: Allocator + Copy> IndexBook<A> {
         ensures { result ≡ [] }
     {
         IndexBook {
-            book: TreeBook::new(alloc),
+            book: NewestBook::new(alloc),
             fronts: FrontTable::new(alloc),
         }
     }
@@ -48,7 +46,7 @@ impl<A: Allocator + Copy> IndexBook<A> {
 
 /// Before the first order of a book its table gets its slots.
 fn make_room<A: Allocator + Copy>(
-    book: &TreeBook<A>,
+    book: &NewestBook<A>,
     fronts: &mut FrontTable<A>,
 ) -> Result<(), NoMemory>
     requires { HoldsFronts book.now fronts.old }
@@ -58,22 +56,6 @@ fn make_room<A: Allocator + Copy>(
         fronts.make_room()?;
     }
     Ok(())
-}
-
-/// The front of a queue with one more order behind all others.
-fn front_with(front: Option<Order>, order: &Order) -> Order
-    ensures { Some result ≡ better_by (is_ahead order.now.side) front (Some order.now) }
-{
-    match front {
-        None => *order,
-        Some(held) => {
-            if is_first(order.side, order, &held) {
-                *order
-            } else {
-                held
-            }
-        }
-    }
 }
 
 /// After an order is added behind all others.

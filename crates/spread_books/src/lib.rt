@@ -6,6 +6,7 @@ mod first_from;
 mod front_table;
 pub mod index;
 pub mod list;
+pub mod newest;
 mod own_key;
 mod queue_key;
 #[cfg(test)]

@@ -3,6 +3,7 @@ ghost use Rattle.std.specs.Prelude.{◌≡◌, []};
 use crate::book::Book;
 use crate::index::IndexBook;
 use crate::list::ListBook;
+use crate::newest::NewestBook;
 use crate::tree::TreeBook;
 use spread_rules::id::Id;
 use spread_rules::order::{Instrument, Order, Side};
@@ -160,12 +161,85 @@ fn one_after_another<B: Book>(rt: &impl Abort, book: &mut B) -> Result<(), Fail>
     Ok(())
 }
 
+fn sell_in(queue: Instrument, place: u64, name: &[u8], price: i64) -> Order
+    ensures place { result.place ≡ place }
+    ensures leaves { result.leaves ≡ 5 }
+{
+    Order {
+        instrument: queue,
+        ..sell(place, name, price)
+    }
+}
+
+/// The last order is the front, is found, walked to and lessened, and leaves: the one before it is the front again.
+fn last_leaves<B: Book>(rt: &impl Abort, book: &mut B, queue: Instrument) -> Result<(), Fail>
+    requires { B.orders book.old ≡ [] }
+{
+    let worse = sell_in(queue, 1, b"a", 10000);
+    let better = sell_in(queue, 2, b"b", 9900);
+    book.add(worse)?;
+    book.add(better)?;
+    assert!(rt; is(book.front(queue, Side::Sell), &better));
+    assert!(rt; is(book.find(1, &id(b"b")), &better));
+    assert!(rt; is(book.walk(0), &worse));
+    assert!(rt; is(book.walk(1), &better));
+    assert_eq!(rt; book.walk(2), None);
+    book.reduce(2, 3);
+    let left = Order {
+        leaves: 2,
+        ..better
+    };
+    assert!(rt; is(book.front(queue, Side::Sell), &left));
+    assert!(rt; is(book.walk(1), &left));
+    book.remove(2);
+    assert!(rt; is(book.front(queue, Side::Sell), &worse));
+    assert_eq!(rt; book.find(1, &id(b"b")), None);
+    assert_eq!(rt; book.walk(1), None);
+    assert_eq!(rt; book.len(), 1);
+    Ok(())
+}
+
+/// After the last order has left, one more comes behind those before it, and is the front once they have left too.
+fn one_comes_behind<B: Book>(rt: &impl Abort, book: &mut B, queue: Instrument) -> Result<(), Fail>
+    requires { B.orders book.old ≡ [] }
+{
+    let first = sell_in(queue, 1, b"a", 10000);
+    let gone = sell_in(queue, 2, b"b", 9900);
+    let later = sell_in(queue, 3, b"b", 10000);
+    book.add(first)?;
+    book.add(gone)?;
+    book.remove(2);
+    book.add(later)?;
+    assert!(rt; is(book.front(queue, Side::Sell), &first));
+    assert!(rt; is(book.find(1, &id(b"b")), &later));
+    assert!(rt; is(book.walk(0), &first));
+    assert!(rt; is(book.walk(1), &later));
+    assert_eq!(rt; book.len(), 2);
+    book.remove(1);
+    assert!(rt; is(book.front(queue, Side::Sell), &later));
+    assert_eq!(rt; book.front(queue, Side::Buy), None);
+    assert!(rt; is(book.walk(0), &later));
+    Ok(())
+}
+
 #[test]
 fn list_book(rt: HostRuntime) -> Result<(), Fail> {
     sellers(&rt, &mut ListBook::new(rt.alloc()))?;
     buyers(&rt, &mut ListBook::new(rt.alloc()))?;
     queues_apart(&rt, &mut ListBook::new(rt.alloc()))?;
-    one_after_another(&rt, &mut ListBook::new(rt.alloc()))
+    one_after_another(&rt, &mut ListBook::new(rt.alloc()))?;
+    last_leaves(&rt, &mut ListBook::new(rt.alloc()), Instrument::Outright(0))?;
+    last_leaves(
+        &rt,
+        &mut ListBook::new(rt.alloc()),
+        Instrument::Spread(1, 24),
+    )?;
+    one_comes_behind(&rt, &mut ListBook::new(rt.alloc()), Instrument::Outright(0))?;
+    one_comes_behind(
+        &rt,
+        &mut ListBook::new(rt.alloc()),
+        Instrument::Spread(1, 24),
+    )
 }
 
 #[test]
@@ -173,7 +247,47 @@ fn tree_book(rt: HostRuntime) -> Result<(), Fail> {
     sellers(&rt, &mut TreeBook::new(rt.alloc()))?;
     buyers(&rt, &mut TreeBook::new(rt.alloc()))?;
     queues_apart(&rt, &mut TreeBook::new(rt.alloc()))?;
-    one_after_another(&rt, &mut TreeBook::new(rt.alloc()))
+    one_after_another(&rt, &mut TreeBook::new(rt.alloc()))?;
+    last_leaves(&rt, &mut TreeBook::new(rt.alloc()), Instrument::Outright(0))?;
+    last_leaves(
+        &rt,
+        &mut TreeBook::new(rt.alloc()),
+        Instrument::Spread(1, 24),
+    )?;
+    one_comes_behind(&rt, &mut TreeBook::new(rt.alloc()), Instrument::Outright(0))?;
+    one_comes_behind(
+        &rt,
+        &mut TreeBook::new(rt.alloc()),
+        Instrument::Spread(1, 24),
+    )
+}
+
+#[test]
+fn newest_book(rt: HostRuntime) -> Result<(), Fail> {
+    sellers(&rt, &mut NewestBook::new(rt.alloc()))?;
+    buyers(&rt, &mut NewestBook::new(rt.alloc()))?;
+    queues_apart(&rt, &mut NewestBook::new(rt.alloc()))?;
+    one_after_another(&rt, &mut NewestBook::new(rt.alloc()))?;
+    last_leaves(
+        &rt,
+        &mut NewestBook::new(rt.alloc()),
+        Instrument::Outright(0),
+    )?;
+    last_leaves(
+        &rt,
+        &mut NewestBook::new(rt.alloc()),
+        Instrument::Spread(1, 24),
+    )?;
+    one_comes_behind(
+        &rt,
+        &mut NewestBook::new(rt.alloc()),
+        Instrument::Outright(0),
+    )?;
+    one_comes_behind(
+        &rt,
+        &mut NewestBook::new(rt.alloc()),
+        Instrument::Spread(1, 24),
+    )
 }
 
 #[test]
@@ -181,5 +295,25 @@ fn index_book(rt: HostRuntime) -> Result<(), Fail> {
     sellers(&rt, &mut IndexBook::new(rt.alloc()))?;
     buyers(&rt, &mut IndexBook::new(rt.alloc()))?;
     queues_apart(&rt, &mut IndexBook::new(rt.alloc()))?;
-    one_after_another(&rt, &mut IndexBook::new(rt.alloc()))
+    one_after_another(&rt, &mut IndexBook::new(rt.alloc()))?;
+    last_leaves(
+        &rt,
+        &mut IndexBook::new(rt.alloc()),
+        Instrument::Outright(0),
+    )?;
+    last_leaves(
+        &rt,
+        &mut IndexBook::new(rt.alloc()),
+        Instrument::Spread(1, 24),
+    )?;
+    one_comes_behind(
+        &rt,
+        &mut IndexBook::new(rt.alloc()),
+        Instrument::Outright(0),
+    )?;
+    one_comes_behind(
+        &rt,
+        &mut IndexBook::new(rt.alloc()),
+        Instrument::Spread(1, 24),
+    )
 }

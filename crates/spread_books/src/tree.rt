@@ -1,5 +1,5 @@
 //! A book over ordered tables: its orders by place, and their keys by queue and by id.
-ghost use Rattle.std.specs.Prelude.{◌≡◌, ◌==◌, []};
+ghost use Rattle.std.specs.Prelude.{◌≡◌, ◌<◌, ◌^◌, ◌==◌, [], length};
 ghost use Rattle.std.specs.List.{find};
 ghost use Rattle.spread_rules.specs.Clearing.{reduced, removed};
 ghost use Rattle.spread_books.specs.Queues.{HasMore, HasPlace};
@@ -47,6 +47,14 @@ impl<A: Allocator + Copy> TreeBook<A> {
             queues: BTreeSet::new(alloc),
             ids: BTreeSet::new(alloc),
         }
+    }
+
+    /// As `len`. There is no memory for as many as a `usize` counts.
+    pub(crate) fn count(&self) -> usize
+        ensures count { result ≡ length self.now }
+        ensures small { result < 2 ^ 63 }
+    {
+        self.orders.len()
     }
 
     /// As `reduce`, and tells which order it was. Takes no memory.
@@ -132,6 +140,6 @@ impl<A: Allocator + Copy> Book for TreeBook<A> {
     }
 
     fn len(&self) -> usize {
-        self.orders.len()
+        self.count()
     }
 }
