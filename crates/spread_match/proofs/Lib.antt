@@ -11,6 +11,7 @@ pub mod Turns
 pub mod Tradable
 pub mod Whole_turn
 pub mod Entering
+pub mod Used
 pub mod Accounts
 pub mod Past
 pub mod Ready

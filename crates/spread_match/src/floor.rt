@@ -1,5 +1,5 @@
 //! What a market keeps, and what each kind of entry does to it.
-ghost use Rattle.std.specs.Prelude.{◌≡◌, ℕ, ℤ, pos, ◌<ℤ◌, ◌<◌, ◌≤◌, List, All, OnOk, OnErr, IfOk, ◌++◌, ◌∷◌, [], drop, length};
+ghost use Rattle.std.specs.Prelude.{◌≡◌, ℕ, ℤ, pos, ◌<ℤ◌, ◌<◌, ◌≤◌, List, All, OnOk, OnErr, IfOk, ◌++◌, ◌∷◌, [], drop, length, cond, is_some, None, true, false};
 ghost use Rattle.std.specs.List.{find};
 ghost use Rattle.spread_rules.specs.declared.order.Order.{Order};
 ghost use Rattle.spread_rules.specs.declared.event.Event.TheVariants.{New, Cancel};
@@ -11,7 +11,7 @@ ghost use Rattle.spread_rules.specs.Meaning.{has_id, is_own, judged, judged_by, 
 ghost use Rattle.spread_rules.specs.Rulebook.{month_count, references_of, find_symbol};
 ghost use Rattle.spread_match.specs.State.{nothing_yet};
 ghost use Rattle.spread_match.specs.Best.{in_months, is_ordered};
-ghost use Rattle.spread_match.specs.Kept.{renewed, entered_status, kept_meaning, kept_after, kept_with, settled, IsReady};
+ghost use Rattle.spread_match.specs.Kept.{renewed, entered_status, unless_used, kept_meaning, kept_after, kept_with, settled, IsReady};
 ghost use Rattle.spread_match.specs.Trade.{IsPriced, IsNewest};
 
 use crate::statuses::Statuses;
@@ -43,19 +43,11 @@ impl<B: Book, A: Allocator + Copy> Model for Floor<B, A> {
     ghost view = { λ m. record { orders = B.orders m.book; statuses = m.statuses; last = m.last } };
 }
 
-/// The instrument, or why the ticket is refused.
-fn judge<A: Allocator + Copy>(
-    rules: &Rulebook,
-    statuses: &Statuses<A>,
-    session: u8,
-    ticket: &Ticket,
-) -> Result<Instrument, u8>
-    ensures { result ≡ judged rules.now ticket.now (find (has_id session ticket.now.id) statuses.now) }
+/// The instrument, or why the ticket is refused, for one whose id was not used.
+fn judge(rules: &Rulebook, ticket: &Ticket) -> Result<Instrument, u8>
+    ensures { result ≡ judged rules.now ticket.now None }
 {
-    match statuses.find(session, &ticket.id) {
-        Some(_) => Err(6),
-        None => judge_fields(rules, ticket, rules.find(ticket.symbol.bytes())),
-    }
+    judge_fields(rules, ticket, rules.find(ticket.symbol.bytes()))
 }
 
 fn judge_fields(
@@ -77,6 +69,13 @@ fn judge_fields(
             }
         }
     }
+}
+
+/// A refusal. That its id was used comes before any other reason.
+fn refusal(used: bool, reason: u8) -> Outcome
+    ensures { result ≡ Refused (cond used 6 reason) }
+{
+    Outcome::Refused(if used { 6 } else { reason })
 }
 
 /// By the fills from that one on.
@@ -159,25 +158,27 @@ impl<B: Book, A: Allocator + Copy> Floor<B, A> {
     ) -> Result<Outcome, NoMemory>
         requires noted { All (λ s. s.place ≤ self.old.last) self.old.statuses }
         requires place { self.old.last < place }
-        ensures outcome { IfOk result (λ o. o ≡ Refused reason) }
-        ensures after { OnOk result (self.new ≡ kept_with self.old place session (New ticket.now) (only (Refused reason) self.old.orders)) }
+        ensures outcome { IfOk result (λ o. o ≡ (unless_used (find (has_id session ticket.now.id) self.old.statuses) self.old.orders (only (Refused reason) self.old.orders)).outcome) }
+        ensures after { OnOk result (self.new ≡ kept_with self.old place session (New ticket.now) (unless_used (find (has_id session ticket.now.id) self.old.statuses) self.old.orders (only (Refused reason) self.old.orders))) }
         ensures err { OnErr result (self.new ≡ self.old) }
     {
-        self.statuses.add(OrderStatus {
+        let used = self.statuses.add(OrderStatus {
             session,
             id: ticket.id,
             place,
             status: 8,
         })?;
         self.last = place;
-        Ok(Outcome::Refused(reason))
+        Ok(refusal(used, reason))
     }
 
-    /// The new order stands in the book, and its entry among the statuses.
-    fn stand(&mut self, order: &Order) -> Result<(), NoMemory>
+    /// The new order stands in the book, and its entry among the statuses. Where its id was used it is refused, and the answer is true.
+    fn stand(&mut self, order: &Order) -> Result<bool, NoMemory>
         requires orders { All (λ o. o.place < order.now.place) self.old.orders }
         requires statuses { All (λ s. s.place < order.now.place) self.old.statuses }
-        ensures ok { OnOk result (self.new ≡ record self.old { orders = self.old.orders ++ order.now ∷ []; statuses = self.old.statuses ++ entered_status order.now ∷ [] }) }
+        ensures used { IfOk result (λ used. used ≡ is_some (find (has_id order.now.session order.now.id) self.old.statuses)) }
+        ensures stands { IfOk result (λ used. used ≡ false → self.new ≡ record self.old { orders = self.old.orders ++ order.now ∷ []; statuses = self.old.statuses ++ entered_status order.now ∷ [] }) }
+        ensures refused { IfOk result (λ used. used ≡ true → self.new ≡ record self.old { statuses = self.old.statuses ++ record (entered_status order.now) { status = 8 } ∷ [] }) }
         ensures err { OnErr result (self.new ≡ self.old) }
     {
         self.book.add(*order)?;
@@ -188,13 +189,13 @@ impl<B: Book, A: Allocator + Copy> Floor<B, A> {
             place,
             status: 4,
         });
-        if noted.is_err() {
+        if noted.unwrap_or(true) {
             self.book.remove(place);
         }
         noted
     }
 
-    /// Clears a ticket that is not refused. All growth comes first.
+    /// Clears a ticket that is refused only where its id was used. All growth comes first.
     fn take(
         &mut self,
         rules: &Rulebook,
@@ -210,16 +211,20 @@ impl<B: Book, A: Allocator + Copy> Floor<B, A> {
         requires listed { is_ordered instrument }
         requires within { in_months (month_count rules.now) instrument }
         requires place { self.old.last < place }
-        ensures outcome { IfOk result (λ o. o ≡ (cleared ticket.now.immediate (clear all_on (references_of rules.now) (order_of place session ticket.now instrument) self.old.orders)).outcome) }
-        ensures fills { OnOk result (fills.new.items ≡ fills.old.items ++ (clear all_on (references_of rules.now) (order_of place session ticket.now instrument) self.old.orders).fills) }
-        ensures after { OnOk result (self.new ≡ kept_with self.old place session (New ticket.now) (cleared ticket.now.immediate (clear all_on (references_of rules.now) (order_of place session ticket.now instrument) self.old.orders))) }
+        ensures outcome { IfOk result (λ o. o ≡ (unless_used (find (has_id session ticket.now.id) self.old.statuses) self.old.orders (cleared ticket.now.immediate (clear all_on (references_of rules.now) (order_of place session ticket.now instrument) self.old.orders))).outcome) }
+        ensures fills { OnOk result (fills.new.items ≡ fills.old.items ++ (unless_used (find (has_id session ticket.now.id) self.old.statuses) self.old.orders (cleared ticket.now.immediate (clear all_on (references_of rules.now) (order_of place session ticket.now instrument) self.old.orders))).fills) }
+        ensures after { OnOk result (self.new ≡ kept_with self.old place session (New ticket.now) (unless_used (find (has_id session ticket.now.id) self.old.statuses) self.old.orders (cleared ticket.now.immediate (clear all_on (references_of rules.now) (order_of place session ticket.now instrument) self.old.orders)))) }
         ensures err { OnErr result (self.new ≡ self.old) }
         ensures no_fills { OnErr result (fills.new.items ≡ fills.old.items) }
     {
         let before = fills.len();
         fills.reserve(3 * self.book.len().min(ticket.quantity as usize))?;
         let order = new_order(place, session, ticket, instrument);
-        self.stand(&order)?;
+        let used = self.stand(&order)?;
+        if used {
+            self.last = place;
+            return Ok(Outcome::Refused(6));
+        }
         let left = trade(&mut self.book, rules.months(), rules, order, fills);
         settle(&mut self.book, ticket.immediate, &order, left.leaves);
         renew_from(&mut self.statuses, fills, before);
@@ -245,7 +250,7 @@ impl<B: Book, A: Allocator + Copy> Floor<B, A> {
         ensures err { OnErr result (self.new ≡ self.old) }
         ensures no_fills { OnErr result (fills.new.items ≡ fills.old.items) }
     {
-        match judge(rules, &self.statuses, session, ticket) {
+        match judge(rules, ticket) {
             Err(reason) => self.refuse(place, session, ticket, reason),
             Ok(instrument) => self.take(rules, place, session, ticket, instrument, fills),
         }

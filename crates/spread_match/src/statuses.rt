@@ -1,7 +1,7 @@
 //! How each New entry so far stands, found by its session and id, and by its place.
 ghost use Rattle.std.specs.Prelude.{◌≡◌, ◌≢◌, ◌<◌, ◌≤◌, length, take, slice_get, slice_index_or, List, All, [], ◌++◌, ◌∷◌, map, OnOk, OnErr, IfSome, IfNone};
 ghost use Rattle.spread_rules.specs.declared.outcome.OrderStatus.{OrderStatus};
-ghost use Rattle.std.specs.Prelude.{ℕ, cond, Some, None};
+ghost use Rattle.std.specs.Prelude.{ℕ, cond, is_some, Some, None, IfOk};
 ghost use Rattle.std.specs.List.{find};
 ghost use Rattle.std.specs.Option.{option_or};
 ghost use Rattle.std.specs.Ordering.{is_eq};
@@ -43,20 +43,32 @@ impl<A: Allocator + Copy> Model for Statuses<A> {
     ghost invariant = { λ m. AreInOrder m.rows.items × IsIndex (get id_key_cmp m.first) m.rows.items };
 }
 
-/// Notes where a status stands, where its session and id have none yet.
+/// Notes where a status stands, where its session and id have none yet. Answers whether they had one.
 fn note_first<A: Allocator + Copy>(
     first: &mut BTreeMap<IdKey, usize, A>,
     key: IdKey,
     at: usize,
-) -> Result<(), NoMemory>
+) -> Result<bool, NoMemory>
+    ensures used { IfOk result (λ used. used ≡ is_some (get id_key_cmp first.old key)) }
     ensures ok { OnOk result ((q : IdKey) → get id_key_cmp first.new q ≡ option_or (get id_key_cmp first.old q) (cond (is_eq (id_key_cmp key q)) (Some at) None)) }
     ensures err { OnErr result ((q : IdKey) → get id_key_cmp first.new q ≡ get id_key_cmp first.old q) }
 {
     if let Some(earlier) = first.insert(key, at)? {
         // A key that the table has takes no memory.
         first.insert(key, earlier)?;
+        return Ok(true);
     }
-    Ok(())
+    Ok(false)
+}
+
+/// The status of an entry that is refused where its id was used.
+fn if_refused(status: OrderStatus, used: bool) -> OrderStatus
+    ensures { result ≡ record status { status = cond used 8 status.status } }
+{
+    OrderStatus {
+        status: if used { 8 } else { status.status },
+        ..status
+    }
 }
 
 fn status_at(statuses: &[OrderStatus], at: usize) -> Option<OrderStatus>
@@ -126,17 +138,18 @@ impl<A: Allocator + Copy> Statuses<A> {
         status_at(&self.rows, *at)
     }
 
-    /// The status of one entry more, whose place is above all others.
-    pub fn add(&mut self, status: OrderStatus) -> Result<(), NoMemory>
+    /// The status of one entry more, whose place is above all others. Where its session and id have one already, it is refused, and the answer is true.
+    pub fn add(&mut self, status: OrderStatus) -> Result<bool, NoMemory>
         requires { All (λ s. s.place < status.place) self.old }
-        ensures ok { OnOk result (self.new ≡ self.old ++ status ∷ []) }
+        ensures used { IfOk result (λ used. used ≡ is_some (find (has_id status.session status.id) self.old)) }
+        ensures ok { IfOk result (λ used. self.new ≡ self.old ++ record status { status = cond used 8 status.status } ∷ []) }
         ensures err { OnErr result (self.new ≡ self.old) }
     {
         self.rows.reserve(1)?;
         let key = IdKey::new(status.session, &status.id);
-        note_first(&mut self.first, key, self.rows.len())?;
-        self.rows.push_reserved(status);
-        Ok(())
+        let used = note_first(&mut self.first, key, self.rows.len())?;
+        self.rows.push_reserved(if_refused(status, used));
+        Ok(used)
     }
 
     /// After these fills.
