@@ -100,7 +100,7 @@ fn put_shown<K: Sink, A: Allocator>(
     Ok(())
 }
 
-/// One message's line. The digits are those of its session.
+/// One message's line.
 fn put_message<K: Sink, A: Allocator>(
     piece: &mut Vec<u8, A>,
     sink: &mut K,

@@ -1,4 +1,4 @@
-use Rattle.std.proofs.Common.{◌≡◌, ◌++◌, List, ℕ, sym, subst}
+use Rattle.std.proofs.Common.{◌++◌, List, ℕ, subst}
 use Rattle.std.proofs.KnownBytes.{Appends-trans}
 use Rattle.std.specs.Io.KnownBytes.{Appends}
 use Rattle.spread_rules.specs.Ends.{AppendsPrefix}

@@ -1,4 +1,4 @@
-use Rattle.std.proofs.Common.{rules, ◌≡◌, ◌<◌, ◌^◌, ◌++◌, ◌∷◌, [], List, ℕ, map, decimal, sym, ap, subst, refl, ◌∙◌, arith}
+use Rattle.std.proofs.Common.{◌++◌, ◌∷◌, [], List, ℕ, map, decimal, sym, subst, refl, ◌∙◌, arith}
 use Rattle.spread_host.specs.Output.{shown, outgoing_line}
 use Rattle.spread_host.specs.Pieces.{IsPut}
 use Rattle.spread_host.proofs.Putting.{put_none, put_after, put_fails, on_err_any, on_err, on_ok, session_shown, line_of_three, line_of_four, line_of_five}

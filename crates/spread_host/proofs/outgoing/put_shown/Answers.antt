@@ -1,5 +1,5 @@
-use Rattle.std.proofs.Common.{rules, ◌≡◌, ◌++◌, [], List, ℕ, map, take, drop, sym, ap, subst, ◌∙◌, append_assoc}
-use Rattle.std.proofs.lemmas.List.{map-append, take-append-drop}
+use Rattle.std.proofs.Common.{rules, ◌≡◌, ◌++◌, [], List, ℕ, map, sym, ap, subst, ◌∙◌, append_assoc}
+use Rattle.std.proofs.lemmas.List.{map-append}
 use Rattle.spread_host.specs.Output.{shown}
 use Rattle.spread_host.specs.Pieces.{IsPut}
 use Rattle.spread_host.proofs.Putting.{put_fails, put_more, put_after, front_of_more, on_err_any}
