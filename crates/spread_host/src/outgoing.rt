@@ -168,8 +168,8 @@ fn put_sessions<K: Sink, A: Allocator, B: Allocator>(
 }
 
 /// Writes a line for each message of these lists, session 0 first, by way of a piece in which nothing stands yet, and
-/// takes no memory. The lists are sixteen at most, each of whole frames, or empty. Where a write fails, a front of the
-/// lines is out.
+/// takes no memory. The lists are sixteen at most, each of whole frames, or empty. Then the piece is empty again. Where a
+/// write fails, a front of the lines is out, and nothing is known of what stands in the piece.
 pub fn write_sessions<K: Sink, A: Allocator, B: Allocator>(
     piece: &mut Vec<u8, A>,
     sink: &mut K,
@@ -181,6 +181,7 @@ pub fn write_sessions<K: Sink, A: Allocator, B: Allocator>(
     requires count { length lists.now ≤ 16 }
     requires rows { All IsFrameRow (map (λ v. v.items) lists.now) }
     ensures ok { OnOk result (Appends (K.written sink.old) (K.written sink.new) (outgoing_lines_from 0 (map (λ v. v.items) lists.now))) }
+    ensures emptied { OnOk result (piece.new.items ≡ []) }
     ensures sound { OnOk result (K.has_failed sink.new ≡ false) }
     ensures failed { OnErr result (K.has_failed sink.new ≡ true) }
     ensures front { OnErr result (AppendsPrefix (K.written sink.old) (K.written sink.new) (outgoing_lines_from 0 (map (λ v. v.items) lists.now))) }
