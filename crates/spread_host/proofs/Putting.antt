@@ -1,16 +1,12 @@
 -- Texts that are put by way of a piece, one after another.
-use Rattle.std.proofs.Common.{◌≡◌, ℕ, ◌+◌, ◌^◌, ◌<◌, ◌≤◌, Bool, true, false, ◌&&◌, List, [], ◌∷◌, ◌++◌, length, map, take, decimal, Option, Result, Ok, Err, OnOk, OnErr, sym, ap, ◌∙◌, arith, subst, refl, append_assoc, append-nil, length-append}
+use Rattle.std.proofs.Common.{◌≡◌, ℕ, ◌+◌, ◌/◌, ◌%◌, ◌<◌, ◌≤◌, List, [], ◌∷◌, ◌++◌, length, map, take, decimal, Option, Result, Ok, Err, OnOk, OnErr, sym, ap, ◌∙◌, arith, subst, refl, append_assoc, append-nil, length-append}
 use Rattle.std.proofs.KnownBytes.{Appends-trans, Appends-nil}
 use Rattle.std.proofs.Math.Seq.{take-append-add}
-use Rattle.std.proofs.lemmas.Bool.{false≢true}
-use Rattle.std.proofs.lemmas.Bool.Decides.{nat_tests}
+use Rattle.std.proofs.lemmas.Fmt.{decimal_step, decimal_digit}
 use Rattle.std.proofs.lemmas.List.{take-append-le}
-use Rattle.std.specs.Char.{is_ascii_digit}
 use Rattle.std.specs.Io.KnownBytes.{Appends}
-use Rattle.std.specs.List.{list_all}
-use Rattle.fix_wire.proofs.Written.{decimal_digits}
 use Rattle.spread_rules.specs.Ends.{AppendsPrefix}
-use Rattle.spread_host.specs.Output.{shown, outgoing_line}
+use Rattle.spread_host.specs.Output.{shown, line_lead, outgoing_line}
 use Rattle.spread_host.specs.Pieces.{IsPut}
 
 -- of a call that failed, and of one whose result is handed on
@@ -86,37 +82,21 @@ put_fails a b c old mid xs ys rest all first second is =
 pub put_none : (a : Option (List ℕ)) (piece : List ℕ) → IsPut a a piece (piece ++ [])
 put_none a piece = record { out = []; written = Appends-nil a; all = append-nil piece }
 
--- ---- what is shown
-
-and_true : (a b : Bool) → (a && b) ≡ true → (a ≡ true) × (b ≡ true)
-and_true true b h = (refl, h)
-and_true false b h = absurd (false≢true h)
-
-digit_shown : (d : ℕ) → is_ascii_digit d ≡ true → shown d ≡ d
-digit_shown d h = grind (arith, nat_tests)
-
--- digits are shown as they are
-pub digits_shown : (ds : List ℕ) → list_all is_ascii_digit ds ≡ true → map shown ds ≡ ds
-digits_shown [] h = refl
-digits_shown (d ∷ ds) h =
-    let both = and_true (is_ascii_digit d) (list_all is_ascii_digit ds) h in
-    ap (λ (x : ℕ). x ∷ map shown ds) (digit_shown d both.0) ∙ ap (λ (xs : List ℕ). d ∷ xs) (digits_shown ds both.1)
-
 -- ---- a message's line in its parts
 
--- of the session's digits
-pub session_shown : (session : ℕ) (text : List ℕ) → session < 2 ^ 64 → text ≡ decimal session → map shown text ≡ decimal session
-session_shown session text small is = ap (λ (t : List ℕ). map shown t) is ∙ digits_shown (decimal session) (decimal_digits session small)
+-- the lead of a session below 10, and of one of two digits
+pub lead_of_one : (session d : ℕ) → session ≡ d → d < 10 → 79 ∷ 32 ∷ (48 + d) ∷ 58 ∷ [] ≡ line_lead session
+lead_of_one session d is h = sym (ap line_lead is ∙ ap (λ (ds : List ℕ). 79 ∷ 32 ∷ (ds ++ 58 ∷ [])) (decimal_digit d h))
 
--- a line, part by part
-pub line_of_three : (session : ℕ) (message digits : List ℕ) → digits ≡ decimal session → outgoing_line session message ≡ 79 ∷ 32 ∷ (digits ++ (58 ∷ (map shown message ++ 10 ∷ [])))
-line_of_three session message digits is =
-    ap (λ (d : List ℕ). 79 ∷ 32 ∷ ((d ++ 58 ∷ map shown message) ++ 10 ∷ [])) (sym is) ∙ ap (λ (t : List ℕ). 79 ∷ 32 ∷ t) (append_assoc digits (58 ∷ map shown message) (10 ∷ []))
+pub lead_of_two : (session d : ℕ) → session ≡ 10 + d → d < 10 → 79 ∷ 32 ∷ 49 ∷ (48 + d) ∷ 58 ∷ [] ≡ line_lead session
+lead_of_two session d is h =
+    let tens : (10 + d) / 10 ≡ 1 = omega arith in
+    let ones : (10 + d) % 10 ≡ d = omega arith in
+    let digits : decimal (10 + d) ≡ 49 ∷ (48 + d) ∷ [] =
+    decimal_step (10 + d) (omega arith) (omega arith) ∙ (ap (λ (t : ℕ). decimal t ++ (48 + (10 + d) % 10) ∷ []) tens
+    ∙ (ap (λ (ds : List ℕ). ds ++ (48 + (10 + d) % 10) ∷ []) (decimal_digit 1 (omega arith)) ∙ ap (λ (u : ℕ). 49 ∷ (48 + u) ∷ []) ones)) in
+    sym (ap line_lead is ∙ ap (λ (ds : List ℕ). 79 ∷ 32 ∷ (ds ++ 58 ∷ [])) digits)
 
-pub line_of_four : (session : ℕ) (message digits : List ℕ) → digits ≡ decimal session → outgoing_line session message ≡ 79 ∷ 32 ∷ ((digits ++ 58 ∷ []) ++ (map shown message ++ 10 ∷ []))
-line_of_four session message digits is =
-    line_of_three session message digits is ∙ ap (λ (t : List ℕ). 79 ∷ 32 ∷ t) (sym (append_assoc digits (58 ∷ []) (map shown message ++ 10 ∷ [])))
-
-pub line_of_five : (session : ℕ) (message digits : List ℕ) → digits ≡ decimal session → outgoing_line session message ≡ 79 ∷ 32 ∷ (((digits ++ 58 ∷ []) ++ map shown message) ++ 10 ∷ [])
-line_of_five session message digits is =
-    line_of_four session message digits is ∙ ap (λ (t : List ℕ). 79 ∷ 32 ∷ t) (sym (append_assoc (digits ++ 58 ∷ []) (map shown message) (10 ∷ [])))
+-- a line is its lead, the message and its end
+pub line_of_three : (session : ℕ) (message text : List ℕ) → text ≡ line_lead session → outgoing_line session message ≡ text ++ (map shown message ++ 10 ∷ [])
+line_of_three session message text is = append_assoc (line_lead session) (map shown message) (10 ∷ []) ∙ ap (λ (t : List ℕ). t ++ (map shown message ++ 10 ∷ [])) (sym is)

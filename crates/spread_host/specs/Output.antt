@@ -70,9 +70,13 @@ fills_text rules fills = fill_lines rules fills ++ month_lines rules fills
 abbrev pub shown : ℕ → ℕ
 shown b = if b == 1 then 124 else b
 
+-- `O S:`
+abbrev pub line_lead : ℕ → List ℕ
+line_lead session = codes "O " ++ decimal session ++ 58 ∷ []
+
 -- `O S:MESSAGE`
 abbrev pub outgoing_line : ℕ → List ℕ → List ℕ
-outgoing_line session message = codes "O " ++ decimal session ++ 58 ∷ map shown message ++ 10 ∷ []
+outgoing_line session message = line_lead session ++ map shown message ++ 10 ∷ []
 
 -- a session's outgoing messages
 abbrev pub outgoing_lines : ℕ → List ℕ → List ℕ

@@ -1,13 +1,12 @@
 //! The lines of outgoing messages, written in pieces.
-ghost use Rattle.std.specs.Prelude.{◌≡◌, ◌<◌, ◌≤◌, ◌+◌, ◌++◌, [], List, All, map, length, decimal, OnOk, OnErr, vec_len, vec_capacity, true, false};
+ghost use Rattle.std.specs.Prelude.{◌≡◌, ◌<◌, ◌≤◌, ◌+◌, ◌++◌, [], List, All, map, length, OnOk, OnErr, vec_len, vec_capacity, true, false};
 ghost use Rattle.std.specs.Io.KnownBytes.{Appends};
 ghost use Rattle.spread_rules.specs.Ends.{AppendsPrefix};
 ghost use Rattle.fix_wire.specs.Frames.{IsFrameRow};
-ghost use Rattle.spread_host.specs.Output.{shown, outgoing_line, outgoing_lines, outgoing_lines_from};
+ghost use Rattle.spread_host.specs.Output.{shown, line_lead, outgoing_line, outgoing_lines, outgoing_lines_from};
 ghost use Rattle.spread_host.specs.Pieces.{IsPut};
 
 use fix_wire::first_of_row;
-use itoa::Buffer;
 use spread_rules::sink::Sink;
 use spread_rules::source::Failed;
 use spread_rules::whole::write_all;
@@ -100,6 +99,32 @@ fn put_shown<K: Sink, A: Allocator>(
     Ok(())
 }
 
+/// What each line of a session begins with, `O S:`.
+fn lead(session: u8) -> &'static [u8]
+    requires { session < 16 }
+    ensures text { result.now ≡ line_lead session }
+    ensures shown { map shown result.now ≡ result.now }
+{
+    match session {
+        0 => b"O 0:",
+        1 => b"O 1:",
+        2 => b"O 2:",
+        3 => b"O 3:",
+        4 => b"O 4:",
+        5 => b"O 5:",
+        6 => b"O 6:",
+        7 => b"O 7:",
+        8 => b"O 8:",
+        9 => b"O 9:",
+        10 => b"O 10:",
+        11 => b"O 11:",
+        12 => b"O 12:",
+        13 => b"O 13:",
+        14 => b"O 14:",
+        _ => b"O 15:",
+    }
+}
+
 /// One message's line.
 fn put_message<K: Sink, A: Allocator>(
     piece: &mut Vec<u8, A>,
@@ -109,15 +134,14 @@ fn put_message<K: Sink, A: Allocator>(
 ) -> Result<(), Failed>
     requires works { K.has_failed sink.old ≡ false }
     requires some { 0 < vec_capacity piece.old }
+    requires session { session < 16 }
     ensures put { OnOk result (IsPut (K.written sink.old) (K.written sink.new) piece.new.items (piece.old.items ++ outgoing_line session message.now)) }
     ensures some { OnOk result (0 < vec_capacity piece.new) }
     ensures sound { OnOk result (K.has_failed sink.new ≡ false) }
     ensures failed { OnErr result (K.has_failed sink.new ≡ true) }
     ensures front { OnErr result (AppendsPrefix (K.written sink.old) (K.written sink.new) (piece.old.items ++ outgoing_line session message.now)) }
 {
-    put_shown(piece, sink, b"O ")?;
-    put_shown(piece, sink, Buffer::new().format(session).as_bytes())?;
-    put_shown(piece, sink, b":")?;
+    put_shown(piece, sink, lead(session))?;
     put_shown(piece, sink, message)?;
     put_shown(piece, sink, b"\n")
 }
@@ -131,6 +155,7 @@ fn put_outgoing<K: Sink, A: Allocator>(
 ) -> Result<(), Failed>
     requires works { K.has_failed sink.old ≡ false }
     requires some { 0 < vec_capacity piece.old }
+    requires session { session < 16 }
     requires row { IsFrameRow bytes.now }
     ensures put { OnOk result (IsPut (K.written sink.old) (K.written sink.new) piece.new.items (piece.old.items ++ outgoing_lines session bytes.now)) }
     ensures some { OnOk result (0 < vec_capacity piece.new) }
