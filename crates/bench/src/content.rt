@@ -1,8 +1,7 @@
 //! What the phases are fed: order messages, garbage, and journals.
 use fix_wire::{Field, Head, Value, write_message};
+use host_base::{Id, NoMemory};
 use itoa::Buffer;
-use spread_rules::id::Id;
-use spread_rules::memory::NoMemory;
 use std::alloc::Allocator;
 
 /// An id of 1 to 32 bytes, none of them byte 1.

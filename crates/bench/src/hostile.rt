@@ -1,5 +1,5 @@
 //! The input over which a framer is slowest.
-use spread_rules::memory::NoMemory;
+use host_base::NoMemory;
 use std::alloc::Allocator;
 
 /// An opening of 29 bytes whose body goes on for so many bytes, at most 9,999. Its bytes sum to 0 modulo 256.

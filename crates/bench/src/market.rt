@@ -3,12 +3,11 @@ use crate::fault::Fault;
 use crate::reports::send_all;
 use crate::timing::{RUNS, nanos, tell};
 use crate::wire::{bytes_of, scanned};
-use spread_books::index::IndexBook;
-use spread_journal::reading::read_journal;
-use spread_match::journal::work;
-use spread_match::market::Market;
-use spread_match::ranges::ranges;
-use spread_rules::rulebook::Rulebook;
+use spread_books::IndexBook;
+use spread_journal::read_journal;
+use spread_match::laws::ranges;
+use spread_match::{Market, work};
+use spread_rules::Rulebook;
 use std::alloc::AllocGlobal;
 use std::time::CpuClock;
 

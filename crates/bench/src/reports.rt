@@ -7,13 +7,9 @@ ghost use Rattle.spread_report.specs.Conditions.{FitsFill, FitsOutcome};
 
 use crate::content::id;
 use crate::fault::Fault;
-use spread_match::journal::Worked;
+use spread_match::Worked;
 use spread_report::{Desk, DeskFault};
-use spread_rules::event::{Entry, Event};
-use spread_rules::fill::Fill;
-use spread_rules::order::Instrument;
-use spread_rules::outcome::Outcome;
-use spread_rules::rulebook::Rulebook;
+use spread_rules::{Entry, Event, Fill, Instrument, Outcome, Rulebook};
 use std::alloc::{AllocError, Allocator};
 
 /// Whether the rulebook has the instrument.

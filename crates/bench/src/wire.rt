@@ -6,7 +6,7 @@ use crate::fault::Fault;
 use crate::timing::{RUNS, nanos, tell};
 use fix_session::{Session, Verdict};
 use fix_wire::{Framer, Next, write_message};
-use spread_rules::memory::NoMemory;
+use host_base::NoMemory;
 use std::alloc::{AllocGlobal, Allocator};
 use std::time::CpuClock;
 

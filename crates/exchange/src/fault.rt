@@ -1,8 +1,8 @@
 //! The fault lines and the statuses.
 use gate_link::LinkFault;
 use spread_host::fault::HostFault;
-use spread_journal::fault::JournalFault;
-use spread_rules::rule_fault::RuleFault;
+use spread_journal::JournalFault;
+use spread_rules::RuleFault;
 use std::fmt;
 
 /// Why the program ended without its text.

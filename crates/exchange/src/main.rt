@@ -5,16 +5,14 @@ mod fault;
 mod words;
 
 use fault::Fault;
+use host_base::{FromReader, Id, ToWriter};
 use spread_host::check::check;
 use spread_host::day::write_day;
 use spread_host::fault::HostFault;
 use spread_host::live::{Caps, run_day};
 use spread_host::replay::replay;
 use spread_host::worker::Gate;
-use spread_rules::id::Id;
-use spread_rules::rulebook::Rulebook;
-use spread_rules::sink::ToWriter;
-use spread_rules::source::FromReader;
+use spread_rules::Rulebook;
 use std::fs::Files;
 use std::process::ExitCode;
 use std::sync::Wait;

@@ -5,7 +5,7 @@ use Rattle.std.specs.List.{list_any, list_all, before_first, after_first}
 use Rattle.std.proofs.lemmas.Bool.{false≢true}
 use Rattle.std.proofs.lemmas.Bool.Decides.{nat_tests}
 use Rattle.std.proofs.lemmas.Int.{ints}
-use Rattle.spread_rules.specs.Ids.{is_id, id_of}
+use Rattle.host_base.specs.Ids.{is_id, id_of}
 use Rattle.spread_rules.specs.Journal.{IsNumber, IsPrice, FitsTicket, FitsEvent, is_reject_reason, is_logon, is_close}
 use Rattle.spread_rules.specs.declared.event.Event.{Event}
 use Rattle.spread_rules.specs.declared.event.Event.TheVariants as events

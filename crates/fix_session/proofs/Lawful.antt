@@ -4,7 +4,7 @@ use Rattle.std.specs.Prelude.{nat_le, nat_lt, if◌then◌else◌, Result, Ok, E
 use Rattle.std.specs.List.{All, cons_option}
 use Rattle.std.proofs.lemmas.Bool.Decides.{nat_tests}
 use Rattle.std.proofs.lemmas.List.Elements.{All-nil, All-cons, All-head, All-tail}
-use Rattle.spread_rules.specs.Ids.{is_id, id_of}
+use Rattle.host_base.specs.Ids.{is_id, id_of}
 use Rattle.spread_rules.specs.Journal.{IsNumber, FitsEvent, is_logon, is_close, is_end, is_running, is_in_order}
 use Rattle.spread_rules.specs.declared.event.Event.{Event}
 use Rattle.spread_rules.specs.declared.event.Event.TheVariants as events

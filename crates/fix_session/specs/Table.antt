@@ -1,7 +1,7 @@
 -- What a message of each kind means: its tags in order, or the reason of the first that is at fault.
 use Rattle.std.specs.Prelude.{ℕ, ℤ, Bool, false, ◌||◌, ◌==◌, nat_le, nat_lt, length, List, [], ◌∷◌, Option, Some, None, Result, Ok, Err, if◌then◌else◌}
 use Rattle.std.specs.List.{list_any}
-use Rattle.spread_rules.specs.Ids.{id_of}
+use Rattle.host_base.specs.Ids.{id_of}
 use Rattle.spread_rules.specs.declared.order.Side.{Side}
 use Rattle.spread_rules.specs.declared.order.Side.TheVariants.{Buy, Sell}
 use Rattle.spread_rules.specs.declared.event.Ticket.{Ticket}

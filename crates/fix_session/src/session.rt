@@ -7,8 +7,8 @@ ghost use Rattle.fix_session.specs.Steps.{new_session, running, closes, opens, s
 
 use crate::table::{Meaning, meaning_of};
 use fix_wire::{Message, read_number};
-use spread_rules::event::Event;
-use spread_rules::id::Id;
+use host_base::Id;
+use spread_rules::Event;
 
 /// What a session says to a message.
 #[derive(Clone, Copy, Debug, PartialEq, Eq)]

@@ -10,9 +10,8 @@ ghost use Rattle.fix_session.specs.Table.{text_at, id_at, number_at, quantity_at
 ghost use Rattle.fix_session.specs.Shown.{shown};
 
 use fix_wire::{Message, Unread, read_number, read_price, read_quantity};
-use spread_rules::event::{Event, Ticket};
-use spread_rules::id::Id;
-use spread_rules::order::Side;
+use host_base::Id;
+use spread_rules::{Event, Side, Ticket};
 
 /// What an accepted message means.
 #[derive(Clone, Copy)]

@@ -1,9 +1,8 @@
 //! Worked rows: messages of a session as its client writes them, and what the session says to them.
 use crate::{Session, Verdict, laws};
 use fix_wire::{Framer, Message, Next};
-use spread_rules::event::{Event, Ticket};
-use spread_rules::id::Id;
-use spread_rules::order::Side;
+use host_base::Id;
+use spread_rules::{Event, Side, Ticket};
 use std::alloc::{AllocError, Allocator};
 use std::test::Fail;
 

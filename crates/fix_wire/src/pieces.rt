@@ -6,7 +6,7 @@ ghost use Rattle.fix_wire.specs.Pieces.{joined, Leaves, IsDrained, GoesOn};
 
 use crate::framer::{Framer, Next};
 use crate::laws::scan;
-use spread_rules::memory::NoMemory;
+use host_base::NoMemory;
 use std::alloc::Allocator;
 
 /// A copy of the first message, which is passed.

@@ -2,8 +2,7 @@
 ghost use Rattle.fix_wire.specs.Frames.{IsFrameRow};
 
 use super::*;
-use spread_rules::id::Id;
-use spread_rules::memory::NoMemory;
+use host_base::{Id, NoMemory};
 use std::alloc::Allocator;
 use std::process::Abort;
 use std::test::Fail;

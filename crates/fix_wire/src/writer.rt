@@ -6,8 +6,7 @@ ghost use Rattle.fix_wire.specs.Layout.{body_text, message_text, FitsKind, FitsT
 
 use crate::body::{Body, FieldList};
 use crate::spelling::{put_checksum, put_summed};
-use spread_rules::id::Id;
-use spread_rules::memory::NoMemory;
+use host_base::{Id, NoMemory};
 use std::alloc::Allocator;
 
 /// What a field holds. A price is in hundredths and prints with two places; a pair prints as `a-b`.

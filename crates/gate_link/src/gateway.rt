@@ -11,7 +11,7 @@ ghost use Rattle.std.specs.Prelude.{◌≡◌, ◌-◌, ◌↔◌, ℕ, List, �
 use fix_session::{Session, Verdict};
 use fix_wire::{Framer, Next};
 use rtrb::Producer;
-use spread_rules::event::{Entry, Event};
+use spread_rules::{Entry, Event};
 use std::alloc::Allocator;
 
 /// Judges the bytes of one session and sends its events. It may move to another thread.

@@ -9,7 +9,7 @@ use crate::gateway::Gateway;
 use crate::lane::SessionLane;
 use crate::sequencer::Sequencer;
 use rtrb::RingBuffer;
-use spread_rules::event::Entry;
+use spread_rules::Entry;
 use std::alloc::{AllocError, Allocator};
 use thiserror::Error;
 

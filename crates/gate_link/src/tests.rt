@@ -8,9 +8,8 @@ ghost use denote.Param.Send.{IsSync};
 
 use crate::laws::{owed, schedule};
 use crate::{Gateway, LinkFault, Sequencer, Settle, Step, Turn, link};
-use spread_rules::event::{Event, Ticket};
-use spread_rules::id::Id;
-use spread_rules::order::Side;
+use host_base::Id;
+use spread_rules::{Event, Side, Ticket};
 use std::alloc::{Allocator, Global};
 use std::test::Fail;
 use std::thread;

@@ -10,7 +10,7 @@ use Rattle.std.specs.BTreeSet.{BTreeSet, contains}
 use Rattle.std.proofs.lemmas.List.Elements.{All-contains, Contains-append_cases}
 use Rattle.spread_rules.specs.declared.order.Order.{Order}
 use Rattle.spread_rules.specs.Clearing.{reduced, removed, with_less_left}
-use Rattle.spread_rules.proofs.Members.{not_in_nil, in_cons_cases, from_map}
+use Rattle.spread_rules.proofs.Membership.{not_in_nil, in_cons_cases, from_map}
 use Rattle.spread_books.specs.declared.queue_key.QueueKey.{QueueKey}
 use Rattle.spread_books.specs.declared.own_key.OwnKey.{OwnKey}
 use Rattle.spread_books.specs.Queues.{HasMore}

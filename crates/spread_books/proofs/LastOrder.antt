@@ -11,7 +11,7 @@ use Rattle.std.proofs.lemmas.List.Elements.{All-contains, All-contains_itself, A
 use Rattle.std.proofs.lemmas.List.Folds.{find-append}
 use Rattle.spread_rules.specs.declared.order.Order.{Order}
 use Rattle.spread_rules.specs.Clearing.{reduced, removed, with_less_left}
-use Rattle.spread_rules.proofs.Members.{not_in_nil, in_head, in_tail, in_cons_cases}
+use Rattle.spread_rules.proofs.Membership.{not_in_nil, in_head, in_tail, in_cons_cases}
 use Rattle.spread_books.specs.Queues.{HasMore, HasPlace}
 use Rattle.spread_books.specs.Index.{Ascends}
 use Rattle.spread_books.proofs.Ascending.{places, cmp_below, behind_first, others_ascend, find_none}

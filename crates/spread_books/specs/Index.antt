@@ -8,7 +8,7 @@ use Rattle.std.specs.Map.{values_of}
 use Rattle.std.specs.BTreeMap.{is_at}
 use Rattle.std.specs.BTreeSet.{BTreeSet, contains}
 use Rattle.spread_rules.specs.declared.order.Order.{Order}
-use Rattle.spread_rules.specs.IdKeys.{IsIdBytes, id_key_cmp}
+use Rattle.host_base.specs.IdKeys.{IsIdBytes, id_key_cmp}
 use Rattle.spread_books.specs.declared.queue_key.QueueKey.{QueueKey}
 use Rattle.spread_books.specs.declared.own_key.OwnKey.{OwnKey}
 use Rattle.spread_books.specs.QueueKeys.{queue_key, IsInRange}

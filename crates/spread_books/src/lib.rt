@@ -1,14 +1,20 @@
 //! Books of resting orders by price and time.
 #![tactic(auto)]
 
-pub mod book;
+mod book;
 mod first_from;
 mod front_table;
-pub mod index;
-pub mod list;
-pub mod newest;
+mod index;
+mod list;
+mod newest;
 mod own_key;
 mod queue_key;
 #[cfg(test)]
 mod tests;
-pub mod tree;
+mod tree;
+
+pub use book::Book;
+pub use index::IndexBook;
+pub use list::ListBook;
+pub use newest::NewestBook;
+pub use tree::TreeBook;

@@ -5,7 +5,7 @@ use Rattle.std.proofs.Math.Seq.{take-append-add}
 use Rattle.std.proofs.lemmas.Fmt.{decimal_step, decimal_digit}
 use Rattle.std.proofs.lemmas.List.{take-append-le}
 use Rattle.std.specs.Io.KnownBytes.{Appends}
-use Rattle.spread_rules.specs.Ends.{AppendsPrefix}
+use Rattle.host_base.specs.Ends.{AppendsPrefix}
 use Rattle.spread_host.specs.Output.{shown, line_lead, outgoing_line}
 use Rattle.spread_host.specs.Pieces.{IsPut}
 

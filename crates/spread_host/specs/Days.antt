@@ -11,7 +11,7 @@ use Rattle.spread_host.specs.JournalParts.{part_of}
 use Rattle.spread_rules.specs.Journal.{restricted}
 use Rattle.spread_host.specs.Output.{fill_lines, month_lines, outgoing_lines_from}
 use Rattle.spread_host.specs.Totals.{IsSummable}
-use Rattle.spread_rules.specs.Ends.{AppendsPrefix}
+use Rattle.host_base.specs.Ends.{AppendsPrefix}
 use Rattle.spread_rules.specs.Meaning.{meaning_of_journal}
 use Rattle.spread_host.specs.Working.{outgoing_bytes, SpendsAt}
 use Rattle.spread_host.specs.declared.fault.HostFault.{HostFault}

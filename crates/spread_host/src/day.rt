@@ -1,7 +1,7 @@
 //! A day: its journal, what the journal's entries came to, and its text.
 ghost use Rattle.std.specs.Prelude.{◌≡◌, ℕ, ◌<◌, ◌≤◌, ◌+◌, ◌++◌, [], IfOk, IfErr, OnOk, OnErr, IsErrOf, ◌≢◌, All, length, vec_capacity, true, false};
 ghost use Rattle.std.specs.Io.KnownBytes.{Appends};
-ghost use Rattle.spread_rules.specs.Ends.{AppendsPrefix};
+ghost use Rattle.host_base.specs.Ends.{AppendsPrefix};
 ghost use Rattle.spread_rules.specs.Journal.{IsLawful};
 ghost use Rattle.spread_rules.specs.Meaning.{meaning_of_journal};
 ghost use Rattle.spread_journal.specs.JournalText.{HasByteIds};
@@ -17,15 +17,10 @@ use crate::fault::HostFault;
 use crate::outgoing::{PIECE, write_sessions};
 use crate::output::{put_fills, put_months};
 use crate::working::work_entries;
-use spread_journal::writing::text_of_journal;
-use spread_match::ranges::ranges;
-use spread_rules::event::Entry;
-use spread_rules::fill::Fill;
-use spread_rules::id::Id;
-use spread_rules::rulebook::Rulebook;
-use spread_rules::sink::Sink;
-use spread_rules::source::Failed;
-use spread_rules::whole::write_all;
+use host_base::{Failed, Id, Sink, write_all};
+use spread_journal::text_of_journal;
+use spread_match::laws::ranges;
+use spread_rules::{Entry, Fill, Rulebook};
 use std::alloc::{AllocError, Allocator};
 
 /// About how many bytes the line of a fill takes.

@@ -7,7 +7,7 @@ ghost use Rattle.spread_host.specs.DayText.{byte_of, is_passed_over, session_lin
 ghost use Rattle.spread_host.specs.LinesRead.{said_by, HaveSessions};
 ghost use Rattle.spread_host.specs.declared.day_lines.LinesFault.TheVariants.{NoMemory};
 
-use spread_rules::text::cut_at;
+use host_base::cut_at;
 use std::alloc::{AllocError, AllocFailed, Allocator};
 use thiserror::Error;
 

@@ -4,8 +4,8 @@ ghost use Rattle.spread_host.specs.Faults.{number_of, of_lines};
 
 use crate::day_lines::LinesFault;
 use gate_link::LinkFault;
-use spread_journal::fault::JournalFault;
-use spread_rules::rule_fault::RuleFault;
+use spread_journal::JournalFault;
+use spread_rules::RuleFault;
 use thiserror::Error;
 
 /// Why a run ended without its day.

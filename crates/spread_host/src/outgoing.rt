@@ -1,15 +1,13 @@
 //! The lines of outgoing messages, written in pieces.
 ghost use Rattle.std.specs.Prelude.{◌≡◌, ◌<◌, ◌≤◌, ◌+◌, ◌++◌, [], List, All, map, length, OnOk, OnErr, vec_len, vec_capacity, true, false};
 ghost use Rattle.std.specs.Io.KnownBytes.{Appends};
-ghost use Rattle.spread_rules.specs.Ends.{AppendsPrefix};
+ghost use Rattle.host_base.specs.Ends.{AppendsPrefix};
 ghost use Rattle.fix_wire.specs.Frames.{IsFrameRow};
 ghost use Rattle.spread_host.specs.Output.{shown, line_lead, outgoing_line, outgoing_lines, outgoing_lines_from};
 ghost use Rattle.spread_host.specs.Pieces.{IsPut};
 
 use fix_wire::first_of_row;
-use spread_rules::sink::Sink;
-use spread_rules::source::Failed;
-use spread_rules::whole::write_all;
+use host_base::{Failed, Sink, write_all};
 use std::alloc::Allocator;
 
 /// How many bytes a piece has room for.

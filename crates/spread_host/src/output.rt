@@ -2,19 +2,15 @@
 ghost use Rattle.std.specs.Prelude.{◌≡◌, ◌<◌, ◌≤◌, ◌++◌, ◌∷◌, ◌⊎◌, List, All, get_or, OnOk, IfOk, IfErr, IsErrOf, true, false};
 ghost use Rattle.std.specs.Io.KnownBytes.{Appends};
 ghost use Rattle.spread_rules.specs.Rulebook.{IsListed, symbol_of};
-ghost use Rattle.spread_rules.specs.Ends.{AppendsPrefix};
+ghost use Rattle.host_base.specs.Ends.{AppendsPrefix};
 ghost use Rattle.spread_host.specs.Totals.{IsSummable};
 ghost use Rattle.spread_host.specs.Output.{fill_line, fill_lines, places_text, trade_text, legs_text, side_digit, lots_text, money_text, totals_line, month_lines, fills_text};
 
 use crate::fault::HostFault;
 use crate::totals::{MonthTotals, month_totals};
+use host_base::{Failed, Sink, write_all};
 use itoa::Buffer;
-use spread_rules::fill::Fill;
-use spread_rules::order::{Instrument, Side};
-use spread_rules::rulebook::Rulebook;
-use spread_rules::sink::Sink;
-use spread_rules::source::Failed;
-use spread_rules::whole::write_all;
+use spread_rules::{Fill, Instrument, Rulebook, Side};
 use std::alloc::{AllocError, Allocator};
 
 fn put_symbol<A: Allocator>(

@@ -2,9 +2,9 @@
 ghost use Rattle.std.specs.Prelude.{◌≡◌, ℕ, ◌<◌, ◌≤◌, ◌+◌, ◌⊎◌, ◌++◌, ◌≢◌, List, [], Contains, IfOk, IfErr, IfSome, OnOk, IsErrOf, length, map, take, true, false, Ok, Err};
 ghost use Rattle.std.specs.Io.KnownBytes.{Appends, IsAtEnd, Keeps};
 ghost use Rattle.spread_rules.specs.declared.fill.Fill.{Fill};
-ghost use Rattle.spread_rules.specs.declared.whole.TheConstants.{LIMIT};
+ghost use Rattle.host_base.specs.declared.whole.TheConstants.{LIMIT};
 ghost use Rattle.spread_rules.specs.Candidates.{all_on};
-ghost use Rattle.spread_rules.specs.Ends.{AppendsPrefix};
+ghost use Rattle.host_base.specs.Ends.{AppendsPrefix};
 ghost use Rattle.spread_rules.specs.Journal.{IsLawful};
 ghost use Rattle.spread_rules.specs.Legs.{bought, sold, paid, received};
 ghost use Rattle.spread_rules.specs.Meaning.{meaning_of_journal, filled};
@@ -25,13 +25,9 @@ use crate::day_journal::day_journal;
 use crate::day_lines::{LinesFault, put_field_ends, read_lines};
 use crate::fault::HostFault;
 use crate::lanes::journal_of_lines;
+use host_base::{Id, ReadFault, Sink, Source, read_all};
 use spread_journal::laws::read_back;
-use spread_rules::event::Entry;
-use spread_rules::id::Id;
-use spread_rules::rulebook::Rulebook;
-use spread_rules::sink::Sink;
-use spread_rules::source::Source;
-use spread_rules::whole::{ReadFault, read_all};
+use spread_rules::{Entry, Rulebook};
 use std::alloc::Allocator;
 
 /// No journal has more entries.

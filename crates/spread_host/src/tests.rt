@@ -4,11 +4,8 @@ use crate::day_lines::{LinesFault, put_field_ends, read_lines};
 use crate::fault::HostFault;
 use crate::output::{fills_text, write_fills};
 use crate::totals::{MonthTotals, month_totals};
-use spread_rules::fill::Fill;
-use spread_rules::order::{Instrument, Side};
-use spread_rules::rule_fault::RuleFault;
-use spread_rules::rulebook::Rulebook;
-use spread_rules::test_ends::TestSink;
+use host_base::TestSink;
+use spread_rules::{Fill, Instrument, RuleFault, Rulebook, Side};
 use std::test::Fail;
 
 const THREE_MONTHS: &[u8] = b"tick 1\nmonth H6 10000\nmonth M6 9800\nmonth U6 9500\n";

@@ -4,8 +4,7 @@ ghost use Rattle.spread_rules.specs.Legs.{legs_in, other_side};
 ghost use Rattle.spread_host.specs.Totals.{AreTotals, IsSummable, IsBelow};
 ghost use Rattle.spread_host.specs.Sums.{added, with_leg, HasRoom, with_fill, none};
 
-use spread_rules::fill::Fill;
-use spread_rules::order::{Instrument, Side};
+use spread_rules::{Fill, Instrument, Side};
 
 /// The sums of one month over all legs: quantities in lots, and money in hundredths times lots.
 #[derive(Clone, Copy, Debug, PartialEq, Eq)]

@@ -9,16 +9,11 @@ use crate::check::check;
 use crate::day::{Day, day_of, write_day};
 use crate::outgoing::write_sessions;
 use crate::working::work_entries;
-use spread_journal::reading::read_journal;
-use spread_journal::writing::text_of_journal;
-use spread_rules::candidate::{Choice, Members};
-use spread_rules::event::{Entry, Event, Ticket};
-use spread_rules::fill::Fill;
-use spread_rules::id::Id;
-use spread_rules::order::{Instrument, Order, Side};
-use spread_rules::plain::plain_best;
-use spread_rules::rulebook::Rulebook;
-use spread_rules::test_ends::TestSink;
+use host_base::{Id, TestSink};
+use spread_journal::{read_journal, text_of_journal};
+use spread_rules::{
+    Choice, Entry, Event, Fill, Instrument, Members, Order, Rulebook, Side, Ticket, plain_best,
+};
 use std::alloc::Global;
 use std::test::Fail;
 

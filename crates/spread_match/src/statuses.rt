@@ -6,16 +6,13 @@ ghost use Rattle.std.specs.List.{find};
 ghost use Rattle.std.specs.Option.{option_or};
 ghost use Rattle.std.specs.Ordering.{is_eq};
 ghost use Rattle.std.specs.BTreeMap.{get};
-ghost use Rattle.spread_rules.specs.declared.id_key.IdKey.{IdKey};
-ghost use Rattle.spread_rules.specs.IdKeys.{id_key_cmp};
+ghost use Rattle.host_base.specs.declared.id_key.IdKey.{IdKey};
+ghost use Rattle.host_base.specs.IdKeys.{id_key_cmp};
 ghost use Rattle.spread_rules.specs.Meaning.{has_id};
 ghost use Rattle.spread_match.specs.Kept.{renewed_by, renewed, AreInOrder};
 
-use spread_rules::fill::Fill;
-use spread_rules::id::Id;
-use spread_rules::id_key::IdKey;
-use spread_rules::memory::NoMemory;
-use spread_rules::outcome::OrderStatus;
+use host_base::{Id, IdKey, NoMemory};
+use spread_rules::{Fill, OrderStatus};
 use std::alloc::Allocator;
 use std::collections::BTreeMap;
 use std::marker::Model;
@@ -32,7 +29,7 @@ impl<A: Allocator + Copy> Model for Statuses<A> {
     ghost use Rattle.std.specs.Prelude.{List};
     ghost use Rattle.spread_rules.specs.declared.outcome.OrderStatus.{OrderStatus};
     ghost use Rattle.std.specs.BTreeMap.{get};
-    ghost use Rattle.spread_rules.specs.IdKeys.{id_key_cmp};
+    ghost use Rattle.host_base.specs.IdKeys.{id_key_cmp};
     ghost use Rattle.spread_match.specs.Kept.{AreInOrder};
     ghost use Rattle.spread_match.specs.Statuses.{IsIndex};
 

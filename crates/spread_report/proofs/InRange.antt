@@ -5,7 +5,7 @@ use Rattle.std.specs.List.{AllByRecursion}
 use Rattle.std.proofs.lemmas.Bool.{leb-true}
 use Rattle.std.proofs.lemmas.Bool.Decides.{nat_tests}
 use Rattle.fix_wire.specs.declared.writer.Field.{Field}
-use Rattle.spread_rules.specs.Ids.{is_id, is_plain}
+use Rattle.host_base.specs.Ids.{is_id, is_plain}
 use Rattle.spread_rules.specs.Rulebook.{Rules, IsListed, month_count, names_of, symbol_of}
 use Rattle.spread_rules.specs.Journal.{FitsEvent, FitsTicket}
 use Rattle.spread_rules.specs.declared.order.Order.{Order}

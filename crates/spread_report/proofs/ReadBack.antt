@@ -6,7 +6,7 @@ use Rattle.fix_wire.specs.declared.writer.Field.{Field}
 use Rattle.fix_wire.specs.Layout.{FitsMessage, message_text}
 use Rattle.fix_wire.specs.Frames.{IsFrame}
 use Rattle.fix_wire.proofs.Written.{written_frame, read_first}
-use Rattle.spread_rules.specs.Ids.{is_id}
+use Rattle.host_base.specs.Ids.{is_id}
 use Rattle.spread_rules.specs.Rulebook.{Rules}
 use Rattle.spread_rules.specs.declared.event.Event.{Event}
 use Rattle.spread_rules.specs.declared.event.Event.TheVariants.{Logon, New, Cancel, TestReply, Gap, Resend, Reject, Close}

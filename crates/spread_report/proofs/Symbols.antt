@@ -8,7 +8,7 @@ use Rattle.std.proofs.lemmas.Slice.{take-put_mid}
 use Rattle.std.specs.Prelude.{nat_le, not, ◌==◌}
 use Rattle.std.proofs.lemmas.List.Folds.{list_all-append}
 use Rattle.std.proofs.lemmas.Bool.{le-leb}
-use Rattle.spread_rules.specs.Ids.{is_id, is_plain}
+use Rattle.host_base.specs.Ids.{is_id, is_plain}
 
 front_set : (xs ys : List ℕ) (b : ℕ) → 0 < length ys → take (length xs + 1) (set (xs ++ ys) (length xs) b) ≡ xs ++ b ∷ []
 front_set xs [] b some = absurd (omega (arith, some))

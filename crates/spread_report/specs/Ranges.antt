@@ -1,7 +1,7 @@
 -- The ranges in which every message is a whole frame: those of the types that keep these values.
 use Rattle.std.specs.Prelude.{◌≡◌, ℕ, ◌<◌, ◌≤◌, ◌^◌, true, [], length, get_or, unsigned_abs}
 use Rattle.std.specs.List.{AllByRecursion}
-use Rattle.spread_rules.specs.Ids.{is_id}
+use Rattle.host_base.specs.Ids.{is_id}
 use Rattle.spread_rules.specs.Rulebook.{Rules, IsListed, month_count, names_of}
 use Rattle.spread_rules.specs.Journal.{FitsEvent}
 use Rattle.spread_rules.specs.declared.fill.Fill.{Fill}

@@ -11,11 +11,8 @@ ghost use Rattle.spread_report.specs.declared.fault.DeskFault.TheVariants.{Numbe
 use crate::entry::send_entry;
 use crate::fault::DeskFault;
 use crate::line::SessionLine;
-use spread_rules::event::Entry;
-use spread_rules::fill::Fill;
-use spread_rules::id::Id;
-use spread_rules::outcome::Outcome;
-use spread_rules::rulebook::Rulebook;
+use host_base::Id;
+use spread_rules::{Entry, Fill, Outcome, Rulebook};
 use std::alloc::Allocator;
 use std::marker::Model;
 

@@ -10,11 +10,8 @@ use crate::line::SessionLine;
 use crate::messages::cancel_reject;
 use crate::reports::{all_fills, cancelled, ended, new_order, rejected};
 use crate::symbol::symbol_of;
-use spread_rules::event::Ticket;
-use spread_rules::fill::Fill;
-use spread_rules::id::Id;
-use spread_rules::outcome::Outcome;
-use spread_rules::rulebook::Rulebook;
+use host_base::Id;
+use spread_rules::{Fill, Outcome, Rulebook, Ticket};
 use std::alloc::Allocator;
 
 /// Reports a new order and its fills, and tells the next index.

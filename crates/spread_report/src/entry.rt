@@ -15,11 +15,8 @@ use crate::line::{CompIds, SessionLine};
 use crate::messages::{heartbeat, logon, logout, reject, resend_request};
 use crate::rollback::{cut_back, lengths_of, numbers_of, restore};
 use crate::send::fill_gap;
-use spread_rules::event::{Entry, Event};
-use spread_rules::fill::Fill;
-use spread_rules::id::Id;
-use spread_rules::outcome::Outcome;
-use spread_rules::rulebook::Rulebook;
+use host_base::Id;
+use spread_rules::{Entry, Event, Fill, Outcome, Rulebook};
 use std::alloc::Allocator;
 
 /// Sends an entry's messages, the session's CompIDs being there.

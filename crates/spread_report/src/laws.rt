@@ -2,7 +2,7 @@
 ghost use Rattle.std.specs.Prelude.{◌≡◌, ◌<◌, ◌≤◌, ◌∷◌, ◌++◌, [], List, ℕ, true, false, length};
 ghost use Rattle.std.specs.List.{AllByRecursion, concat};
 ghost use Rattle.fix_wire.specs.Frames.{IsFrame, frames};
-ghost use Rattle.spread_rules.specs.Ids.{is_id};
+ghost use Rattle.host_base.specs.Ids.{is_id};
 ghost use Rattle.spread_rules.specs.Rulebook.{Rules};
 ghost use Rattle.spread_report.specs.Outgoing.{WorkedEntry, entry_bytes, entry_line, entry_spends, outgoing_starting, spends_from, line_before_logon};
 ghost use Rattle.spread_report.specs.Messages.{IsRow, entry_texts, messages_starting};

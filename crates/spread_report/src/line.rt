@@ -1,5 +1,5 @@
 //! A session's outgoing side: its next number, and the CompIDs of its last Logon.
-use spread_rules::id::Id;
+use host_base::Id;
 
 /// The CompIDs of a session: it calls itself `client` and the exchange `host`.
 #[derive(Clone, Copy, Debug, PartialEq, Eq)]

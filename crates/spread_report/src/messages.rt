@@ -8,7 +8,7 @@ use crate::line::SessionLine;
 use crate::send::send;
 use crate::symbol::known_id;
 use fix_wire::{Field, Value};
-use spread_rules::id::Id;
+use host_base::Id;
 use std::alloc::Allocator;
 
 /// Answers a Logon.

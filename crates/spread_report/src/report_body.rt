@@ -6,7 +6,7 @@ ghost use Rattle.fix_wire.specs.Layout.{field_text, field_of_given, FitsValueOf}
 ghost use Rattle.spread_report.specs.ReportBodies.{event_fields, terms_fields, left_fields, last_fields, order_fields, fill_fields};
 
 use fix_wire::{Body, Field, Value, put_field};
-use spread_rules::id::Id;
+use host_base::Id;
 
 /// A report that tells of no trade.
 #[derive(Clone, Copy)]

@@ -15,11 +15,8 @@ use crate::report_body::{FillReport, OrderReport};
 use crate::send::{send, send_body};
 use crate::symbol::symbol_of;
 use fix_wire::{Field, Value};
-use spread_rules::event::Ticket;
-use spread_rules::fill::Fill;
-use spread_rules::id::Id;
-use spread_rules::order::{Instrument, Order, Side};
-use spread_rules::rulebook::Rulebook;
+use host_base::Id;
+use spread_rules::{Fill, Instrument, Order, Rulebook, Side, Ticket};
 use std::alloc::Allocator;
 
 fn side_digit(side: Side) -> u64

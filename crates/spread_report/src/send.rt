@@ -10,7 +10,7 @@ use crate::fault::DeskFault;
 use crate::line::SessionLine;
 use crate::symbol::known_id;
 use fix_wire::{Body, Field, FieldList, Head, Value, write_body, write_message};
-use spread_rules::id::Id;
+use host_base::Id;
 use std::alloc::Allocator;
 
 /// The greatest MsgSeqNum that a message may bear.

@@ -1,11 +1,10 @@
 //! Symbols and other short texts.
 ghost use Rattle.std.specs.Prelude.{◌≡◌, ◌≤◌, ◌<◌, ◌+◌, ◌++◌, ◌∷◌, true, length, take};
-ghost use Rattle.spread_rules.specs.Ids.{is_id};
+ghost use Rattle.host_base.specs.Ids.{is_id};
 ghost use Rattle.spread_rules.specs.Rulebook.{IsListed, symbol_of};
 
-use spread_rules::id::Id;
-use spread_rules::order::Instrument;
-use spread_rules::rulebook::Rulebook;
+use host_base::Id;
+use spread_rules::{Instrument, Rulebook};
 
 /// The id of a text that is one.
 pub fn known_id(text: &[u8]) -> Id

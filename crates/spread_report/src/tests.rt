@@ -6,12 +6,8 @@ ghost use Rattle.spread_report.specs.Conditions.{FitsFill, FitsOutcome};
 
 use crate::laws::{read_back, running};
 use crate::{Desk, DeskFault};
-use spread_rules::event::{Entry, Event, Ticket};
-use spread_rules::fill::Fill;
-use spread_rules::id::Id;
-use spread_rules::order::{Instrument, Order, Side};
-use spread_rules::outcome::Outcome;
-use spread_rules::rulebook::Rulebook;
+use host_base::Id;
+use spread_rules::{Entry, Event, Fill, Instrument, Order, Outcome, Rulebook, Side, Ticket};
 use std::alloc::{AllocError, Allocator};
 use std::process::Abort;
 use std::test::Fail;

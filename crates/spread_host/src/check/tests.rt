@@ -1,9 +1,9 @@
 use super::check;
 use crate::fault::HostFault;
+use host_base::TestSink;
 use refused_memory::Refusing;
-use spread_journal::fault::JournalFault;
-use spread_rules::rulebook::Rulebook;
-use spread_rules::test_ends::TestSink;
+use spread_journal::JournalFault;
+use spread_rules::Rulebook;
 use std::test::Fail;
 
 const MONTHS: &[u8] = b"tick 1\nmonth H6 10000\nmonth M6 9800\nmonth U6 9500\n";

@@ -1,9 +1,8 @@
 use super::replay;
 use crate::fault::HostFault;
+use host_base::{Id, TestSink, TestSource};
 use refused_memory::Refusing;
-use spread_rules::id::Id;
-use spread_rules::rulebook::Rulebook;
-use spread_rules::test_ends::{TestSink, TestSource};
+use spread_rules::Rulebook;
 use std::alloc::Global;
 use std::test::Fail;
 

@@ -1,7 +1,7 @@
 use Rattle.std.proofs.Common.{◌≡◌, ◌++◌, Bool, true, List, ℕ, sym, ap, subst, ◌∙◌}
 use Rattle.spread_rules.specs.declared.event.Entry.{Entry}
 use Rattle.spread_rules.specs.declared.fill.Fill.{Fill}
-use Rattle.spread_rules.specs.Ends.{AppendsPrefix}
+use Rattle.host_base.specs.Ends.{AppendsPrefix}
 use Rattle.spread_journal.specs.JournalText.{journal_text}
 use Rattle.spread_host.specs.Days.{day_text, texts_of}
 use Rattle.spread_host.specs.Output.{fill_lines, month_lines, outgoing_lines_from}

@@ -1,7 +1,7 @@
 use Rattle.std.proofs.Common.{◌++◌, List, ℕ, subst}
 use Rattle.std.proofs.KnownBytes.{Appends-trans}
 use Rattle.std.specs.Io.KnownBytes.{Appends}
-use Rattle.spread_rules.specs.Ends.{AppendsPrefix}
+use Rattle.host_base.specs.Ends.{AppendsPrefix}
 use Rattle.spread_host.specs.Days.{texts_of}
 use Rattle.spread_host.specs.Output.{outgoing_lines_from}
 use Rattle.spread_host.proofs.Putting.{front_after, front_of_more, on_err, on_err_any}

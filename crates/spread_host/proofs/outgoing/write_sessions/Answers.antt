@@ -1,5 +1,5 @@
 use Rattle.std.proofs.Common.{◌≡◌, ◌++◌, List, ℕ, map, Vec, sym, subst, ◌∙◌, ap}
-use Rattle.spread_rules.specs.Ends.{AppendsPrefix}
+use Rattle.host_base.specs.Ends.{AppendsPrefix}
 use Rattle.spread_host.specs.Output.{outgoing_lines_from}
 use Rattle.spread_host.proofs.Putting.{front_after, on_err}
 use Rattle.spread_host.proofs.outgoing.write_sessions.Goals as goal

@@ -3,7 +3,7 @@ use Rattle.spread_rules.specs.declared.event.Entry.{Entry}
 use Rattle.spread_report.specs.Messages.{IsRow, messages_to}
 use Rattle.spread_report.specs.Sessions.{bytes_of}
 use Rattle.spread_host.specs.Working.{outgoing_bytes, worked_entries}
-use Rattle.spread_rules.specs.Ends.{AppendsPrefix}
+use Rattle.host_base.specs.Ends.{AppendsPrefix}
 use Rattle.spread_rules.specs.Journal.{IsLawful}
 use Rattle.spread_host.specs.Days.{IsJournalOf, IsPartOut}
 use Rattle.spread_host.specs.declared.fault.HostFault.{HostFault}

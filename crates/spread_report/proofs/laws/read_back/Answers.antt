@@ -1,7 +1,7 @@
 use Rattle.std.proofs.Common.{◌≡◌, ℕ, ◌≤◌, true, false, List, [], sym, ap, ◌∙◌, append-nil, arith}
 use Rattle.std.specs.List.{AllByRecursion}
 use Rattle.fix_wire.specs.Frames.{frames}
-use Rattle.spread_rules.specs.Ids.{is_id}
+use Rattle.host_base.specs.Ids.{is_id}
 use Rattle.spread_rules.specs.Rulebook.{Rules}
 use Rattle.spread_report.specs.Outgoing.{WorkedEntry, outgoing_starting, spends_from, line_before_logon}
 use Rattle.spread_report.specs.Ranges.{AreNames, EntryInRange}

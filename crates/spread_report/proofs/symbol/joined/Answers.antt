@@ -1,5 +1,5 @@
 use Rattle.std.proofs.Common.{ℕ, List, ap, ◌∙◌}
-use Rattle.spread_rules.specs.Ids.{is_id}
+use Rattle.host_base.specs.Ids.{is_id}
 use Rattle.spread_report.proofs.Symbols.{joined_id}
 use Rattle.spread_report.proofs.symbol.joined.Goals as goal
 

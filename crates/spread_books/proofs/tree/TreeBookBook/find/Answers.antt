@@ -3,7 +3,7 @@ use Rattle.std.specs.Ordering.{nat_cmp}
 use Rattle.std.specs.Map.{lookup}
 use Rattle.std.specs.BTreeMap.{is_at}
 use Rattle.spread_rules.specs.declared.order.Order.{Order}
-use Rattle.spread_rules.specs.IdKeys.{key_of}
+use Rattle.host_base.specs.IdKeys.{key_of}
 use Rattle.spread_books.specs.declared.own_key.OwnKey.{OwnKey}
 use Rattle.spread_books.specs.Firsts.{IsFirstFrom}
 use Rattle.spread_books.specs.Index.{own_key_cmp, IsIndexOf}

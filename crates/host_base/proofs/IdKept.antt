@@ -1,0 +1,14 @@
+-- A text with zeros behind it is kept as it has to be.
+use Rattle.std.proofs.Common.{◌≡◌, ℕ, ◌-◌, ◌<◌, ◌≤◌, true, not, eqb, List, length, replicate, refl, ap, ◌∙◌, arith, length-append}
+use Rattle.std.specs.List.{list_all}
+use Rattle.std.proofs.lemmas.List.{take_at, drop_at, length-replicate}
+use Rattle.host_base.specs.IdFields.{IsKept, kept_of}
+
+pub kept_new : (text : List ℕ) → 0 < length text → length text ≤ 32 → list_all (λ b. not (eqb b 1)) text ≡ true → IsKept (kept_of text)
+kept_new text some most plain = record {
+  some = some;
+  most = most;
+  plain = ap (λ t. list_all (λ b. not (eqb b 1)) t) (take_at text (replicate (32 - length text) 0) (length text) refl) ∙ plain;
+  size = omega (arith, length-append text (replicate (32 - length text) 0), length-replicate {A = ℕ} (32 - length text) 0);
+  zeros = drop_at text (replicate (32 - length text) 0) (length text) refl;
+}

@@ -1,0 +1,4 @@
+pub mod IdKept
+pub mod IdKeyOnce
+pub mod Cuts
+pub mod Numbers

@@ -1,0 +1,5 @@
+pub mod Ids
+pub mod IdFields
+pub mod IdKeys
+pub mod Cut
+pub mod Ends

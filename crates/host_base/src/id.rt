@@ -1,0 +1,86 @@
+//! Ids: client order ids, CompIDs, symbols and stamps.
+ghost use Rattle.std.specs.Prelude.{◌≡◌, ◌≤◌, ◌<◌, ◌+◌, ◌-◌, ◌++◌, ◌∷◌, ℕ, List, length, replicate, true};
+ghost use Rattle.std.specs.Str.{bytes_eq};
+ghost use Rattle.host_base.specs.Ids.{id_of, is_plain};
+
+use std::marker::Model;
+
+/// 1 to 32 bytes, none of them byte 1. Contracts see the list of the bytes.
+#[derive(Clone, Copy, Debug, PartialEq, Eq)]
+pub struct Id {
+    // Zeros stand behind the id.
+    bytes: [u8; 32],
+    len: u8,
+}
+
+impl Model for Id {
+    ghost use Rattle.std.specs.Prelude.{List, ℕ};
+
+    ghost Value = { List ℕ };
+
+    ghost use Rattle.host_base.specs.IdFields.{text_of, IsKept, kept_of, kept_again};
+
+    ghost view = { text_of };
+
+    ghost invariant = { IsKept };
+
+    ghost inverse = { kept_of };
+
+    ghost inverse_ok = { kept_again };
+}
+
+impl Id {
+    /// The id of these bytes. None where they are none, more than 32, or have a byte 1 among them.
+    pub fn new(text: &[u8]) -> Option<Id>
+        ensures { result ≡ id_of text.now }
+    {
+        if text.is_empty() || text.len() > 32 {
+            return None;
+        }
+        for b in text {
+            if *b == 1 {
+                return None;
+            }
+        }
+        let mut bytes = [0; 32];
+        bytes[..text.len()].copy_from_slice(text);
+        Some(Id {
+            bytes,
+            len: text.len() as u8,
+        })
+    }
+
+    /// Its bytes, 1 to 32 of them.
+    pub fn bytes(&self) -> &[u8]
+        ensures value { result.now ≡ self.now }
+        ensures some { 0 < length self.now }
+        ensures most { length self.now ≤ 32 }
+        ensures plain { is_plain self.now ≡ true }
+    {
+        &self.bytes[..usize::from(self.len)]
+    }
+
+    /// Its bytes with zeros behind them.
+    pub(crate) fn padded(&self) -> &[u8; 32]
+        ensures { result.now ≡ self.now ++ replicate (32 - length self.now) 0 }
+    {
+        &self.bytes
+    }
+
+    /// Whether it is that id.
+    pub fn is(&self, other: &Id) -> bool
+        ensures { result ≡ bytes_eq self.now other.now }
+    {
+        self.bytes() == other.bytes()
+    }
+}
+
+/// A place holder: the one byte 0.
+impl Default for Id {
+    fn default() -> Self {
+        Id {
+            bytes: [0; 32],
+            len: 1,
+        }
+    }
+}

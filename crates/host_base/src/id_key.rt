@@ -1,0 +1,64 @@
+//! A session and an id as one key of an ordered table.
+ghost use Rattle.std.specs.Prelude.{◌≡◌, ℕ, ◌+◌, ◌-◌, ◌≤◌, ◌++◌, ◌<◌, length, get_or, take, drop, replicate};
+ghost use Rattle.std.specs.Int.{w64, from_be_bytes};
+ghost use Rattle.host_base.specs.IdKeys.{key_of, IsIdBytes};
+
+use crate::id::Id;
+
+/// Two keys are equal exactly where session and id are. In their order the ids of a session that are counted up follow one
+/// another, so that what is looked up next is near.
+#[derive(Clone, Copy, Debug, PartialEq, Eq, PartialOrd, Ord)]
+pub struct IdKey {
+    session: u8,
+    // The 32 bytes that hold the id, eight in each number.
+    first: u64,
+    second: u64,
+    third: u64,
+    fourth: u64,
+    // How many bytes the id has: zeros may stand in it, not only behind it.
+    size: u8,
+}
+
+/// Eight bytes from there on as one number, the first of most worth.
+fn word(bytes: &[u8; 32], at: usize) -> u64
+    requires { at + 8 ≤ 32 }
+    ensures { result ≡ from_be_bytes w64 (take 8 (drop at bytes.now)) }
+{
+    u64::from_be_bytes([
+        bytes[at],
+        bytes[at + 1],
+        bytes[at + 2],
+        bytes[at + 3],
+        bytes[at + 4],
+        bytes[at + 5],
+        bytes[at + 6],
+        bytes[at + 7],
+    ])
+}
+
+/// What is known of any bytes.
+fn are_bytes(text: &[u8])
+    ensures { (i : ℕ) → get_or text.now i 0 < 256 }
+{
+    let _ = text.len();
+}
+
+impl IdKey {
+    /// The key of that session's id.
+    pub fn new(session: u8, id: &Id) -> IdKey
+        ensures key { result ≡ key_of session id.now }
+        ensures bytes { IsIdBytes id.now }
+    {
+        let text = id.bytes();
+        are_bytes(text);
+        let bytes = id.padded();
+        IdKey {
+            session,
+            first: word(bytes, 0),
+            second: word(bytes, 8),
+            third: word(bytes, 16),
+            fourth: word(bytes, 24),
+            size: text.len() as u8,
+        }
+    }
+}

@@ -1,0 +1,23 @@
+//! What every crate above stands on: ids, want of memory, texts, and byte ends. Nothing here knows of orders.
+#![tactic(auto)]
+
+mod id;
+mod id_key;
+pub mod laws;
+mod memory;
+mod sink;
+mod source;
+mod test_ends;
+#[cfg(test)]
+mod tests;
+mod text;
+mod whole;
+
+pub use id::Id;
+pub use id_key::IdKey;
+pub use memory::NoMemory;
+pub use sink::{Sink, ToWriter};
+pub use source::{Failed, FromReader, Source};
+pub use test_ends::{TestSink, TestSource};
+pub use text::{after, cut_at, read_decimal, read_plain};
+pub use whole::{LIMIT, ReadFault, read_all, write_all};

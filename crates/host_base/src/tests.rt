@@ -1,0 +1,5 @@
+//! Tests by subject.
+
+mod byte_ends;
+mod ids;
+mod texts;
