@@ -6,7 +6,8 @@ use Rattle.std.proofs.lemmas.Bool.{false≢true}
 use Rattle.std.proofs.lemmas.Bool.Decides.{nat_tests}
 use Rattle.std.proofs.lemmas.Int.{ints}
 use Rattle.host_base.specs.Ids.{is_id, id_of}
-use Rattle.spread_rules.specs.Journal.{IsNumber, IsPrice, FitsTicket, FitsEvent, is_reject_reason, is_logon, is_close}
+use Rattle.spread_rules.specs.Journal.{IsNumber, FitsTicket, FitsEvent, is_reject_reason, is_logon, is_close}
+use Rattle.spread_rules.specs.Prices.{IsOrderPrice}
 use Rattle.spread_rules.specs.declared.event.Event.{Event}
 use Rattle.spread_rules.specs.declared.event.Event.TheVariants as events
 use Rattle.fix_wire.specs.declared.values.Unread.{Unread}
@@ -97,11 +98,11 @@ quantity_in_holds text = by_test (is_number (before_first is_point text) && list
 quantity_holds : (tag : ℕ) (m : List ℕ) → Holds IsShort (quantity_at tag m)
 quantity_holds tag m = chained Any IsShort (text_at tag m) (λ text. or_reason (quantity_in text)) (text_holds tag m) (λ text h. quantity_in_holds text)
 
-price_of : (negative : Bool) (n : ℕ) → n ≤ 1000000000 → IsPrice (if negative then neg_ℤ (pos n) else pos n)
+price_of : (negative : Bool) (n : ℕ) → n ≤ 1000000000 → IsOrderPrice (if negative then neg_ℤ (pos n) else pos n)
 price_of true n h = record { low = omega (arith, ints, h); high = omega (arith, ints, h) }
 price_of false n h = record { low = omega (arith, ints, h); high = omega (arith, ints, h) }
 
-signed_holds : (negative : Bool) (r : Result ℕ Unread) → Holds (λ x. x ≤ 1000000000) (or_reason r) → Holds IsPrice (or_reason (signed negative r))
+signed_holds : (negative : Bool) (r : Result ℕ Unread) → Holds (λ x. x ≤ 1000000000) (or_reason r) → Holds IsOrderPrice (or_reason (signed negative r))
 signed_holds negative (Ok n) h = price_of negative n h
 signed_holds negative (Err fault) h = h
 
@@ -116,16 +117,16 @@ hundredths_in_form whole part = by_form (is_number (whole ++ part)) (list_all is
 hundredths_holds : (text : List ℕ) → Holds (λ x. x ≤ 1000000000) (or_reason (hundredths_in text))
 hundredths_holds text = hundredths_in_form (before_first is_point text) (after_first is_point text)
 
-price_in_holds : (text : List ℕ) → Holds IsPrice (or_reason (price_in text))
+price_in_holds : (text : List ℕ) → Holds IsOrderPrice (or_reason (price_in text))
 price_in_holds [] = refl
 price_in_holds (b ∷ bs) = by_sign (b == 45)
   where
-    by_sign : (v : Bool) → Holds IsPrice (or_reason (if v then signed true (hundredths_in bs) else signed false (hundredths_in (b ∷ bs))))
+    by_sign : (v : Bool) → Holds IsOrderPrice (or_reason (if v then signed true (hundredths_in bs) else signed false (hundredths_in (b ∷ bs))))
     by_sign true = signed_holds true (hundredths_in bs) (hundredths_holds bs)
     by_sign false = signed_holds false (hundredths_in (b ∷ bs)) (hundredths_holds (b ∷ bs))
 
-price_holds : (tag : ℕ) (m : List ℕ) → Holds IsPrice (price_at tag m)
-price_holds tag m = chained Any IsPrice (text_at tag m) (λ text. or_reason (price_in text)) (text_holds tag m) (λ text h. price_in_holds text)
+price_holds : (tag : ℕ) (m : List ℕ) → Holds IsOrderPrice (price_at tag m)
+price_holds tag m = chained Any IsOrderPrice (text_at tag m) (λ text. or_reason (price_in text)) (text_holds tag m) (λ text h. price_in_holds text)
 
 one_of_holds : (allowed text : List ℕ) → Holds Any (one_of allowed text)
 one_of_holds allowed [] = refl
@@ -206,7 +207,7 @@ new_order_holds m =
     chained Any FitsTicket (text_at 60 m) _ (text_holds 60 m) (λ time d.
     chained IsShort FitsTicket (quantity_at 38 m) _ (quantity_holds 38 m) (λ quantity short.
     chained Any FitsTicket (choice_at (50 ∷ []) 40 m) _ (choice_holds (50 ∷ []) 40 m) (λ type e.
-    chained IsPrice FitsTicket (price_at 44 m) _ (price_holds 44 m) (λ price is_price.
+    chained IsOrderPrice FitsTicket (price_at 44 m) _ (price_holds 44 m) (λ price is_price.
     chained Any FitsTicket (time_in_force_of (get 59 m)) _ (time_in_force_holds (get 59 m)) (λ immediate f.
     record { id = is_id; symbol = is_symbol; quantity = short; price = is_price }))))))))))
 

@@ -1,6 +1,6 @@
 //! Days worked a second time, by a plain matcher over one list of orders.
 ghost use Rattle.std.specs.Prelude.{◌≡◌, ◌<◌, ◌≤◌, true, All, IfOk, length};
-ghost use Rattle.spread_rules.specs.Candidates.{HasSmallPrice};
+ghost use Rattle.spread_rules.specs.Candidates.{HasOrderPrice};
 ghost use Rattle.spread_rules.specs.Journal.{IsLawful};
 ghost use Rattle.fix_wire.specs.Frames.{IsFrameRow};
 ghost use Rattle.spread_host.specs.Days.{texts_of};
@@ -24,13 +24,13 @@ const LETTERS: &[u8; 26] = b"abcdefghijklmnopqrstuvwxyz";
 // ---- the plain matcher
 
 fn is_small(order: &Order) -> bool
-    ensures { result ≡ true → HasSmallPrice order.now }
+    ensures { result ≡ true → HasOrderPrice order.now }
 {
     order.price >= -1_000_000_000 && order.price <= 1_000_000_000
 }
 
 fn are_small(orders: &[Order]) -> bool
-    ensures { result ≡ true → All HasSmallPrice orders.now }
+    ensures { result ≡ true → All HasOrderPrice orders.now }
 {
     for order in orders {
         if !is_small(order) {
