@@ -1,0 +1,14 @@
+//! What tests share: an allocator that refuses one request, ends that fail, and the worked examples' samples.
+#![tactic(auto)]
+
+mod refusing;
+mod samples;
+
+pub use host_base::{TestSink, TestSource};
+pub use refusing::Refusing;
+pub use samples::{
+    FIRST_TRADE, FIRST_TRADE_JOURNAL, FIRST_TRADE_LINES, FIRST_TRADE_TEXT, THREE_MONTHS, id, stamp,
+};
+
+#[cfg(test)]
+mod tests;
