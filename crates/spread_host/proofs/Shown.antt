@@ -2,7 +2,7 @@
 use Rattle.std.proofs.Common.{List, All, get_or}
 use Rattle.spread_rules.specs.declared.fill.Fill.{Fill}
 use Rattle.spread_rules.specs.Rulebook.{Rules}
-use Rattle.spread_match.specs.Ranges.{IsFillInRange}
+use Rattle.spread_rules.specs.Ranges.{IsFillInRange}
 use Rattle.spread_host.specs.Totals.{IsSummable}
 use Rattle.spread_host.specs.Days.{AreShown}
 

@@ -1,18 +1,10 @@
 //! Refused orders, cancels, and cancels that come too late.
-use super::{H6, M6, applied, buy, cancel, expect_fills, logon, outright, sell};
+use super::{H6, M6, buy, cancel, expect_fills, logon, outright, run_journal, sell, too_late};
 use spread_rules::{Order, Outcome, Side};
 use std::test::Fail;
 use test_support::{THREE_MONTHS, id};
 
 /// What a cancel of an order that no longer rests comes to.
-fn too_late(place: u64, status: u8) -> Outcome {
-    Outcome::CancelRefused {
-        reason: 0,
-        place,
-        status,
-    }
-}
-
 #[test]
 fn refusals_and_cancels(rt: HostRuntime) -> Result<(), Fail> {
     let journal = [
@@ -24,7 +16,7 @@ fn refusals_and_cancels(rt: HostRuntime) -> Result<(), Fail> {
         buy(b"d", b"H6", 0, 0),
         cancel(b"e", b"d"),
     ];
-    let done = applied(&rt, rt.alloc(), THREE_MONTHS, &journal)?;
+    let done = run_journal(&rt, rt.alloc(), THREE_MONTHS, &journal)?;
     expect_fills(&rt, &done.fills, &[]);
     let wanted = [
         Outcome::Session,
@@ -61,7 +53,7 @@ fn cancels_of_filled_and_of_ended_orders(rt: HostRuntime) -> Result<(), Fail> {
         cancel(b"e", b"b"),
         buy(b"b", b"H6", 1, 1),
     ];
-    let done = applied(&rt, rt.alloc(), THREE_MONTHS, &journal)?;
+    let done = run_journal(&rt, rt.alloc(), THREE_MONTHS, &journal)?;
     let rested = Order {
         place: 2,
         session: 0,
@@ -102,7 +94,7 @@ fn used_id_is_refused_before_all_else(rt: HostRuntime) -> Result<(), Fail> {
         sell(b"b", b"H6", 2, 10),
         cancel(b"c", b"a"),
     ];
-    let done = applied(&rt, rt.alloc(), THREE_MONTHS, &journal)?;
+    let done = run_journal(&rt, rt.alloc(), THREE_MONTHS, &journal)?;
     expect_fills(
         &rt,
         &done.fills,
@@ -130,7 +122,7 @@ fn price_off_the_tick_is_refused(rt: HostRuntime) -> Result<(), Fail> {
         buy(b"b", b"H6", 999_999, -7),
         buy(b"c", b"H6", 999_999, -10),
     ];
-    let done = applied(&rt, rt.alloc(), b"tick 5\nmonth H6 10000\n", &journal)?;
+    let done = run_journal(&rt, rt.alloc(), b"tick 5\nmonth H6 10000\n", &journal)?;
     let wanted = [Outcome::Refused(3), Outcome::Refused(0), Outcome::Rested];
     assert_eq!(rt; done.outcomes.as_slice(), wanted.as_slice());
     Ok(())

@@ -1,7 +1,7 @@
 //! The worked rows of matching.
 use super::{
-    H6, H6_M6, H6_U6, M6, U6, applied, apply_all, are_priced, buy, expect_fills, expect_row, logon,
-    outright, sell,
+    H6, H6_M6, H6_U6, M6, U6, apply_all, are_priced, buy, expect_fills, expect_row, logon,
+    outright, run_journal, sell,
 };
 use crate::market::Market;
 use spread_books::{Book, ListBook};
@@ -170,7 +170,7 @@ fn immediate_remainder_ends(rt: HostRuntime) -> Result<(), Fail> {
             immediate: true,
         }),
     };
-    let done = applied(
+    let done = run_journal(
         &rt,
         rt.alloc(),
         THREE_MONTHS,

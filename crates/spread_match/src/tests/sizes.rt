@@ -1,6 +1,7 @@
 //! Many orders, all months, and prices at their limits.
 use super::{
-    H6, H6_M6, M6, applied, buy, cancel, expect_fills, expect_row, line_of, logon, outright, sell,
+    H6, H6_M6, M6, buy, cancel, expect_fills, expect_row, line_of, logon, outright, run_journal,
+    sell, too_late,
 };
 use spread_rules::{Instrument, Outcome, Side};
 use std::test::Fail;
@@ -21,7 +22,7 @@ fn first_and_newest_of_many_orders_are_filled(rt: HostRuntime) -> Result<(), Fai
         cancel(b"g", b"b"),
         cancel(b"h", b"e"),
     ];
-    let done = applied(&rt, rt.alloc(), THREE_MONTHS, &journal)?;
+    let done = run_journal(&rt, rt.alloc(), THREE_MONTHS, &journal)?;
     let wanted = [
         Outcome::Session,
         Outcome::Rested,
@@ -81,7 +82,7 @@ fn every_pair_of_twelve_months(rt: HostRuntime) -> Result<(), Fail> {
                 buy(b"b", second, 1, 500),
                 buy(b"c", &both, 1, 200),
             ];
-            let done = applied(&rt, rt.alloc(), text, &journal)?;
+            let done = run_journal(&rt, rt.alloc(), text, &journal)?;
             expect_fills(
                 &rt,
                 &done.fills,
@@ -111,7 +112,7 @@ fn one_order_trades_with_a_thousand(rt: HostRuntime) -> Result<(), Fail> {
         ))?;
     }
     journal.push(buy(b"all", b"H6", 1000, 10000))?;
-    let done = applied(&rt, rt.alloc(), THREE_MONTHS, &journal)?;
+    let done = run_journal(&rt, rt.alloc(), THREE_MONTHS, &journal)?;
     assert_eq!(rt; done.fills.len(), 2000);
     for n in 0..1000u64 {
         let i = 2 * n as usize;
