@@ -32,25 +32,32 @@ pub fn after<'a>(bytes: &'a [u8], front: &[u8]) -> Option<&'a [u8]>
     if begin == front { Some(rest) } else { None }
 }
 
+/// Reads a number and prints it again: only its one spelling comes back.
+macro_rules! read_spelled {
+    ($bytes:expr, $number:ty) => {{
+        let text = match str::from_utf8($bytes) {
+            Ok(text) => text,
+            Err(_) => return None,
+        };
+        let number = match text.parse::<$number>() {
+            Ok(number) => number,
+            Err(_) => return None,
+        };
+        if Buffer::new().format(number).as_bytes() == $bytes {
+            Some(number)
+        } else {
+            None
+        }
+    }};
+}
+
 /// The number whose one spelling these bytes are: digits without leading zeros.
 pub fn read_decimal(bytes: &[u8]) -> Option<u64>
     ensures found { IfSome result (λ n. bytes.now ≡ decimal n) }
     ensures fits { IfSome result (λ n. n < 2 ^ 64) }
     ensures none { IfNone result ((n : ℕ) → n < 2 ^ 64 → bytes.now ≢ decimal n) }
 {
-    let text = match str::from_utf8(bytes) {
-        Ok(text) => text,
-        Err(_) => return None,
-    };
-    let number = match text.parse::<u64>() {
-        Ok(number) => number,
-        Err(_) => return None,
-    };
-    if Buffer::new().format(number).as_bytes() == bytes {
-        Some(number)
-    } else {
-        None
-    }
+    read_spelled!(bytes, u64)
 }
 
 /// The signed number whose one spelling these bytes are: `-` before a negative one.
@@ -59,17 +66,5 @@ pub fn read_plain(bytes: &[u8]) -> Option<i64>
     ensures fits { IfSome result (λ z. FitsSigned w64 z) }
     ensures none { IfNone result ((z : ℤ) → FitsSigned w64 z → bytes.now ≢ signed_decimal z) }
 {
-    let text = match str::from_utf8(bytes) {
-        Ok(text) => text,
-        Err(_) => return None,
-    };
-    let number = match text.parse::<i64>() {
-        Ok(number) => number,
-        Err(_) => return None,
-    };
-    if Buffer::new().format(number).as_bytes() == bytes {
-        Some(number)
-    } else {
-        None
-    }
+    read_spelled!(bytes, i64)
 }
