@@ -4,7 +4,7 @@ use Rattle.spread_rules.specs.declared.fill.Fill.{Fill}
 use Rattle.spread_rules.specs.Meaning.{JournalState, after_entry, meaning_of, meaning_of_journal}
 use Rattle.spread_rules.specs.Rulebook.{Rules}
 use Rattle.spread_match.specs.Sound.{Reads, IsWorked}
-use Rattle.spread_match.proofs.Lawful.{journal_push}
+use Rattle.spread_match.proofs.journals.AfterEveryEntry.{journal_push}
 use Rattle.spread_host.proofs.check.fills_of.Goals as goal
 
 pub loop-n-preserved : goal.loop-n-preserved

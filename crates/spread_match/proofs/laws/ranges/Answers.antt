@@ -1,4 +1,4 @@
-use Rattle.spread_match.proofs.Ranging.{journal_ranges, prefix_ranges, step_ranges}
+use Rattle.spread_match.proofs.journals.InRange.{journal_ranges, prefix_ranges, step_ranges}
 use Rattle.spread_match.proofs.laws.ranges.Goals as goal
 
 pub returns : goal.returns

@@ -6,7 +6,7 @@ use Rattle.std.specs.Option.{option_copied_mut}
 use Rattle.spread_rules.specs.declared.order.Order.{Order}
 use Rattle.spread_rules.specs.Clearing.{reduced}
 use Rattle.spread_books.specs.Index.{IsIndexOf}
-use Rattle.spread_books.proofs.Indexes.{index_reduced, has_more, as_index, seen, not_none, looked_up}
+use Rattle.spread_books.proofs.keys.TablesThroughChanges.{index_reduced, has_more, as_index, seen, not_none, looked_up}
 use Rattle.spread_books.proofs.tree.TreeBook.lessen.Given.{Over}
 use Rattle.spread_books.proofs.tree.TreeBook.lessen.Goals.{In-Some}
 use Rattle.spread_books.proofs.tree.TreeBook.lessen.Goals as goal

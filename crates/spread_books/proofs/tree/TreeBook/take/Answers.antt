@@ -8,7 +8,7 @@ use Rattle.spread_rules.specs.Clearing.{removed}
 use Rattle.spread_books.specs.declared.queue_key.QueueKey.{QueueKey}
 use Rattle.spread_books.specs.declared.own_key.OwnKey.{OwnKey}
 use Rattle.spread_books.specs.Index.{IsIndexOf, queue_key_cmp, own_key_cmp}
-use Rattle.spread_books.proofs.Indexes.{index_removed, as_index, seen, not_none, at_place, looked_up}
+use Rattle.spread_books.proofs.keys.TablesThroughChanges.{index_removed, as_index, seen, not_none, at_place, looked_up}
 use Rattle.spread_books.proofs.tree.TreeBook.take.Given.{Over}
 use Rattle.spread_books.proofs.tree.TreeBook.take.Goals as goal
 

@@ -9,8 +9,8 @@ use Rattle.spread_books.specs.Queues.{IsFront}
 use Rattle.spread_books.specs.QueueKeys.{queue_number}
 use Rattle.spread_books.specs.Firsts.{IsFirstFrom}
 use Rattle.spread_books.specs.Index.{queue_key_cmp, IsIndexOf}
-use Rattle.spread_books.proofs.Indexes.{is_found}
-use Rattle.spread_books.proofs.QueueFirst.{no_key, key_of_another, key_of_front}
+use Rattle.spread_books.proofs.keys.TablesThroughChanges.{is_found}
+use Rattle.spread_books.proofs.keys.FirstOfAQueue.{no_key, key_of_another, key_of_front}
 use Rattle.spread_books.proofs.tree.TreeBookBook.front.Goals as goal
 
 pub returns-in_err-key : goal.returns-in_err-key

@@ -1,0 +1,154 @@
+-- what becomes of a front as orders come and go
+use Rattle.std.proofs.Common.{◌≡◌, ℕ, ◌==◌, true, false, List, [], ◌∷◌, ◌++◌, Contains, Option, Some, None, refl, sym, ap, ◌∙◌, subst, arith, inl, inr}
+use Rattle.std.specs.Ordering.{is_lt}
+use Rattle.std.specs.declared.cmp.Ordering.{Ordering}
+use Rattle.std.specs.declared.cmp.Ordering.TheVariants.{Less, Equal, Greater}
+use Rattle.std.proofs.lemmas.Cmp.{tied_itself}
+use Rattle.std.proofs.lemmas.Bool.Decides.{nat_tests}
+use Rattle.std.proofs.lemmas.List.Elements.{Contains-append_left, Contains-push, Contains-push_cases}
+use Rattle.spread_rules.specs.declared.order.Side.{Side}
+use Rattle.spread_rules.specs.declared.order.Instrument.{Instrument}
+use Rattle.spread_rules.specs.declared.order.Order.{Order}
+use Rattle.spread_rules.specs.Candidates.{better_by}
+use Rattle.spread_rules.specs.Quiet.{Rests}
+use Rattle.spread_rules.specs.Clearing.{reduced, removed, with_less_left}
+use Rattle.spread_rules.proofs.lists.Membership.{in_head, in_map, from_map}
+use Rattle.spread_books.specs.Queues.{IsFront, is_in, is_ahead, queue_cmp}
+use Rattle.spread_books.specs.Index.{Ascends}
+use Rattle.spread_books.proofs.fronts.FoldGivesFront.{queue_total, in_queue, from_queue}
+use Rattle.spread_books.proofs.places.Ascending.{one_at_a_place}
+use Rattle.spread_books.proofs.keys.SetOfKeys.{is_so, from_removed, in_removed, less_left}
+
+is_less : (r : Ordering) → is_lt r ≡ true → r ≡ Less
+is_less Less h = refl
+is_less Equal h = cc
+is_less Greater h = cc
+
+pub not_ahead_itself : (side : Side) (o : Order) → is_ahead side o o ≡ false
+not_ahead_itself side o = ap (λ (r : Ordering). is_lt r) (tied_itself (queue_total side) o)
+
+-- whoever stands ahead of one ahead stands ahead too
+ahead_through : (side : Side) (a b c : Order) → is_ahead side a b ≡ true → is_ahead side b c ≡ true → is_ahead side a c ≡ true
+ahead_through side a b c h k = ap (λ (r : Ordering). is_lt r) ((queue_total side).trans a b c (is_less (queue_cmp side a b) h) (is_less (queue_cmp side b c) k))
+
+-- ---- one order more
+
+-- of another queue
+pub front_of_others : (xs : List Order) (o : Order) (j : Instrument) (t : Side) (f : Option Order) → ((o.instrument ≡ j) × (o.side ≡ t) → ⊥) → IsFront xs j t f → IsFront (xs ++ o ∷ []) j t f
+front_of_others xs o j t None other h = λ p r.
+    elim (Contains-push_cases xs o p r.stands) [
+      | inl c ↦ h p (record { stands = c; of = r.of; on = r.on })
+      | inr e ↦ other (subst (λ (q : Order). (q.instrument ≡ j) × (q.side ≡ t)) (sym e) (r.of, r.on))
+    ]
+front_of_others xs o j t (Some f) other h = (
+  record { stands = Contains-append_left xs (o ∷ []) f h.0.stands; of = h.0.of; on = h.0.on },
+  λ p r.
+      elim (Contains-push_cases xs o p r.stands) [
+        | inl c ↦ h.1 p (record { stands = c; of = r.of; on = r.on })
+        | inr e ↦ absurd (other (subst (λ (q : Order). (q.instrument ≡ j) × (q.side ≡ t)) (sym e) (r.of, r.on)))
+      ],
+)
+
+-- of its own queue
+pub front_of_own : (xs : List Order) (o r : Order) (f : Option Order) → IsFront xs o.instrument o.side f → Some r ≡ better_by (is_ahead o.side) f (Some o) → IsFront (xs ++ o ∷ []) o.instrument o.side (Some r)
+front_of_own xs o r None h e =
+    let same : o ≡ r = cc in
+    subst (λ (q : Order). IsFront (xs ++ o ∷ []) o.instrument o.side (Some q)) same (
+      record { stands = Contains-push xs o; of = refl; on = refl },
+      λ p k.
+          elim (Contains-push_cases xs o p k.stands) [
+            | inl c ↦ absurd (h p (record { stands = c; of = k.of; on = k.on }))
+            | inr d ↦ subst (λ (q : Order). is_ahead o.side q o ≡ false) d (not_ahead_itself o.side o)
+          ],
+    )
+front_of_own xs o r (Some f) h e =
+    elim (is_so (is_ahead o.side o f)) [
+      | inl a ↦
+          let same : o ≡ r = let g = rw a at e in cc in
+          subst (λ (q : Order). IsFront (xs ++ o ∷ []) o.instrument o.side (Some q)) same (
+            record { stands = Contains-push xs o; of = refl; on = refl },
+            λ p k.
+                elim (Contains-push_cases xs o p k.stands) [
+                  | inl c ↦ elim (is_so (is_ahead o.side p o)) [
+                    | inl b ↦ let x = ahead_through o.side p o f b a in let y = h.1 p (record { stands = c; of = k.of; on = k.on }) in cc
+                    | inr b ↦ b
+                  ]
+                  | inr d ↦ subst (λ (q : Order). is_ahead o.side q o ≡ false) d (not_ahead_itself o.side o)
+                ],
+          )
+      | inr a ↦
+          let same : f ≡ r = let g = rw a at e in cc in
+          subst (λ (q : Order). IsFront (xs ++ o ∷ []) o.instrument o.side (Some q)) same (
+            record { stands = Contains-append_left xs (o ∷ []) f h.0.stands; of = h.0.of; on = h.0.on },
+            λ p k.
+                elim (Contains-push_cases xs o p k.stands) [
+                  | inl c ↦ h.1 p (record { stands = c; of = k.of; on = k.on })
+                  | inr d ↦ subst (λ (q : Order). is_ahead o.side q f ≡ false) d a
+                ],
+          )
+    ]
+
+-- of the queue that it is tested to be in
+pub front_of_queue : (xs : List Order) (o r : Order) (j : Instrument) (t : Side) (f : Option Order) → is_in j t o ≡ true → IsFront xs j t f → Some r ≡ better_by (is_ahead o.side) f (Some o) → IsFront (xs ++ o ∷ []) j t (Some r)
+front_of_queue xs o r j t f here h e =
+    let q = from_queue j t o here in
+    let own : IsFront xs o.instrument o.side f = subst (λ (s : Side). IsFront xs o.instrument s f) (sym q.1) (subst (λ (i : Instrument). IsFront xs i t f) (sym q.0) h) in
+    subst (λ (i : Instrument). IsFront (xs ++ o ∷ []) i t (Some r)) q.0 (subst (λ (s : Side). IsFront (xs ++ o ∷ []) o.instrument s (Some r)) q.1 (front_of_own xs o r f own e))
+
+-- of a queue that it is tested not to be in
+pub front_of_no_queue : (xs : List Order) (o : Order) (j : Instrument) (t : Side) (f : Option Order) → is_in j t o ≡ false → IsFront xs j t f → IsFront (xs ++ o ∷ []) j t f
+front_of_no_queue xs o j t f other h =
+    front_of_others xs o j t f (λ e. let k = in_queue (o ∷ []) j t o (record { stands = in_head o []; of = e.0; on = e.1 }) in cc) h
+
+-- ---- one order less, or less of it, where another is the front
+
+differs : (a b : ℕ) → (a ≡ b → ⊥) → (a == b) ≡ false
+differs a b h = elim (is_so (a == b)) [ inl k ↦ absurd (h (grind (arith, nat_tests))) | inr k ↦ k ]
+
+pub front_removed : (xs : List Order) (place : ℕ) (j : Instrument) (t : Side) (f : Option Order) → ((h : Order) → f ≡ Some h → h.place ≡ place → ⊥) → IsFront xs j t f → IsFront (removed place xs) j t f
+front_removed xs place j t None other h = λ p r. h p (record { stands = (from_removed place xs p r.stands).0; of = r.of; on = r.on })
+front_removed xs place j t (Some f) other h = (
+  record { stands = in_removed place xs f h.0.stands (differs f.place place (other f refl)); of = h.0.of; on = h.0.on },
+  λ p r. h.1 p (record { stands = (from_removed place xs p r.stands).0; of = r.of; on = r.on }),
+)
+
+rested : (xs : List Order) (place by : ℕ) (j : Instrument) (t : Side) (p : Order) → Rests (reduced place by xs) j t p → (q : Order) × Rests xs j t q × (with_less_left place by q ≡ p)
+rested xs place by j t p r =
+    let m = from_map (with_less_left place by) xs p r.stands in (
+      m.0,
+      record {
+        stands = m.1;
+        of = sym (less_left (λ (o : Order). o.instrument) (λ o n. refl) place by m.0) ∙ ap (λ (o : Order). o.instrument) m.2 ∙ r.of;
+        on = sym (less_left (λ (o : Order). o.side) (λ o n. refl) place by m.0) ∙ ap (λ (o : Order). o.side) m.2 ∙ r.on;
+      },
+      m.2,
+    )
+
+-- what is left of the front is the front
+pub front_less : (xs : List Order) (place by : ℕ) (j : Instrument) (t : Side) (f : Order) → IsFront xs j t (Some f) → IsFront (reduced place by xs) j t (Some (with_less_left place by f))
+front_less xs place by j t f h = (
+  record {
+    stands = in_map (with_less_left place by) xs f h.0.stands;
+    of = less_left (λ (o : Order). o.instrument) (λ o n. refl) place by f ∙ h.0.of;
+    on = less_left (λ (o : Order). o.side) (λ o n. refl) place by f ∙ h.0.on;
+  },
+  λ p r.
+      let m = rested xs place by j t p r in
+      subst (λ (q : Order). is_ahead t q (with_less_left place by f) ≡ false) m.2
+      (less_left (λ (o : Order). is_ahead t o (with_less_left place by f)) (λ o n. refl) place by m.0
+      ∙ less_left (λ (o : Order). is_ahead t m.0 o) (λ o n. refl) place by f ∙ h.1 m.0 m.1),
+)
+
+pub front_reduced : (xs : List Order) (place by : ℕ) (j : Instrument) (t : Side) (f : Option Order) → ((h : Order) → f ≡ Some h → h.place ≡ place → ⊥) → IsFront xs j t f → IsFront (reduced place by xs) j t f
+front_reduced xs place by j t None other h = λ p r. let m = rested xs place by j t p r in h m.0 m.1
+front_reduced xs place by j t (Some f) other h =
+    let d = differs f.place place (other f refl) in
+    let same : with_less_left place by f ≡ f = rw d in
+    subst (λ (q : Order). IsFront (reduced place by xs) j t (Some q)) same (front_less xs place by j t f h)
+
+-- the front of another queue is another order
+pub of_another : (xs : List Order) (o : Order) (j : Instrument) (t : Side) (f : Option Order) → Ascends xs → Contains xs o → ((o.instrument ≡ j) × (o.side ≡ t) → ⊥) → IsFront xs j t f → (h : Order) → f ≡ Some h → h.place ≡ o.place → ⊥
+of_another xs o j t f up c other front h e same =
+    let k = subst (λ (r : Option Order). IsFront xs j t r) e front in
+    let one = one_at_a_place xs h o up k.0.stands c same in
+    other (subst (λ (q : Order). (q.instrument ≡ j) × (q.side ≡ t)) one (k.0.of, k.0.on))

@@ -1,0 +1,5 @@
+pub mod TablesThroughChanges
+pub mod TotalOrders
+pub mod SetOfKeys
+pub mod FirstOfAnId
+pub mod FirstOfAQueue

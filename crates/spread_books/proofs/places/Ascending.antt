@@ -1,0 +1,153 @@
+-- lists of orders in order of place, and the table of them by place
+use Rattle.std.proofs.Common.{◌≡◌, ℕ, ◌-◌, ◌<◌, ◌≤◌, ◌==◌, Bool, true, false, List, [], ◌∷◌, ◌++◌, map, Some, None, Contains, All, refl, sym, ap, ◌∙◌, subst, arith, inl, inr, ◌⊎◌}
+use Rattle.std.specs.Ordering.{nat_cmp}
+use Rattle.std.specs.declared.cmp.Ordering.TheVariants.{Less, Equal, Greater}
+use Rattle.std.specs.List.{find}
+use Rattle.std.specs.Map.{values_of, keys_of, lookup, remove_entry, set_value}
+use Rattle.std.specs.BTreeMap.{is_at, insert_entry}
+use Rattle.std.proofs.lemmas.Cmp.{ranked, by_ranked}
+use Rattle.std.proofs.lemmas.Bool.Decides.{nat_tests}
+use Rattle.std.proofs.lemmas.Map.Keys.{sorted_head, sorted_tail}
+use Rattle.std.proofs.lemmas.List.Elements.{All-from_recursion, All-contains, All-head, All-tail}
+use Rattle.spread_rules.specs.declared.order.Order.{Order}
+use Rattle.spread_rules.specs.Clearing.{reduced, removed}
+use Rattle.spread_rules.proofs.lists.Membership.{not_in_nil, in_head, in_tail, in_cons_cases, in_map}
+use Rattle.spread_books.specs.Index.{by_place, Ascends}
+
+abbrev pub places : List Order → List ℕ
+places xs = map (λ o. o.place) xs
+
+pub is_below : (a b : ℕ) → nat_cmp a b ≡ Less → a < b
+is_below a b h = ranked a b Less (sym h)
+
+pub cmp_below : (a b : ℕ) → a < b → nat_cmp a b ≡ Less
+cmp_below a b h = grind (arith, nat_tests)
+
+pub cmp_above : (a b : ℕ) → b < a → nat_cmp a b ≡ Greater
+cmp_above a b h = grind (arith, nat_tests)
+
+pub cmp_same : (a : ℕ) → nat_cmp a a ≡ Equal
+cmp_same a = grind (arith, nat_tests)
+
+-- the others stand behind the first
+pub behind_first : (x : Order) (xs : List Order) (o : Order) → Ascends (x ∷ xs) → Contains xs o → x.place < o.place
+behind_first x xs o s c =
+    is_below x.place o.place (All-contains (λ (y : ℕ). nat_cmp x.place y ≡ Less) (places xs) o.place
+    (All-from_recursion (λ (y : ℕ). nat_cmp x.place y ≡ Less) (places xs) (sorted_head nat_cmp x.place (places xs) s))
+    (in_map (λ (p : Order). p.place) xs o c))
+
+pub others_ascend : (x : Order) (xs : List Order) → Ascends (x ∷ xs) → Ascends xs
+others_ascend x xs s = sorted_tail nat_cmp x.place (places xs) s
+
+-- no two have one place
+pub one_at_a_place : (xs : List Order) (p o : Order) → Ascends xs → Contains xs p → Contains xs o → p.place ≡ o.place → p ≡ o
+one_at_a_place [] p o s c d e = absurd (not_in_nil p c)
+one_at_a_place (x ∷ xs) p o s c d e =
+    elim (in_cons_cases x xs p c) [
+      | inl h ↦ elim (in_cons_cases x xs o d) [
+        | inl k ↦ sym h ∙ k
+        | inr k ↦ let b = behind_first x xs o s k in let f = ap (λ (q : Order). q.place) h in absurd (omega arith)
+      ]
+      | inr h ↦ elim (in_cons_cases x xs o d) [
+        | inl k ↦ let b = behind_first x xs p s h in let f = ap (λ (q : Order). q.place) k in absurd (omega arith)
+        | inr k ↦ one_at_a_place xs p o (others_ascend x xs s) h k e
+      ]
+    ]
+
+pub values_by_place : (xs : List Order) → values_of (map by_place xs) ≡ xs
+values_by_place [] = refl
+values_by_place (x ∷ xs) = ap (λ (ys : List Order). x ∷ ys) (values_by_place xs)
+
+pub keys_by_place : (xs : List Order) → keys_of (map by_place xs) ≡ places xs
+keys_by_place [] = refl
+keys_by_place (x ∷ xs) = ap (λ (ys : List ℕ). x.place ∷ ys) (keys_by_place xs)
+
+-- the order of a place is found there
+pub found_at : (xs : List Order) (o : Order) → Ascends xs → Contains xs o → lookup (is_at (nat_cmp o.place)) (map by_place xs) ≡ Some o
+found_at [] o s c = absurd (not_in_nil o c)
+found_at (x ∷ xs) o s c =
+    elim (in_cons_cases x xs o c) [
+      | inl h ↦ let e = ap (λ (p : Order). p.place) h in let k : nat_cmp o.place x.place ≡ Equal = rw e (cmp_same o.place) in rw k (ap (λ (p : Order). Some p) h)
+      | inr h ↦ rw (cmp_above o.place x.place (behind_first x xs o s h)) (found_at xs o (others_ascend x xs s) h)
+    ]
+
+-- what is found there is the order of that place
+pub from_found : (xs : List Order) (place : ℕ) (o : Order) → lookup (is_at (nat_cmp place)) (map by_place xs) ≡ Some o → Contains xs o × (o.place ≡ place)
+from_found [] place o h = cc
+from_found (x ∷ xs) place o h =
+    by_ranked (place < x.place) (place ≡ x.place) (x.place < place) (nat_cmp place x.place) (ranked place x.place (nat_cmp place x.place) refl)
+    (λ e l. let r = from_found xs place o (rw e at h) in (in_tail x xs o r.0, r.1))
+    (λ e l. let k : x ≡ o = let g = rw e at h in cc in (subst (λ (p : Order). Contains (x ∷ xs) p) k (in_head x xs), cc))
+    (λ e l. let r = from_found xs place o (rw e at h) in (in_tail x xs o r.0, r.1))
+
+pub lookup_is_find : (xs : List Order) (place : ℕ) → lookup (is_at (nat_cmp place)) (map by_place xs) ≡ find (λ o. o.place == place) xs
+lookup_is_find [] place = refl
+lookup_is_find (x ∷ xs) place =
+    by_ranked (place < x.place) (place ≡ x.place) (x.place < place) (nat_cmp place x.place) (ranked place x.place (nat_cmp place x.place) refl)
+    (λ e l. let k : (x.place == place) ≡ false = grind (arith, nat_tests) in rw (e, k) (lookup_is_find xs place))
+    (λ e l. let k : (x.place == place) ≡ true = grind (arith, nat_tests) in rw (e, k))
+    (λ e l. let k : (x.place == place) ≡ false = grind (arith, nat_tests) in rw (e, k) (lookup_is_find xs place))
+
+-- the greatest place goes to the end
+pub insert_last : (xs : List Order) (o : Order) → All (λ p. p.place < o.place) xs → insert_entry nat_cmp (map by_place xs) o.place o ≡ map by_place (xs ++ o ∷ [])
+insert_last [] o h = refl
+insert_last (x ∷ xs) o h =
+    rw (cmp_above o.place x.place (All-head (λ (p : Order). p.place < o.place) x xs h))
+    (ap (λ (es : List (ℕ × Order)). by_place x ∷ es) (insert_last xs o (All-tail (λ (p : Order). p.place < o.place) x xs h)))
+
+-- a place that no order has
+pub kept_without : (xs : List Order) (place : ℕ) → ((o : Order) → Contains xs o → place < o.place) → removed place xs ≡ xs
+kept_without [] place h = refl
+kept_without (x ∷ xs) place h =
+    let l = h x (in_head x xs) in
+    let k : (x.place == place) ≡ false = grind (arith, nat_tests) in
+    rw k (ap (λ (ys : List Order). x ∷ ys) (kept_without xs place (λ o c. h o (in_tail x xs o c))))
+
+pub remove_at : (xs : List Order) (place : ℕ) → Ascends xs → remove_entry (is_at (nat_cmp place)) (map by_place xs) ≡ map by_place (removed place xs)
+remove_at [] place s = refl
+remove_at (x ∷ xs) place s =
+    by_ranked (place < x.place) (place ≡ x.place) (x.place < place) (nat_cmp place x.place) (ranked place x.place (nat_cmp place x.place) refl)
+    (λ e l. let k : (x.place == place) ≡ false = grind (arith, nat_tests) in rw (e, k) (ap (λ (es : List (ℕ × Order)). by_place x ∷ es) (remove_at xs place (others_ascend x xs s))))
+    (λ e l. let k : (x.place == place) ≡ true = grind (arith, nat_tests) in rw (e, k) (ap (λ (ys : List Order). map by_place ys) (sym (kept_without xs place (λ o c. let b = behind_first x xs o s c in omega arith)))))
+    (λ e l. let k : (x.place == place) ≡ false = grind (arith, nat_tests) in rw (e, k) (ap (λ (es : List (ℕ × Order)). by_place x ∷ es) (remove_at xs place (others_ascend x xs s))))
+
+pub as_before : (xs : List Order) (place by : ℕ) → ((o : Order) → Contains xs o → place < o.place) → reduced place by xs ≡ xs
+as_before [] place by h = refl
+as_before (x ∷ xs) place by h =
+    let l = h x (in_head x xs) in
+    let k : (x.place == place) ≡ false = grind (arith, nat_tests) in
+    rw k (ap (λ (ys : List Order). x ∷ ys) (as_before xs place by (λ o c. h o (in_tail x xs o c))))
+
+-- an order with less left takes the place of the order
+pub set_at : (xs : List Order) (place by : ℕ) (o : Order) → Ascends xs → lookup (is_at (nat_cmp place)) (map by_place xs) ≡ Some o → set_value (is_at (nat_cmp place)) (map by_place xs) (record o { leaves = o.leaves - by }) ≡ map by_place (reduced place by xs)
+set_at [] place by o s h = refl
+set_at (x ∷ xs) place by o s h =
+    by_ranked (place < x.place) (place ≡ x.place) (x.place < place) (nat_cmp place x.place) (ranked place x.place (nat_cmp place x.place) refl)
+    (λ e l. let k : (x.place == place) ≡ false = grind (arith, nat_tests) in rw (e, k) (ap (λ (es : List (ℕ × Order)). by_place x ∷ es) (set_at xs place by o (others_ascend x xs s) (rw e at h))))
+    (λ e l.
+    let k : (x.place == place) ≡ true = grind (arith, nat_tests) in
+    let q : x ≡ o = let g = rw e at h in cc in
+    let rest = sym (as_before xs place by (λ p c. let b = behind_first x xs p s c in omega arith)) in
+    rw (e, k) (subst (λ (p : Order). (x.place, record p { leaves = p.leaves - by }) ∷ map by_place xs ≡ (x.place, record x { leaves = x.leaves - by }) ∷ map by_place (reduced place by xs)) q
+    (ap (λ (ys : List Order). (x.place, record x { leaves = x.leaves - by }) ∷ map by_place ys) rest)))
+    (λ e l. let k : (x.place == place) ≡ false = grind (arith, nat_tests) in rw (e, k) (ap (λ (es : List (ℕ × Order)). by_place x ∷ es) (set_at xs place by o (others_ascend x xs s) (rw e at h))))
+
+-- ---- the first that passes a test
+pub find_none : (test : Order → Bool) (xs : List Order) → ((o : Order) → Contains xs o → test o ≡ false) → find test xs ≡ None
+find_none test [] h = refl
+find_none test (x ∷ xs) h = rw (h x (in_head x xs)) (find_none test xs (λ o c. h o (in_tail x xs o c)))
+
+either : (b : Bool) → (b ≡ true) ⊎ (b ≡ false)
+either true = inl refl
+either false = inr refl
+
+pub find_first : (test : Order → Bool) (xs : List Order) (o : Order) → Ascends xs → Contains xs o → test o ≡ true → ((p : Order) → Contains xs p → test p ≡ true → o.place ≤ p.place) → find test xs ≡ Some o
+find_first test [] o s c t h = absurd (not_in_nil o c)
+find_first test (x ∷ xs) o s c t h =
+    elim (in_cons_cases x xs o c) [
+      | inl e ↦ let k : test x ≡ true = ap test e ∙ t in rw k (ap (λ (p : Order). Some p) e)
+      | inr d ↦ elim (either (test x)) [
+        | inl k ↦ let b = behind_first x xs o s d in let l = h x (in_head x xs) k in absurd (omega arith)
+        | inr k ↦ rw k (find_first test xs o (others_ascend x xs s) d t (λ p q u. h p (in_tail x xs p q) u))
+      ]
+    ]

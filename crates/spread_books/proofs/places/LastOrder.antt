@@ -1,0 +1,185 @@
+-- orders in order of place, and one more or none behind them
+use Rattle.std.proofs.Common.{◌≡◌, ℕ, ◌-◌, ◌<◌, ◌==◌, Bool, true, false, not, cond, List, [], ◌∷◌, ◌++◌, Option, Some, None, Contains, All, refl, sym, ap, ◌∙◌, subst, arith, inl, inr}
+use Rattle.std.specs.Ordering.{nat_cmp}
+use Rattle.std.specs.declared.cmp.Ordering.TheVariants.{Less}
+use Rattle.std.specs.List.{find}
+use Rattle.std.specs.List.Sorted.{IsStrictlySortedBy}
+use Rattle.std.specs.Option.{option_to_list, option_or}
+use Rattle.std.proofs.lemmas.Bool.Decides.{nat_tests}
+use Rattle.std.proofs.lemmas.List.{map-append}
+use Rattle.std.proofs.lemmas.List.Elements.{All-contains, All-contains_itself, All-map, All-head, All-tail, All-weaker, recursion_from_All, Contains-append_cases, Contains-append_left, Contains-push, Contains-push_cases, filter-append}
+use Rattle.std.proofs.lemmas.List.Folds.{find-append}
+use Rattle.spread_rules.specs.declared.order.Order.{Order}
+use Rattle.spread_rules.specs.Clearing.{reduced, removed, with_less_left}
+use Rattle.spread_rules.proofs.lists.Membership.{not_in_nil, in_head, in_tail, in_cons_cases}
+use Rattle.spread_books.specs.Queues.{HasMore, HasPlace}
+use Rattle.spread_books.specs.Index.{Ascends}
+use Rattle.spread_books.proofs.places.Ascending.{places, cmp_below, behind_first, others_ascend, find_none}
+use Rattle.spread_books.proofs.keys.SetOfKeys.{is_so, from_removed, keys_reduced}
+
+all_of : (P : Order → Type 0) (xs : List Order) → ((o : Order) → Contains xs o → P o) → All P xs
+all_of P xs h = All-weaker (λ o. Contains xs o) P h xs (All-contains_itself xs)
+
+-- ---- places that rise
+
+above : (n : ℕ) (xs : List Order) → ((o : Order) → Contains xs o → n < o.place) → All (λ y. nat_cmp n y ≡ Less) (places xs)
+above n xs h = All-map (λ (y : ℕ). nat_cmp n y ≡ Less) (λ (o : Order). o.place) xs (all_of (λ (o : Order). nat_cmp n o.place ≡ Less) xs (λ o c. cmp_below n o.place (h o c)))
+
+ascends_cons : (x : Order) (xs : List Order) → ((o : Order) → Contains xs o → x.place < o.place) → Ascends xs → Ascends (x ∷ xs)
+unfolding IsStrictlySortedBy
+ascends_cons x xs h s = (recursion_from_All (λ (y : ℕ). nat_cmp x.place y ≡ Less) (places xs) (above x.place xs h), s)
+
+pub ascends_added : (xs : List Order) (o : Order) → Ascends xs → All (λ p. p.place < o.place) xs → Ascends (xs ++ o ∷ [])
+ascends_added [] o s h = ascends_cons o [] (λ p c. absurd (not_in_nil p c)) s
+ascends_added (x ∷ xs) o s h =
+    ascends_cons x (xs ++ o ∷ []) (λ p c.
+    elim (Contains-push_cases xs o p c) [
+      | inl d ↦ behind_first x xs p s d
+      | inr e ↦ subst (λ (q : Order). x.place < q.place) e (All-head (λ (q : Order). q.place < o.place) x xs h)
+    ])
+    (ascends_added xs o (others_ascend x xs s) (All-tail (λ (q : Order). q.place < o.place) x xs h))
+
+pub ascends_reduced : (place by : ℕ) (xs : List Order) → Ascends xs → Ascends (reduced place by xs)
+ascends_reduced place by xs s = subst (λ (ps : List ℕ). IsStrictlySortedBy nat_cmp ps) (sym (keys_reduced (λ (o : Order). o.place) (λ o n. refl) place by xs)) s
+
+pub ascends_removed : (place : ℕ) (xs : List Order) → Ascends xs → Ascends (removed place xs)
+ascends_removed place [] s = s
+ascends_removed place (x ∷ xs) s =
+    let rest = ascends_removed place xs (others_ascend x xs s) in
+    let at = λ (b : Bool). Ascends (cond (not b) (x ∷ removed place xs) (removed place xs)) in
+    elim (is_so (x.place == place)) [
+      | inl k ↦ subst at (sym k) rest
+      | inr k ↦ subst at (sym k) (ascends_cons x (removed place xs) (λ o c. behind_first x xs o s (from_removed place xs o c).0) rest)
+    ]
+
+below_last : (xs : List Order) (n : Order) → Ascends (xs ++ n ∷ []) → (o : Order) → Contains xs o → o.place < n.place
+below_last [] n s o c = absurd (not_in_nil o c)
+below_last (x ∷ xs) n s o c =
+    elim (in_cons_cases x xs o c) [
+      | inl e ↦ subst (λ (p : Order). p.place < n.place) e (behind_first x (xs ++ n ∷ []) n s (Contains-push xs n))
+      | inr d ↦ below_last xs n (others_ascend x (xs ++ n ∷ []) s) o d
+    ]
+
+pub all_below : (xs : List Order) (n : Order) → Ascends (xs ++ n ∷ []) → All (λ o. o.place < n.place) xs
+all_below xs n s = all_of (λ (o : Order). o.place < n.place) xs (below_last xs n s)
+
+-- ---- a place that no order of the list has
+
+unfound : (xs : List Order) (place : ℕ) → find (λ o. o.place == place) xs ≡ None → (o : Order) → Contains xs o → (o.place == place) ≡ false
+unfound [] place h o c = absurd (not_in_nil o c)
+unfound (x ∷ xs) place h o c =
+    elim (is_so (x.place == place)) [
+      | inl k ↦ let g = rw k at h in cc
+      | inr k ↦ elim (in_cons_cases x xs o c) [
+        | inl e ↦ subst (λ (p : Order). (p.place == place) ≡ false) e k
+        | inr d ↦ unfound xs place (rw k at h) o d
+      ]
+    ]
+
+reduced_nobody : (xs : List Order) (place by : ℕ) → ((o : Order) → Contains xs o → (o.place == place) ≡ false) → reduced place by xs ≡ xs
+reduced_nobody [] place by h = refl
+reduced_nobody (x ∷ xs) place by h = rw (h x (in_head x xs)) (ap (λ (ys : List Order). x ∷ ys) (reduced_nobody xs place by (λ o c. h o (in_tail x xs o c))))
+
+removed_nobody : (xs : List Order) (place : ℕ) → ((o : Order) → Contains xs o → (o.place == place) ≡ false) → removed place xs ≡ xs
+removed_nobody [] place h = refl
+removed_nobody (x ∷ xs) place h = rw (h x (in_head x xs)) (ap (λ (ys : List Order). x ∷ ys) (removed_nobody xs place (λ o c. h o (in_tail x xs o c))))
+
+or_none : (r : Option Order) → option_or r None ≡ r
+or_none None = refl
+or_none (Some o) = refl
+
+-- ---- the first that passes a test
+
+pub found_behind : (test : Order → Bool) (xs ys : List Order) → find test xs ≡ None → find test (xs ++ ys) ≡ find test ys
+found_behind test xs ys none = find-append test xs ys ∙ ap (λ (r : Option Order). option_or r (find test ys)) none
+
+pub found_ahead : (test : Order → Bool) (xs ys : List Order) (o : Order) → find test xs ≡ Some o → find test (xs ++ ys) ≡ Some o
+found_ahead test xs ys o some = find-append test xs ys ∙ ap (λ (r : Option Order). option_or r (find test ys)) some
+
+-- ---- whose place is not among those behind
+
+module _ (xs ys : List Order) (place : ℕ) (none : find (λ o. o.place == place) ys ≡ None) where
+  pub reduced_before : (by : ℕ) → reduced place by (xs ++ ys) ≡ reduced place by xs ++ ys
+  reduced_before by = map-append (with_less_left place by) xs ys ∙ ap (λ (zs : List Order). reduced place by xs ++ zs) (reduced_nobody ys place by (unfound ys place none))
+
+  pub removed_before : removed place (xs ++ ys) ≡ removed place xs ++ ys
+  removed_before = filter-append (λ (o : Order). not (o.place == place)) xs ys ∙ ap (λ (zs : List Order). removed place xs ++ zs) (removed_nobody ys place (unfound ys place none))
+
+  pub found_before : find (λ o. o.place == place) (xs ++ ys) ≡ find (λ o. o.place == place) xs
+  found_before =
+      find-append (λ (o : Order). o.place == place) xs ys
+      ∙ ap (λ (r : Option Order). option_or (find (λ (o : Order). o.place == place) xs) r) none ∙ or_none (find (λ (o : Order). o.place == place) xs)
+
+  stands_before : (o : Order) → Contains (xs ++ ys) o → o.place ≡ place → Contains xs o
+  stands_before o c e =
+      elim (Contains-append_cases xs ys o c) [
+        | inl d ↦ d
+        | inr d ↦ let k = unfound ys place none o d in absurd (grind (arith, nat_tests))
+      ]
+
+  pub place_before : HasPlace (xs ++ ys) place → HasPlace xs place
+  place_before h = record { order = h.order; stands = stands_before h.order h.stands h.at; at = h.at }
+
+  pub more_before : (by : ℕ) → HasMore (xs ++ ys) place by → HasMore xs place by
+  more_before by h = record {
+    order = h.order;
+    stands = stands_before h.order h.stands h.at;
+    at = h.at;
+    each = all_of (λ (o : Order). o.place ≡ place → by < o.leaves) xs (λ o c. All-contains (λ (p : Order). p.place ≡ place → by < p.leaves) (xs ++ ys) o h.each (Contains-append_left xs ys o c));
+  }
+
+-- ---- whose place is that of the one behind
+
+-- the newest is the one that is found among none or one
+pub newest_is : (newest : Option Order) (place : ℕ) (o : Order) → find (λ o. o.place == place) (option_to_list newest) ≡ Some o → (newest ≡ Some o) × (o.place ≡ place)
+newest_is None place o h = cc
+newest_is (Some n) place o h =
+    elim (is_so (n.place == place)) [
+      | inl k ↦ let e : n ≡ o = let g = rw k at h in cc in let l : n.place ≡ place = grind (arith, nat_tests) in (ap (λ (p : Order). Some p) e, ap (λ (p : Order). p.place) (sym e) ∙ l)
+      | inr k ↦ let g = rw k at h in cc
+    ]
+
+module _ (xs : List Order) (o : Order) (up : Ascends (xs ++ o ∷ [])) where
+  others : (p : Order) → Contains xs p → (p.place == o.place) ≡ false
+  others p c = let l = below_last xs o up p c in grind (arith, nat_tests)
+
+  own : (o.place == o.place) ≡ true
+  own = grind (arith, nat_tests)
+
+  pub reduced_last : (by : ℕ) → reduced o.place by (xs ++ o ∷ []) ≡ xs ++ record o { leaves = o.leaves - by } ∷ []
+  reduced_last by =
+      let left : with_less_left o.place by o ≡ record o { leaves = o.leaves - by } = rw own in
+      map-append (with_less_left o.place by) xs (o ∷ [])
+      ∙ ap (λ (zs : List Order). zs ++ with_less_left o.place by o ∷ []) (reduced_nobody xs o.place by others)
+      ∙ ap (λ (p : Order). xs ++ p ∷ []) left
+
+  pub removed_last : removed o.place (xs ++ o ∷ []) ≡ xs ++ []
+  removed_last =
+      let gone : removed o.place (o ∷ []) ≡ [] = rw own in
+      filter-append (λ (p : Order). not (p.place == o.place)) xs (o ∷ [])
+      ∙ ap (λ (zs : List Order). removed o.place xs ++ zs) gone
+      ∙ ap (λ (zs : List Order). zs ++ []) (removed_nobody xs o.place others)
+
+  pub found_last : find (λ p. p.place == o.place) (xs ++ o ∷ []) ≡ Some o
+  found_last =
+      let here : find (λ (p : Order). p.place == o.place) (o ∷ []) ≡ Some o = rw own in
+      found_behind (λ (p : Order). p.place == o.place) xs (o ∷ []) (find_none (λ (p : Order). p.place == o.place) xs others) ∙ here
+
+module _ (xs : List Order) (newest : Option Order) (place : ℕ) (o : Order) (here : find (λ p. p.place == place) (option_to_list newest) ≡ Some o) (up : Ascends (xs ++ option_to_list newest)) where
+  whole : xs ++ option_to_list newest ≡ xs ++ o ∷ []
+  whole = ap (λ (r : Option Order). xs ++ option_to_list r) (newest_is newest place o here).0
+
+  rises : Ascends (xs ++ o ∷ [])
+  rises = subst (λ (zs : List Order). Ascends zs) whole up
+
+  at : o.place ≡ place
+  at = (newest_is newest place o here).1
+
+  pub reduced_newest : (by : ℕ) → reduced place by (xs ++ option_to_list newest) ≡ xs ++ record o { leaves = o.leaves - by } ∷ []
+  reduced_newest by = ap (λ (zs : List Order). reduced place by zs) whole ∙ ap (λ (n : ℕ). reduced n by (xs ++ o ∷ [])) (sym at) ∙ reduced_last xs o rises by
+
+  pub removed_newest : removed place (xs ++ option_to_list newest) ≡ xs ++ []
+  removed_newest = ap (λ (zs : List Order). removed place zs) whole ∙ ap (λ (n : ℕ). removed n (xs ++ o ∷ [])) (sym at) ∙ removed_last xs o rises
+
+  pub found_newest : find (λ p. p.place == place) (xs ++ option_to_list newest) ≡ Some o
+  found_newest = ap (λ (zs : List Order). find (λ (p : Order). p.place == place) zs) whole ∙ ap (λ (n : ℕ). find (λ (p : Order). p.place == n) (xs ++ o ∷ [])) (sym at) ∙ found_last xs o rises

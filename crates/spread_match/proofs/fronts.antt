@@ -1,0 +1,4 @@
+pub mod PairCost
+pub mod BeatAnyPair
+pub mod Levels
+pub mod Suffice

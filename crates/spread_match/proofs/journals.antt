@@ -1,0 +1,3 @@
+pub mod AfterEveryEntry
+pub mod FillsFitTheirOrders
+pub mod InRange

@@ -1,0 +1,5 @@
+pub mod InOrder
+pub mod ByClOrdId
+pub mod PlacesNearIndex
+pub mod FillsThatRenewNone
+pub mod FillsAndStatuses

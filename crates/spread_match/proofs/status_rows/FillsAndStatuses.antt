@@ -1,0 +1,297 @@
+-- what a fill does to what was filled, and to the status of its order
+use Rattle.std.proofs.Common.{◌≡◌, ◌≢◌, ℕ, zero, suc, ◌==◌, ◌+◌, ◌-◌, ◌<◌, ◌≤◌, ℤ, Bool, true, false, not, ◌&&◌, cond, List, [], ◌∷◌, ◌++◌, map, fold, Contains, Option, Some, None, refl, subst, sym, ap, ◌∙◌, arith, inl, inr, append_assoc}
+use Rattle.std.proofs.lemmas.Bool.Decides.{nat_tests}
+use Rattle.std.proofs.lemmas.List.Sums.{fold-append}
+use Rattle.std.proofs.lemmas.List.Elements.{Contains-push_cases}
+use Rattle.std.proofs.lemmas.Int.{ints}
+use Rattle.spread_rules.specs.declared.order.Side.{Side}
+use Rattle.spread_rules.specs.declared.order.Side.TheVariants.{Buy, Sell}
+use Rattle.spread_rules.specs.declared.order.Order.{Order}
+use Rattle.spread_rules.specs.declared.fill.Fill.{Fill}
+use Rattle.spread_rules.specs.declared.candidate.Candidate.{Candidate}
+use Rattle.spread_rules.specs.declared.candidate.Counterparty.{Counterparty}
+use Rattle.spread_rules.specs.declared.candidate.Counterparty.TheVariants.{Direct, Implied}
+use Rattle.spread_rules.specs.Candidates.{least_left, IsOf, is_within_limit}
+use Rattle.spread_rules.specs.Clearing.{Trading, next, turn, turns, traded, after_fill, removed, reduced, with_less_left, fills_of, fill_of, members, legs_at}
+use Rattle.spread_rules.proofs.lists.Membership.{in_head, in_tail, in_cons_cases, not_in_nil, from_map}
+use Rattle.spread_rules.proofs.clearings.TurnsEnd.{in_filter, members_rest, next_meets, next_left, next_least}
+use Rattle.spread_rules.specs.declared.outcome.OrderStatus.{OrderStatus}
+use Rattle.spread_match.specs.Trade.{PlacesDiffer, AreApart, IsTradable}
+use Rattle.spread_match.specs.Sound.{IsCounted, KeepsLimit}
+use Rattle.spread_match.specs.Kept.{renewed, renewed_by, renew_step}
+use Rattle.spread_match.proofs.turns.NotAgainstItself.{are_apart}
+use Rattle.spread_match.proofs.turns.StaysTradable.{still_tradable}
+use Rattle.spread_match.proofs.turns.OneTurn.{least_some}
+use Rattle.spread_match.proofs.turns.StaysAfterAFill.{still_there, still_differ}
+use Rattle.spread_rules.specs.Candidates.{Pairs}
+use Rattle.spread_rules.specs.Meaning.{PastNew, filled, is_refused, status_at, status_of}
+
+module _ (on : Pairs) where
+  pub filled_push : (place : ℕ) (fs : List Fill) (f : Fill) → filled place (fs ++ f ∷ []) ≡ filled place fs + cond (f.order == place) f.quantity 0
+  filled_push place [] f = omega arith
+  filled_push place (g ∷ fs) f = omega (arith, filled_push place fs f)
+
+  test_same : (a b : ℕ) → a ≡ b → (a == b) ≡ true
+  test_same a b h = grind (arith, nat_tests)
+
+  test_other : (a b : ℕ) → a ≢ b → (a == b) ≡ false
+  test_other a b h = grind (arith, nat_tests)
+
+  same_test : (a b : ℕ) → (a == b) ≡ true → a ≡ b
+  same_test a b h = grind (arith, nat_tests)
+
+  pub filled_own : (fs : List Fill) (f : Fill) → filled f.order (fs ++ f ∷ []) ≡ filled f.order fs + f.quantity
+  filled_own fs f = filled_push f.order fs f ∙ ap (λ (t : Bool). filled f.order fs + cond t f.quantity 0) (test_same f.order f.order refl)
+
+  pub filled_other : (place : ℕ) (fs : List Fill) (f : Fill) → f.order ≢ place → filled place (fs ++ f ∷ []) ≡ filled place fs
+  filled_other place fs f h = let e = ap (λ (t : Bool). filled place fs + cond t f.quantity 0) (test_other f.order place h) in let k = filled_push place fs f in omega arith
+
+  -- ---- the status of its order
+
+  -- a fill of this order of the past: it was taken up, and this much of it was filled before
+  pub record IsFillOf (fs : List Fill) (f : Fill) (p : PastNew) : Type 0 where
+    pub taken : is_refused p.outcome ≡ false
+    pub counts : filled p.place fs + (f.quantity + f.leaves) ≡ p.ticket.quantity
+
+  status_left : (done quantity left q : ℕ) (b : Bool) → (left == 0) ≡ b → 0 < q → done + (q + left) ≡ quantity → ◌≡◌ {A = ℕ} (cond b 2 (cond (done == quantity) 2 4)) (cond ((done + q) == quantity) 2 4)
+  status_left done quantity left q true e s h = let t : ((done + q) == quantity) ≡ true = grind (arith, nat_tests) in rw t refl
+  status_left done quantity left q false e s h =
+      let t : ((done + q) == quantity) ≡ false = grind (arith, nat_tests) in
+      let u : (done == quantity) ≡ false = grind (arith, nat_tests) in rw (t, u) refl
+
+  put_status : (b : Bool) (s : OrderStatus) → cond b (record s { status = 2 }) s ≡ record s { status = cond b 2 s.status }
+  put_status true s = refl
+  put_status false s = refl
+
+  renewed_at : (fs : List Fill) (f : Fill) (p : PastNew) (b : Bool) → (p.place == f.order) ≡ b → 0 < f.quantity → (p.place ≡ f.order → IsFillOf fs f p) →
+      cond (b && f.leaves == 0) (record (status_of fs p) { status = 2 }) (status_of fs p) ≡ status_of (fs ++ f ∷ []) p
+  renewed_at fs f p false e s h =
+      let other : f.order ≢ p.place = λ k. (let t : (p.place == f.order) ≡ true = test_same p.place f.order (sym k) in let no : true ≡ false = sym t ∙ e in cc) in
+      ap (λ (k : ℕ). record { session = p.session; id = p.ticket.id; place = p.place; status = status_at p.outcome p.ticket.quantity k }) (sym (filled_other p.place fs f other))
+  renewed_at fs f p true e s h =
+      let place = same_test p.place f.order e in
+      let own = h place in
+      let more : filled p.place (fs ++ f ∷ []) ≡ filled p.place fs + f.quantity = subst (λ (k : ℕ). filled k (fs ++ f ∷ []) ≡ filled k fs + f.quantity) (sym place) (filled_own fs f) in
+      put_status (f.leaves == 0) (status_of fs p)
+      ∙ ap (λ (k : ℕ). record { session = p.session; id = p.ticket.id; place = p.place; status = k })
+      (ap (λ (r : Bool). cond (f.leaves == 0) 2 (cond r 8 (cond (filled p.place fs == p.ticket.quantity) 2 4))) own.taken
+      ∙ (status_left (filled p.place fs) p.ticket.quantity f.leaves f.quantity (f.leaves == 0) refl s own.counts
+      ∙ (ap (λ (k : ℕ). cond (k == p.ticket.quantity) 2 4) (sym more)
+      ∙ ap (λ (r : Bool). cond r 8 (cond (filled p.place (fs ++ f ∷ []) == p.ticket.quantity) 2 4)) (sym own.taken))))
+
+  pub statuses_push : (fs : List Fill) (f : Fill) (ps : List PastNew) → 0 < f.quantity → ((p : PastNew) → Contains ps p → p.place ≡ f.order → IsFillOf fs f p) →
+      map (renewed_by f) (map (status_of fs) ps) ≡ map (status_of (fs ++ f ∷ [])) ps
+  statuses_push fs f [] s h = refl
+  statuses_push fs f (p ∷ ps) s h =
+      ap (λ (x : OrderStatus). x ∷ map (renewed_by f) (map (status_of fs) ps)) (renewed_at fs f p (p.place == f.order) refl s (h p (in_head p ps)))
+      ∙ ap (λ (xs : List OrderStatus). status_of (fs ++ f ∷ []) p ∷ xs) (statuses_push fs f ps s (λ q c. h q (in_tail p ps q c)))
+
+  -- ---- the account of the orders that trade
+
+  -- of the new order and all that rest, after some fills
+  pub record AreCounted (ps : List PastNew) (past : List Fill) (n : Order) (xs : List Order) (made : List Fill) : Type 0 where
+    pub own : IsCounted ps (past ++ made) n
+    pub each : (o : Order) → Contains xs o → IsCounted ps (past ++ made) o
+    pub apart : (o : Order) → Contains xs o → o.place < n.place
+    pub before : (f : Fill) → Contains made f → f.order ≤ n.place
+    pub differ : PlacesDiffer xs
+    pub within : (f : Fill) → Contains (past ++ made) f → filled f.order (past ++ made) ≤ f.total
+    pub limits : (f : Fill) → Contains (past ++ made) f → KeepsLimit ps f
+    pub statuses : renewed made (map (status_of past) ps) ≡ map (status_of (past ++ made)) ps
+
+  -- a fill of q of that order
+  pub record IsFill (f : Fill) (o : Order) (q : ℕ) : Type 0 where
+    pub order : f.order ≡ o.place
+    pub quantity : f.quantity ≡ q
+    pub leaves : f.leaves ≡ o.leaves - q
+    pub total : f.total ≡ o.quantity
+    pub side : f.side ≡ o.side
+    pub within : is_within_limit o.side o.price f.price ≡ true
+
+  counted_less : (ps : List PastNew) (fs : List Fill) (f : Fill) (o : Order) (q : ℕ) → IsFill f o q → q ≤ o.leaves → IsCounted ps fs o → IsCounted ps (fs ++ f ∷ []) (record o { leaves = o.leaves - q })
+  counted_less ps fs f o q is l c =
+      let e : filled o.place (fs ++ f ∷ []) ≡ filled o.place fs + f.quantity = subst (λ (k : ℕ). filled k (fs ++ f ∷ []) ≡ filled k fs + f.quantity) is.order (filled_own fs f) in
+      let k = is.quantity in let h = c.counts in
+      record {
+        counts = omega arith;
+        known = λ p d m. let w = c.known p d m in record { taken = w.taken; quantity = w.quantity };
+        totals = λ g d m. elim (Contains-push_cases fs f g d) [ inl k ↦ c.totals g k m | inr e2 ↦ subst (λ (x : Fill). x.total ≡ o.quantity) e2 is.total ];
+        entry = let w = c.entry in record { new = w.new; entered = w.entered; at = w.at; side = w.side; price = w.price };
+      }
+
+  counted_other : (ps : List PastNew) (fs : List Fill) (f : Fill) (o : Order) → f.order ≢ o.place → IsCounted ps fs o → IsCounted ps (fs ++ f ∷ []) o
+  counted_other ps fs f o n c = let e = filled_other o.place fs f n in let h = c.counts in record {
+    counts = omega arith;
+    known = c.known;
+    totals = λ g d m. elim (Contains-push_cases fs f g d) [ inl k ↦ c.totals g k m | inr e2 ↦ absurd (n (ap (λ (x : Fill). x.order) e2 ∙ m)) ];
+    entry = c.entry;
+  }
+
+  more_statuses : (ps : List PastNew) (past made : List Fill) (f : Fill) (o : Order) (q : ℕ) → IsFill f o q → q ≤ o.leaves → 0 < q → IsCounted ps (past ++ made) o →
+      renewed made (map (status_of past) ps) ≡ map (status_of (past ++ made)) ps → renewed (made ++ f ∷ []) (map (status_of past) ps) ≡ map (status_of (past ++ (made ++ f ∷ []))) ps
+  more_statuses ps past made f o q is l s c h =
+      let some : 0 < f.quantity = subst (λ (k : ℕ). 0 < k) (sym is.quantity) s in
+      fold-append renew_step (map (status_of past) ps) made (f ∷ [])
+      ∙ (ap (map (renewed_by f)) h
+      ∙ (statuses_push (past ++ made) f ps some
+      (λ p d m.
+      let at : p.place ≡ o.place = m ∙ is.order in
+      let w = c.known p d at in
+      let k : filled p.place (past ++ made) ≡ filled o.place (past ++ made) = ap (λ (x : ℕ). filled x (past ++ made)) at in
+      let a = c.counts in let b = w.quantity in let u = is.quantity in let v = is.leaves in
+      record { taken = w.taken; counts = omega arith })
+      ∙ ap (λ (fs : List Fill). map (status_of fs) ps) (append_assoc past made (f ∷ []))))
+
+  moved : (ps : List PastNew) (past made : List Fill) (f : Fill) (o : Order) → IsCounted ps ((past ++ made) ++ f ∷ []) o → IsCounted ps (past ++ (made ++ f ∷ [])) o
+  moved ps past made f o h = subst (λ (fs : List Fill). IsCounted ps fs o) (append_assoc past made (f ∷ [])) h
+
+  not_below : (a b : ℕ) → a < b → a ≢ b
+  not_below a b h = λ e. omega arith
+
+  more_before : (n : Order) (made : List Fill) (f : Fill) → ((g : Fill) → Contains made g → g.order ≤ n.place) → f.order ≤ n.place → (g : Fill) → Contains (made ++ f ∷ []) g → g.order ≤ n.place
+  more_before n made f h k = λ g c. elim (Contains-push_cases made f g c) [ inl d ↦ h g d | inr e ↦ subst (λ (x : Fill). x.order ≤ n.place) e k ]
+
+  within_at : (fs : List Fill) (f g : Fill) (done quantity : ℕ) (b : Bool) → (f.order == g.order) ≡ b → filled g.order fs ≤ g.total → filled f.order (fs ++ f ∷ []) ≤ quantity → (f.order ≡ g.order → g.total ≡ quantity) → filled g.order (fs ++ f ∷ []) ≤ g.total
+  within_at fs f g done quantity true e h k t =
+      let same = same_test f.order g.order e in
+      let total = t same in
+      let l = subst (λ (x : ℕ). filled x (fs ++ f ∷ []) ≤ quantity) same k in omega arith
+  within_at fs f g done quantity false e h k t =
+      let other = filled_other g.order fs f (λ j. (let u : (f.order == g.order) ≡ true = test_same f.order g.order j in let no : true ≡ false = sym u ∙ e in cc)) in omega arith
+
+  more_within : (ps : List PastNew) (fs : List Fill) (f : Fill) (o : Order) (q : ℕ) → IsFill f o q → q ≤ o.leaves → IsCounted ps fs o → ((g : Fill) → Contains fs g → filled g.order fs ≤ g.total) →
+      (g : Fill) → Contains (fs ++ f ∷ []) g → filled g.order (fs ++ f ∷ []) ≤ g.total
+  more_within ps fs f o q is l c h = λ g d.
+      let e : filled f.order (fs ++ f ∷ []) ≡ filled f.order fs + f.quantity = filled_own fs f in
+      let a : filled f.order fs ≡ filled o.place fs = ap (λ (k : ℕ). filled k fs) is.order in
+      let k = is.quantity in let w = c.counts in
+      let most : filled f.order (fs ++ f ∷ []) ≤ o.quantity = omega arith in
+      elim (Contains-push_cases fs f g d) [
+        | inl m ↦ within_at fs f g 0 o.quantity (f.order == g.order) refl (h g m) most (λ j. c.totals g m (sym j ∙ is.order))
+        | inr m ↦ subst (λ (x : Fill). filled x.order (fs ++ f ∷ []) ≤ x.total) m (let t = is.total in omega arith)
+      ]
+
+  more_limits : (ps : List PastNew) (fs : List Fill) (f : Fill) (o : Order) (q : ℕ) → IsFill f o q → IsCounted ps fs o → ((g : Fill) → Contains fs g → KeepsLimit ps g) → (g : Fill) → Contains (fs ++ f ∷ []) g → KeepsLimit ps g
+  more_limits ps fs f o q is c h = λ g d. elim (Contains-push_cases fs f g d) [
+    | inl m ↦ h g m
+    | inr m ↦ subst (KeepsLimit ps) m (let w = c.entry in record {
+      new = w.new;
+      entered = w.entered;
+      at = w.at ∙ sym is.order;
+      side = w.side ∙ sym is.side;
+      within = rw (w.side, w.price) is.within;
+    })
+  ]
+
+  limit_itself : (side : Side) (price : ℤ) → is_within_limit side price price ≡ true
+  limit_itself Buy price = grind (arith, ints)
+  limit_itself Sell price = grind (arith, ints)
+
+  -- the new order's fill
+  pub own_filled : (ps : List PastNew) (past : List Fill) (n : Order) (xs : List Order) (made : List Fill) (f : Fill) (q : ℕ) → IsFill f n q → q ≤ n.leaves → 0 < q →
+      AreCounted ps past n xs made → AreCounted ps past (record n { leaves = n.leaves - q }) xs (made ++ f ∷ [])
+  own_filled ps past n xs made f q is l s h = record {
+    own = moved ps past made f (record n { leaves = n.leaves - q }) (counted_less ps (past ++ made) f n q is l h.own);
+    each = λ o c. moved ps past made f o (counted_other ps (past ++ made) f o (λ e. not_below o.place n.place (h.apart o c) (sym e ∙ is.order)) (h.each o c));
+    apart = h.apart;
+    before = more_before n made f h.before (let k = is.order in omega arith);
+    differ = h.differ;
+    within = subst (λ (fs : List Fill). (g : Fill) → Contains fs g → filled g.order fs ≤ g.total) (append_assoc past made (f ∷ [])) (more_within ps (past ++ made) f n q is l h.own h.within);
+    limits = subst (λ (fs : List Fill). (g : Fill) → Contains fs g → KeepsLimit ps g) (append_assoc past made (f ∷ [])) (more_limits ps (past ++ made) f n q is h.own h.limits);
+    statuses = more_statuses ps past made f n q is l s h.own h.statuses;
+  }
+
+  less_cases : (ps : List PastNew) (fs : List Fill) (f : Fill) (m o : Order) (q : ℕ) (b : Bool) → (o.place == m.place) ≡ b → IsFill f m q → q ≤ m.leaves → (o.place ≡ m.place → o ≡ m) → IsCounted ps fs o →
+      IsCounted ps (fs ++ f ∷ []) (cond b (record o { leaves = o.leaves - q }) o)
+  less_cases ps fs f m o q true e is l d c =
+      let same = d (same_test o.place m.place e) in
+      counted_less ps fs f o q (subst (λ (w : Order). IsFill f w q) (sym same) is) (subst (λ (w : Order). q ≤ w.leaves) (sym same) l) c
+  less_cases ps fs f m o q false e is l d c =
+      counted_other ps fs f o (λ k. (let t : (o.place == m.place) ≡ true = test_same o.place m.place (sym (sym is.order ∙ k)) in let no : true ≡ false = sym t ∙ e in cc)) c
+
+  no_place : (place : ℕ) (x : Order) → (x.place == place) ≡ false → x.place ≢ place
+  no_place place x e = λ k. (let t : (x.place == place) ≡ true = test_same x.place place k in let no : true ≡ false = sym t ∙ e in cc)
+
+  kept_at : (place : ℕ) (x : Order) (ys : List Order) (o : Order) (b : Bool) → (x.place == place) ≡ b → (Contains ys o → o.place ≢ place) → Contains (cond (not b) (x ∷ ys) ys) o → o.place ≢ place
+  kept_at place x ys o true e on c = on c
+  kept_at place x ys o false e on c = elim (in_cons_cases x ys o c) [ inl s ↦ subst (λ (w : Order). w.place ≢ place) s (no_place place x e) | inr d ↦ on d ]
+
+  pub kept_other : (place : ℕ) (xs : List Order) (o : Order) → Contains (removed place xs) o → o.place ≢ place
+  kept_other place [] o c = absurd (not_in_nil o c)
+  kept_other place (x ∷ xs) o c = kept_at place x (removed place xs) o (x.place == place) refl (kept_other place xs o) c
+
+  less_place : (place by : ℕ) (o : Order) (b : Bool) → (cond b (record o { leaves = o.leaves - by }) o).place ≡ o.place
+  less_place place by o true = refl
+  less_place place by o false = refl
+
+  each_after : (ps : List PastNew) (fs : List Fill) (f : Fill) (xs : List Order) (m : Order) (q : ℕ) (b : Bool) → Contains xs m → PlacesDiffer xs → IsFill f m q → q ≤ m.leaves → ((o : Order) → Contains xs o → IsCounted ps fs o) →
+      (o : Order) → Contains (cond b (removed m.place xs) (reduced m.place q xs)) o → IsCounted ps (fs ++ f ∷ []) o
+  each_after ps fs f xs m q true s d is l h = λ o c.
+      counted_other ps fs f o (λ e. kept_other m.place xs o c (sym e ∙ is.order)) (h o (in_filter on (λ (w : Order). not (w.place == m.place)) xs o c))
+  each_after ps fs f xs m q false s d is l h = λ o c.
+      let r = from_map (with_less_left m.place q) xs o c in
+      subst (IsCounted ps (fs ++ f ∷ [])) r.2 (less_cases ps fs f m r.0 q (r.0.place == m.place) refl is l (d r.0 m r.1 s) (h r.0 r.1))
+
+  apart_after : (n : Order) (xs : List Order) (m : Order) (q : ℕ) (b : Bool) → ((o : Order) → Contains xs o → o.place < n.place) → (o : Order) → Contains (cond b (removed m.place xs) (reduced m.place q xs)) o → o.place < n.place
+  apart_after n xs m q true h = λ o c. h o (in_filter on (λ (w : Order). not (w.place == m.place)) xs o c)
+  apart_after n xs m q false h = λ o c.
+      let r = from_map (with_less_left m.place q) xs o c in
+      let p : r.0.place ≡ o.place = sym (less_place m.place q r.0 (r.0.place == m.place)) ∙ ap (λ (w : Order). w.place) r.2 in
+      subst (λ (k : ℕ). k < n.place) p (h r.0 r.1)
+
+  -- a member's fill
+  pub member_filled : (ps : List PastNew) (past : List Fill) (n : Order) (xs : List Order) (made : List Fill) (f : Fill) (m : Order) (q : ℕ) → Contains xs m → IsFill f m q → q ≤ m.leaves → 0 < q →
+      AreCounted ps past n xs made → AreCounted ps past n (after_fill q xs m) (made ++ f ∷ [])
+  member_filled ps past n xs made f m q c is l s h = record {
+    own = moved ps past made f n (counted_other ps (past ++ made) f n (λ e. not_below m.place n.place (h.apart m c) (sym is.order ∙ e)) h.own);
+    each = λ o d. moved ps past made f o (each_after ps (past ++ made) f xs m q (m.leaves == q) c h.differ is l h.each o d);
+    apart = apart_after n xs m q (m.leaves == q) h.apart;
+    before = more_before n made f h.before (let k = is.order in let a = h.apart m c in omega arith);
+    differ = still_differ q xs m (m.leaves == q) h.differ;
+    within = subst (λ (fs : List Fill). (g : Fill) → Contains fs g → filled g.order fs ≤ g.total) (append_assoc past made (f ∷ [])) (more_within ps (past ++ made) f m q is l (h.each m c) h.within);
+    limits = subst (λ (fs : List Fill). (g : Fill) → Contains fs g → KeepsLimit ps g) (append_assoc past made (f ∷ [])) (more_limits ps (past ++ made) f m q is (h.each m c) h.limits);
+    statuses = more_statuses ps past made f m q is l s (h.each m c) h.statuses;
+  }
+
+  turn_counted : (references : List ℤ) (ps : List PastNew) (past : List Fill) (n : Order) (xs : List Order) (made : List Fill) (p : Counterparty) (price : ℤ) → IsOf xs p → AreApart p → 0 < least_left n p → is_within_limit n.side n.price price ≡ true →
+      AreCounted ps past n xs made →
+      AreCounted ps past (record n { leaves = n.leaves - least_left n p }) (fold (after_fill (least_left n p)) xs (members p)) (made ++ fills_of references n (record { price = price; counterparty = p }))
+  turn_counted references ps past n xs made (Direct a) price c d s u h =
+      let q = least_left n (Direct a) in
+      let legs = legs_at references n.instrument price (Direct a) in
+      let f = fill_of n.place q legs n price in
+      let g = fill_of n.place q legs a a.price in
+      let one = own_filled ps past n xs made f q (record { order = refl; quantity = refl; leaves = refl; total = refl; side = refl; within = u }) (omega arith) s h in
+      let two = member_filled ps past (record n { leaves = n.leaves - q }) xs (made ++ f ∷ []) g a q c (record { order = refl; quantity = refl; leaves = refl; total = refl; side = refl; within = limit_itself a.side a.price }) (omega arith) s one in
+      subst (AreCounted ps past (record n { leaves = n.leaves - q }) (after_fill q xs a)) (append_assoc made (f ∷ []) (g ∷ [])) two
+  turn_counted references ps past n xs made (Implied a b) price c d s u h =
+      let q = least_left n (Implied a b) in
+      let legs = legs_at references n.instrument price (Implied a b) in
+      let f = fill_of n.place q legs n price in
+      let g = fill_of n.place q legs a a.price in
+      let k = fill_of n.place q legs b b.price in
+      let one = own_filled ps past n xs made f q (record { order = refl; quantity = refl; leaves = refl; total = refl; side = refl; within = u }) (omega arith) s h in
+      let two = member_filled ps past (record n { leaves = n.leaves - q }) xs (made ++ f ∷ []) g a q c.0 (record { order = refl; quantity = refl; leaves = refl; total = refl; side = refl; within = limit_itself a.side a.price }) (omega arith) s one in
+      let three = member_filled ps past (record n { leaves = n.leaves - q }) (after_fill q xs a) ((made ++ f ∷ []) ++ g ∷ []) k b q (still_there q xs a b (a.leaves == q) d c.1) (record { order = refl; quantity = refl; leaves = refl; total = refl; side = refl; within = limit_itself b.side b.price }) (omega arith) s two in
+      subst (AreCounted ps past (record n { leaves = n.leaves - q }) (after_fill q (after_fill q xs a) b))
+      (ap (λ (fs : List Fill). fs ++ k ∷ []) (append_assoc made (f ∷ []) (g ∷ [])) ∙ append_assoc made (f ∷ g ∷ []) (k ∷ [])) three
+
+  -- something is left of each that rests, and the account is right
+  pub record IsRunning (months : ℕ) (ps : List PastNew) (past : List Fill) (t : Trading) : Type 0 where
+    pub tradable : IsTradable months t.orders
+    pub counted : AreCounted ps past t.new t.orders t.fills
+
+  pub running_with : (references : List ℤ) (months : ℕ) (ps : List PastNew) (past : List Fill) (t : Trading) (r : Option Candidate) → next on t ≡ r → IsRunning months ps past t → IsRunning months ps past (traded references t r)
+  running_with references months ps past t None e h = h
+  running_with references months ps past t (Some o) e h =
+      let stands = members_rest on t o e in
+      let meets = next_meets on t o e in
+      let apart = are_apart on t.new t.orders o.counterparty o.price h.tradable.places stands meets in
+      record {
+        tradable = still_tradable on months t.new t.orders o.counterparty h.tradable stands apart;
+        counted = turn_counted references ps past t.new t.orders t.fills o.counterparty o.price stands apart (least_some on t.new t.orders o.counterparty stands h.tradable.left (next_left on t o e)) (next_least on t o e).eligible.within h.counted;
+      }
+
+  pub running : (references : List ℤ) (months : ℕ) (ps : List PastNew) (past : List Fill) (k : ℕ) (t : Trading) → IsRunning months ps past t → IsRunning months ps past (turns on references k t)
+  running references months ps past zero t h = h
+  running references months ps past (suc k) t h = running references months ps past k (turn on references t) (running_with references months ps past t (next on t) refl h)

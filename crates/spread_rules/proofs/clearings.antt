@@ -1,0 +1,4 @@
+pub mod BoughtIsSold
+pub mod TurnsEnd
+pub mod StaysQuiet
+pub mod WorkedExamples

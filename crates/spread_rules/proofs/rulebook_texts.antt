@@ -1,0 +1,6 @@
+pub mod DraftsOneLineMore
+pub mod FieldsReadOnce
+pub mod MonthLinesReadOnce
+pub mod NamesHaveNoSpace
+pub mod OneRulebook
+pub mod SymbolsNameOne
