@@ -3,7 +3,7 @@ ghost use Rattle.std.specs.Prelude.{ℕ, ◌<◌, ◌≤◌, length, slice_index
 ghost use Rattle.std.specs.Bool.{OnTrue};
 ghost use Rattle.spread_rules.specs.declared.fill.Fill.{Fill};
 ghost use Rattle.spread_rules.specs.Rulebook.{IsListed};
-ghost use Rattle.spread_report.specs.Conditions.{FitsFill, FitsOutcome};
+ghost use Rattle.spread_rules.specs.Ranges.{FitsOutcome, FitsFill};
 
 use crate::content::id;
 use crate::fault::Fault;

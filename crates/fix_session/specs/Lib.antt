@@ -4,3 +4,5 @@ pub mod View
 pub mod Places
 pub mod Steps
 pub mod Streams
+pub mod Reading
+pub mod ReaderFields

@@ -2,9 +2,13 @@
 #![tactic(auto)]
 
 pub mod laws;
+mod pieces;
+mod reader;
 mod session;
 mod table;
 #[cfg(test)]
 mod tests;
 
+pub use pieces::read_pieces;
+pub use reader::Reader;
 pub use session::{Session, Verdict};

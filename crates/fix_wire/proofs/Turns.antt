@@ -8,15 +8,15 @@ use Rattle.fix_wire.specs.Pieces.{Leaves, IsDrained, GoesOn}
 use Rattle.fix_wire.proofs.Stays.{frame_within}
 use Rattle.fix_wire.proofs.Scan.{scan_start, start_frames, no_frames, pass_law}
 
-no_first : (fs : List (List ℕ)) → first_frame fs ≡ None → fs ≡ []
+pub no_first : (fs : List (List ℕ)) → first_frame fs ≡ None → fs ≡ []
 no_first [] e = refl
 no_first (f ∷ fs) e = cc
 
-on_true : {P : Type 0} (b : Bool) → b ≡ true → OnTrue b P → P
+pub on_true : {P : Type 0} (b : Bool) → b ≡ true → OnTrue b P → P
 on_true true e p = p
 on_true false e p = cc
 
-start_len : (held : List ℕ) → length (from_first_start held) ≤ length held
+pub start_len : (held : List ℕ) → length (from_first_start held) ≤ length held
 start_len [] = omega arith
 start_len (b ∷ bs) = by_look (frame_at (b ∷ bs)) (may_begin (b ∷ bs)) (start_len bs)
   where

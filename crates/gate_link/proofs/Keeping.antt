@@ -5,7 +5,7 @@ use Rattle.spread_rules.specs.declared.event.Event.{Event}
 use Rattle.spread_rules.specs.declared.event.Event.TheVariants as events
 use Rattle.fix_wire.specs.Frames.{frames}
 use Rattle.gate_link.proofs.Owing.{owes_nothing}
-use Rattle.gate_link.specs.Gates.{gate_sent, gate_owed, gate_closed, Rests, Stepped, Ended}
+use Rattle.gate_link.specs.Gates.{gate_sent, gate_state, gate_held, gate_owed, gate_closed, Rests, Stepped, Ended}
 use Rattle.gate_link.specs.declared.gateway.Gateway.{Gateway}
 use Rattle.gate_link.specs.declared.gateway.Step.{Step}
 use Rattle.gate_link.specs.declared.gateway.Step.TheVariants.{Sent, Skipped, Need, Full, Closed}
@@ -51,4 +51,4 @@ sent_is_prefix g rest whole total = (gate_owed g rest, total)
 pub sent_is_whole : {A : Type 0} (g : Gateway A) (rest : List ℕ) (whole : List Event) → gate_sent g ++ gate_owed g rest ≡ whole → gate_closed g ≡ true → gate_sent g ≡ whole
 sent_is_whole g rest whole total shut =
     sym (append-nil (gate_sent g))
-    ∙ (ap (λ (t : List Event). gate_sent g ++ t) (sym (owes_nothing g.judging (frames (g.framer ++ rest)) shut)) ∙ total)
+    ∙ (ap (λ (t : List Event). gate_sent g ++ t) (sym (owes_nothing (gate_state g) (frames (gate_held g ++ rest)) shut)) ∙ total)

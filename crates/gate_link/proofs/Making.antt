@@ -1,12 +1,12 @@
--- One more gateway, and its lane.
+-- One more gateway, and its inbox.
 use Rattle.std.proofs.Common.{◌≡◌, ℕ, ◌<◌, ◌≤◌, List, [], ◌∷◌, ◌++◌, ◌⊎◌, length, sym, ap, ◌∙◌, inl, inr, arith, length-append}
 use Rattle.std.proofs.lemmas.List.{get_or_append_left, get_or_push}
 use Rattle.std.proofs.lemmas.Bool.{cases_lt, cases_eq}
 use Rattle.gate_link.proofs.Rowing.{row_at, row_past}
 use Rattle.gate_link.specs.Rows.{row}
-use Rattle.gate_link.specs.Lanes.{IsLaneOf, ArePairs}
+use Rattle.gate_link.specs.Inboxes.{IsInboxOf, ArePairs}
 use Rattle.gate_link.specs.Opening.{IsFresh, AreFresh}
-use Rattle.gate_link.specs.declared.lane.SessionLane.{SessionLane}
+use Rattle.gate_link.specs.declared.inbox.Inbox.{Inbox}
 use Rattle.gate_link.specs.declared.gateway.Gateway.{Gateway}
 
 -- a place of a list with one more element: an earlier one, or the last
@@ -15,7 +15,7 @@ snoc_cases xs y s below =
     let sum = length-append xs (y ∷ []) in
     elim (cases_lt s (length xs)) [ inl early ↦ inl early | inr late ↦ inr (omega arith) ]
 
-pub pairs_snoc : {A : Type 0} (ls : List (SessionLane A)) (gs : List (Gateway A)) (l : SessionLane A) (g : Gateway A) → ArePairs ls gs → IsLaneOf l g → ArePairs (ls ++ l ∷ []) (gs ++ g ∷ [])
+pub pairs_snoc : {A : Type 0} (ls : List (Inbox A)) (gs : List (Gateway A)) (l : Inbox A) (g : Gateway A) → ArePairs ls gs → IsInboxOf l g → ArePairs (ls ++ l ∷ []) (gs ++ g ∷ [])
 pairs_snoc ls gs l g pairs here =
     let same = pairs.0 in
     let more = length-append ls (l ∷ []) in

@@ -1,23 +1,24 @@
 -- A gateway through one step.
-use Rattle.std.proofs.Common.{◌≡◌, ◌≢◌, ℕ, Bool, false, List, [], ◌∷◌, ◌++◌, Some, None, Option, is_some, option_map, ◌||◌, refl, sym, ap, ◌∙◌, inl}
-use Rattle.std.specs.Bool.{OnTrue}
+use Rattle.std.proofs.Common.{◌≡◌, ◌≢◌, ℕ, ◌+◌, ◌-◌, false, List, [], ◌∷◌, ◌++◌, length, drop, Some, None, Option, ◌||◌, refl, ap, ◌∙◌, inl, arith}
+use Rattle.std.proofs.lemmas.List.{drop-drop}
 use Rattle.std.specs.List.{list_any}
 use Rattle.std.proofs.Math.Bool.{or-false}
-use Rattle.std.proofs.lemmas.Option.{same_Some}
 use Rattle.std.proofs.lemmas.List.Folds.{list_any-append}
 use Rattle.spread_rules.specs.Journal.{is_close}
 use Rattle.spread_rules.specs.declared.event.Event.{Event}
 use Rattle.spread_rules.specs.declared.event.Entry.{Entry}
-use Rattle.fix_wire.specs.Frames.{frames}
-use Rattle.fix_wire.specs.Held.{first_frame, from_first_start, after_first_frame}
-use Rattle.fix_wire.proofs.Scan.{scan_start}
-use Rattle.fix_wire.proofs.Turns.{passed_leaves}
-use Rattle.fix_session.specs.declared.session.Session.{Session}
-use Rattle.fix_session.specs.declared.session.Verdict.{Verdict}
-use Rattle.fix_session.specs.Steps.{judge}
-use Rattle.gate_link.specs.Owed.{SameFrames, Heads}
+use Rattle.fix_wire.specs.Frames.{frame_at}
+use Rattle.fix_wire.specs.Held.{from_first_start, past_frame, after_first_frame}
+use Rattle.fix_wire.proofs.Scan.{rest_stays}
+use Rattle.fix_wire.proofs.Turns.{start_len}
+use Rattle.fix_session.specs.Steps.{judge, event_in}
+use Rattle.fix_session.specs.Reading.{ReaderState, first_message, skipped, passed}
+use Rattle.fix_session.proofs.FirstMessage.{passed_skipped}
+use Rattle.fix_session.proofs.Feeding.{leaves_skipped, leaves_passed, session_passed}
+use Rattle.gate_link.specs.Owed.{owes, IsTail}
+use Rattle.gate_link.proofs.Owing.{owed_same}
 use Rattle.gate_link.specs.Rows.{events}
-use Rattle.gate_link.specs.Gates.{Stepped, Ended}
+use Rattle.gate_link.specs.Gates.{gate_sent, gate_state, gate_held, Rests, Passes, Stepped, Ended}
 use Rattle.gate_link.specs.declared.gateway.Gateway.{Gateway}
 use Rattle.gate_link.specs.declared.gateway.Step.{Step}
 use Rattle.gate_link.specs.declared.gateway.Step.TheVariants.{Sent, Skipped, Need, Full, Closed}
@@ -35,35 +36,50 @@ ended_of_step Need a b is s = is refl
 ended_of_step Full a b is s = inl s
 ended_of_step Closed a b is s = s
 
--- ---- the first message
-
-pub judged_some : (s : Session) (o : Option (List ℕ)) (r : Verdict × Session) → option_map (judge s) o ≡ Some r → (m : List ℕ) × ((o ≡ Some m) × (judge s m ≡ r))
-judged_some s None r e = absurd (let h : None ≡ Some r = e in cc)
-judged_some s (Some m) r e = (m, (refl, same_Some _ _ e))
-
-pub judged_none : (s : Session) (o : Option (List ℕ)) → option_map (judge s) o ≡ None → o ≡ None
-judged_none s None e = refl
-judged_none s (Some m) e = absurd (let h : Some (judge s m) ≡ None = e in cc)
-
-no_first : (fs : List (List ℕ)) → first_frame fs ≡ None → fs ≡ []
-no_first [] e = refl
-no_first (f ∷ fs) e = absurd (let h : Some f ≡ None = e in cc)
-
--- no message stands
-pub none_stands : (held : List ℕ) → first_frame (frames held) ≡ None → frames held ≡ []
-none_stands held e = no_first (frames held) e
-
-pub none_judged : (s : Session) (held : List ℕ) → option_map (judge s) (first_frame (frames held)) ≡ None → frames held ≡ []
-none_judged s held e = none_stands held (judged_none s (first_frame (frames held)) e)
+-- ---- what is held
 
 -- bytes at which no frame stands were skipped
-pub skipped : (old mid : List ℕ) → mid ≡ from_first_start old → SameFrames old mid
-skipped old mid e more = sym (scan_start old more) ∙ ap (λ t. frames (t ++ more)) (sym e)
+tail_start : (held : List ℕ) → IsTail held (from_first_start held)
+tail_start held =
+    let less = start_len held in
+    let k = length held - length (from_first_start held) in
+    (k, rest_stays held k (omega (arith, less)))
+
+-- and the frame that stands there was passed
+tail_after : (held : List ℕ) → IsTail held (after_first_frame held)
+tail_after held = by_frame (frame_at (from_first_start held)) (tail_start held)
+  where
+    by_frame : (o : Option ℕ) → IsTail held (from_first_start held) → IsTail held (past_frame o (from_first_start held))
+    by_frame None t = t
+    by_frame (Some n) t = (t.0 + n, ap (drop n) t.1 ∙ drop-drop n t.0 held)
+
+-- ---- one look
+
+pub looked : {A : Type 0} (a b : Gateway A) → b.reader ≡ skipped a.reader → gate_sent b ≡ gate_sent a → Rests a b
+looked a b e sent =
+    let same = leaves_skipped a.reader b.reader e in
+    let state = ap (λ r. r.session) e in
+    record {
+      sent = sent;
+      state = state;
+      held = same;
+      tail = ((tail_start (gate_held a)).0, ap (λ r. r.held) e ∙ (tail_start (gate_held a)).1);
+      owed = λ more. ap (λ s. owes s (gate_held b) more) state ∙ owed_same (gate_state a) (gate_held a) (gate_held b) same more;
+    }
 
 -- the first message was passed
-pub headed : (old mid new m : List ℕ) (b : Bool) → mid ≡ from_first_start old → first_frame (frames old) ≡ Some m → b ≡ is_some (first_frame (frames mid)) → OnTrue b (new ≡ after_first_frame mid)
-    → Heads m old new
-headed old mid new m b e first stands passed = (passed_leaves old mid new m b e first stands passed).0
+pub message_passed : {A : Type 0} (a b : Gateway A) (mid : ReaderState) (m : List ℕ) (says : Option Event) → mid ≡ skipped a.reader → first_message a.reader ≡ Some m → b.reader ≡ passed mid →
+    event_in (judge (gate_state a) m).0 ≡ says → Passes says a b
+message_passed a b mid m says e here went says_so =
+    let all : b.reader ≡ passed a.reader = went ∙ ap passed e ∙ passed_skipped a.reader in
+    record {
+      message = m;
+      stands = here;
+      says_so = says_so;
+      state = session_passed a.reader mid b.reader m e here went;
+      held = (leaves_passed a.reader mid b.reader m e here went).0;
+      tail = ((tail_after (gate_held a)).0, ap (λ r. r.held) all ∙ (tail_after (gate_held a)).1);
+    }
 
 -- whether a list has a close, one event later
 pub close_later : (xs : List Event) (e : Event) → list_any is_close xs ≡ false → list_any is_close (xs ++ e ∷ []) ≡ is_close e

@@ -4,9 +4,10 @@ use Rattle.rtrb.specs.Ring.{sent, known_free, SameProducer}
 use Rattle.spread_rules.specs.declared.event.Event.{Event}
 use Rattle.spread_rules.specs.declared.event.Event.TheVariants.{Close}
 use Rattle.fix_wire.specs.Frames.{frames}
+use Rattle.fix_wire.specs.Pieces.{IsDrained}
 use Rattle.fix_session.specs.declared.session.Session.{Session}
 use Rattle.fix_session.specs.Steps.{judge, event_in, is_closed}
-use Rattle.gate_link.specs.Owed.{owes, Stands, Heads, SameFrames}
+use Rattle.gate_link.specs.Owed.{owes, Stands, Heads, SameFrames, IsTail}
 use Rattle.gate_link.specs.Rows.{events}
 use Rattle.gate_link.specs.declared.gateway.Gateway.{Gateway}
 use Rattle.gate_link.specs.declared.gateway.Step.{Step}
@@ -26,19 +27,19 @@ gate_room g = known_free g.producer
 
 -- its judging state
 abbrev pub gate_state : {A : Type 0} → Gateway A → Session
-gate_state g = g.judging
+gate_state g = g.reader.session
 
 -- the bytes that were put and not passed
 abbrev pub gate_held : {A : Type 0} → Gateway A → List ℕ
-gate_held g = g.framer
+gate_held g = g.reader.held
 
 -- what it still has to send, if these bytes follow the held ones
 abbrev pub gate_owed : {A : Type 0} → Gateway A → List ℕ → List Event
-gate_owed g more = owes g.judging g.framer more
+gate_owed g more = owes g.reader.session g.reader.held more
 
 -- its session is over
 abbrev pub gate_closed : {A : Type 0} → Gateway A → Bool
-gate_closed g = is_closed g.judging
+gate_closed g = is_closed g.reader.session
 
 -- the same gateway of the same ring
 abbrev pub SameGate : {A : Type 0} → Gateway A → Gateway A → Type 0
@@ -49,6 +50,7 @@ pub record Rests {A : Type 0} (a b : Gateway A) : Type 0 where
   pub sent : gate_sent b ≡ gate_sent a
   pub state : gate_state b ≡ gate_state a
   pub held : SameFrames (gate_held a) (gate_held b)
+  pub tail : IsTail (gate_held a) (gate_held b)
   pub owed : (more : List ℕ) → gate_owed b more ≡ gate_owed a more
 
 -- the first message was judged and passed, and it says this
@@ -58,6 +60,7 @@ pub record Passes {A : Type 0} (says : Option Event) (a b : Gateway A) : Type 0 
   pub says_so : event_in (judge (gate_state a) message).0 ≡ says
   pub state : gate_state b ≡ (judge (gate_state a) message).1
   pub held : Heads message (gate_held a) (gate_held b)
+  pub tail : IsTail (gate_held a) (gate_held b)
 
 -- the first message was passed, and its event was sent
 pub record Sends {A : Type 0} (a b : Gateway A) : Type 0 where
@@ -82,6 +85,8 @@ pub record Needs {A : Type 0} (a b : Gateway A) : Type 0 where
   pub none : frames (gate_held a) ≡ []
   pub rests : Rests a b
   pub room : gate_room b ≡ gate_room a
+  -- there is room for more bytes
+  pub drained : IsDrained (gate_held b)
 
 -- the first message has an event, and the ring gave no room for it
 pub record Waits {A : Type 0} (a b : Gateway A) : Type 0 where

@@ -1,7 +1,7 @@
 pub mod Rows
 pub mod Owed
 pub mod Gates
-pub mod Lanes
+pub mod Inboxes
 pub mod Links
 pub mod Turns
 pub mod Opening

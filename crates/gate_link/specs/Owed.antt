@@ -1,5 +1,5 @@
 -- What a session still has to say.
-use Rattle.std.specs.Prelude.{◌≡◌, ℕ, List, [], ◌∷◌, ◌++◌, Some}
+use Rattle.std.specs.Prelude.{◌≡◌, ℕ, List, [], ◌∷◌, ◌++◌, drop, Some}
 use Rattle.spread_rules.specs.declared.event.Event.{Event}
 use Rattle.fix_wire.specs.Frames.{frames}
 use Rattle.fix_wire.specs.Held.{first_frame}
@@ -26,3 +26,7 @@ SameFrames a b = Leaves a [] b
 -- of the first bytes this is the first message, and these bytes follow it, whatever comes later
 abbrev pub Heads : List ℕ → List ℕ → List ℕ → Type 0
 Heads message a b = Leaves a (message ∷ []) b
+
+-- the last of these bytes are those
+abbrev pub IsTail : List ℕ → List ℕ → Type 0
+IsTail a b = (k : ℕ) × (b ≡ drop k a)

@@ -2,16 +2,14 @@
 ghost use Rattle.std.specs.List.{list_any};
 ghost use Rattle.rtrb.specs.Ring.{sent};
 ghost use Rattle.spread_rules.specs.Journal.{is_close};
-ghost use Rattle.fix_session.specs.Steps.{judge, is_closed};
+ghost use Rattle.fix_session.specs.Steps.{is_closed};
 ghost use Rattle.fix_wire.specs.Frames.{frames};
-ghost use Rattle.fix_wire.specs.Held.{first_frame, from_first_start};
 ghost use Rattle.gate_link.specs.Rows.{events};
 ghost use Rattle.std.specs.Prelude.{◌≡◌, ◌-◌, ◌↔◌, ℕ, List, ◌++◌, length, take, min, true, if◌then◌else◌, option_map, is_some};
 
-use fix_session::{Session, Verdict};
-use fix_wire::{Framer, Next};
+use fix_session::{Reader, Verdict};
 use rtrb::Producer;
-use spread_rules::{Entry, Event};
+use spread_rules::Entry;
 use std::alloc::Allocator;
 
 /// Judges the bytes of one session and sends its events. It may move to another thread.
@@ -19,10 +17,9 @@ use std::alloc::Allocator;
 pub struct Gateway<A: Allocator> {
     session: u8,
     pub(crate) producer: Producer<Entry, A>,
-    judging: Session,
-    framer: Framer,
+    reader: Reader,
     // It is closed exactly where its close was sent.
-    ghost close_sent: { is_closed judging ≡ list_any is_close (events (sent producer)) },
+    ghost close_sent: { is_closed reader.session ≡ list_any is_close (events (sent producer)) },
 }
 
 /// What one step of a gateway did.
@@ -40,28 +37,6 @@ pub enum Step {
     Closed,
 }
 
-/// What the first held message says, if one stands, and the session after it. Bytes at which no frame stands are skipped.
-fn judge_first(framer: &mut Framer, judging: Session) -> Option<(Verdict, Session)>
-    ensures verdict { result ≡ option_map (judge judging) (first_frame (frames framer.old)) }
-    ensures held { framer.new ≡ from_first_start framer.old }
-{
-    match framer.next() {
-        Next::Message(message) => Some(judging.judge(&message)),
-        Next::Need => None,
-    }
-}
-
-/// Whether a message stands among the held bytes. Bytes at which no frame stands are skipped.
-fn has_message(framer: &mut Framer) -> bool
-    ensures stands { result ≡ is_some (first_frame (frames framer.old)) }
-    ensures held { framer.new ≡ from_first_start framer.old }
-{
-    match framer.next() {
-        Next::Message(_) => true,
-        Next::Need => false,
-    }
-}
-
 impl<A: Allocator> Gateway<A> {
     ghost use Rattle.fix_session.specs.Steps.{new_session};
     ghost use Rattle.gate_link.specs.Gates.{gate_session, gate_sent, gate_room, gate_state, gate_held, gate_owed, gate_closed, SameGate, Rests, Stepped, Ended};
@@ -76,8 +51,7 @@ impl<A: Allocator> Gateway<A> {
         Gateway {
             session,
             producer,
-            judging: Session::new(),
-            framer: Framer::new(),
+            reader: Reader::new(),
         }
     }
 
@@ -92,7 +66,7 @@ impl<A: Allocator> Gateway<A> {
     pub fn is_closed(&self) -> bool
         ensures { result ≡ gate_closed self.now }
     {
-        self.judging.is_closed()
+        self.reader.is_closed()
     }
 
     /// Takes as much of the piece as there is room for, and says how many bytes. Once closed it takes the whole piece and
@@ -106,10 +80,10 @@ impl<A: Allocator> Gateway<A> {
         ensures held { gate_held self.new ≡ (if gate_closed self.old then gate_held self.old else gate_held self.old ++ take result piece.now) }
         ensures owed { (more : List ℕ) → gate_owed self.new more ≡ gate_owed self.old (take result piece.now ++ more) }
     {
-        if self.judging.is_closed() {
+        if self.reader.is_closed() {
             return piece.len();
         }
-        self.framer.put(piece)
+        self.reader.put(piece)
     }
 
     /// Whether a message stands that `step` would judge.
@@ -119,10 +93,10 @@ impl<A: Allocator> Gateway<A> {
         ensures room { gate_room self.new ≡ gate_room self.old }
         ensures stands { MatchBool result ((gate_closed self.old ≡ false) × ((m : List ℕ) × Stands m (gate_held self.old))) ((gate_closed self.old ≡ true) ⊎ (frames (gate_held self.old) ≡ [])) }
     {
-        if self.judging.is_closed() {
+        if self.reader.is_closed() {
             return false;
         }
-        has_message(&mut self.framer)
+        self.reader.look().is_some()
     }
 
     /// Judges the first message that is held, and sends its event.
@@ -130,31 +104,25 @@ impl<A: Allocator> Gateway<A> {
         ensures gate { SameGate self.old self.new }
         ensures step { Stepped result self.old self.new }
     {
-        if self.judging.is_closed() {
+        if self.reader.is_closed() {
             return Step::Closed;
         }
-        let Some((verdict, after)) = judge_first(&mut self.framer, self.judging) else {
+        let Some(verdict) = self.reader.look() else {
             return Step::Need;
         };
-        match verdict {
-            Verdict::Nothing => {
-                self.framer.pass();
-                self.judging = after;
-                Step::Skipped
-            }
-            Verdict::Event(event) => {
-                let entry = Entry {
-                    session: self.session,
-                    event,
-                };
-                let Ok(()) = self.producer.push(entry) else {
-                    return Step::Full;
-                };
-                self.framer.pass();
-                self.judging = after;
-                Step::Sent
-            }
-        }
+        let Verdict::Event(event) = verdict else {
+            self.reader.pass();
+            return Step::Skipped;
+        };
+        let entry = Entry {
+            session: self.session,
+            event,
+        };
+        let Ok(()) = self.producer.push(entry) else {
+            return Step::Full;
+        };
+        self.reader.pass();
+        Step::Sent
     }
 
     /// After the last byte was put: steps, and where no message stands sends Close 5.
@@ -166,8 +134,7 @@ impl<A: Allocator> Gateway<A> {
             Step::Need => {}
             step => return step,
         }
-        let (verdict, after) = self.judging.end();
-        let Verdict::Event(event) = verdict else {
+        let Verdict::Event(event) = self.reader.at_end() else {
             unreachable!()
         };
         let close = Entry {
@@ -177,7 +144,7 @@ impl<A: Allocator> Gateway<A> {
         let Ok(()) = self.producer.push(close) else {
             return Step::Full;
         };
-        self.judging = after;
+        self.reader.end();
         Step::Sent
     }
 }

@@ -1,20 +1,20 @@
 //! Over all gateways of a link: what they have sent, and the first that is open.
 ghost use Rattle.std.specs.Prelude.{◌≡◌, ◌≤◌, length, IfSome, IfNone};
-ghost use Rattle.gate_link.specs.Lanes.{AllLooked, ArePairs};
+ghost use Rattle.gate_link.specs.Inboxes.{AllLooked, ArePairs};
 ghost use Rattle.gate_link.specs.Links.{AllClosed, IsFirstOpen};
 
 use crate::gateway::Gateway;
-use crate::lane::SessionLane;
+use crate::inbox::Inbox;
 use std::alloc::Allocator;
 
 /// Looks beside each gateway in turn.
-pub(crate) fn look_all<A: Allocator>(lanes: &mut [SessionLane<A>], gateways: &mut [Gateway<A>])
-    requires { ArePairs lanes.old gateways.old }
-    ensures { AllLooked lanes.old gateways.old lanes.new gateways.new }
+pub(crate) fn look_all<A: Allocator>(inboxes: &mut [Inbox<A>], gateways: &mut [Gateway<A>])
+    requires { ArePairs inboxes.old gateways.old }
+    ensures { AllLooked inboxes.old gateways.old inboxes.new gateways.new }
 {
-    for s in 0..lanes.len() {
-        let lane = &mut lanes[s];
-        lane.look(&mut gateways[s]);
+    for s in 0..inboxes.len() {
+        let inbox = &mut inboxes[s];
+        inbox.look(&mut gateways[s]);
     }
 }
 

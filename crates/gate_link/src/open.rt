@@ -1,12 +1,12 @@
 //! Makes the gateways and the sequencer of a day, and refuses what is out of range.
 ghost use Rattle.std.specs.Prelude.{◌≡◌, ◌≤◌, ◌<◌, ℕ, [], IfOk, IfErr, vec_len};
 ghost use Rattle.gate_link.specs.Rows.{row};
-ghost use Rattle.gate_link.specs.Lanes.{taken, ArePairs};
+ghost use Rattle.gate_link.specs.Inboxes.{taken, ArePairs};
 ghost use Rattle.gate_link.specs.Links.{IsLinkOf, journal_of, room_of, session_count};
 ghost use Rattle.gate_link.specs.Opening.{AreFresh, Between, IsRefusal, fault_number};
 
 use crate::gateway::Gateway;
-use crate::lane::SessionLane;
+use crate::inbox::Inbox;
 use crate::sequencer::Sequencer;
 use rtrb::RingBuffer;
 use spread_rules::Entry;
@@ -63,20 +63,20 @@ pub fn link<A: Allocator + Copy>(
     if journal > 1_000_000 {
         return Err(LinkFault::Journal);
     }
-    let Ok((gateways, lanes)) = rings(alloc, sessions, ring) else {
+    let Ok((gateways, inboxes)) = rings(alloc, sessions, ring) else {
         return Err(LinkFault::NoMemory);
     };
     let Ok(entries) = Vec::with_capacity(alloc, journal) else {
         return Err(LinkFault::NoMemory);
     };
-    Ok((gateways, Sequencer::new(lanes, entries, journal)))
+    Ok((gateways, Sequencer::new(inboxes, entries, journal)))
 }
 
 fn rings<A: Allocator + Copy>(
     alloc: A,
     sessions: usize,
     ring: usize,
-) -> Result<(Vec<Gateway<A>, A>, Vec<SessionLane<A>, A>), AllocError>
+) -> Result<(Vec<Gateway<A>, A>, Vec<Inbox<A>, A>), AllocError>
     requires { sessions ≤ 16 }
     ensures len { IfOk result (λ r. (vec_len r.0 ≡ sessions) × (vec_len r.1 ≡ sessions)) }
     ensures pairs { IfOk result (λ r. ArePairs r.1.items r.0.items) }
@@ -84,11 +84,11 @@ fn rings<A: Allocator + Copy>(
     ensures idle { IfOk result (λ r. (s : ℕ) → row taken r.1.items s ≡ []) }
 {
     let mut gateways = Vec::with_capacity(alloc, sessions)?;
-    let mut lanes = Vec::with_capacity(alloc, sessions)?;
+    let mut inboxes = Vec::with_capacity(alloc, sessions)?;
     for s in 0..sessions {
         let (producer, consumer) = RingBuffer::<Entry>::new(alloc, ring)?;
         gateways.push_reserved(Gateway::new(s as u8, producer));
-        lanes.push_reserved(SessionLane::new(consumer));
+        inboxes.push_reserved(Inbox::new(consumer));
     }
-    Ok((gateways, lanes))
+    Ok((gateways, inboxes))
 }

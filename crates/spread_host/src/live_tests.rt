@@ -8,7 +8,7 @@ use crate::output::put_months;
 use crate::worker::Gate;
 use gate_link::LinkFault;
 use host_base::Id;
-use refused_memory::Refusing;
+use test_support::Refusing;
 use spread_rules::{Entry, Event, Rulebook, Side, Ticket};
 use std::alloc::{AllocError, Allocator, Global};
 use std::sync::Wait;

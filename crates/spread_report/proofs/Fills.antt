@@ -1,11 +1,10 @@
 -- One fill more.
-use Rattle.std.proofs.Common.{◌≡◌, ℕ, ◌+◌, ◌<◌, List, [], ◌∷◌, ◌++◌, length, get_or, take, drop, subst, Err, sym, ap, ◌∙◌, arith, append_assoc, append-nil}
+use Rattle.std.proofs.Common.{◌≡◌, ℕ, ◌+◌, ◌<◌, List, [], ◌∷◌, ◌++◌, length, get_or, take, drop, subst, Ok, Err, sym, ap, ◌∙◌, arith, append_assoc, append-nil}
 use Rattle.std.proofs.lemmas.List.{take_more, take-append-drop}
 use Rattle.std.specs.declared.vec.Vec.{Vec}
-use Rattle.spread_report.specs.declared.line.SessionLine.{SessionLine}
 use Rattle.spread_report.specs.declared.fault.DeskFault.{DeskFault}
-use Rattle.spread_report.specs.Sessions.{Sent, SendResult}
-use Rattle.spread_report.proofs.Runs.{sent_both, result_after, result_no_more}
+use Rattle.spread_report.specs.Desk.{DeskState, Sends}
+use Rattle.spread_report.proofs.Runs.{all_sent, sends_after, sends_no_more}
 use Rattle.spread_rules.specs.declared.fill.Fill.{Fill}
 use Rattle.spread_rules.specs.Rulebook.{Rules}
 use Rattle.spread_report.specs.EntryMessages.{AddressedMessage, fill_reports, fills_reports, reports_of, report_count}
@@ -38,31 +37,32 @@ fills_reports-append rules place i (h ∷ fs) gs =
     ap (λ (l : List AddressedMessage). fill_reports rules place i h ++ l) (fills_reports-append rules place (i + report_count h.instrument) fs gs ∙ ap (λ (k : ℕ). fills_reports rules place (i + report_count h.instrument) fs ++ fills_reports rules place k gs) z)
     ∙ sym (append_assoc (fill_reports rules place i h) (fills_reports rules place (i + report_count h.instrument) fs) (fills_reports rules place (i + (report_count h.instrument + reports_of fs)) gs))
 
-module _ {A : Type 0} (stamp : List ℕ) (a b d : List SessionLine) (x y z : List (Vec ℕ A)) (rules : Rules) (place i n k : ℕ) (fs : List Fill) (f e : Fill) where
-  -- one fill more was reported
-  pub fills_more : k < length fs → f ≡ get_or fs k e → n ≡ i + reports_of (take k fs)
-      → Sent stamp a b x y (fills_reports rules place i (take k fs)) → Sent stamp b d y z (fill_reports rules place n f)
-      → Sent stamp a d x z (fills_reports rules place i (take (k + 1) fs))
-  fills_more below is_f is_n p q =
-      let same : fills_reports rules place i (take k fs) ++ fill_reports rules place n f ≡ fills_reports rules place i (take (k + 1) fs) =
+module _ {A : Type 0} (a b d : DeskState) (x y z : List (Vec ℕ A)) (rules : Rules) (place i n k : ℕ) (fs : List Fill) (f e : Fill) where
+  next_reports : k < length fs → f ≡ get_or fs k e → n ≡ i + reports_of (take k fs)
+      → fills_reports rules place i (take k fs) ++ fill_reports rules place n f ≡ fills_reports rules place i (take (k + 1) fs)
+  next_reports below is_f is_n =
       ap (λ (m : ℕ). fills_reports rules place i (take k fs) ++ fill_reports rules place m f) is_n
       ∙ (ap (λ (h : Fill). fills_reports rules place i (take k fs) ++ fill_reports rules place (i + reports_of (take k fs)) h) is_f
-      ∙ sym (fills_reports_more rules place i fs k e below)) in
-      subst (λ (l : List AddressedMessage). Sent stamp a d x z l) same (sent_both stamp a b d x y z (fills_reports rules place i (take k fs)) (fill_reports rules place n f) p q)
+      ∙ sym (fills_reports_more rules place i fs k e below))
+
+  -- one fill more was reported
+  pub fills_more : {U : Type 0} (t : U) → k < length fs → f ≡ get_or fs k e → n ≡ i + reports_of (take k fs)
+      → Sends a b x y (fills_reports rules place i (take k fs)) all_sent → Sends b d y z (fill_reports rules place n f) (Ok t)
+      → Sends a d x z (fills_reports rules place i (take (k + 1) fs)) all_sent
+  fills_more t below is_f is_n p q =
+      let rest : Sends b d y z (fill_reports rules place n f) all_sent = record { stamp = q.stamp; result = q.result } in
+      subst (λ (l : List AddressedMessage). Sends a d x z l all_sent) (next_reports below is_f is_n)
+      (sends_after a b d x y z (fills_reports rules place i (take k fs)) (fill_reports rules place n f) tt all_sent p rest)
 
   -- one fill was not reported
   pub fills_stop : (T U : Type 0) (fault : DeskFault) → k < length fs → f ≡ get_or fs k e → n ≡ i + reports_of (take k fs)
-      → Sent stamp a b x y (fills_reports rules place i (take k fs)) → SendResult {T = T} stamp b d y z (fill_reports rules place n f) (Err fault)
-      → SendResult {T = U} stamp a d x z (fills_reports rules place i fs) (Err fault)
+      → Sends a b x y (fills_reports rules place i (take k fs)) all_sent → Sends {T = T} b d y z (fill_reports rules place n f) (Err fault)
+      → Sends {T = U} a d x z (fills_reports rules place i fs) (Err fault)
   fills_stop T U fault below is_f is_n p w =
-      let same : fills_reports rules place i (take k fs) ++ fill_reports rules place n f ≡ fills_reports rules place i (take (k + 1) fs) =
-      ap (λ (m : ℕ). fills_reports rules place i (take k fs) ++ fill_reports rules place m f) is_n
-      ∙ (ap (λ (h : Fill). fills_reports rules place i (take k fs) ++ fill_reports rules place (i + reports_of (take k fs)) h) is_f
-      ∙ sym (fills_reports_more rules place i fs k e below)) in
       let rest : List AddressedMessage = fills_reports rules place (i + reports_of (take (k + 1) fs)) (drop (k + 1) fs) in
       let all : (fills_reports rules place i (take k fs) ++ fill_reports rules place n f) ++ rest ≡ fills_reports rules place i fs =
-      ap (λ (l : List AddressedMessage). l ++ rest) same
+      ap (λ (l : List AddressedMessage). l ++ rest) (next_reports below is_f is_n)
       ∙ (sym (fills_reports-append rules place i (take (k + 1) fs) (drop (k + 1) fs)) ∙ ap (λ (l : List Fill). fills_reports rules place i l) (take-append-drop (k + 1) fs)) in
-      subst (λ (l : List AddressedMessage). SendResult {T = U} stamp a d x z l (Err fault)) all
-      (result_no_more stamp a d x z (fills_reports rules place i (take k fs) ++ fill_reports rules place n f) rest T U fault
-      (result_after stamp a b d x y z (fills_reports rules place i (take k fs)) (fill_reports rules place n f) {T = T} (Err fault) p w))
+      subst (λ (l : List AddressedMessage). Sends {T = U} a d x z l (Err fault)) all
+      (sends_no_more a d x z (fills_reports rules place i (take k fs) ++ fill_reports rules place n f) rest T U fault
+      (sends_after a b d x y z (fills_reports rules place i (take k fs)) (fill_reports rules place n f) {T = T} tt (Err fault) p w))

@@ -8,6 +8,7 @@ use Rattle.fix_wire.specs.declared.writer.Field.{Field}
 use Rattle.host_base.specs.Ids.{is_id, is_plain}
 use Rattle.spread_rules.specs.Rulebook.{Rules, IsListed, month_count, names_of, symbol_of}
 use Rattle.spread_rules.specs.Journal.{FitsEvent, FitsTicket}
+use Rattle.spread_rules.specs.Legs.{other_side}
 use Rattle.spread_rules.specs.declared.order.Order.{Order}
 use Rattle.spread_rules.specs.declared.order.Side.{Side}
 use Rattle.spread_rules.specs.declared.order.Side.TheVariants.{Buy, Sell}
@@ -19,7 +20,7 @@ use Rattle.spread_rules.specs.declared.event.Event.{Event}
 use Rattle.spread_rules.specs.declared.event.Event.TheVariants.{Logon, New, Cancel, TestReply, Gap, Resend, Reject, Close}
 use Rattle.spread_rules.specs.declared.outcome.Outcome.{Outcome}
 use Rattle.spread_rules.specs.declared.outcome.Outcome.TheVariants.{Rested, Filled, Ended, Cancelled, Refused, CancelRefused, Session}
-use Rattle.spread_report.specs.EntryMessages.{MessageContent, numbered, gap_fill, AddressedMessage, text, number, price, pair, side_number, other_side, Traded, ExecutionReport, original_field, reason_field, last_fields, legs_field, report_fields, numbered_message, report, new_report, rejected_report, ended_report, cancelled_report, fill_status, fill_report, report_count, reports_by, fill_reports, fills_reports, reports_of, new_messages, place_field, cancel_messages, close_messages, event_messages}
+use Rattle.spread_report.specs.EntryMessages.{MessageContent, numbered, gap_fill, AddressedMessage, text, number, price, pair, side_code, Traded, ExecutionReport, original_field, reason_field, last_fields, legs_field, report_fields, numbered_message, report, new_report, rejected_report, ended_report, cancelled_report, fill_status, fill_report, report_count, reports_by, fill_reports, fills_reports, reports_of, new_messages, place_field, cancel_messages, close_messages, event_messages}
 use Rattle.spread_report.specs.Outgoing.{WorkedEntry, entry_messages}
 use Rattle.spread_report.specs.Ranges.{AreNames, FillInRange, OutcomeInRange, EntryInRange}
 use Rattle.spread_report.proofs.Bodies.{FitsReport}
@@ -131,7 +132,7 @@ legs_length : (o : Option Traded) → length (legs_field o) ≤ 1
 legs_length None = omega arith
 legs_length (Some t) = omega arith
 
-side_small : (s : Side) → side_number s < 2 ^ 64
+side_small : (s : Side) → side_code s < 2 ^ 64
 side_small Buy = omega arith
 side_small Sell = omega arith
 
@@ -140,7 +141,7 @@ module _ (r : ExecutionReport) where
   tail = number 151 r.leaves ∷ number 14 r.filled ∷ number 6 0 ∷ legs_field r.traded
 
   abbrev order_part : List Field
-  order_part = text 55 r.symbol ∷ number 54 (side_number r.side) ∷ number 38 r.quantity ∷ (last_fields r.traded ++ tail)
+  order_part = text 55 r.symbol ∷ number 54 (side_code r.side) ∷ number 38 r.quantity ∷ (last_fields r.traded ++ tail)
 
   abbrev status_part : List Field
   status_part = pair 17 r.place r.index ∷ number 20 0 ∷ number 150 r.status ∷ number 39 r.status ∷ (reason_field r.reason ++ order_part)
@@ -149,7 +150,7 @@ module _ (r : ExecutionReport) where
   report_fit h =
       let tail_fits : AllByRecursion FitsReport tail = (number_fits 151 r.leaves (omega arith) (omega arith) h.leaves, (number_fits 14 r.filled (omega arith) (omega arith) h.filled, (number_fits 6 0 (omega arith) (omega arith) (omega arith), legs_fits r.traded h.traded))) in
       let order_fits : AllByRecursion FitsReport order_part =
-      (text_fits 55 r.symbol (omega arith) (omega arith) h.symbol, (number_fits 54 (side_number r.side) (omega arith) (omega arith) (side_small r.side), (number_fits 38 r.quantity (omega arith) (omega arith) h.quantity, fits_append (last_fields r.traded) tail (last_fit r.traded h.traded) tail_fits))) in
+      (text_fits 55 r.symbol (omega arith) (omega arith) h.symbol, (number_fits 54 (side_code r.side) (omega arith) (omega arith) (side_small r.side), (number_fits 38 r.quantity (omega arith) (omega arith) h.quantity, fits_append (last_fields r.traded) tail (last_fit r.traded h.traded) tail_fits))) in
       let status_fits : AllByRecursion FitsReport status_part =
       (pair_fits 17 r.place r.index (omega arith) (omega arith) h.place h.index, (number_fits 20 0 (omega arith) (omega arith) (omega arith), (number_fits 150 r.status (omega arith) (omega arith) h.status, (number_fits 39 r.status (omega arith) (omega arith) h.status, fits_append (reason_field r.reason) order_part (reason_fits r.reason h.reason) order_fits)))) in
       (number_fits 37 r.order (omega arith) (omega arith) h.order, (text_fits 11 r.id (omega arith) (omega arith) h.id, fits_append (original_field r.original) status_part (original_fits r.original h.original) status_fits))

@@ -11,10 +11,10 @@ use Rattle.spread_rules.specs.Rulebook.{Rules}
 use Rattle.spread_rules.specs.declared.event.Event.{Event}
 use Rattle.spread_rules.specs.declared.event.Event.TheVariants.{Logon, New, Cancel, TestReply, Gap, Resend, Reject, Close}
 use Rattle.spread_rules.specs.Journal.{FitsEvent}
-use Rattle.spread_report.specs.declared.line.SessionLine.{SessionLine}
-use Rattle.spread_report.specs.declared.line.CompIds.{CompIds}
+use Rattle.spread_report.specs.declared.outbound.OutboundSession.{OutboundSession}
+use Rattle.spread_report.specs.declared.outbound.CompIds.{CompIds}
 use Rattle.spread_report.specs.EntryMessages.{MessageContent, numbered, gap_fill, AddressedMessage}
-use Rattle.spread_report.specs.Outgoing.{WorkedEntry, new_seq_no, head_of, gap_fields, content_text, is_spent, text_under, next_under, spent_under, text_for, line_for, spent_for, bytes_to, line_after, spends, line_at_entry, entry_messages, entry_bytes, entry_line, entry_spends, bytes_from, spends_from}
+use Rattle.spread_report.specs.Outgoing.{WorkedEntry, new_seq_no, head_of, gap_fields, content_text, is_spent, text_under, next_under, spent_under, text_for, outbound_for, spent_for, bytes_to, outbound_after, spends, outbound_at_entry, entry_messages, entry_bytes, entry_outbound, entry_spends, bytes_from, spends_from}
 use Rattle.spread_report.proofs.FrameRows.{no_row, rows_both, message_row}
 use Rattle.spread_report.specs.Messages.{IsRow, as_message, texts_to, entry_texts, texts_from}
 use Rattle.spread_report.specs.Ranges.{AreNames, EntryInRange}
@@ -28,9 +28,9 @@ IdsFit None = Unit {0}
 IdsFit (Some ids) = (is_id ids.client ≡ true) × (is_id ids.host ≡ true)
 
 -- its next number is at most one above the greatest, and its CompIDs are ids
-pub record LineFits (line : SessionLine) : Type 0 where
-  pub next : line.next ≤ 1000000000
-  pub ids : IdsFit line.comp_ids
+pub record LineFits (out : OutboundSession) : Type 0 where
+  pub next : out.next ≤ 1000000000
+  pub ids : IdsFit out.comp_ids
 
 -- ---- one message
 
@@ -87,11 +87,11 @@ module _ (stamp : List ℕ) (stamp_id : is_id stamp ≡ true) where
       omega (arith, small)
   next_small (Some ids) next (gap_fill first last) h spent = h
 
-  for_is : (s : ℕ) (line : SessionLine) (m : AddressedMessage) → LineFits line → FitsAddressed m → spent_for s line m ≡ false → IsOne (text_for stamp s line m) × LineFits (line_for s line m)
-  for_is s line m h fit =
-      elim (m.to == s) as (λ b. b && spent_under line.comp_ids line.next m.content ≡ false
-      → IsOne (if b then text_under stamp line.comp_ids line.next m.content else []) × LineFits (if b then record { next = next_under line.comp_ids line.next m.content; comp_ids = line.comp_ids } else line)) [
-        | true ↦ λ spent. (under_is line.comp_ids line.next m.content h.ids h.next fit spent, record { next = next_small line.comp_ids line.next m.content h.next spent; ids = h.ids })
+  for_is : (s : ℕ) (out : OutboundSession) (m : AddressedMessage) → LineFits out → FitsAddressed m → spent_for s out m ≡ false → IsOne (text_for stamp s out m) × LineFits (outbound_for s out m)
+  for_is s out m h fit =
+      elim (m.to == s) as (λ b. b && spent_under out.comp_ids out.next m.content ≡ false
+      → IsOne (if b then text_under stamp out.comp_ids out.next m.content else []) × LineFits (if b then record { next = next_under out.comp_ids out.next m.content; comp_ids = out.comp_ids } else out)) [
+        | true ↦ λ spent. (under_is out.comp_ids out.next m.content h.ids h.next fit spent, record { next = next_small out.comp_ids out.next m.content h.next spent; ids = h.ids })
         | false ↦ λ spent. (no_row, h)
       ]
 
@@ -105,34 +105,34 @@ module _ (stamp : List ℕ) (stamp_id : is_id stamp ≡ true) where
   or_second true b e = cc
   or_second false b e = e
 
-  to_is : (s : ℕ) (line : SessionLine) (ms : List AddressedMessage) → LineFits line → AllByRecursion FitsAddressed ms → spends s line ms ≡ false → IsRow (texts_to stamp s line ms) (bytes_to stamp s line ms) × LineFits (line_after s line ms)
-  to_is s line [] h fit spent = (no_row, h)
-  to_is s line (m ∷ ms) h fit spent =
-      let first = for_is s line m h fit.0 (or_first (spent_for s line m) (spends s (line_for s line m) ms) spent) in
-      let rest = to_is s (line_for s line m) ms first.1 fit.1 (or_second (spent_for s line m) (spends s (line_for s line m) ms) spent) in
-      (rows_both (as_message (text_for stamp s line m)) (texts_to stamp s (line_for s line m) ms) (text_for stamp s line m) (bytes_to stamp s (line_for s line m) ms) first.0 rest.0, rest.1)
+  to_is : (s : ℕ) (out : OutboundSession) (ms : List AddressedMessage) → LineFits out → AllByRecursion FitsAddressed ms → spends s out ms ≡ false → IsRow (texts_to stamp s out ms) (bytes_to stamp s out ms) × LineFits (outbound_after s out ms)
+  to_is s out [] h fit spent = (no_row, h)
+  to_is s out (m ∷ ms) h fit spent =
+      let first = for_is s out m h fit.0 (or_first (spent_for s out m) (spends s (outbound_for s out m) ms) spent) in
+      let rest = to_is s (outbound_for s out m) ms first.1 fit.1 (or_second (spent_for s out m) (spends s (outbound_for s out m) ms) spent) in
+      (rows_both (as_message (text_for stamp s out m)) (texts_to stamp s (outbound_for s out m) ms) (text_for stamp s out m) (bytes_to stamp s (outbound_for s out m) ms) first.0 rest.0, rest.1)
 
   -- ---- entries
 
-  opened : (s : ℕ) (line : SessionLine) (session : ℕ) (v : Event) → LineFits line → FitsEvent v → LineFits (line_at_entry s line session v)
-  opened s line session (Logon client host beat) h fit =
-      elim (session == s) as (λ b. LineFits (if b then record { next = line.next; comp_ids = Some (record { client = client; host = host }) } else line)) [
+  opened : (s : ℕ) (out : OutboundSession) (session : ℕ) (v : Event) → LineFits out → FitsEvent v → LineFits (outbound_at_entry s out session v)
+  opened s out session (Logon client host beat) h fit =
+      elim (session == s) as (λ b. LineFits (if b then record { next = out.next; comp_ids = Some (record { client = client; host = host }) } else out)) [
         | true ↦ record { next = h.next; ids = (fit.0, fit.1) }
         | false ↦ h
       ]
-  opened s line session (New t) h fit = h
-  opened s line session (Cancel id original) h fit = h
-  opened s line session (TestReply answer) h fit = h
-  opened s line session (Gap first) h fit = h
-  opened s line session (Resend first last) h fit = h
-  opened s line session (Reject n reason) h fit = h
-  opened s line session (Close reason) h fit = h
+  opened s out session (New t) h fit = h
+  opened s out session (Cancel id original) h fit = h
+  opened s out session (TestReply answer) h fit = h
+  opened s out session (Gap first) h fit = h
+  opened s out session (Resend first last) h fit = h
+  opened s out session (Reject n reason) h fit = h
+  opened s out session (Close reason) h fit = h
 
   module _ (rules : Rules) (names : AreNames rules) (s : ℕ) where
-    pub from_is : (line : SessionLine) (ws : List WorkedEntry) → LineFits line → AllByRecursion (EntryInRange rules) ws → spends_from rules s line ws ≡ false → IsRow (texts_from stamp rules s line ws) (bytes_from stamp rules s line ws)
-    from_is line [] h fit spent = no_row
-    from_is line (w ∷ ws) h fit spent =
-        let first = to_is s (line_at_entry s line w.entry.session w.entry.event) (entry_messages rules w) (opened s line w.entry.session w.entry.event h fit.0.event) (entry_fits rules names w fit.0)
-        (or_first (entry_spends rules s line w) (spends_from rules s (entry_line rules s line w) ws) spent) in
-        rows_both (entry_texts stamp rules s line w) (texts_from stamp rules s (entry_line rules s line w) ws) (entry_bytes stamp rules s line w) (bytes_from stamp rules s (entry_line rules s line w) ws) first.0
-        (from_is (entry_line rules s line w) ws first.1 fit.1 (or_second (entry_spends rules s line w) (spends_from rules s (entry_line rules s line w) ws) spent))
+    pub from_is : (out : OutboundSession) (ws : List WorkedEntry) → LineFits out → AllByRecursion (EntryInRange rules) ws → spends_from rules s out ws ≡ false → IsRow (texts_from stamp rules s out ws) (bytes_from stamp rules s out ws)
+    from_is out [] h fit spent = no_row
+    from_is out (w ∷ ws) h fit spent =
+        let first = to_is s (outbound_at_entry s out w.entry.session w.entry.event) (entry_messages rules w) (opened s out w.entry.session w.entry.event h fit.0.event) (entry_fits rules names w fit.0)
+        (or_first (entry_spends rules s out w) (spends_from rules s (entry_outbound rules s out w) ws) spent) in
+        rows_both (entry_texts stamp rules s out w) (texts_from stamp rules s (entry_outbound rules s out w) ws) (entry_bytes stamp rules s out w) (bytes_from stamp rules s (entry_outbound rules s out w) ws) first.0
+        (from_is (entry_outbound rules s out w) ws first.1 fit.1 (or_second (entry_spends rules s out w) (spends_from rules s (entry_outbound rules s out w) ws) spent))

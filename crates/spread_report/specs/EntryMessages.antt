@@ -15,6 +15,7 @@ use Rattle.spread_rules.specs.declared.event.Event.TheVariants.{Logon, New, Canc
 use Rattle.spread_rules.specs.declared.outcome.Outcome.{Outcome}
 use Rattle.spread_rules.specs.declared.outcome.Outcome.TheVariants.{Rested, Filled, Ended, Cancelled, Refused, CancelRefused, Session}
 use Rattle.spread_rules.specs.Rulebook.{Rules, symbol_of}
+use Rattle.spread_rules.specs.Legs.{other_side}
 
 -- What goes into a message: one that bears the session's next number and uses it, or a gap fill.
 pub data MessageContent : Type 0 where
@@ -45,13 +46,9 @@ abbrev pub has_tag : Field → Bool
 has_tag f = nat_le 1 f.tag && nat_le f.tag 999999999
 
 -- Side, tag 54
-abbrev pub side_number : Side → ℕ
-side_number Buy = 1
-side_number Sell = 2
-
-abbrev pub other_side : Side → Side
-other_side Buy = Sell
-other_side Sell = Buy
+abbrev pub side_code : Side → ℕ
+side_code Buy = 1
+side_code Sell = 2
 
 -- ---- execution reports
 
@@ -103,7 +100,7 @@ abbrev pub report_fields : ExecutionReport → List Field
 report_fields r =
     number 37 r.order ∷ text 11 r.id ∷ (original_field r.original
     ++ pair 17 r.place r.index ∷ number 20 0 ∷ number 150 r.status ∷ number 39 r.status ∷ (reason_field r.reason
-    ++ text 55 r.symbol ∷ number 54 (side_number r.side) ∷ number 38 r.quantity ∷ (last_fields r.traded
+    ++ text 55 r.symbol ∷ number 54 (side_code r.side) ∷ number 38 r.quantity ∷ (last_fields r.traded
     ++ number 151 r.leaves ∷ number 14 r.filled ∷ number 6 0 ∷ legs_field r.traded)))
 
 abbrev pub numbered_message : ℕ → ℕ → List Field → AddressedMessage

@@ -2,7 +2,7 @@ pub mod EntryMessages
 pub mod ReportBodies
 pub mod Outgoing
 pub mod Sessions
-pub mod Conditions
+pub mod Faults
 pub mod Desk
 pub mod Messages
 pub mod Ranges

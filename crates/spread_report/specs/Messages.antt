@@ -3,30 +3,30 @@ use Rattle.std.specs.Prelude.{◌≡◌, ℕ, List, [], ◌∷◌, ◌++◌}
 use Rattle.std.specs.List.{AllByRecursion, concat}
 use Rattle.fix_wire.specs.Frames.{IsFrame, frames}
 use Rattle.spread_rules.specs.Rulebook.{Rules}
-use Rattle.spread_report.specs.declared.line.SessionLine.{SessionLine}
+use Rattle.spread_report.specs.declared.outbound.OutboundSession.{OutboundSession}
 use Rattle.spread_report.specs.EntryMessages.{AddressedMessage}
-use Rattle.spread_report.specs.Outgoing.{WorkedEntry, text_for, line_for, line_at_entry, entry_messages, entry_line, line_before_logon}
+use Rattle.spread_report.specs.Outgoing.{WorkedEntry, text_for, outbound_for, outbound_at_entry, entry_messages, entry_outbound, outbound_before_logon}
 
 -- a text that isn't empty is one message
 abbrev pub as_message : List ℕ → List (List ℕ)
 as_message [] = []
 as_message (b ∷ bs) = (b ∷ bs) ∷ []
 
-abbrev pub texts_to : List ℕ → ℕ → SessionLine → List AddressedMessage → List (List ℕ)
-texts_to stamp s line [] = []
-texts_to stamp s line (m ∷ ms) = as_message (text_for stamp s line m) ++ texts_to stamp s (line_for s line m) ms
+abbrev pub texts_to : List ℕ → ℕ → OutboundSession → List AddressedMessage → List (List ℕ)
+texts_to stamp s out [] = []
+texts_to stamp s out (m ∷ ms) = as_message (text_for stamp s out m) ++ texts_to stamp s (outbound_for s out m) ms
 
 -- the messages that an entry sends session s
-abbrev pub entry_texts : List ℕ → Rules → ℕ → SessionLine → WorkedEntry → List (List ℕ)
-entry_texts stamp rules s line w = texts_to stamp s (line_at_entry s line w.entry.session w.entry.event) (entry_messages rules w)
+abbrev pub entry_texts : List ℕ → Rules → ℕ → OutboundSession → WorkedEntry → List (List ℕ)
+entry_texts stamp rules s out w = texts_to stamp s (outbound_at_entry s out w.entry.session w.entry.event) (entry_messages rules w)
 
-abbrev pub texts_from : List ℕ → Rules → ℕ → SessionLine → List WorkedEntry → List (List ℕ)
-texts_from stamp rules s line [] = []
-texts_from stamp rules s line (w ∷ ws) = entry_texts stamp rules s line w ++ texts_from stamp rules s (entry_line rules s line w) ws
+abbrev pub texts_from : List ℕ → Rules → ℕ → OutboundSession → List WorkedEntry → List (List ℕ)
+texts_from stamp rules s out [] = []
+texts_from stamp rules s out (w ∷ ws) = entry_texts stamp rules s out w ++ texts_from stamp rules s (entry_outbound rules s out w) ws
 
 -- all messages that session s is sent over a journal, its first message bearing this number
 abbrev pub messages_starting : ℕ → Rules → List ℕ → List WorkedEntry → ℕ → List (List ℕ)
-messages_starting next rules stamp worked s = texts_from stamp rules s (line_before_logon next) worked
+messages_starting next rules stamp worked s = texts_from stamp rules s (outbound_before_logon next) worked
 
 -- all messages that session s is sent over a journal
 abbrev pub messages_to : Rules → List ℕ → List WorkedEntry → ℕ → List (List ℕ)

@@ -9,8 +9,8 @@ use Rattle.spread_rules.specs.declared.event.Event.{Event}
 use Rattle.spread_rules.specs.declared.event.Event.TheVariants.{Logon, New, Cancel, TestReply, Gap, Resend, Reject, Close}
 use Rattle.spread_rules.specs.declared.outcome.Outcome.{Outcome}
 use Rattle.spread_rules.specs.Rulebook.{Rules}
-use Rattle.spread_report.specs.declared.line.SessionLine.{SessionLine}
-use Rattle.spread_report.specs.declared.line.CompIds.{CompIds}
+use Rattle.spread_report.specs.declared.outbound.OutboundSession.{OutboundSession}
+use Rattle.spread_report.specs.declared.outbound.CompIds.{CompIds}
 use Rattle.spread_report.specs.EntryMessages.{MessageContent, numbered, gap_fill, AddressedMessage, text, number, messages_of}
 
 -- ---- one message
@@ -56,40 +56,40 @@ spent_under (Some ids) next c = is_spent next c
 
 -- ---- what session s is sent of some messages, from this line on
 
-abbrev pub text_for : List ℕ → ℕ → SessionLine → AddressedMessage → List ℕ
-text_for stamp s line m = if m.to == s then text_under stamp line.comp_ids line.next m.content else []
+abbrev pub text_for : List ℕ → ℕ → OutboundSession → AddressedMessage → List ℕ
+text_for stamp s out m = if m.to == s then text_under stamp out.comp_ids out.next m.content else []
 
-abbrev pub line_for : ℕ → SessionLine → AddressedMessage → SessionLine
-line_for s line m = if m.to == s then record { next = next_under line.comp_ids line.next m.content; comp_ids = line.comp_ids } else line
+abbrev pub outbound_for : ℕ → OutboundSession → AddressedMessage → OutboundSession
+outbound_for s out m = if m.to == s then record { next = next_under out.comp_ids out.next m.content; comp_ids = out.comp_ids } else out
 
-abbrev pub spent_for : ℕ → SessionLine → AddressedMessage → Bool
-spent_for s line m = m.to == s && spent_under line.comp_ids line.next m.content
+abbrev pub spent_for : ℕ → OutboundSession → AddressedMessage → Bool
+spent_for s out m = m.to == s && spent_under out.comp_ids out.next m.content
 
-abbrev pub bytes_to : List ℕ → ℕ → SessionLine → List AddressedMessage → List ℕ
-bytes_to stamp s line [] = []
-bytes_to stamp s line (m ∷ ms) = text_for stamp s line m ++ bytes_to stamp s (line_for s line m) ms
+abbrev pub bytes_to : List ℕ → ℕ → OutboundSession → List AddressedMessage → List ℕ
+bytes_to stamp s out [] = []
+bytes_to stamp s out (m ∷ ms) = text_for stamp s out m ++ bytes_to stamp s (outbound_for s out m) ms
 
-abbrev pub line_after : ℕ → SessionLine → List AddressedMessage → SessionLine
-line_after s line [] = line
-line_after s line (m ∷ ms) = line_after s (line_for s line m) ms
+abbrev pub outbound_after : ℕ → OutboundSession → List AddressedMessage → OutboundSession
+outbound_after s out [] = out
+outbound_after s out (m ∷ ms) = outbound_after s (outbound_for s out m) ms
 
 -- one of them would bear a number above 999,999,999
-abbrev pub spends : ℕ → SessionLine → List AddressedMessage → Bool
-spends s line [] = false
-spends s line (m ∷ ms) = spent_for s line m || spends s (line_for s line m) ms
+abbrev pub spends : ℕ → OutboundSession → List AddressedMessage → Bool
+spends s out [] = false
+spends s out (m ∷ ms) = spent_for s out m || spends s (outbound_for s out m) ms
 
 -- ---- an entry
 
 -- the line under which an entry's messages go: a Logon gives its session its CompIDs
-abbrev pub line_at_entry : ℕ → SessionLine → ℕ → Event → SessionLine
-line_at_entry s line session (Logon client host beat) = if session == s then record { next = line.next; comp_ids = Some (record { client = client; host = host }) } else line
-line_at_entry s line session (New t) = line
-line_at_entry s line session (Cancel id original) = line
-line_at_entry s line session (TestReply answer) = line
-line_at_entry s line session (Gap first) = line
-line_at_entry s line session (Resend first last) = line
-line_at_entry s line session (Reject n reason) = line
-line_at_entry s line session (Close reason) = line
+abbrev pub outbound_at_entry : ℕ → OutboundSession → ℕ → Event → OutboundSession
+outbound_at_entry s out session (Logon client host beat) = if session == s then record { next = out.next; comp_ids = Some (record { client = client; host = host }) } else out
+outbound_at_entry s out session (New t) = out
+outbound_at_entry s out session (Cancel id original) = out
+outbound_at_entry s out session (TestReply answer) = out
+outbound_at_entry s out session (Gap first) = out
+outbound_at_entry s out session (Resend first last) = out
+outbound_at_entry s out session (Reject n reason) = out
+outbound_at_entry s out session (Close reason) = out
 
 -- An entry at its place in the journal, with its outcome and its fills.
 pub record WorkedEntry : Type 0 where
@@ -105,38 +105,38 @@ abbrev pub entry_messages : Rules → WorkedEntry → List AddressedMessage
 entry_messages rules w = messages_of rules w.place w.entry w.outcome w.fills
 
 -- what an entry sends session s
-abbrev pub entry_bytes : List ℕ → Rules → ℕ → SessionLine → WorkedEntry → List ℕ
-entry_bytes stamp rules s line w = bytes_to stamp s (line_at_entry s line w.entry.session w.entry.event) (entry_messages rules w)
+abbrev pub entry_bytes : List ℕ → Rules → ℕ → OutboundSession → WorkedEntry → List ℕ
+entry_bytes stamp rules s out w = bytes_to stamp s (outbound_at_entry s out w.entry.session w.entry.event) (entry_messages rules w)
 
 -- the line of session s after it
-abbrev pub entry_line : Rules → ℕ → SessionLine → WorkedEntry → SessionLine
-entry_line rules s line w = line_after s (line_at_entry s line w.entry.session w.entry.event) (entry_messages rules w)
+abbrev pub entry_outbound : Rules → ℕ → OutboundSession → WorkedEntry → OutboundSession
+entry_outbound rules s out w = outbound_after s (outbound_at_entry s out w.entry.session w.entry.event) (entry_messages rules w)
 
 -- it would send session s a message with a number above 999,999,999
-abbrev pub entry_spends : Rules → ℕ → SessionLine → WorkedEntry → Bool
-entry_spends rules s line w = spends s (line_at_entry s line w.entry.session w.entry.event) (entry_messages rules w)
+abbrev pub entry_spends : Rules → ℕ → OutboundSession → WorkedEntry → Bool
+entry_spends rules s out w = spends s (outbound_at_entry s out w.entry.session w.entry.event) (entry_messages rules w)
 
 -- ---- a journal
 
-abbrev pub bytes_from : List ℕ → Rules → ℕ → SessionLine → List WorkedEntry → List ℕ
-bytes_from stamp rules s line [] = []
-bytes_from stamp rules s line (w ∷ ws) = entry_bytes stamp rules s line w ++ bytes_from stamp rules s (entry_line rules s line w) ws
+abbrev pub bytes_from : List ℕ → Rules → ℕ → OutboundSession → List WorkedEntry → List ℕ
+bytes_from stamp rules s out [] = []
+bytes_from stamp rules s out (w ∷ ws) = entry_bytes stamp rules s out w ++ bytes_from stamp rules s (entry_outbound rules s out w) ws
 
-abbrev pub line_from : Rules → ℕ → SessionLine → List WorkedEntry → SessionLine
-line_from rules s line [] = line
-line_from rules s line (w ∷ ws) = line_from rules s (entry_line rules s line w) ws
+abbrev pub outbound_from : Rules → ℕ → OutboundSession → List WorkedEntry → OutboundSession
+outbound_from rules s out [] = out
+outbound_from rules s out (w ∷ ws) = outbound_from rules s (entry_outbound rules s out w) ws
 
-abbrev pub spends_from : Rules → ℕ → SessionLine → List WorkedEntry → Bool
-spends_from rules s line [] = false
-spends_from rules s line (w ∷ ws) = entry_spends rules s line w || spends_from rules s (entry_line rules s line w) ws
+abbrev pub spends_from : Rules → ℕ → OutboundSession → List WorkedEntry → Bool
+spends_from rules s out [] = false
+spends_from rules s out (w ∷ ws) = entry_spends rules s out w || spends_from rules s (entry_outbound rules s out w) ws
 
 -- before its Logon, with this next number
-abbrev pub line_before_logon : ℕ → SessionLine
-line_before_logon next = record { next = next; comp_ids = None }
+abbrev pub outbound_before_logon : ℕ → OutboundSession
+outbound_before_logon next = record { next = next; comp_ids = None }
 
 -- all that session s is sent over a journal, its first message bearing this number
 abbrev pub outgoing_starting : ℕ → Rules → List ℕ → List WorkedEntry → ℕ → List ℕ
-outgoing_starting next rules stamp worked s = bytes_from stamp rules s (line_before_logon next) worked
+outgoing_starting next rules stamp worked s = bytes_from stamp rules s (outbound_before_logon next) worked
 
 -- all that session s is sent over a journal
 abbrev pub outgoing_of : Rules → List ℕ → List WorkedEntry → ℕ → List ℕ

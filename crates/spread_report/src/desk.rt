@@ -1,26 +1,38 @@
 //! The desk: what each session is sent next.
-ghost use Rattle.std.specs.Prelude.{◌≡◌, ℕ, ◌<◌, ◌++◌, false, length, slice_index_or, OnOk, OnErr, IsErrOf};
+ghost use Rattle.std.specs.Prelude.{◌≡◌, ◌≢◌, ℕ, ◌<◌, ◌≤◌, ◌++◌, ◌∷◌, [], true, false, length, take, slice_index_or, OnOk, OnErr, IsErrOf, ◌==◌, if◌then◌else◌};
+ghost use Rattle.std.specs.List.{list_all};
 ghost use Rattle.spread_rules.specs.declared.fill.Fill.{Fill};
-ghost use Rattle.spread_report.specs.Conditions.{FitsFill, FitsOutcome};
-ghost use Rattle.spread_report.specs.Desk.{desk_starting, desk_at};
+ghost use Rattle.spread_rules.specs.Ranges.{FitsOutcome, FitsFill};
+ghost use Rattle.spread_report.specs.Desk.{desk_starting, desk_at, Sends};
+ghost use Rattle.spread_report.specs.EntryMessages.{numbered_message, has_tag};
 ghost use Rattle.spread_report.specs.Messages.{IsRow, entry_texts};
-ghost use Rattle.spread_report.specs.Outgoing.{entry_bytes, entry_line, entry_spends, worked_at};
-ghost use Rattle.spread_report.specs.Sessions.{bytes_of, line_at, KeepsBytes, RunsOut};
+ghost use Rattle.spread_report.specs.Outgoing.{entry_bytes, entry_outbound, entry_spends, worked_at};
+ghost use Rattle.spread_report.specs.Sessions.{bytes_of, outbound_at, KeepsBytes, RunsOut};
 ghost use Rattle.spread_report.specs.declared.fault.DeskFault.TheVariants.{NumbersSpent};
 
-use crate::entry::send_entry;
+mod admin;
+mod entry;
+mod execution_report;
+mod report_body;
+
 use crate::fault::DeskFault;
-use crate::line::SessionLine;
+use crate::outbound::{CompIds, OutboundSession};
+use entry::AppliedEntry;
+use fix_wire::{Body, Field, FieldList, Head, write_body};
 use host_base::Id;
 use spread_rules::{Entry, Fill, Outcome, Rulebook};
 use std::alloc::Allocator;
 use std::marker::Model;
 
-/// Each session's next outgoing number, and the CompIDs of its last Logon. There are sixteen sessions.
+/// The greatest MsgSeqNum that a message may bear.
+const MAX_MSG_SEQ_NUM: u64 = 999_999_999;
+
+/// Publishes execution reports and session messages: for each of the sixteen sessions its next outgoing number, and the
+/// CompIDs of its last Logon.
 #[derive(Drop)]
 pub struct Desk {
     stamp: Id,
-    lines: [SessionLine; 16],
+    sessions: [OutboundSession; 16],
 }
 
 impl Model for Desk {
@@ -40,7 +52,7 @@ impl Desk {
     {
         Desk {
             stamp,
-            lines: [SessionLine {
+            sessions: [OutboundSession {
                 next: 1,
                 comp_ids: None,
             }; 16],
@@ -54,7 +66,7 @@ impl Desk {
         if 1 <= next && next <= 999_999_999 {
             Some(Desk {
                 stamp,
-                lines: [SessionLine {
+                sessions: [OutboundSession {
                     next: u64::from(next),
                     comp_ids: None,
                 }; 16],
@@ -79,25 +91,155 @@ impl Desk {
         requires session { entry.now.session < 16 }
         requires outcome { FitsOutcome rules.now entry.now.event outcome.now }
         requires fills { (k : ℕ) (d : Fill) → k < length fills.now → FitsFill rules.now (slice_index_or fills.now k d) }
-        ensures bytes { OnOk result ((s : ℕ) → s < 16 → bytes_of lists.new s ≡ bytes_of lists.old s ++ entry_bytes self.old.stamp rules.now s (line_at self.old.lines s) (worked_at place entry.now outcome.now fills.now)) }
-        ensures lines { OnOk result ((s : ℕ) → s < 16 → line_at self.new.lines s ≡ entry_line rules.now s (line_at self.old.lines s) (worked_at place entry.now outcome.now fills.now)) }
-        ensures unspent { OnOk result ((s : ℕ) → s < 16 → entry_spends rules.now s (line_at self.old.lines s) (worked_at place entry.now outcome.now fills.now) ≡ false) }
-        ensures whole { OnOk result ((s : ℕ) → s < 16 → IsRow (entry_texts self.old.stamp rules.now s (line_at self.old.lines s) (worked_at place entry.now outcome.now fills.now)) (entry_bytes self.old.stamp rules.now s (line_at self.old.lines s) (worked_at place entry.now outcome.now fills.now))) }
-        ensures spent { IsErrOf result NumbersSpent → RunsOut rules.now self.old.lines (worked_at place entry.now outcome.now fills.now) }
+        ensures bytes { OnOk result ((s : ℕ) → s < 16 → bytes_of lists.new s ≡ bytes_of lists.old s ++ entry_bytes self.old.stamp rules.now s (outbound_at self.old.sessions s) (worked_at place entry.now outcome.now fills.now)) }
+        ensures outbound { OnOk result ((s : ℕ) → s < 16 → outbound_at self.new.sessions s ≡ entry_outbound rules.now s (outbound_at self.old.sessions s) (worked_at place entry.now outcome.now fills.now)) }
+        ensures unspent { OnOk result ((s : ℕ) → s < 16 → entry_spends rules.now s (outbound_at self.old.sessions s) (worked_at place entry.now outcome.now fills.now) ≡ false) }
+        ensures whole { OnOk result ((s : ℕ) → s < 16 → IsRow (entry_texts self.old.stamp rules.now s (outbound_at self.old.sessions s) (worked_at place entry.now outcome.now fills.now)) (entry_bytes self.old.stamp rules.now s (outbound_at self.old.sessions s) (worked_at place entry.now outcome.now fills.now))) }
+        ensures spent { IsErrOf result NumbersSpent → RunsOut rules.now self.old.sessions (worked_at place entry.now outcome.now fills.now) }
         ensures stamp { self.new.stamp ≡ self.old.stamp }
         ensures desk_kept { OnErr result (self.new ≡ self.old) }
         ensures lists_kept { OnErr result (KeepsBytes lists.old lists.new) }
         ensures count { length lists.new ≡ 16 }
     {
-        send_entry(
-            &self.stamp,
-            &mut self.lines,
-            lists,
-            rules,
+        let lengths = lengths_of(lists);
+        let numbers = numbers_of(&self.sessions);
+        let comp_ids = self.sessions[entry.session as usize].comp_ids;
+        self.note_comp_ids(entry);
+        let applied = AppliedEntry {
             place,
             entry,
             outcome,
             fills,
-        )
+        };
+        let result = self.send_entry(lists, rules, &applied);
+        if result.is_err() {
+            restore(&mut self.sessions, &numbers, entry.session, comp_ids);
+            cut_back(lists, &lengths);
+        }
+        result
     }
+
+    /// Sends a message that bears the session's next number, and uses it.
+    fn send_body<A: Allocator + Copy, B: Body>(
+        &mut self,
+        lists: &mut [Vec<u8, A>],
+        session: u8,
+        kind: u8,
+        body: &B,
+    ) -> Result<(), DeskFault>
+        requires lists { length lists.old ≡ 16 }
+        requires session { session < 16 }
+        requires kind { kind ≢ 1 }
+        requires tags { list_all has_tag (B.fields body.now) ≡ true }
+        requires few { length (B.fields body.now) ≤ 18 }
+        ensures { Sends self.old self.new lists.old lists.new (numbered_message session kind (B.fields body.now) ∷ []) result }
+    {
+        let at = session as usize;
+        let outbound = self.sessions[at];
+        let comp_ids = outbound.comp_ids;
+        match comp_ids {
+            None => Ok(()),
+            Some(ids) => {
+                if outbound.next > MAX_MSG_SEQ_NUM {
+                    return Err(DeskFault::NumbersSpent);
+                }
+                let head = Head {
+                    kind,
+                    number: outbound.next,
+                    duplicate: false,
+                    sender: ids.host,
+                    target: ids.client,
+                    stamp: self.stamp,
+                };
+                write_body(&mut lists[at], &head, body)?;
+                self.sessions[at].next = outbound.next + 1;
+                Ok(())
+            }
+        }
+    }
+
+    /// Sends a message of any fields.
+    fn send<A: Allocator + Copy>(
+        &mut self,
+        lists: &mut [Vec<u8, A>],
+        session: u8,
+        kind: u8,
+        fields: &[Field],
+    ) -> Result<(), DeskFault>
+        requires lists { length lists.old ≡ 16 }
+        requires session { session < 16 }
+        requires kind { kind ≢ 1 }
+        requires tags { list_all has_tag fields.now ≡ true }
+        requires few { length fields.now ≤ 18 }
+        ensures { Sends self.old self.new lists.old lists.new (numbered_message session kind fields.now ∷ []) result }
+    {
+        self.send_body(lists, session, kind, &FieldList { fields })
+    }
+}
+
+// ---- taking back after a refusal
+
+/// Cuts each list to its length.
+fn cut_back<A: Allocator>(lists: &mut [Vec<u8, A>], lengths: &[usize; 16])
+    requires lists { length lists.old ≡ 16 }
+    ensures size { length lists.new ≡ 16 }
+    ensures rows { (s : ℕ) → s < 16 → bytes_of lists.new s ≡ take (slice_index_or lengths.now s 0) (bytes_of lists.old s) }
+{
+    for s in 0..16 {
+        let length = lengths[s];
+        lists[s].truncate(length);
+    }
+}
+
+/// How long each list is.
+fn lengths_of<A: Allocator>(lists: &[Vec<u8, A>]) -> [usize; 16]
+    requires { length lists.now ≡ 16 }
+    ensures { (s : ℕ) → s < 16 → slice_index_or result s 0 ≡ length (bytes_of lists.now s) }
+{
+    let mut lengths = [0; 16];
+    for s in 0..16 {
+        let count = lists[s].len();
+        lengths[s] = count;
+    }
+    lengths
+}
+
+/// The next number of each session.
+fn numbers_of(sessions: &[OutboundSession; 16]) -> [u64; 16]
+    ensures { (s : ℕ) → s < 16 → slice_index_or result s 0 ≡ (outbound_at sessions.now s).next }
+{
+    let mut numbers = [0; 16];
+    for s in 0..16 {
+        numbers[s] = sessions[s].next;
+    }
+    numbers
+}
+
+/// Gives each session that next number.
+fn renumber(sessions: &mut [OutboundSession; 16], numbers: &[u64; 16])
+    ensures size { length sessions.new ≡ 16 }
+    ensures numbered { (s : ℕ) → s < 16 → outbound_at sessions.new s ≡ record { next = slice_index_or numbers.now s 0; comp_ids = (outbound_at sessions.old s).comp_ids } }
+{
+    for s in 0..16 {
+        let comp_ids = sessions[s].comp_ids;
+        sessions[s] = OutboundSession {
+            next: numbers[s],
+            comp_ids,
+        };
+    }
+}
+
+/// Gives each session that next number, and one of them those CompIDs.
+fn restore(
+    sessions: &mut [OutboundSession; 16],
+    numbers: &[u64; 16],
+    session: u8,
+    comp_ids: Option<CompIds>,
+)
+    requires { session < 16 }
+    ensures size { length sessions.new ≡ 16 }
+    ensures restored { (s : ℕ) → s < 16 → outbound_at sessions.new s ≡ record { next = slice_index_or numbers.now s 0; comp_ids = if session == s then comp_ids else (outbound_at sessions.old s).comp_ids } }
+{
+    sessions[session as usize].comp_ids = comp_ids;
+    renumber(sessions, numbers);
 }

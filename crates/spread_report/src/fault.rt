@@ -1,4 +1,8 @@
 //! Why an entry's messages are not sent.
+ghost use Rattle.std.specs.Prelude.{◌≡◌};
+ghost use Rattle.spread_report.specs.Faults.{fault_number};
+
+use host_base::NoMemory;
 use thiserror::Error;
 
 /// Why an entry's messages were not sent. The desk and all lists are then as they were.
@@ -10,4 +14,26 @@ pub enum DeskFault {
     /// A message would have to bear a number above 999,999,999.
     #[error("numbers spent")]
     NumbersSpent,
+}
+
+impl DeskFault {
+    /// Its number, 1 or 2.
+    pub fn number(&self) -> u8
+        ensures { result ≡ fault_number self.now }
+    {
+        match self {
+            DeskFault::NoMemory => 1,
+            DeskFault::NumbersSpent => 2,
+        }
+    }
+}
+
+impl From<NoMemory> for DeskFault {
+    ghost use Rattle.spread_report.specs.declared.fault.DeskFault.TheVariants.{NoMemory};
+
+    ghost from_gives = { λ _ e. e ≡ NoMemory };
+
+    fn from(_fault: NoMemory) -> DeskFault {
+        DeskFault::NoMemory
+    }
 }

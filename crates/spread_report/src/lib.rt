@@ -38,20 +38,14 @@ macro_rules! pair_field {
 }
 
 mod desk;
-mod entries;
-mod entry;
 mod fault;
 pub mod laws;
-pub mod line;
-mod messages;
-mod report_body;
-mod reports;
-mod rollback;
-mod send;
+mod outbound;
 mod symbol;
 
 pub use desk::Desk;
 pub use fault::DeskFault;
+pub use outbound::{CompIds, OutboundSession};
 
 #[cfg(test)]
 mod tests;

@@ -1,7 +1,7 @@
 use super::check;
 use crate::fault::HostFault;
 use host_base::TestSink;
-use refused_memory::Refusing;
+use test_support::Refusing;
 use spread_journal::JournalFault;
 use spread_rules::Rulebook;
 use std::test::Fail;

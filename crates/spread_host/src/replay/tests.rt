@@ -1,7 +1,7 @@
 use super::replay;
 use crate::fault::HostFault;
 use host_base::{Id, TestSink, TestSource};
-use refused_memory::Refusing;
+use test_support::Refusing;
 use spread_rules::Rulebook;
 use std::alloc::Global;
 use std::test::Fail;

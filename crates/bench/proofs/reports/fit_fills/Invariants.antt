@@ -1,6 +1,6 @@
 use Rattle.std.proofs.Common.{◌<◌, ℕ, slice_index_or}
 use Rattle.spread_rules.specs.declared.fill.Fill.{Fill}
-use Rattle.spread_report.specs.Conditions.{FitsFill}
+use Rattle.spread_rules.specs.Ranges.{FitsFill}
 use Rattle.bench.proofs.reports.fit_fills.Given as goal
 
 abbrev pub invariant-loop-fill : goal.invariant-loop-fill

@@ -1,5 +1,5 @@
 use Rattle.std.proofs.Common.{arith, ◌<◌, length}
-use Rattle.gate_link.specs.Lanes.{LookedAt}
+use Rattle.gate_link.specs.Inboxes.{LookedAt}
 use Rattle.gate_link.proofs.Pairing.{pairs_more, left_more}
 use Rattle.gate_link.proofs.look.look_all.Goals as goal
 
@@ -7,17 +7,17 @@ pub loop-s-preserved : goal.loop-s-preserved
 loop-s-preserved g c =
     let was = c.loop-s.invariant in
     let i = c.loop-s.s in
-    let same_lanes = c.loop-s.auto.lanes in
+    let same_inboxes = c.loop-s.auto.inboxes in
     let same_gateways = c.loop-s.auto.gateways in
-    let in_lanes : i < length c.args.lanes.now = c.loop-s-test.true in
+    let in_inboxes : i < length c.args.inboxes.now = c.loop-s-test.true in
     let in_gateways : i < length c.args.gateways.now = omega (arith, c.requires.0) in record {
-      done = pairs_more LookedAt c.args.lanes.now c.loop-s.lanes c.args.gateways.now c.loop-s.gateways i
-          c.index-lanes-s.result c.look.new.self c.index-gateways-s.result c.look.new.gateway
-          same_lanes same_gateways in_lanes in_gateways was.done was.lanes_left was.gateways_left c.look.ensures;
-      lanes_left = left_more c.args.lanes.now c.loop-s.lanes i c.look.new.self was.lanes_left;
+      done = pairs_more LookedAt c.args.inboxes.now c.loop-s.inboxes c.args.gateways.now c.loop-s.gateways i
+          c.index-inboxes-s.result c.look.new.self c.index-gateways-s.result c.look.new.gateway
+          same_inboxes same_gateways in_inboxes in_gateways was.done was.inboxes_left was.gateways_left c.look.ensures;
+      inboxes_left = left_more c.args.inboxes.now c.loop-s.inboxes i c.look.new.self was.inboxes_left;
       gateways_left = left_more c.args.gateways.now c.loop-s.gateways i c.look.new.gateway was.gateways_left;
     }
 
 pub returns : goal.returns
 returns g c =
-    (c.loop-s.auto.lanes, c.loop-s.auto.gateways, (λ s d g below. c.loop-s.invariant.done s d g (omega (arith, c.loop-s-test.false))))
+    (c.loop-s.auto.inboxes, c.loop-s.auto.gateways, (λ s d g below. c.loop-s.invariant.done s d g (omega (arith, c.loop-s-test.false))))

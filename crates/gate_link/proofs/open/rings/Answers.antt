@@ -1,6 +1,6 @@
 use Rattle.std.proofs.Common.{rules, ◌≡◌, ◌∙◌, [], length, sym}
 use Rattle.gate_link.specs.Gates.{gate_sent, gate_room}
-use Rattle.gate_link.specs.Lanes.{taken, IsLaneOf}
+use Rattle.gate_link.specs.Inboxes.{taken, IsInboxOf}
 use Rattle.gate_link.specs.Opening.{IsFresh}
 use Rattle.gate_link.proofs.Making.{pairs_snoc, fresh_snoc, idle_snoc}
 use Rattle.gate_link.proofs.open.rings.Goals as goal
@@ -12,7 +12,7 @@ loop-s-preserved g c =
     let l = c.new-in-loop-s-2.result in
     let made = c.new-in-loop-s.ensures in
     let ring = c.in_ok-producer.ensures in
-    let pair : IsLaneOf l g = rw (made.parts.1, c.new-in-loop-s-2.ensures) ring.pair in
+    let pair : IsInboxOf l g = rw (made.parts.1, c.new-in-loop-s-2.ensures) ring.pair in
     let none : taken l ≡ [] = rw (c.new-in-loop-s-2.ensures, ring.consumer.0) in
     let at : length c.loop-s.gateways.items ≡ c.loop-s.s = search rules in
     let sent_none : gate_sent g ≡ [] = rw (made.parts.1, ring.producer.0) in
@@ -20,8 +20,8 @@ loop-s-preserved g c =
     let fresh : IsFresh c.args.ring (length c.loop-s.gateways.items) g = record { session = made.parts.0 ∙ sym at; sent = sent_none; room = room; state = made.state.0; held = made.state.1 } in
     record {
       gateways = search rules;
-      lanes = search rules;
-      pairs = rw (c.push_reserved.ensures.items, c.push_reserved-in-loop-s.ensures.items) (pairs_snoc c.loop-s.lanes.items c.loop-s.gateways.items l g was.pairs pair);
+      inboxes = search rules;
+      pairs = rw (c.push_reserved.ensures.items, c.push_reserved-in-loop-s.ensures.items) (pairs_snoc c.loop-s.inboxes.items c.loop-s.gateways.items l g was.pairs pair);
       fresh = rw (c.push_reserved.ensures.items) (fresh_snoc c.args.ring c.loop-s.gateways.items g was.fresh fresh);
-      idle = rw (c.push_reserved-in-loop-s.ensures.items) (idle_snoc taken c.loop-s.lanes.items l was.idle none);
+      idle = rw (c.push_reserved-in-loop-s.ensures.items) (idle_snoc taken c.loop-s.inboxes.items l was.idle none);
     }

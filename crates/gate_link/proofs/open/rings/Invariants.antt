@@ -1,14 +1,14 @@
 use Rattle.std.proofs.Common.{◌≡◌, ◌≤◌, ℕ, [], vec_len, vec_capacity}
 use Rattle.gate_link.specs.Rows.{row}
-use Rattle.gate_link.specs.Lanes.{taken, ArePairs}
+use Rattle.gate_link.specs.Inboxes.{taken, ArePairs}
 use Rattle.gate_link.specs.Opening.{AreFresh}
 use Rattle.gate_link.proofs.open.rings.Given as goal
 
 abbrev pub invariant-loop-s : goal.invariant-loop-s
 invariant-loop-s g l = record {
   gateways : (vec_len l.gateways ≡ l.s) × (l.sessions ≤ vec_capacity l.gateways);
-  lanes : (vec_len l.lanes ≡ l.s) × (l.sessions ≤ vec_capacity l.lanes);
-  pairs : ArePairs l.lanes.items l.gateways.items;
+  inboxes : (vec_len l.inboxes ≡ l.s) × (l.sessions ≤ vec_capacity l.inboxes);
+  pairs : ArePairs l.inboxes.items l.gateways.items;
   fresh : AreFresh l.ring l.gateways.items;
-  idle : (s : ℕ) → row taken l.lanes.items s ≡ [];
+  idle : (s : ℕ) → row taken l.inboxes.items s ≡ [];
 }

@@ -8,5 +8,5 @@ pub returns-then-is_closed-clause-owed : goal.returns-then-is_closed-clause-owed
 returns-then-is_closed-clause-owed g c more =
     let a = c.args.self.now in
     let shut = sym c.is_closed.ensures ∙ c.if-is_closed.true in
-    owes_nothing a.judging (frames (a.framer ++ more)) shut
-    ∙ sym (owes_nothing a.judging (frames (a.framer ++ (take (length c.args.piece.now) c.args.piece.now ++ more))) shut)
+    owes_nothing a.reader.session (frames (a.reader.held ++ more)) shut
+    ∙ sym (owes_nothing a.reader.session (frames (a.reader.held ++ (take (length c.args.piece.now) c.args.piece.now ++ more))) shut)

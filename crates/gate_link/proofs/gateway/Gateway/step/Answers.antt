@@ -1,95 +1,105 @@
-use Rattle.std.proofs.Common.{◌≡◌, false, None, ◌∙◌, sym, ap, refl, rules, option_map}
+use Rattle.std.proofs.Common.{◌≡◌, false, None, Some, ◌∙◌, sym, ap, refl, rules}
 use Rattle.std.specs.List.{list_any}
 use Rattle.rtrb.specs.Ring.{sent}
 use Rattle.spread_rules.specs.Journal.{is_close}
 use Rattle.fix_wire.specs.Frames.{frames}
-use Rattle.fix_wire.specs.Held.{first_frame}
-use Rattle.fix_session.specs.Steps.{judge, event_in, is_closed, is_closing}
+use Rattle.fix_wire.proofs.Turns.{no_first}
+use Rattle.fix_session.specs.Steps.{event_in, is_closed, is_closing}
+use Rattle.fix_session.specs.Reading.{first_verdict}
 use Rattle.fix_session.proofs.Closing.{closes_with}
+use Rattle.fix_session.proofs.FirstMessage.{verdict_some, verdict_none}
+use Rattle.fix_session.proofs.Feeding.{leaves_passed, session_passed, drained_where_none}
 use Rattle.gate_link.specs.Rows.{events, entry}
-use Rattle.gate_link.proofs.Owing.{owed_same, owed_nothing, owed_event}
-use Rattle.gate_link.proofs.Stepping.{events_later, judged_some, none_judged, skipped, headed, close_later}
+use Rattle.gate_link.proofs.Owing.{owed_nothing, owed_event}
+use Rattle.gate_link.proofs.Stepping.{events_later, looked, message_passed, close_later}
 use Rattle.gate_link.proofs.gateway.Gateway.step.Goals as goal
 
 -- no message stands
 pub returns-in_default-clause-step : goal.returns-in_default-clause-step
 returns-in_default-clause-step g c =
     let a = c.args.self.now in
-    let mid = c.judge_first.new.framer in
-    let none : option_map (judge a.judging) (first_frame (frames a.framer)) ≡ None = search rules in
-    let same = skipped a.framer mid c.judge_first.ensures.held in record {
+    let none : first_verdict a.reader ≡ None = search rules in
+    let first = verdict_none a.reader none in record {
       open_before = sym c.is_closed.ensures ∙ c.if-is_closed.false;
-      none = none_judged a.judging a.framer none;
-      rests = record { sent = refl; state = refl; held = same; owed = owed_same a.judging a.framer mid same };
+      none = no_first (frames a.reader.held) first;
+      rests = looked a _ c.look.ensures.skipped refl;
       room = refl;
+      drained = drained_where_none a.reader c.look.new.self c.look.ensures.skipped first;
     }
 
 -- the message has no event
-pub returns-in-Nothing-clause-step : goal.returns-in-Nothing-clause-step
-returns-in-Nothing-clause-step g c =
+pub returns-in_default-verdict-clause-step : goal.returns-in_default-verdict-clause-step
+returns-in_default-verdict-clause-step g c =
     let a = c.args.self.now in
-    let after = c.in-Some.after in
+    let mid = c.look.new.self in
     let new = c.pass.new.self in
-    let f = judged_some a.judging (first_frame (frames a.framer)) (c.in-Some.verdict, after) (sym c.in-Some.ensures.verdict) in
-    let says = ap (λ r. event_in r.0) f.1.1 ∙ ap event_in c.in-Nothing.is in
-    let goes = sym (ap (λ r. r.1) f.1.1) in
-    let heads = headed a.framer c.judge_first.new.framer new f.0 c.pass.result c.judge_first.ensures.held f.1.0 c.pass.ensures.stands c.pass.ensures.passed in record {
+    let m = verdict_some a.reader c.in-Some.verdict (sym c.in-Some.ensures.says) in
+    let says = ap event_in (m.1.1 ∙ c.in_default-verdict.is) in record {
       open_before = sym c.is_closed.ensures ∙ c.if-is_closed.false;
-      passes = record { message = f.0; stands = f.1.0; says_so = says; state = goes; held = heads };
+      passes = message_passed a _ mid m.0 None c.look.ensures.skipped m.1.0 c.pass.ensures.passed says;
       sent = refl;
       room = refl;
-      owed = owed_nothing a.judging after f.0 a.framer new heads goes says;
+      owed = owed_nothing a.reader.session new.session m.0 a.reader.held new.held (leaves_passed a.reader mid new m.0 c.look.ensures.skipped m.1.0 c.pass.ensures.passed).0
+          (session_passed a.reader mid new m.0 c.look.ensures.skipped m.1.0 c.pass.ensures.passed) says;
+    }
+
+pub invariant_of-self-in_default-verdict : goal.invariant_of-self-in_default-verdict
+invariant_of-self-in_default-verdict g c =
+    let a = c.args.self.now in
+    let m = verdict_some a.reader c.in-Some.verdict (sym c.in-Some.ensures.says) in
+    let opens : is_closed a.reader.session ≡ false = sym c.is_closed.ensures ∙ c.if-is_closed.false in record {
+      close_sent =
+          ap is_closed (session_passed a.reader c.look.new.self c.pass.new.self m.0 c.look.ensures.skipped m.1.0 c.pass.ensures.passed)
+          ∙ (closes_with a.reader.session m.0 opens
+          ∙ (ap is_closing (m.1.1 ∙ c.in_default-verdict.is)
+          ∙ (sym opens ∙ a.close_sent)));
     }
 
 -- the message has an event, for which there was no room
 pub returns-in_default-push-clause-step : goal.returns-in_default-push-clause-step
 returns-in_default-push-clause-step g c =
     let a = c.args.self.now in
-    let mid = c.judge_first.new.framer in
-    let f = judged_some a.judging (first_frame (frames a.framer)) (c.in-Some.verdict, c.in-Some.after) (sym c.in-Some.ensures.verdict) in
-    let same = skipped a.framer mid c.judge_first.ensures.held in
+    let m = verdict_some a.reader c.in-Some.verdict (sym c.in-Some.ensures.says) in
     let full = c.in_default-push.ensures.full in record {
       open_before = sym c.is_closed.ensures ∙ c.if-is_closed.false;
-      message = f.0;
+      message = m.0;
       event = c.in-Event.event;
-      stands = f.1.0;
-      says_so = ap (λ r. event_in r.0) f.1.1 ∙ ap event_in c.in-Event.is;
-      rests = record { sent = ap events full.1; state = refl; held = same; owed = owed_same a.judging a.framer mid same };
+      stands = m.1.0;
+      says_so = ap event_in (m.1.1 ∙ c.in-Event.is);
+      rests = looked a _ c.look.ensures.skipped (ap events full.1);
       full = full.2;
     }
 
 -- the message has an event, which was pushed
-pub returns-in-Ok-clause-step : goal.returns-in-Ok-clause-step
-returns-in-Ok-clause-step g c =
+pub returns-clause-step : goal.returns-clause-step
+returns-clause-step g c =
     let a = c.args.self.now in
     let e = c.in-Event.event in
-    let after = c.in-Some.after in
-    let new = c.pass-in-Event.new.self in
-    let f = judged_some a.judging (first_frame (frames a.framer)) (c.in-Some.verdict, after) (sym c.in-Some.ensures.verdict) in
-    let says = ap (λ r. event_in r.0) f.1.1 ∙ ap event_in c.in-Event.is in
-    let goes = sym (ap (λ r. r.1) f.1.1) in
-    let heads = headed a.framer c.judge_first.new.framer new f.0 c.pass-in-Event.result c.judge_first.ensures.held f.1.0 c.pass-in-Event.ensures.stands c.pass-in-Event.ensures.passed in record {
+    let mid = c.look.new.self in
+    let new = c.pass-2.new.self in
+    let m = verdict_some a.reader c.in-Some.verdict (sym c.in-Some.ensures.says) in
+    let says = ap event_in (m.1.1 ∙ c.in-Event.is) in record {
       event = e;
       open_before = sym c.is_closed.ensures ∙ c.if-is_closed.false;
-      passes = record { message = f.0; stands = f.1.0; says_so = says; state = goes; held = heads };
+      passes = message_passed a _ mid m.0 (Some e) c.look.ensures.skipped m.1.0 c.pass-2.ensures.passed says;
       sent = ap events c.in-Ok.ensures.ok.0 ∙ events_later (sent a.producer) (entry a.session e);
       room = c.in-Ok.ensures.ok.1;
-      owed = owed_event a.judging after f.0 a.framer new e heads goes says;
+      owed = owed_event a.reader.session new.session m.0 a.reader.held new.held e (leaves_passed a.reader mid new m.0 c.look.ensures.skipped m.1.0 c.pass-2.ensures.passed).0
+          (session_passed a.reader mid new m.0 c.look.ensures.skipped m.1.0 c.pass-2.ensures.passed) says;
     }
 
 -- it is closed now exactly where that event is a close
-pub invariant_of-self-in-Event : goal.invariant_of-self-in-Event
-invariant_of-self-in-Event g c =
+pub invariant_of-self-2 : goal.invariant_of-self-2
+invariant_of-self-2 g c =
     let a = c.args.self.now in
     let e = c.in-Event.event in
-    let f = judged_some a.judging (first_frame (frames a.framer)) (c.in-Some.verdict, c.in-Some.after) (sym c.in-Some.ensures.verdict) in
-    let opens : is_closed a.judging ≡ false = sym c.is_closed.ensures ∙ c.if-is_closed.false in
+    let m = verdict_some a.reader c.in-Some.verdict (sym c.in-Some.ensures.says) in
+    let opens : is_closed a.reader.session ≡ false = sym c.is_closed.ensures ∙ c.if-is_closed.false in
     let sent_is = ap events c.in-Ok.ensures.ok.0 ∙ events_later (sent a.producer) (entry a.session e) in record {
       close_sent =
-          sym (ap (λ r. is_closed r.1) f.1.1)
-          ∙ (closes_with a.judging f.0 opens
-          ∙ (ap (λ r. is_closing r.0) f.1.1
-          ∙ (ap is_closing c.in-Event.is
+          ap is_closed (session_passed a.reader c.look.new.self c.pass-2.new.self m.0 c.look.ensures.skipped m.1.0 c.pass-2.ensures.passed)
+          ∙ (closes_with a.reader.session m.0 opens
+          ∙ (ap is_closing (m.1.1 ∙ c.in-Event.is)
           ∙ (sym (close_later (events (sent a.producer)) e (sym a.close_sent ∙ opens))
-          ∙ sym (ap (list_any is_close) sent_is)))));
+          ∙ sym (ap (list_any is_close) sent_is))));
     }

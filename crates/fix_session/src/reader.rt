@@ -1,0 +1,207 @@
+//! Reads one session's stream: it looks at a message, judges it and passes it.
+ghost use Rattle.std.specs.Prelude.{◌≡◌, ◌-◌, ◌<◌, ◌≤◌, ◌++◌, length, take, drop, min, is_some, option_map, IfOk, OnOk};
+ghost use Rattle.std.specs.Bool.{OnTrue, OnFalse};
+ghost use Rattle.fix_wire.specs.Frames.{frames};
+ghost use Rattle.fix_wire.specs.Held.{first_frame, from_first_start};
+ghost use Rattle.fix_wire.specs.Pieces.{IsDrained};
+ghost use Rattle.fix_session.specs.Steps.{judge, ended, is_closed};
+ghost use Rattle.fix_session.specs.Reading.{ReaderState, new_reader, with_more, first_message, judged, first_verdict, skipped, passed, Fed};
+
+use crate::session::{Session, Verdict};
+use fix_wire::{Framer, Next};
+use host_base::NoMemory;
+use spread_rules::Entry;
+use std::alloc::{AllocError, Allocator};
+use std::marker::Model;
+
+/// The bytes of one session that are put and not passed, and the session as the passed messages left it.
+#[derive(Drop)]
+pub struct Reader {
+    framer: Framer,
+    session: Session,
+    // What the first message says and the session after it, once that message was looked at.
+    due: Option<(Verdict, Session)>,
+}
+
+impl Model for Reader {
+    ghost use Rattle.fix_session.specs.Reading.{ReaderState};
+    ghost use Rattle.fix_session.specs.ReaderFields.{state_of, IsKept};
+
+    ghost Value = { ReaderState };
+
+    ghost view = { state_of };
+
+    ghost invariant = { IsKept };
+}
+
+/// What the first message says, if one stands, and the session after it. Bytes at which no frame stands are skipped.
+fn judge_first(framer: &mut Framer, session: &Session) -> Option<(Verdict, Session)>
+    ensures verdict { result ≡ option_map (judge session.now) (first_frame (frames framer.old)) }
+    ensures held { framer.new ≡ from_first_start framer.old }
+{
+    match framer.next() {
+        Next::Message(message) => Some(session.judge(&message)),
+        Next::Need => None,
+    }
+}
+
+/// The bytes from a place on.
+fn from(bytes: &[u8], place: usize) -> &[u8]
+    requires { place ≤ length bytes.now }
+    ensures { result.now ≡ drop place bytes.now }
+{
+    &bytes[place..]
+}
+
+impl Reader {
+    /// A reader that holds no byte, before its session's Logon.
+    pub fn new() -> Reader
+        ensures { result ≡ new_reader }
+    {
+        Reader {
+            framer: Framer::new(),
+            session: Session::new(),
+            due: None,
+        }
+    }
+
+    /// Takes as much of the piece as there is room for, and says how many bytes.
+    pub fn put(&mut self, piece: &[u8]) -> usize
+        ensures count { result ≡ min (length piece.now) (8192 - length self.old.held) }
+        ensures appended { self.new ≡ with_more self.old (take result piece.now) }
+    {
+        self.framer.put(piece)
+    }
+
+    /// Whether the session is over.
+    pub fn is_closed(&self) -> bool
+        ensures { result ≡ is_closed self.now.session }
+    {
+        self.session.is_closed()
+    }
+
+    /// What the first message says and the session after it, if one stands. It is judged once, however often it is asked
+    /// for.
+    fn find(&mut self) -> Option<(Verdict, Session)>
+        ensures found { result ≡ judged self.old }
+        ensures skipped { self.new ≡ skipped self.old }
+    {
+        if self.due.is_none() {
+            self.due = judge_first(&mut self.framer, &self.session);
+        }
+        self.due
+    }
+
+    /// What the first message says, if one stands. Bytes at which no frame stands are skipped, and nothing else changes.
+    pub fn look(&mut self) -> Option<Verdict>
+        ensures says { result ≡ first_verdict self.old }
+        ensures skipped { self.new ≡ skipped self.old }
+    {
+        match self.find() {
+            Some((verdict, _)) => Some(verdict),
+            None => None,
+        }
+    }
+
+    /// Goes past the first message, which the session judges; false where none stands.
+    pub fn pass(&mut self) -> bool
+        ensures stands { result ≡ is_some (first_message self.old) }
+        ensures passed { self.new ≡ passed self.old }
+    {
+        let Some((_, after)) = self.find() else {
+            return false;
+        };
+        self.framer.pass();
+        self.session = after;
+        self.due = None;
+        true
+    }
+
+    /// What the session says if its stream ends here: Close 5 unless it is closed.
+    pub fn at_end(&self) -> Verdict
+        ensures { result ≡ (ended self.now.session).0 }
+    {
+        let (verdict, _) = self.session.end();
+        verdict
+    }
+
+    /// The stream ends here: what the session says to that. It is closed from then on.
+    pub fn end(&mut self) -> Verdict
+        ensures says { result ≡ (ended self.old.session).0 }
+        ensures ended { self.new ≡ record self.old { session = (ended self.old.session).1 } }
+    {
+        let (verdict, after) = self.session.end();
+        self.session = after;
+        self.due = None;
+        verdict
+    }
+
+    /// A copy of the first message, if one stands. Bytes at which no frame stands are skipped.
+    pub(crate) fn copy_first<A: Allocator>(
+        &mut self,
+        alloc: A,
+    ) -> Result<Option<Vec<u8, A>>, NoMemory>
+        ensures copy { IfOk result (λ copy. option_map (λ v. v.items) copy ≡ first_message self.old) }
+        ensures skipped { self.new ≡ skipped self.old }
+    {
+        match self.framer.next() {
+            Next::Message(message) => Ok(Some(message.bytes().to_vec(alloc)?)),
+            Next::Need => Ok(None),
+        }
+    }
+
+    /// Judges and passes the first message, whose event joins the entries; false where none stands.
+    fn read_first<A: Allocator>(
+        &mut self,
+        number: u8,
+        out: &mut Vec<Entry, A>,
+    ) -> Result<bool, AllocError>
+        ensures fed { IfOk result (λ b. Fed number out.old.items self.old out.new.items self.new) }
+        ensures less { IfOk result (λ b. OnTrue b (length self.new.held < length self.old.held)) }
+        ensures none { IfOk result (λ b. OnFalse b (IsDrained self.new.held)) }
+    {
+        let Some(verdict) = self.look() else {
+            return Ok(false);
+        };
+        if let Verdict::Event(event) = verdict {
+            let session = number;
+            out.push(Entry { session, event })?;
+        }
+        self.pass();
+        Ok(true)
+    }
+
+    /// Judges and passes every message that stands.
+    fn read_all<A: Allocator>(
+        &mut self,
+        number: u8,
+        out: &mut Vec<Entry, A>,
+    ) -> Result<(), AllocError>
+        ensures fed { OnOk result (Fed number out.old.items self.old out.new.items self.new) }
+        ensures drained { OnOk result (IsDrained self.new.held) }
+    {
+        while self.read_first(number, out)? {}
+        Ok(())
+    }
+
+    /// Puts all bytes, and appends what each message says that they complete, as entries of the session with this number.
+    pub fn read<A: Allocator>(
+        &mut self,
+        number: u8,
+        bytes: &[u8],
+        out: &mut Vec<Entry, A>,
+    ) -> Result<(), AllocError>
+        requires { IsDrained self.old.held }
+        ensures fed { OnOk result
+            (Fed number out.old.items (with_more self.old bytes.now) out.new.items self.new) }
+        ensures drained { OnOk result (IsDrained self.new.held) }
+    {
+        let mut rest = bytes;
+        while !rest.is_empty() {
+            let taken = self.put(rest);
+            rest = from(rest, taken);
+            self.read_all(number, out)?;
+        }
+        Ok(())
+    }
+}

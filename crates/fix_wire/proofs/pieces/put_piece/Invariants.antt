@@ -1,9 +1,0 @@
-use Rattle.std.proofs.Common.{◌++◌, length, map}
-use Rattle.fix_wire.specs.Pieces.{IsDrained, GoesOn}
-use Rattle.fix_wire.proofs.pieces.put_piece.Given as goal
-
-abbrev pub invariant-loop-rest : goal.invariant-loop-rest
-invariant-loop-rest g l = GoesOn (map (λ v. v.items) l.initial.out.items) (l.initial.framer ++ l.piece) (map (λ v. v.items) l.out.items) (l.framer ++ l.rest) × IsDrained l.framer
-
-abbrev pub decreases-loop-rest : goal.decreases-loop-rest
-decreases-loop-rest g l = length l.rest

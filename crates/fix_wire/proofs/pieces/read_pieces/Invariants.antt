@@ -1,6 +1,0 @@
-use Rattle.std.proofs.Common.{[], map, take}
-use Rattle.fix_wire.specs.Pieces.{joined, IsDrained, GoesOn}
-use Rattle.fix_wire.proofs.pieces.read_pieces.Given as goal
-
-abbrev pub invariant-loop-piece : goal.invariant-loop-piece
-invariant-loop-piece g l = GoesOn [] (joined (take l.piece-index l.pieces)) (map (λ v. v.items) l.out.items) l.framer × IsDrained l.framer

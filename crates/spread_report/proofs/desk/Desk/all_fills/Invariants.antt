@@ -1,0 +1,12 @@
+use Rattle.std.proofs.Common.{◌≡◌, ◌+◌, ◌*◌, ◌≤◌, take}
+use Rattle.spread_report.specs.EntryMessages.{fills_reports, reports_of}
+use Rattle.spread_report.specs.Desk.{Sends}
+use Rattle.spread_report.proofs.Runs.{all_sent}
+use Rattle.spread_report.proofs.desk.Desk.all_fills.Given as goal
+
+abbrev pub invariant-loop-one : goal.invariant-loop-one
+invariant-loop-one g l = record {
+  sent : Sends l.initial.self l.self l.initial.lists l.lists (fills_reports l.rules l.place 2 (take l.one-index l.fills)) all_sent;
+  index : l.index ≡ 2 + reports_of (take l.one-index l.fills);
+  bound : l.index ≤ 2 + 3 * l.one-index;
+}

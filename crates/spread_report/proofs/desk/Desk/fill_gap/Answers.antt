@@ -1,0 +1,55 @@
+use Rattle.std.proofs.Common.{◌≡◌, [], ◌∷◌, true, false, nat_lt, get_or, refl, ap, arith, rules}
+use Rattle.std.proofs.lemmas.Result.{err_from_is_err_and}
+use Rattle.spread_report.specs.declared.outbound.OutboundSession.{OutboundSession}
+use Rattle.spread_report.proofs.Steps.{gap_line, gap_text, gap_none, appended_line, sent_off}
+use Rattle.spread_report.specs.EntryMessages.{number, text, gap_fill}
+use Rattle.spread_report.specs.Outgoing.{head_of}
+use Rattle.spread_report.proofs.FrameRows.{written_row}
+use Rattle.spread_report.proofs.desk.Desk.fill_gap.Goals as goal
+
+pub returns-then-number-outbound : goal.returns-then-number-outbound
+returns-then-number-outbound g c =
+    let i = c.self.inside in
+    let r = get_or i.sessions c.args.session c.index-self-at.result in
+    let is_r = ap (λ (d : OutboundSession). get_or i.sessions c.args.session d) c.index-self-at.is in
+    let above : nat_lt c.from-number.result r.next ≡ false = search (rules, c.if-number-outbound.true) in
+    rw (← c.self.view_is) (record {
+      stamp = refl;
+      result = gap_none i.stamp i.sessions c.args.lists.now c.args.session r c.self.invariant.count c.requires.session is_r c.args.first c.args.last c.in-Some.ids c.in-Some.is (rw (← c.from-number.ensures) above);
+    })
+
+pub returns-in_ok-write_message-in-Some : goal.returns-in_ok-write_message-in-Some
+returns-in_ok-write_message-in-Some g c =
+    let i = c.self.inside in
+    let r = get_or i.sessions c.args.session c.index-self-at.result in
+    let is_r = ap (λ (d : OutboundSession). get_or i.sessions c.args.session d) c.index-self-at.is in
+    let below : nat_lt c.from-number.result r.next ≡ true = search (rules, c.if-number-outbound.false) in
+    rw (← c.self.view_is) (record {
+      stamp = refl;
+      result =
+          gap_line i.stamp i.sessions c.args.lists.now c.args.session c.args.first c.args.last r c.index-lists-at.result c.in-Some.ids c.write_message.new.out _
+          c.self.invariant.count c.requires.lists c.requires.session is_r c.in-Some.is
+          c.in_ok-write_message-in-Some.ensures.ok
+          (gap_text i.stamp c.in-Some.ids r.next c.args.first c.args.last c.from-number.result c.new_seq_no-next.result c.from.result c.known_id.result
+          c.from-number.ensures c.new_seq_no-next.ensures c.from.ensures c.known_id.ensures below)
+          (written_row (head_of i.stamp c.in-Some.ids 52 c.from-number.result true) (number 36 c.new_seq_no-next.result ∷ text 123 c.known_id.result ∷ []) (omega arith) refl (omega arith) c.in_ok-write_message-in-Some.ensures.short c.in_ok-write_message-in-Some.ensures.lawful);
+    })
+
+pub returns-in_err-write_message-in-Some : goal.returns-in_err-write_message-in-Some
+returns-in_err-write_message-in-Some g c =
+    let i = c.self.inside in
+    let p = err_from_is_err_and c.from_residual.result c.from_residual.ensures.1 in
+    rw (p.1, p.2, ← c.self.view_is) (record {
+      stamp = refl;
+      result = appended_line i.sessions c.args.lists.now c.args.session c.index-lists-at.result c.write_message.new.out c.requires.lists c.requires.session c.in_err-write_message-in-Some.ensures.err;
+    })
+
+pub returns-in-None : goal.returns-in-None
+returns-in-None g c =
+    let i = c.self.inside in
+    let r = get_or i.sessions c.args.session c.index-self-at.result in
+    let is_r = ap (λ (d : OutboundSession). get_or i.sessions c.args.session d) c.index-self-at.is in
+    rw (← c.self.view_is) (record {
+      stamp = refl;
+      result = sent_off i.stamp i.sessions c.args.lists.now c.args.session r c.self.invariant.count c.requires.session is_r (gap_fill c.args.first c.args.last) c.in-None.is;
+    })

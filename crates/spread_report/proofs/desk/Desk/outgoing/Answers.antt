@@ -1,0 +1,30 @@
+use Rattle.std.proofs.Common.{◌≡◌, ℕ, ◌<◌, List, sym, ap, subst, ◌∙◌}
+use Rattle.spread_report.specs.declared.outbound.OutboundSession.{OutboundSession}
+use Rattle.spread_report.specs.Desk.{DeskState}
+use Rattle.spread_report.specs.EntryMessages.{messages_of}
+use Rattle.spread_report.specs.Outgoing.{outbound_at_entry}
+use Rattle.spread_report.specs.Sessions.{outbound_at, OnlyAppended}
+use Rattle.spread_report.proofs.Cuts.{lines_back, after_refusal, desk_of, desk_back}
+use Rattle.spread_report.proofs.desk.Desk.outgoing.Goals as goal
+
+pub returns-then-is_err-clause-desk_kept : goal.returns-then-is_err-clause-desk_kept
+returns-then-is_err-clause-desk_kept g c =
+    let i = c.self.inside in
+    let w = c.send_entry-result in
+    let noted = c.note_comp_ids.new.self in
+    let e = c.args.entry.now in
+    let before : c.args.self.now.sessions ≡ i.sessions = ap (λ (d : DeskState). d.sessions) (sym c.self.view_is) in
+    let after : w.new.self.sessions ≡ c.self-2.inside.sessions = ap (λ (d : DeskState). d.sessions) (sym c.self-2.view_is) in
+    let stamp : c.self-2.inside.stamp ≡ i.stamp =
+    ap (λ (d : DeskState). d.stamp) c.self-2.view_is ∙ (w.ensures.stamp ∙ (c.note_comp_ids.ensures.stamp ∙ ap (λ (d : DeskState). d.stamp) (sym c.self.view_is))) in
+    let opened : (s : ℕ) → s < 16 → outbound_at noted.sessions s ≡ outbound_at_entry s (outbound_at i.sessions s) e.session e.event =
+    λ s below. c.note_comp_ids.ensures.noted s below ∙ ap (λ (l : List OutboundSession). outbound_at_entry s (outbound_at l s) e.session e.event) before in
+    after_refusal (desk_of c.self-2.inside.stamp c.restore.new.sessions ≡ c.args.self.now) noted.stamp noted.sessions w.new.self.sessions c.args.lists.now w.new.lists
+    (messages_of c.args.rules.now c.args.place e c.args.outcome.now c.args.fills.now) w.result w.ensures.result
+    (λ appended.
+    let grown : OnlyAppended noted.sessions c.self-2.inside.sessions c.args.lists.now w.new.lists =
+    subst (λ (l : List OutboundSession). OnlyAppended noted.sessions l c.args.lists.now w.new.lists) after appended in
+    let back : c.restore.new.sessions ≡ i.sessions =
+    lines_back i.sessions noted.sessions c.self-2.inside.sessions c.restore.new.sessions c.args.lists.now w.new.lists c.numbers_of-numbers.result e.session e.event c.index-self-entry.result
+    c.self.invariant.count c.restore.ensures.size c.requires.session opened grown c.numbers_of-numbers.ensures c.restore.ensures.restored in
+    desk_back c.args.self.now c.self-2.inside.stamp i.stamp i.sessions c.restore.new.sessions stamp back c.self.view_is)

@@ -1,0 +1,173 @@
+//! What an entry sends, by its event and by what came of it.
+ghost use Rattle.std.specs.Prelude.{◌≡◌, ℕ, ◌<◌, ◌+◌, ◌∷◌, length, slice_index_or, IfOk};
+ghost use Rattle.spread_rules.specs.declared.fill.Fill.{Fill};
+ghost use Rattle.spread_rules.specs.Ranges.{FitsCancel, FitsNew, FitsOutcome, FitsFill};
+ghost use Rattle.spread_report.specs.Desk.{Sends};
+ghost use Rattle.spread_report.specs.EntryMessages.{messages_of, new_messages, cancel_messages, report, new_report, fills_reports, reports_of};
+ghost use Rattle.spread_report.specs.Outgoing.{outbound_at_entry};
+ghost use Rattle.spread_report.specs.Sessions.{outbound_at};
+
+use super::Desk;
+use crate::fault::DeskFault;
+use crate::outbound::CompIds;
+use crate::symbol::symbol_of;
+use host_base::Id;
+use spread_rules::{Entry, Event, Fill, Outcome, Rulebook, Ticket};
+use std::alloc::Allocator;
+
+/// An entry at its place in the journal, and what came of it.
+#[derive(Clone, Copy)]
+pub struct AppliedEntry<'a> {
+    pub place: u64,
+    pub entry: &'a Entry,
+    pub outcome: &'a Outcome,
+    pub fills: &'a [Fill],
+}
+
+/// A new order, at its entry's place.
+#[derive(Clone, Copy)]
+pub struct NewOrder {
+    pub place: u64,
+    pub session: u8,
+    pub ticket: Ticket,
+}
+
+/// A cancel request, at its entry's place.
+#[derive(Clone, Copy)]
+pub struct CancelRequest {
+    pub place: u64,
+    pub session: u8,
+    /// Its own ClOrdID (tag 11).
+    pub id: Id,
+    /// The ClOrdID of the order that it names (OrigClOrdID, tag 41).
+    pub original: Id,
+}
+
+impl Desk {
+    /// Notes the CompIDs that a Logon brings.
+    pub(super) fn note_comp_ids(&mut self, entry: &Entry)
+        requires { entry.now.session < 16 }
+        ensures stamp { self.new.stamp ≡ self.old.stamp }
+        ensures noted { (s : ℕ) → s < 16 → outbound_at self.new.sessions s ≡ outbound_at_entry s (outbound_at self.old.sessions s) entry.now.session entry.now.event }
+    {
+        if let Event::Logon { client, host, .. } = entry.event {
+            self.sessions[entry.session as usize].comp_ids = Some(CompIds { client, host });
+        }
+    }
+
+    /// Sends an entry's messages, the session's CompIDs being there.
+    pub(super) fn send_entry<A: Allocator + Copy>(
+        &mut self,
+        lists: &mut [Vec<u8, A>],
+        rules: &Rulebook,
+        applied: &AppliedEntry,
+    ) -> Result<(), DeskFault>
+        requires lists { length lists.old ≡ 16 }
+        requires session { applied.now.entry.now.session < 16 }
+        requires outcome { FitsOutcome rules.now applied.now.entry.now.event applied.now.outcome.now }
+        requires fills { (k : ℕ) (d : Fill) → k < length applied.now.fills.now → FitsFill rules.now (slice_index_or applied.now.fills.now k d) }
+        ensures { Sends self.old self.new lists.old lists.new (messages_of rules.now applied.now.place applied.now.entry.now applied.now.outcome.now applied.now.fills.now) result }
+    {
+        let place = applied.place;
+        let session = applied.entry.session;
+        match applied.entry.event {
+            Event::Logon { beat, .. } => self.logon(lists, session, beat),
+            Event::New(ticket) => {
+                let order = NewOrder {
+                    place,
+                    session,
+                    ticket,
+                };
+                self.new_entry(lists, rules, &order, applied.outcome, applied.fills)
+            }
+            Event::Cancel { id, original } => {
+                let request = CancelRequest {
+                    place,
+                    session,
+                    id,
+                    original,
+                };
+                self.cancel_entry(lists, rules, &request, applied.outcome)
+            }
+            Event::TestReply { text } => self.heartbeat(lists, session, &text),
+            Event::Gap { first } => self.resend_request(lists, session, first),
+            Event::Resend { first, last } => self.fill_gap(lists, session, first, last),
+            Event::Reject { number, reason } => self.reject(lists, session, number, reason),
+            Event::Close { reason } => self.logout(lists, session, reason),
+        }
+    }
+
+    /// Tells the session of a new order what came of it.
+    fn new_entry<A: Allocator + Copy>(
+        &mut self,
+        lists: &mut [Vec<u8, A>],
+        rules: &Rulebook,
+        order: &NewOrder,
+        outcome: &Outcome,
+        fills: &[Fill],
+    ) -> Result<(), DeskFault>
+        requires lists { length lists.old ≡ 16 }
+        requires session { order.now.session < 16 }
+        requires outcome { FitsNew order.now.ticket.quantity outcome.now }
+        requires fills { (k : ℕ) (d : Fill) → k < length fills.now → FitsFill rules.now (slice_index_or fills.now k d) }
+        ensures { Sends self.old self.new lists.old lists.new (new_messages rules.now order.now.place order.now.session order.now.ticket outcome.now fills.now) result }
+    {
+        match *outcome {
+            Outcome::Refused(reason) => self.rejected(lists, order, reason),
+            Outcome::Rested | Outcome::Filled => {
+                self.accepted_with_fills(lists, rules, order, fills)?;
+                Ok(())
+            }
+            Outcome::Ended { left } => {
+                let index = self.accepted_with_fills(lists, rules, order, fills)?;
+                self.ended(lists, order, index, left)
+            }
+            _ => Ok(()),
+        }
+    }
+
+    /// Reports a new order and its fills, and tells the next index.
+    fn accepted_with_fills<A: Allocator + Copy>(
+        &mut self,
+        lists: &mut [Vec<u8, A>],
+        rules: &Rulebook,
+        order: &NewOrder,
+        fills: &[Fill],
+    ) -> Result<u64, DeskFault>
+        requires lists { length lists.old ≡ 16 }
+        requires session { order.now.session < 16 }
+        requires fills { (k : ℕ) (d : Fill) → k < length fills.now → FitsFill rules.now (slice_index_or fills.now k d) }
+        ensures sent { Sends self.old self.new lists.old lists.new (report order.now.session (new_report order.now.place order.now.ticket) ∷ fills_reports rules.now order.now.place 2 fills.now) result }
+        ensures index { IfOk result (λ i. i ≡ 2 + reports_of fills.now) }
+    {
+        self.accepted(lists, order)?;
+        self.all_fills(lists, rules, order.place, fills)
+    }
+
+    /// Tells the session of a cancel what came of it.
+    fn cancel_entry<A: Allocator + Copy>(
+        &mut self,
+        lists: &mut [Vec<u8, A>],
+        rules: &Rulebook,
+        request: &CancelRequest,
+        outcome: &Outcome,
+    ) -> Result<(), DeskFault>
+        requires lists { length lists.old ≡ 16 }
+        requires session { request.now.session < 16 }
+        requires outcome { FitsCancel rules.now outcome.now }
+        ensures { Sends self.old self.new lists.old lists.new (cancel_messages rules.now request.now.place request.now.session request.now.id request.now.original outcome.now) result }
+    {
+        match *outcome {
+            Outcome::Cancelled(order) => {
+                let symbol = symbol_of(rules, order.instrument);
+                self.cancelled(lists, request, &order, &symbol)
+            }
+            Outcome::CancelRefused {
+                reason,
+                place,
+                status,
+            } => self.cancel_reject(lists, request, reason, place, status),
+            _ => Ok(()),
+        }
+    }
+}

@@ -1,0 +1,344 @@
+//! Execution reports, one method for each kind.
+ghost use Rattle.std.specs.Prelude.{◌≡◌, ℕ, ◌<◌, ◌≤◌, ◌+◌, ◌∷◌, [], length, FitsSigned, IfOk, slice_index_or};
+ghost use Rattle.std.specs.Int.{w64};
+ghost use Rattle.spread_rules.specs.Legs.{other_side};
+ghost use Rattle.spread_rules.specs.Rulebook.{month_count};
+ghost use Rattle.spread_rules.specs.declared.fill.Fill.{Fill};
+ghost use Rattle.spread_rules.specs.Ranges.{FitsFill};
+ghost use Rattle.spread_report.specs.Desk.{Sends};
+ghost use Rattle.spread_report.specs.EntryMessages.{report, new_report, rejected_report, ended_report, cancelled_report, fill_report, leg_reports, fill_reports, fills_reports, reports_of, fill_status, report_count};
+
+use super::Desk;
+use super::entry::{CancelRequest, NewOrder};
+use super::report_body::{CancelReport, ExecId, FillReport, OrderReport, RejectReport};
+use crate::fault::DeskFault;
+use crate::symbol::symbol_of;
+use host_base::Id;
+use spread_rules::{Fill, Instrument, Order, Rulebook, Side};
+use std::alloc::Allocator;
+
+/// What one report of a fill tells: the whole fill, or one leg of a spread's.
+#[derive(Clone, Copy)]
+pub struct ReportedPart {
+    pub symbol: Id,
+    pub side: Side,
+    /// In hundredths.
+    pub price: i64,
+    /// MultiLegReportingType (tag 442): 1 an outright, 2 a leg, 3 the spread.
+    pub legs: u8,
+}
+
+impl Desk {
+    /// Reports that a new order is accepted.
+    pub(super) fn accepted<A: Allocator + Copy>(
+        &mut self,
+        lists: &mut [Vec<u8, A>],
+        order: &NewOrder,
+    ) -> Result<(), DeskFault>
+        requires lists { length lists.old ≡ 16 }
+        requires session { order.now.session < 16 }
+        ensures { Sends self.old self.new lists.old lists.new (report order.now.session (new_report order.now.place order.now.ticket) ∷ []) result }
+    {
+        let ticket = &order.ticket;
+        let report = OrderReport {
+            order_id: order.place,
+            cl_ord_id: ticket.id,
+            exec_id: ExecId {
+                place: order.place,
+                index: 1,
+            },
+            ord_status: 0,
+            symbol: ticket.symbol,
+            side: ticket.side,
+            order_qty: ticket.quantity as u64,
+            leaves_qty: ticket.quantity as u64,
+            cum_qty: 0,
+        };
+        self.send_body(lists, order.session, b'8', &report)
+    }
+
+    /// Reports that a new order is refused.
+    pub(super) fn rejected<A: Allocator + Copy>(
+        &mut self,
+        lists: &mut [Vec<u8, A>],
+        order: &NewOrder,
+        reason: u8,
+    ) -> Result<(), DeskFault>
+        requires lists { length lists.old ≡ 16 }
+        requires session { order.now.session < 16 }
+        ensures { Sends self.old self.new lists.old lists.new (report order.now.session (rejected_report order.now.place order.now.ticket reason) ∷ []) result }
+    {
+        let ticket = &order.ticket;
+        let report = RejectReport {
+            order: OrderReport {
+                order_id: order.place,
+                cl_ord_id: ticket.id,
+                exec_id: ExecId {
+                    place: order.place,
+                    index: 1,
+                },
+                ord_status: 8,
+                symbol: ticket.symbol,
+                side: ticket.side,
+                order_qty: ticket.quantity as u64,
+                leaves_qty: 0,
+                cum_qty: 0,
+            },
+            reason: reason as u64,
+        };
+        self.send_body(lists, order.session, b'8', &report)
+    }
+
+    /// Reports that what is left of an immediate order is cancelled.
+    pub(super) fn ended<A: Allocator + Copy>(
+        &mut self,
+        lists: &mut [Vec<u8, A>],
+        order: &NewOrder,
+        index: u64,
+        left: u32,
+    ) -> Result<(), DeskFault>
+        requires lists { length lists.old ≡ 16 }
+        requires session { order.now.session < 16 }
+        requires left { left ≤ order.now.ticket.quantity }
+        ensures { Sends self.old self.new lists.old lists.new (report order.now.session (ended_report order.now.place index order.now.ticket left) ∷ []) result }
+    {
+        let ticket = &order.ticket;
+        let filled = ticket.quantity - left;
+        let report = OrderReport {
+            order_id: order.place,
+            cl_ord_id: ticket.id,
+            exec_id: ExecId {
+                place: order.place,
+                index,
+            },
+            ord_status: 4,
+            symbol: ticket.symbol,
+            side: ticket.side,
+            order_qty: ticket.quantity as u64,
+            leaves_qty: 0,
+            cum_qty: filled as u64,
+        };
+        self.send_body(lists, order.session, b'8', &report)
+    }
+
+    /// Reports a cancelled order to who cancelled it.
+    pub(super) fn cancelled<A: Allocator + Copy>(
+        &mut self,
+        lists: &mut [Vec<u8, A>],
+        request: &CancelRequest,
+        order: &Order,
+        symbol: &Id,
+    ) -> Result<(), DeskFault>
+        requires lists { length lists.old ≡ 16 }
+        requires session { request.now.session < 16 }
+        requires left { order.now.leaves ≤ order.now.quantity }
+        ensures { Sends self.old self.new lists.old lists.new (report request.now.session (cancelled_report symbol.now request.now.place request.now.id request.now.original order.now) ∷ []) result }
+    {
+        let filled = order.quantity - order.leaves;
+        let report = CancelReport {
+            order: OrderReport {
+                order_id: order.place,
+                cl_ord_id: request.id,
+                exec_id: ExecId {
+                    place: request.place,
+                    index: 1,
+                },
+                ord_status: 4,
+                symbol: *symbol,
+                side: order.side,
+                order_qty: order.quantity as u64,
+                leaves_qty: 0,
+                cum_qty: filled as u64,
+            },
+            original: request.original,
+        };
+        self.send_body(lists, request.session, b'8', &report)
+    }
+
+    /// One report of a fill.
+    fn fill_part<A: Allocator + Copy>(
+        &mut self,
+        lists: &mut [Vec<u8, A>],
+        exec_id: ExecId,
+        fill: &Fill,
+        part: &ReportedPart,
+    ) -> Result<(), DeskFault>
+        requires lists { length lists.old ≡ 16 }
+        requires session { fill.now.session < 16 }
+        requires left { fill.now.leaves ≤ fill.now.total }
+        requires price { FitsSigned w64 part.now.price }
+        ensures { Sends self.old self.new lists.old lists.new (report fill.now.session (fill_report exec_id.place exec_id.index fill.now part.now.symbol part.now.side part.now.price part.now.legs) ∷ []) result }
+    {
+        let filled = fill.total - fill.leaves;
+        let report = FillReport {
+            order: OrderReport {
+                order_id: fill.order,
+                cl_ord_id: fill.id,
+                exec_id,
+                ord_status: fill_status(fill.leaves),
+                symbol: part.symbol,
+                side: part.side,
+                order_qty: fill.total as u64,
+                leaves_qty: fill.leaves as u64,
+                cum_qty: filled as u64,
+            },
+            last_shares: fill.quantity as u64,
+            last_px: part.price,
+            legs: part.legs as u64,
+        };
+        self.send_body(lists, fill.session, b'8', &report)
+    }
+
+    /// Reports the legs of a spread's fill, in the near and in the far month.
+    fn fill_legs<A: Allocator + Copy>(
+        &mut self,
+        lists: &mut [Vec<u8, A>],
+        rules: &Rulebook,
+        exec_id: ExecId,
+        fill: &Fill,
+        months: (u8, u8),
+    ) -> Result<(), DeskFault>
+        requires lists { length lists.old ≡ 16 }
+        requires near { months.0 < month_count rules.now }
+        requires far { months.1 < month_count rules.now }
+        requires fits { FitsFill rules.now fill.now }
+        requires index { exec_id.index < 18446744073709551614 }
+        ensures { Sends self.old self.new lists.old lists.new (leg_reports months.0 months.1 rules.now exec_id.place exec_id.index fill.now) result }
+    {
+        let near = ReportedPart {
+            symbol: rules.name_id(months.0),
+            side: fill.side,
+            price: near_of(fill),
+            legs: 2,
+        };
+        self.fill_part(lists, exec_id, fill, &near)?;
+        let far = ReportedPart {
+            symbol: rules.name_id(months.1),
+            side: other_side(fill.side),
+            price: far_of(fill),
+            legs: 2,
+        };
+        self.fill_part(lists, next(exec_id), fill, &far)
+    }
+
+    /// Reports a fill: of a spread the whole, then its two legs.
+    fn fill<A: Allocator + Copy>(
+        &mut self,
+        lists: &mut [Vec<u8, A>],
+        rules: &Rulebook,
+        exec_id: ExecId,
+        fill: &Fill,
+    ) -> Result<(), DeskFault>
+        requires lists { length lists.old ≡ 16 }
+        requires fits { FitsFill rules.now fill.now }
+        requires index { exec_id.index < 18446744073709551613 }
+        ensures { Sends self.old self.new lists.old lists.new (fill_reports rules.now exec_id.place exec_id.index fill.now) result }
+    {
+        let symbol = symbol_of(rules, fill.instrument);
+        match fill.instrument {
+            Instrument::Outright(_) => {
+                let part = ReportedPart {
+                    symbol,
+                    side: fill.side,
+                    price: price_of(fill),
+                    legs: 1,
+                };
+                self.fill_part(lists, exec_id, fill, &part)
+            }
+            Instrument::Spread(near, far) => {
+                let part = ReportedPart {
+                    symbol,
+                    side: fill.side,
+                    price: price_of(fill),
+                    legs: 3,
+                };
+                self.fill_part(lists, exec_id, fill, &part)?;
+                self.fill_legs(lists, rules, next(exec_id), fill, (near, far))
+            }
+        }
+    }
+
+    /// Reports all fills of an entry, and tells the next index.
+    pub(super) fn all_fills<A: Allocator + Copy>(
+        &mut self,
+        lists: &mut [Vec<u8, A>],
+        rules: &Rulebook,
+        place: u64,
+        fills: &[Fill],
+    ) -> Result<u64, DeskFault>
+        requires lists { length lists.old ≡ 16 }
+        requires fills { (k : ℕ) (d : Fill) → k < length fills.now → FitsFill rules.now (slice_index_or fills.now k d) }
+        ensures sent { Sends self.old self.new lists.old lists.new (fills_reports rules.now place 2 fills.now) result }
+        ensures index { IfOk result (λ i. i ≡ 2 + reports_of fills.now) }
+    {
+        let mut index = 2;
+        for one in fills {
+            self.fill(lists, rules, ExecId { place, index }, one)?;
+            index += report_count(one.instrument);
+        }
+        Ok(index)
+    }
+}
+
+/// The ExecID of the report behind.
+fn next(exec_id: ExecId) -> ExecId
+    requires { exec_id.index < 18446744073709551615 }
+    ensures { result ≡ record { place = exec_id.place; index = exec_id.index + 1 } }
+{
+    ExecId {
+        place: exec_id.place,
+        index: exec_id.index + 1,
+    }
+}
+
+/// How many reports a fill has.
+fn report_count(instrument: Instrument) -> u64
+    ensures value { result ≡ report_count instrument }
+    ensures most { result ≤ 3 }
+{
+    match instrument {
+        Instrument::Outright(_) => 1,
+        Instrument::Spread(_, _) => 3,
+    }
+}
+
+/// OrdStatus (tag 39) of a fill's report: 2 filled, 1 partially filled.
+fn fill_status(leaves: u32) -> u64
+    ensures { result ≡ fill_status leaves }
+{
+    if leaves == 0 { 2 } else { 1 }
+}
+
+/// The other side.
+fn other_side(side: Side) -> Side
+    ensures { result ≡ other_side side }
+{
+    match side {
+        Side::Buy => Side::Sell,
+        Side::Sell => Side::Buy,
+    }
+}
+
+/// The price of a fill.
+fn price_of(fill: &Fill) -> i64
+    ensures value { result ≡ fill.now.price }
+    ensures fits { FitsSigned w64 fill.now.price }
+{
+    fill.price
+}
+
+/// The price of a fill's near leg.
+fn near_of(fill: &Fill) -> i64
+    ensures value { result ≡ fill.now.near }
+    ensures fits { FitsSigned w64 fill.now.near }
+{
+    fill.near
+}
+
+/// The price of a fill's far leg.
+fn far_of(fill: &Fill) -> i64
+    ensures value { result ≡ fill.now.far }
+    ensures fits { FitsSigned w64 fill.now.far }
+{
+    fill.far
+}
