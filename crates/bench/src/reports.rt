@@ -1,4 +1,4 @@
-//! What the sessions of a worked journal are sent.
+//! What the sessions of an applied journal are sent.
 ghost use Rattle.std.specs.Prelude.{ℕ, ◌<◌, ◌≤◌, length, slice_index_or};
 ghost use Rattle.std.specs.Bool.{OnTrue};
 ghost use Rattle.spread_rules.specs.declared.fill.Fill.{Fill};
@@ -7,7 +7,6 @@ ghost use Rattle.spread_rules.specs.Ranges.{FitsOutcome, FitsFill};
 
 use crate::content::id;
 use crate::fault::Fault;
-use spread_match::Worked;
 use spread_report::{Desk, DeskFault};
 use spread_rules::{Entry, Event, Fill, Instrument, Outcome, Rulebook};
 use std::alloc::{AllocError, Allocator};
@@ -51,16 +50,35 @@ fn fits_outcome(rules: &Rulebook, event: &Event, outcome: &Outcome) -> bool
     }
 }
 
+/// All fills of a journal's entries, and each entry's outcome.
+#[derive(Drop)]
+pub struct Applied<A: Allocator> {
+    pub fills: Vec<Fill, A>,
+    pub outcomes: Vec<Outcome, A>,
+}
+
+/// An entry at its place, and what came of it.
+#[derive(Clone, Copy)]
+struct AppliedEntry<'a> {
+    place: u64,
+    entry: &'a Entry,
+    outcome: &'a Outcome,
+    fills: &'a [Fill],
+}
+
 /// Sends what an entry sends. The ranges that the desk asks for are tested here.
 fn send<A: Allocator + Copy>(
     desk: &mut Desk,
     rules: &Rulebook,
-    place: u64,
-    entry: &Entry,
-    outcome: &Outcome,
-    fills: &[Fill],
+    applied: &AppliedEntry<'_>,
     lists: &mut Vec<Vec<u8, A>, A>,
 ) -> Result<(), Fault> {
+    let AppliedEntry {
+        place,
+        entry,
+        outcome,
+        fills,
+    } = *applied;
     if entry.session >= 16 || lists.len() != 16 {
         return Err(Fault::Input);
     }
@@ -93,21 +111,27 @@ fn new_lists<A: Allocator + Copy>(alloc: A) -> Result<Vec<Vec<u8, A>, A>, AllocE
     Ok(lists)
 }
 
-/// What each session is sent for the entries of a worked journal.
+/// What each session is sent for the entries of an applied journal.
 pub fn send_all<A: Allocator + Copy>(
     alloc: A,
     rules: &Rulebook,
     journal: &[Entry],
-    worked: &Worked<A>,
+    applied: &Applied<A>,
 ) -> Result<Vec<Vec<u8, A>, A>, Fault> {
     let mut lists = new_lists(alloc)?;
     let mut desk = Desk::new(id(b"20260105-14:30:00"));
-    let mut rest = worked.fills.as_slice();
+    let mut rest = applied.fills.as_slice();
     let mut place = 0u64;
-    for (entry, outcome) in journal.iter().zip(worked.outcomes.iter()) {
+    for (entry, outcome) in journal.iter().zip(applied.outcomes.iter()) {
         place = place.wrapping_add(1);
         let (fills, others) = rest.split_at(made_at(rest, place));
-        send(&mut desk, rules, place, entry, outcome, fills, &mut lists)?;
+        let one = AppliedEntry {
+            place,
+            entry,
+            outcome,
+            fills,
+        };
+        send(&mut desk, rules, &one, &mut lists)?;
         rest = others;
     }
     Ok(lists)

@@ -4,7 +4,7 @@ ghost use Rattle.std.specs.Prelude.{◌≤◌, length};
 use crate::content::{fill_fields, head};
 use crate::fault::Fault;
 use crate::timing::{RUNS, nanos, tell};
-use fix_session::{Session, Verdict};
+use fix_session::{Reader, Verdict};
 use fix_wire::{Framer, Next, write_message};
 use host_base::NoMemory;
 use std::alloc::{AllocGlobal, Allocator};
@@ -54,15 +54,13 @@ pub fn scan(stream: &[u8]) -> u64 {
 }
 
 /// Judges and passes every message that stands, and counts the events.
-fn judge_messages(framer: &mut Framer, session: &mut Session) -> u64 {
+fn judge_messages(reader: &mut Reader) -> u64 {
     let mut events = 0u64;
     for _ in 0..HELD {
-        let Next::Message(message) = framer.next() else {
+        let Some(verdict) = reader.look() else {
             break;
         };
-        let (verdict, after) = session.judge(&message);
-        framer.pass();
-        *session = after;
+        reader.pass();
         if let Verdict::Event(_) = verdict {
             events = events.wrapping_add(1);
         }
@@ -70,27 +68,26 @@ fn judge_messages(framer: &mut Framer, session: &mut Session) -> u64 {
     events
 }
 
-fn judge_piece(framer: &mut Framer, session: &mut Session, piece: &[u8]) -> u64 {
+fn judge_piece(reader: &mut Reader, piece: &[u8]) -> u64 {
     let mut rest = piece;
     let mut events = 0u64;
     for _ in 0..HELD {
         if rest.is_empty() {
             break;
         }
-        let taken = framer.put(rest);
+        let taken = reader.put(rest);
         rest = &rest[taken..];
-        events = events.wrapping_add(judge_messages(framer, session));
+        events = events.wrapping_add(judge_messages(reader));
     }
     events
 }
 
 /// Puts a session's stream in pieces, judges every message, and counts the events.
 pub fn judge(stream: &[u8]) -> u64 {
-    let mut framer = Framer::new();
-    let mut session = Session::new();
+    let mut reader = Reader::new();
     let mut events = 0u64;
     for piece in stream.chunks(PIECE) {
-        events = events.wrapping_add(judge_piece(&mut framer, &mut session, piece));
+        events = events.wrapping_add(judge_piece(&mut reader, piece));
     }
     events
 }

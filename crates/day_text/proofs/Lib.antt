@@ -1,0 +1,5 @@
+pub mod Next
+pub mod Sums
+pub mod MonthLines
+pub mod Putting
+pub mod SessionLines

@@ -1,0 +1,29 @@
+-- The text of a day.
+use Rattle.std.specs.Prelude.{ℕ, Bool, true, false, List, ◌++◌, map, All}
+use Rattle.std.specs.declared.vec.Vec.{Vec}
+use Rattle.spread_journal.specs.JournalText.{journal_text}
+use Rattle.spread_rules.specs.declared.event.Entry.{Entry}
+use Rattle.spread_rules.specs.declared.fill.Fill.{Fill}
+use Rattle.spread_rules.specs.Rulebook.{Rules, IsListed}
+use Rattle.day_text.specs.Fills.{fill_lines}
+use Rattle.day_text.specs.Messages.{outgoing_lines_from}
+use Rattle.day_text.specs.Months.{month_lines}
+use Rattle.day_text.specs.Totals.{IsSummable}
+
+-- the lines of fills, and of months
+abbrev pub fills_text : Rules → List Fill → List ℕ
+fills_text rules fills = fill_lines rules fills ++ month_lines rules fills
+
+-- the lists' bytes, session by session
+abbrev pub texts_of : {A : Type 0} → List (Vec ℕ A) → List (List ℕ)
+texts_of {A} lists = map (λ (v : Vec ℕ A). v.items) lists
+
+-- fills that a day's text can show: of listed instruments, in the ranges of its sums
+pub record AreShown (rules : Rules) (fills : List Fill) : Type 0 where
+  pub listed : All (λ f. IsListed rules f.instrument) fills
+  pub summable : All IsSummable fills
+
+-- the text of a day: the journal, fills, then what each session is sent, then the months; or the journal alone
+abbrev pub day_text : Bool → Rules → List Entry → List Fill → List (List ℕ) → List ℕ
+day_text true rules journal fills texts = journal_text journal
+day_text false rules journal fills texts = journal_text journal ++ fill_lines rules fills ++ outgoing_lines_from 0 texts ++ month_lines rules fills

@@ -1,0 +1,16 @@
+//! The text of a day: its journal, its fills, what each session is sent, and what each month sums to.
+#![tactic(auto)]
+
+mod day_text;
+mod fault;
+mod fills;
+mod messages;
+mod months;
+#[cfg(test)]
+mod tests;
+
+pub use day_text::{Day, write_day, write_fills};
+pub use fault::TextFault;
+pub use fills::put_fills;
+pub use messages::write_sessions;
+pub use months::{MonthTotals, month_totals, put_months};

@@ -1,0 +1,214 @@
+//! The lines of outgoing messages, written in pieces.
+ghost use Rattle.std.specs.Prelude.{◌≡◌, ◌<◌, ◌≤◌, ◌+◌, ◌++◌, [], List, All, map, length, OnOk, OnErr, vec_len, vec_capacity, true, false};
+ghost use Rattle.std.specs.Io.KnownBytes.{Appends};
+ghost use Rattle.host_base.specs.Ends.{AppendsPrefix};
+ghost use Rattle.fix_wire.specs.Frames.{IsFrameRow};
+ghost use Rattle.day_text.specs.Messages.{shown, line_lead, outgoing_line, outgoing_lines, outgoing_lines_from};
+ghost use Rattle.day_text.specs.Pieces.{IsPut};
+
+use fix_wire::first_of_row;
+use host_base::{Failed, Sink, write_all};
+use std::alloc::Allocator;
+
+/// How many bytes a piece has room for.
+pub const PIECE: usize = 65_536;
+
+/// Writes what stands in the piece.
+fn write_out<K: Sink, A: Allocator>(piece: &mut Vec<u8, A>, sink: &mut K) -> Result<(), Failed>
+    requires works { K.has_failed sink.old ≡ false }
+    ensures ok { OnOk result (Appends (K.written sink.old) (K.written sink.new) piece.old.items) }
+    ensures items { OnOk result (piece.new.items ≡ []) }
+    ensures len { OnOk result (vec_len piece.new ≡ 0) }
+    ensures room { vec_capacity piece.new ≡ vec_capacity piece.old }
+    ensures sound { OnOk result (K.has_failed sink.new ≡ false) }
+    ensures failed { OnErr result (K.has_failed sink.new ≡ true) }
+    ensures front { OnErr result (AppendsPrefix (K.written sink.old) (K.written sink.new) piece.old.items) }
+{
+    write_all(sink, piece)?;
+    piece.clear();
+    Ok(())
+}
+
+/// Writes what stands in the piece if it is full.
+fn make_room<K: Sink, A: Allocator>(piece: &mut Vec<u8, A>, sink: &mut K) -> Result<(), Failed>
+    requires works { K.has_failed sink.old ≡ false }
+    requires some { 0 < vec_capacity piece.old }
+    ensures put { OnOk result (IsPut (K.written sink.old) (K.written sink.new) piece.new.items piece.old.items) }
+    ensures room { OnOk result (vec_len piece.new < vec_capacity piece.new) }
+    ensures sound { OnOk result (K.has_failed sink.new ≡ false) }
+    ensures failed { OnErr result (K.has_failed sink.new ≡ true) }
+    ensures front { OnErr result (AppendsPrefix (K.written sink.old) (K.written sink.new) piece.old.items) }
+{
+    if piece.len() == piece.capacity() {
+        return write_out(piece, sink);
+    }
+    Ok(())
+}
+
+/// Shows each byte 1 as `|`.
+fn show_field_ends(text: &mut [u8])
+    ensures { text.new ≡ map shown text.old }
+{
+    for byte in text.iter_mut() {
+        *byte = shown_byte(*byte);
+    }
+}
+
+fn shown_byte(byte: u8) -> u8
+    ensures { result ≡ shown byte }
+{
+    if byte == 1 { b'|' } else { byte }
+}
+
+/// Appends bytes for which there is room, as they are shown.
+fn append_shown<A: Allocator>(piece: &mut Vec<u8, A>, bytes: &[u8])
+    requires { vec_len piece.old + length bytes.now ≤ vec_capacity piece.old }
+    ensures items { piece.new.items ≡ piece.old.items ++ map shown bytes.now }
+    ensures room { vec_capacity piece.old ≤ vec_capacity piece.new }
+{
+    let start = piece.len();
+    match piece.extend_from_slice(bytes) {
+        Ok(()) => show_field_ends(&mut piece[start..]),
+        Err(_) => unreachable!(),
+    }
+}
+
+/// Puts bytes behind those of the piece, as they are shown. The piece is written each time that it is full.
+fn put_shown<K: Sink, A: Allocator>(
+    piece: &mut Vec<u8, A>,
+    sink: &mut K,
+    bytes: &[u8],
+) -> Result<(), Failed>
+    requires works { K.has_failed sink.old ≡ false }
+    requires some { 0 < vec_capacity piece.old }
+    ensures put { OnOk result (IsPut (K.written sink.old) (K.written sink.new) piece.new.items (piece.old.items ++ map shown bytes.now)) }
+    ensures some { OnOk result (0 < vec_capacity piece.new) }
+    ensures sound { OnOk result (K.has_failed sink.new ≡ false) }
+    ensures failed { OnErr result (K.has_failed sink.new ≡ true) }
+    ensures front { OnErr result (AppendsPrefix (K.written sink.old) (K.written sink.new) (piece.old.items ++ map shown bytes.now)) }
+{
+    let mut rest = bytes;
+    while !rest.is_empty() {
+        make_room(piece, sink)?;
+        let (now, later) = rest.split_at(rest.len().min(piece.capacity() - piece.len()));
+        append_shown(piece, now);
+        rest = later;
+    }
+    Ok(())
+}
+
+/// What each line of a session begins with, `O S:`.
+fn lead(session: u8) -> &'static [u8]
+    requires { session < 16 }
+    ensures text { result.now ≡ line_lead session }
+    ensures shown { map shown result.now ≡ result.now }
+{
+    match session {
+        0 => b"O 0:",
+        1 => b"O 1:",
+        2 => b"O 2:",
+        3 => b"O 3:",
+        4 => b"O 4:",
+        5 => b"O 5:",
+        6 => b"O 6:",
+        7 => b"O 7:",
+        8 => b"O 8:",
+        9 => b"O 9:",
+        10 => b"O 10:",
+        11 => b"O 11:",
+        12 => b"O 12:",
+        13 => b"O 13:",
+        14 => b"O 14:",
+        _ => b"O 15:",
+    }
+}
+
+/// One message's line.
+fn put_message<K: Sink, A: Allocator>(
+    piece: &mut Vec<u8, A>,
+    sink: &mut K,
+    session: u8,
+    message: &[u8],
+) -> Result<(), Failed>
+    requires works { K.has_failed sink.old ≡ false }
+    requires some { 0 < vec_capacity piece.old }
+    requires session { session < 16 }
+    ensures put { OnOk result (IsPut (K.written sink.old) (K.written sink.new) piece.new.items (piece.old.items ++ outgoing_line session message.now)) }
+    ensures some { OnOk result (0 < vec_capacity piece.new) }
+    ensures sound { OnOk result (K.has_failed sink.new ≡ false) }
+    ensures failed { OnErr result (K.has_failed sink.new ≡ true) }
+    ensures front { OnErr result (AppendsPrefix (K.written sink.old) (K.written sink.new) (piece.old.items ++ outgoing_line session message.now)) }
+{
+    put_shown(piece, sink, lead(session))?;
+    put_shown(piece, sink, message)?;
+    put_shown(piece, sink, b"\n")
+}
+
+/// A line for each message of these bytes, which this session is sent. They are whole frames.
+fn put_outgoing<K: Sink, A: Allocator>(
+    piece: &mut Vec<u8, A>,
+    sink: &mut K,
+    session: u8,
+    bytes: &[u8],
+) -> Result<(), Failed>
+    requires works { K.has_failed sink.old ≡ false }
+    requires some { 0 < vec_capacity piece.old }
+    requires session { session < 16 }
+    requires row { IsFrameRow bytes.now }
+    ensures put { OnOk result (IsPut (K.written sink.old) (K.written sink.new) piece.new.items (piece.old.items ++ outgoing_lines session bytes.now)) }
+    ensures some { OnOk result (0 < vec_capacity piece.new) }
+    ensures sound { OnOk result (K.has_failed sink.new ≡ false) }
+    ensures failed { OnErr result (K.has_failed sink.new ≡ true) }
+    ensures front { OnErr result (AppendsPrefix (K.written sink.old) (K.written sink.new) (piece.old.items ++ outgoing_lines session bytes.now)) }
+{
+    let mut rest = bytes;
+    while let Some((message, later)) = first_of_row(rest) {
+        put_message(piece, sink, session, message)?;
+        rest = later;
+    }
+    Ok(())
+}
+
+/// A line for each message of these lists, session 0 first.
+fn put_sessions<K: Sink, A: Allocator, B: Allocator>(
+    piece: &mut Vec<u8, A>,
+    sink: &mut K,
+    lists: &[Vec<u8, B>],
+) -> Result<(), Failed>
+    requires works { K.has_failed sink.old ≡ false }
+    requires some { 0 < vec_capacity piece.old }
+    requires count { length lists.now ≤ 16 }
+    requires rows { All IsFrameRow (map (λ v. v.items) lists.now) }
+    ensures put { OnOk result (IsPut (K.written sink.old) (K.written sink.new) piece.new.items (piece.old.items ++ outgoing_lines_from 0 (map (λ v. v.items) lists.now))) }
+    ensures sound { OnOk result (K.has_failed sink.new ≡ false) }
+    ensures failed { OnErr result (K.has_failed sink.new ≡ true) }
+    ensures front { OnErr result (AppendsPrefix (K.written sink.old) (K.written sink.new) (piece.old.items ++ outgoing_lines_from 0 (map (λ v. v.items) lists.now))) }
+{
+    for (session, bytes) in lists.iter().enumerate() {
+        put_outgoing(piece, sink, session as u8, bytes)?;
+    }
+    Ok(())
+}
+
+/// Writes a line for each message of these lists, session 0 first, by way of a piece in which nothing stands yet, and
+/// takes no memory. The lists are sixteen at most, each of whole frames, or empty. Then the piece is empty again. Where a
+/// write fails, a front of the lines is out, and nothing is known of what stands in the piece.
+pub fn write_sessions<K: Sink, A: Allocator, B: Allocator>(
+    piece: &mut Vec<u8, A>,
+    sink: &mut K,
+    lists: &[Vec<u8, B>],
+) -> Result<(), Failed>
+    requires works { K.has_failed sink.old ≡ false }
+    requires empty { piece.old.items ≡ [] }
+    requires some { 0 < vec_capacity piece.old }
+    requires count { length lists.now ≤ 16 }
+    requires rows { All IsFrameRow (map (λ v. v.items) lists.now) }
+    ensures ok { OnOk result (Appends (K.written sink.old) (K.written sink.new) (outgoing_lines_from 0 (map (λ v. v.items) lists.now))) }
+    ensures emptied { OnOk result (piece.new.items ≡ []) }
+    ensures sound { OnOk result (K.has_failed sink.new ≡ false) }
+    ensures failed { OnErr result (K.has_failed sink.new ≡ true) }
+    ensures front { OnErr result (AppendsPrefix (K.written sink.old) (K.written sink.new) (outgoing_lines_from 0 (map (λ v. v.items) lists.now))) }
+{
+    put_sessions(piece, sink, lists)?;
+    write_out(piece, sink)
+}

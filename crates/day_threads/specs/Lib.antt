@@ -1,0 +1,4 @@
+pub mod Workers
+pub mod Turning
+pub mod Handing
+pub mod Streams
