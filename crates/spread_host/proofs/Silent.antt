@@ -7,38 +7,38 @@ use Rattle.spread_rules.specs.declared.event.Event.TheVariants.{Logon, New, Canc
 use Rattle.spread_rules.specs.Journal.{restricted}
 use Rattle.spread_rules.specs.Meaning.{JournalState, meaning_of, after_entry, no_entries}
 use Rattle.spread_rules.specs.Rulebook.{Rules}
-use Rattle.spread_report.specs.declared.line.SessionLine.{SessionLine}
+use Rattle.spread_report.specs.declared.outbound.OutboundSession.{OutboundSession}
 use Rattle.spread_report.specs.EntryMessages.{AddressedMessage}
-use Rattle.spread_report.specs.Outgoing.{bytes_to, line_after, bytes_from, line_before_logon, line_at_entry, entry_messages, text_for, line_for}
+use Rattle.spread_report.specs.Outgoing.{bytes_to, bytes_from, entry_messages, text_for, outbound_after, outbound_at_entry, outbound_before_logon, outbound_for}
 use Rattle.spread_host.specs.Working.{worked_with, worked_entries_from, outgoing_bytes}
 
-text_silent : (stamp : List ℕ) (s n : ℕ) (m : AddressedMessage) → text_for stamp s (line_before_logon n) m ≡ []
+text_silent : (stamp : List ℕ) (s n : ℕ) (m : AddressedMessage) → text_for stamp s (outbound_before_logon n) m ≡ []
 text_silent stamp s n m = by_test (eqb m.to s)
   where
     by_test : (v : Bool) → cond {A = List ℕ} v [] [] ≡ []
     by_test true = refl
     by_test false = refl
 
-line_silent : (s n : ℕ) (m : AddressedMessage) → line_for s (line_before_logon n) m ≡ line_before_logon n
+line_silent : (s n : ℕ) (m : AddressedMessage) → outbound_for s (outbound_before_logon n) m ≡ outbound_before_logon n
 line_silent s n m = by_test (eqb m.to s)
   where
-    by_test : (v : Bool) → cond {A = SessionLine} v (line_before_logon n) (line_before_logon n) ≡ line_before_logon n
+    by_test : (v : Bool) → cond {A = OutboundSession} v (outbound_before_logon n) (outbound_before_logon n) ≡ outbound_before_logon n
     by_test true = refl
     by_test false = refl
 
 -- before its Logon it is sent nothing, and its line stays
-bytes_silent : (stamp : List ℕ) (s n : ℕ) (ms : List AddressedMessage) → bytes_to stamp s (line_before_logon n) ms ≡ []
+bytes_silent : (stamp : List ℕ) (s n : ℕ) (ms : List AddressedMessage) → bytes_to stamp s (outbound_before_logon n) ms ≡ []
 bytes_silent stamp s n [] = refl
 bytes_silent stamp s n (m ∷ ms) =
-    ap (λ (t : List ℕ). t ++ bytes_to stamp s (line_for s (line_before_logon n) m) ms) (text_silent stamp s n m)
-    ∙ (ap (λ (l : SessionLine). bytes_to stamp s l ms) (line_silent s n m) ∙ bytes_silent stamp s n ms)
+    ap (λ (t : List ℕ). t ++ bytes_to stamp s (outbound_for s (outbound_before_logon n) m) ms) (text_silent stamp s n m)
+    ∙ (ap (λ (l : OutboundSession). bytes_to stamp s l ms) (line_silent s n m) ∙ bytes_silent stamp s n ms)
 
-line_stays : (s n : ℕ) (ms : List AddressedMessage) → line_after s (line_before_logon n) ms ≡ line_before_logon n
+line_stays : (s n : ℕ) (ms : List AddressedMessage) → outbound_after s (outbound_before_logon n) ms ≡ outbound_before_logon n
 line_stays s n [] = refl
-line_stays s n (m ∷ ms) = ap (λ (l : SessionLine). line_after s l ms) (line_silent s n m) ∙ line_stays s n ms
+line_stays s n (m ∷ ms) = ap (λ (l : OutboundSession). outbound_after s l ms) (line_silent s n m) ∙ line_stays s n ms
 
 -- an entry of another session is no Logon of this one
-entry_silent : (s n i : ℕ) (e : Event) → eqb i s ≡ false → line_at_entry s (line_before_logon n) i e ≡ line_before_logon n
+entry_silent : (s n i : ℕ) (e : Event) → eqb i s ≡ false → outbound_at_entry s (outbound_before_logon n) i e ≡ outbound_before_logon n
 entry_silent s n i (Logon client host beat) other = rw other refl
 entry_silent s n i (New t) other = refl
 entry_silent s n i (Cancel id original) other = refl
@@ -49,7 +49,7 @@ entry_silent s n i (Reject number reason) other = refl
 entry_silent s n i (Close reason) other = refl
 
 silent_from : (rules : Rules) (stamp : List ℕ) (s n : ℕ) (past : JournalState) (place : ℕ) (es : List Entry) → restricted s es ≡ []
-    → bytes_from stamp rules s (line_before_logon n) (worked_entries_from rules past place es) ≡ []
+    → bytes_from stamp rules s (outbound_before_logon n) (worked_entries_from rules past place es) ≡ []
 silent_from rules stamp s n past place [] none = refl
 silent_from rules stamp s n past place (e ∷ es) none =
     let w = worked_with place e (meaning_of rules past place e) in
@@ -64,9 +64,9 @@ silent_from rules stamp s n past place (e ∷ es) none =
           let other : eqb e.session s ≡ false = ne_eqb e.session s apart in
           let at : restricted s (e ∷ es) ≡ restricted s es = rw other refl in
           let line = entry_silent s n e.session e.event other in
-          ap (λ (l : SessionLine). bytes_to stamp s l ms ++ bytes_from stamp rules s (line_after s l ms) later) line
-          ∙ (ap (λ (t : List ℕ). t ++ bytes_from stamp rules s (line_after s (line_before_logon n) ms) later) (bytes_silent stamp s n ms)
-          ∙ (ap (λ (l : SessionLine). bytes_from stamp rules s l later) (line_stays s n ms)
+          ap (λ (l : OutboundSession). bytes_to stamp s l ms ++ bytes_from stamp rules s (outbound_after s l ms) later) line
+          ∙ (ap (λ (t : List ℕ). t ++ bytes_from stamp rules s (outbound_after s (outbound_before_logon n) ms) later) (bytes_silent stamp s n ms)
+          ∙ (ap (λ (l : OutboundSession). bytes_from stamp rules s l later) (line_stays s n ms)
           ∙ silent_from rules stamp s n (after_entry rules past place e) (place + 1) es (sym at ∙ none)))
     ]
 

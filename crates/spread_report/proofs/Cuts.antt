@@ -48,7 +48,7 @@ appended_of T stamp a b x y ms NumbersSpent w = w.0
 pub back_again : {A : Type 0} (a b : List OutboundSession) (x y z : List (Vec ℕ A)) (ns : List ℕ) → OnlyAppended a b x y → ((s : ℕ) → s < 16 → get_or ns s 0 ≡ length (bytes_of x s)) → ((s : ℕ) → s < 16 → bytes_of z s ≡ take (get_or ns s 0) (bytes_of y s)) → (s : ℕ) → s < 16 → bytes_of z s ≡ bytes_of x s
 back_again a b x y z ns grown lengths cut s below = cut s below ∙ (ap (λ (n : ℕ). take n (bytes_of y s)) (lengths s below) ∙ grown.begins s below)
 
--- ---- lines
+-- ---- outbound states
 
 module _ (a : List OutboundSession) (i n : ℕ) (r : OutboundSession) (ns : List ℕ) where
   pub numbers_more : i < length a → i < length ns → r ≡ get_or a i r → n ≡ r.next → ((t : ℕ) → t < i → get_or ns t 0 ≡ (outbound_at a t).next) → (t : ℕ) → t < i + 1 → get_or (set ns i n) t 0 ≡ (outbound_at a t).next
@@ -69,12 +69,12 @@ module _ (a a₀ : List OutboundSession) (i : ℕ) (r : OutboundSession) (ns : L
       get_or-set_same a i (renumbered r (get_or ns i 0)) (outbound_before_logon 1) below ∙ ap (λ (l : OutboundSession). renumbered l (get_or ns i 0)) (sym line ∙ rest i (omega arith)) in
       elim (cases_eq t i) [ inl e ↦ rw e here | inr apart ↦ get_or-set_other a i t (renumbered r (get_or ns i 0)) (outbound_before_logon 1) apart ∙ done t (omega (arith, h, apart)) ]
 
-  pub lines_more : (l : OutboundSession) → ((t : ℕ) → i ≤ t → outbound_at a t ≡ outbound_at a₀ t) → (t : ℕ) → i + 1 ≤ t → outbound_at (set a i l) t ≡ outbound_at a₀ t
-  lines_more l rest t h =
+  pub others_stay : (l : OutboundSession) → ((t : ℕ) → i ≤ t → outbound_at a t ≡ outbound_at a₀ t) → (t : ℕ) → i + 1 ≤ t → outbound_at (set a i l) t ≡ outbound_at a₀ t
+  others_stay l rest t h =
       let apart : t ≢ i = λ e. omega (arith, h, e) in
       get_or-set_other a i t l (outbound_before_logon 1) apart ∙ rest t (omega (arith, h))
 
--- a line with one session's CompIDs
+-- an outbound state with one session's CompIDs
 abbrev pub with_ids : List OutboundSession → List ℕ → ℕ → Option CompIds → ℕ → OutboundSession
 with_ids b ns session o s = record { next = get_or ns s 0; comp_ids = if session == s then o else (outbound_at b s).comp_ids }
 
@@ -95,12 +95,12 @@ entry_other s l session (Resend first last) apart = refl
 entry_other s l session (Reject n reason) apart = refl
 entry_other s l session (Close reason) apart = refl
 
--- the lines are as they were before the entry
-pub lines_back : {A : Type 0} (a k b z : List OutboundSession) (x y : List (Vec ℕ A)) (ns : List ℕ) (session : ℕ) (v : Event) (r : OutboundSession)
+-- the sessions are as they were before the entry
+pub sessions_back : {A : Type 0} (a k b z : List OutboundSession) (x y : List (Vec ℕ A)) (ns : List ℕ) (session : ℕ) (v : Event) (r : OutboundSession)
     → length a ≡ 16 → length z ≡ 16 → session < 16
     → ((s : ℕ) → s < 16 → outbound_at k s ≡ outbound_at_entry s (outbound_at a s) session v) → OnlyAppended k b x y
     → ((s : ℕ) → s < 16 → get_or ns s 0 ≡ (outbound_at a s).next) → ((s : ℕ) → s < 16 → outbound_at z s ≡ with_ids b ns session (get_or a session r).comp_ids s) → z ≡ a
-lines_back a k b z x y ns session v r in_a in_z below noted appended numbers restored =
+sessions_back a k b z x y ns session v r in_a in_z below noted appended numbers restored =
     let line : outbound_at a session ≡ get_or a session r = get_or_default a session (outbound_before_logon 1) r (rw in_a below) in
     let each : (s : ℕ) → s < 16 → outbound_at z s ≡ outbound_at a s =
     λ s small.

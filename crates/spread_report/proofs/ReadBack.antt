@@ -21,14 +21,14 @@ use Rattle.spread_report.specs.Ranges.{AreNames, EntryInRange}
 use Rattle.spread_report.proofs.Bodies.{FitsReport, IsShortHead, fields_fit, body_short}
 use Rattle.spread_report.proofs.InRange.{FitsContent, FitsAddressed, id_plain, id_short, entry_fits}
 
--- ---- lines
+-- ---- outbound states
 
 abbrev pub IdsFit : Option CompIds → Type 0
 IdsFit None = Unit {0}
 IdsFit (Some ids) = (is_id ids.client ≡ true) × (is_id ids.host ≡ true)
 
 -- its next number is at most one above the greatest, and its CompIDs are ids
-pub record LineFits (out : OutboundSession) : Type 0 where
+pub record OutboundFits (out : OutboundSession) : Type 0 where
   pub next : out.next ≤ 1000000000
   pub ids : IdsFit out.comp_ids
 
@@ -87,10 +87,10 @@ module _ (stamp : List ℕ) (stamp_id : is_id stamp ≡ true) where
       omega (arith, small)
   next_small (Some ids) next (gap_fill first last) h spent = h
 
-  for_is : (s : ℕ) (out : OutboundSession) (m : AddressedMessage) → LineFits out → FitsAddressed m → spent_for s out m ≡ false → IsOne (text_for stamp s out m) × LineFits (outbound_for s out m)
+  for_is : (s : ℕ) (out : OutboundSession) (m : AddressedMessage) → OutboundFits out → FitsAddressed m → spent_for s out m ≡ false → IsOne (text_for stamp s out m) × OutboundFits (outbound_for s out m)
   for_is s out m h fit =
       elim (m.to == s) as (λ b. b && spent_under out.comp_ids out.next m.content ≡ false
-      → IsOne (if b then text_under stamp out.comp_ids out.next m.content else []) × LineFits (if b then record { next = next_under out.comp_ids out.next m.content; comp_ids = out.comp_ids } else out)) [
+      → IsOne (if b then text_under stamp out.comp_ids out.next m.content else []) × OutboundFits (if b then record { next = next_under out.comp_ids out.next m.content; comp_ids = out.comp_ids } else out)) [
         | true ↦ λ spent. (under_is out.comp_ids out.next m.content h.ids h.next fit spent, record { next = next_small out.comp_ids out.next m.content h.next spent; ids = h.ids })
         | false ↦ λ spent. (no_row, h)
       ]
@@ -105,7 +105,7 @@ module _ (stamp : List ℕ) (stamp_id : is_id stamp ≡ true) where
   or_second true b e = cc
   or_second false b e = e
 
-  to_is : (s : ℕ) (out : OutboundSession) (ms : List AddressedMessage) → LineFits out → AllByRecursion FitsAddressed ms → spends s out ms ≡ false → IsRow (texts_to stamp s out ms) (bytes_to stamp s out ms) × LineFits (outbound_after s out ms)
+  to_is : (s : ℕ) (out : OutboundSession) (ms : List AddressedMessage) → OutboundFits out → AllByRecursion FitsAddressed ms → spends s out ms ≡ false → IsRow (texts_to stamp s out ms) (bytes_to stamp s out ms) × OutboundFits (outbound_after s out ms)
   to_is s out [] h fit spent = (no_row, h)
   to_is s out (m ∷ ms) h fit spent =
       let first = for_is s out m h fit.0 (or_first (spent_for s out m) (spends s (outbound_for s out m) ms) spent) in
@@ -114,9 +114,9 @@ module _ (stamp : List ℕ) (stamp_id : is_id stamp ≡ true) where
 
   -- ---- entries
 
-  opened : (s : ℕ) (out : OutboundSession) (session : ℕ) (v : Event) → LineFits out → FitsEvent v → LineFits (outbound_at_entry s out session v)
+  opened : (s : ℕ) (out : OutboundSession) (session : ℕ) (v : Event) → OutboundFits out → FitsEvent v → OutboundFits (outbound_at_entry s out session v)
   opened s out session (Logon client host beat) h fit =
-      elim (session == s) as (λ b. LineFits (if b then record { next = out.next; comp_ids = Some (record { client = client; host = host }) } else out)) [
+      elim (session == s) as (λ b. OutboundFits (if b then record { next = out.next; comp_ids = Some (record { client = client; host = host }) } else out)) [
         | true ↦ record { next = h.next; ids = (fit.0, fit.1) }
         | false ↦ h
       ]
@@ -129,7 +129,7 @@ module _ (stamp : List ℕ) (stamp_id : is_id stamp ≡ true) where
   opened s out session (Close reason) h fit = h
 
   module _ (rules : Rules) (names : AreNames rules) (s : ℕ) where
-    pub from_is : (out : OutboundSession) (ws : List WorkedEntry) → LineFits out → AllByRecursion (EntryInRange rules) ws → spends_from rules s out ws ≡ false → IsRow (texts_from stamp rules s out ws) (bytes_from stamp rules s out ws)
+    pub from_is : (out : OutboundSession) (ws : List WorkedEntry) → OutboundFits out → AllByRecursion (EntryInRange rules) ws → spends_from rules s out ws ≡ false → IsRow (texts_from stamp rules s out ws) (bytes_from stamp rules s out ws)
     from_is out [] h fit spent = no_row
     from_is out (w ∷ ws) h fit spent =
         let first = to_is s (outbound_at_entry s out w.entry.session w.entry.event) (entry_messages rules w) (opened s out w.entry.session w.entry.event h fit.0.event) (entry_fits rules names w fit.0)

@@ -143,7 +143,7 @@ module _ {A : Type 0} (a : List OutboundSession) (x : List (Vec ℕ A)) where
         rw stays (take_all (length (bytes_of x s)) (bytes_of x s) (omega arith));
   }
 
--- the same, as the code reads the line and the list
+-- the same, as the code reads the session and the list
 module _ {A : Type 0} (stamp : List ℕ) (a : List OutboundSession) (x : List (Vec ℕ A)) (i : ℕ) (content : MessageContent) (r : OutboundSession) (w : Vec ℕ A) (ids : CompIds) where
   pub line_is : r ≡ get_or a i r → i < length a → outbound_at a i ≡ r
   line_is e below = get_or_default a i (outbound_before_logon 1) r below ∙ sym e

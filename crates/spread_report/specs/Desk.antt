@@ -29,7 +29,7 @@ abbrev pub desk_at : List ℕ → ℕ → Option DeskState
 desk_at stamp next = if nat_le 1 next && nat_le next 999999999 then Some (desk_starting stamp next) else None
 
 -- what became of a desk and of its lists as it sent these messages
-pub record Sends {A T : Type 0} (a b : DeskState) (x y : List (Vec ℕ A)) (ms : List AddressedMessage)
-    (r : Result T DeskFault) : Type 0 where
+pub record Sends {A T : Type 0} (a b : DeskState) (x y : List (Vec ℕ A))
+    (ms : List AddressedMessage) (r : Result T DeskFault) : Type 0 where
   pub stamp : b.stamp ≡ a.stamp
   pub result : SendResult a.stamp a.sessions b.sessions x y ms r

@@ -112,19 +112,75 @@ report to r = numbered_message to 56 (report_fields r)
 
 -- a new order is accepted
 abbrev pub new_report : ℕ → Ticket → ExecutionReport
-new_report place t = record { order = place; id = t.id; original = None; place = place; index = 1; status = 0; reason = None; symbol = t.symbol; side = t.side; quantity = t.quantity; traded = None; leaves = t.quantity; filled = 0 }
+new_report place t = record {
+  order = place;
+  id = t.id;
+  original = None;
+  place = place;
+  index = 1;
+  status = 0;
+  reason = None;
+  symbol = t.symbol;
+  side = t.side;
+  quantity = t.quantity;
+  traded = None;
+  leaves = t.quantity;
+  filled = 0;
+}
 
 -- a new order is rejected
 abbrev pub rejected_report : ℕ → Ticket → ℕ → ExecutionReport
-rejected_report place t reason = record { order = place; id = t.id; original = None; place = place; index = 1; status = 8; reason = Some reason; symbol = t.symbol; side = t.side; quantity = t.quantity; traded = None; leaves = 0; filled = 0 }
+rejected_report place t reason = record {
+  order = place;
+  id = t.id;
+  original = None;
+  place = place;
+  index = 1;
+  status = 8;
+  reason = Some reason;
+  symbol = t.symbol;
+  side = t.side;
+  quantity = t.quantity;
+  traded = None;
+  leaves = 0;
+  filled = 0;
+}
 
 -- what is left of an immediate order is cancelled
 abbrev pub ended_report : ℕ → ℕ → Ticket → ℕ → ExecutionReport
-ended_report place index t left = record { order = place; id = t.id; original = None; place = place; index = index; status = 4; reason = None; symbol = t.symbol; side = t.side; quantity = t.quantity; traded = None; leaves = 0; filled = t.quantity - left }
+ended_report place index t left = record {
+  order = place;
+  id = t.id;
+  original = None;
+  place = place;
+  index = index;
+  status = 4;
+  reason = None;
+  symbol = t.symbol;
+  side = t.side;
+  quantity = t.quantity;
+  traded = None;
+  leaves = 0;
+  filled = t.quantity - left;
+}
 
 -- a resting order, with this symbol, is cancelled by a cancel request with this id
 abbrev pub cancelled_report : List ℕ → ℕ → List ℕ → List ℕ → Order → ExecutionReport
-cancelled_report symbol place id original o = record { order = o.place; id = id; original = Some original; place = place; index = 1; status = 4; reason = None; symbol = symbol; side = o.side; quantity = o.quantity; traded = None; leaves = 0; filled = o.quantity - o.leaves }
+cancelled_report symbol place id original o = record {
+  order = o.place;
+  id = id;
+  original = Some original;
+  place = place;
+  index = 1;
+  status = 4;
+  reason = None;
+  symbol = symbol;
+  side = o.side;
+  quantity = o.quantity;
+  traded = None;
+  leaves = 0;
+  filled = o.quantity - o.leaves;
+}
 
 -- filled, or partially filled
 abbrev pub fill_status : ℕ → ℕ
@@ -132,7 +188,21 @@ fill_status leaves = if leaves == 0 then 2 else 1
 
 -- one report of a fill, with the symbol, side and price of the part that it tells
 abbrev pub fill_report : ℕ → ℕ → Fill → List ℕ → Side → ℤ → ℕ → ExecutionReport
-fill_report place index f symbol side price legs = record { order = f.order; id = f.id; original = None; place = place; index = index; status = fill_status f.leaves; reason = None; symbol = symbol; side = side; quantity = f.total; traded = Some (record { quantity = f.quantity; price = price; legs = legs }); leaves = f.leaves; filled = f.total - f.leaves }
+fill_report place index f symbol side price legs = record {
+  order = f.order;
+  id = f.id;
+  original = None;
+  place = place;
+  index = index;
+  status = fill_status f.leaves;
+  reason = None;
+  symbol = symbol;
+  side = side;
+  quantity = f.total;
+  traded = Some (record { quantity = f.quantity; price = price; legs = legs });
+  leaves = f.leaves;
+  filled = f.total - f.leaves;
+}
 
 -- how many reports a fill has
 abbrev pub report_count : Instrument → ℕ

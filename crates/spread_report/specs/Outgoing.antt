@@ -54,7 +54,7 @@ abbrev pub spent_under : Option CompIds → ℕ → MessageContent → Bool
 spent_under None next c = false
 spent_under (Some ids) next c = is_spent next c
 
--- ---- what session s is sent of some messages, from this line on
+-- ---- what session s is sent of some messages, from this outbound state on
 
 abbrev pub text_for : List ℕ → ℕ → OutboundSession → AddressedMessage → List ℕ
 text_for stamp s out m = if m.to == s then text_under stamp out.comp_ids out.next m.content else []
@@ -80,7 +80,7 @@ spends s out (m ∷ ms) = spent_for s out m || spends s (outbound_for s out m) m
 
 -- ---- an entry
 
--- the line under which an entry's messages go: a Logon gives its session its CompIDs
+-- the outbound state under which an entry's messages go: a Logon gives its session its CompIDs
 abbrev pub outbound_at_entry : ℕ → OutboundSession → ℕ → Event → OutboundSession
 outbound_at_entry s out session (Logon client host beat) = if session == s then record { next = out.next; comp_ids = Some (record { client = client; host = host }) } else out
 outbound_at_entry s out session (New t) = out
@@ -108,7 +108,7 @@ entry_messages rules w = messages_of rules w.place w.entry w.outcome w.fills
 abbrev pub entry_bytes : List ℕ → Rules → ℕ → OutboundSession → WorkedEntry → List ℕ
 entry_bytes stamp rules s out w = bytes_to stamp s (outbound_at_entry s out w.entry.session w.entry.event) (entry_messages rules w)
 
--- the line of session s after it
+-- the outbound state of session s after it
 abbrev pub entry_outbound : Rules → ℕ → OutboundSession → WorkedEntry → OutboundSession
 entry_outbound rules s out w = outbound_after s (outbound_at_entry s out w.entry.session w.entry.event) (entry_messages rules w)
 

@@ -1,4 +1,4 @@
--- What a call does to the sixteen lines and the sixteen lists, session by session.
+-- What a call does to the sixteen sessions and the sixteen lists, session by session.
 use Rattle.std.specs.Prelude.{◌≡◌, ℕ, ◌<◌, true, false, List, ◌++◌, length, map, take, slice_index_or, Result, Ok, Err, []}
 use Rattle.std.specs.declared.vec.Vec.{Vec}
 use Rattle.spread_report.specs.declared.outbound.OutboundSession.{OutboundSession}
@@ -20,11 +20,12 @@ text_at texts s = slice_index_or texts s []
 abbrev pub bytes_of : {A : Type 0} → List (Vec ℕ A) → ℕ → List ℕ
 bytes_of lists s = text_at (texts_of lists) s
 
--- the line of session s
+-- the outbound state of session s
 abbrev pub outbound_at : List OutboundSession → ℕ → OutboundSession
 outbound_at sessions s = slice_index_or sessions s (outbound_before_logon 1)
 
--- to each session exactly what these messages send it was appended, a row of whole frames, and its line went on with them
+-- to each session exactly what these messages send it was appended, a row of whole frames, and its
+-- outbound state went on with them
 pub record Sent {A : Type 0} (stamp : List ℕ) (a b : List OutboundSession) (x y : List (Vec ℕ A)) (ms : List AddressedMessage) : Type 0 where
   pub sessions : length b ≡ length a
   pub lists : length y ≡ length x

@@ -27,8 +27,8 @@ use std::marker::Model;
 /// The greatest MsgSeqNum that a message may bear.
 const MAX_MSG_SEQ_NUM: u64 = 999_999_999;
 
-/// Publishes execution reports and session messages: for each of the sixteen sessions its next outgoing number, and the
-/// CompIDs of its last Logon.
+/// Publishes execution reports and session messages. For each of the sixteen sessions it keeps the next
+/// outgoing number, and the CompIDs of the last Logon.
 #[derive(Drop)]
 pub struct Desk {
     stamp: Id,
@@ -46,7 +46,8 @@ impl Model for Desk {
 }
 
 impl Desk {
-    /// Every message bears this stamp as its SendingTime, and each session's first one the number 1.
+    /// Every message bears this stamp as its SendingTime, and each session's first one bears the
+    /// number 1.
     pub fn new(stamp: Id) -> Desk
         ensures { result ≡ desk_starting stamp 1 }
     {
@@ -59,7 +60,8 @@ impl Desk {
         }
     }
 
-    /// The same, each session's first message bearing this number. None where it is not 1 to 999,999,999.
+    /// The same, each session's first message bearing this number. None where it is not 1 to
+    /// 999,999,999.
     pub fn starting(stamp: Id, next: u32) -> Option<Desk>
         ensures { result ≡ desk_at stamp next }
     {
@@ -76,8 +78,8 @@ impl Desk {
         }
     }
 
-    /// Appends to each session's list exactly the messages that the entry sends it, places counting from 1. After an error the
-    /// desk and all lists are as they were.
+    /// Appends to each session's list exactly the messages that the entry sends it, places counting
+    /// from 1. After an error the desk and all lists are as they were.
     pub fn outgoing<A: Allocator + Copy>(
         &mut self,
         rules: &Rulebook,
@@ -90,12 +92,24 @@ impl Desk {
         requires lists { length lists.old ≡ 16 }
         requires session { entry.now.session < 16 }
         requires outcome { FitsOutcome rules.now entry.now.event outcome.now }
-        requires fills { (k : ℕ) (d : Fill) → k < length fills.now → FitsFill rules.now (slice_index_or fills.now k d) }
-        ensures bytes { OnOk result ((s : ℕ) → s < 16 → bytes_of lists.new s ≡ bytes_of lists.old s ++ entry_bytes self.old.stamp rules.now s (outbound_at self.old.sessions s) (worked_at place entry.now outcome.now fills.now)) }
-        ensures outbound { OnOk result ((s : ℕ) → s < 16 → outbound_at self.new.sessions s ≡ entry_outbound rules.now s (outbound_at self.old.sessions s) (worked_at place entry.now outcome.now fills.now)) }
-        ensures unspent { OnOk result ((s : ℕ) → s < 16 → entry_spends rules.now s (outbound_at self.old.sessions s) (worked_at place entry.now outcome.now fills.now) ≡ false) }
-        ensures whole { OnOk result ((s : ℕ) → s < 16 → IsRow (entry_texts self.old.stamp rules.now s (outbound_at self.old.sessions s) (worked_at place entry.now outcome.now fills.now)) (entry_bytes self.old.stamp rules.now s (outbound_at self.old.sessions s) (worked_at place entry.now outcome.now fills.now))) }
-        ensures spent { IsErrOf result NumbersSpent → RunsOut rules.now self.old.sessions (worked_at place entry.now outcome.now fills.now) }
+        requires fills { (k : ℕ) (d : Fill) → k < length fills.now
+            → FitsFill rules.now (slice_index_or fills.now k d) }
+        ensures bytes { OnOk result ((s : ℕ) → s < 16 → bytes_of lists.new s ≡ bytes_of lists.old s
+            ++ entry_bytes self.old.stamp rules.now s (outbound_at self.old.sessions s)
+            (worked_at place entry.now outcome.now fills.now)) }
+        ensures outbound { OnOk result ((s : ℕ) → s < 16 → outbound_at self.new.sessions s
+            ≡ entry_outbound rules.now s (outbound_at self.old.sessions s)
+            (worked_at place entry.now outcome.now fills.now)) }
+        ensures unspent { OnOk result ((s : ℕ) → s < 16 →
+            entry_spends rules.now s (outbound_at self.old.sessions s)
+            (worked_at place entry.now outcome.now fills.now) ≡ false) }
+        ensures whole { OnOk result ((s : ℕ) → s < 16 → IsRow
+            (entry_texts self.old.stamp rules.now s (outbound_at self.old.sessions s)
+            (worked_at place entry.now outcome.now fills.now))
+            (entry_bytes self.old.stamp rules.now s (outbound_at self.old.sessions s)
+            (worked_at place entry.now outcome.now fills.now))) }
+        ensures spent { IsErrOf result NumbersSpent →
+            RunsOut rules.now self.old.sessions (worked_at place entry.now outcome.now fills.now) }
         ensures stamp { self.new.stamp ≡ self.old.stamp }
         ensures desk_kept { OnErr result (self.new ≡ self.old) }
         ensures lists_kept { OnErr result (KeepsBytes lists.old lists.new) }
@@ -132,7 +146,8 @@ impl Desk {
         requires kind { kind ≢ 1 }
         requires tags { list_all has_tag (B.fields body.now) ≡ true }
         requires few { length (B.fields body.now) ≤ 18 }
-        ensures { Sends self.old self.new lists.old lists.new (numbered_message session kind (B.fields body.now) ∷ []) result }
+        ensures { Sends self.old self.new lists.old lists.new
+            (numbered_message session kind (B.fields body.now) ∷ []) result }
     {
         let at = session as usize;
         let outbound = self.sessions[at];
@@ -171,7 +186,8 @@ impl Desk {
         requires kind { kind ≢ 1 }
         requires tags { list_all has_tag fields.now ≡ true }
         requires few { length fields.now ≤ 18 }
-        ensures { Sends self.old self.new lists.old lists.new (numbered_message session kind fields.now ∷ []) result }
+        ensures { Sends self.old self.new lists.old lists.new
+            (numbered_message session kind fields.now ∷ []) result }
     {
         self.send_body(lists, session, kind, &FieldList { fields })
     }
@@ -183,7 +199,8 @@ impl Desk {
 fn cut_back<A: Allocator>(lists: &mut [Vec<u8, A>], lengths: &[usize; 16])
     requires lists { length lists.old ≡ 16 }
     ensures size { length lists.new ≡ 16 }
-    ensures rows { (s : ℕ) → s < 16 → bytes_of lists.new s ≡ take (slice_index_or lengths.now s 0) (bytes_of lists.old s) }
+    ensures rows { (s : ℕ) → s < 16 → bytes_of lists.new s
+        ≡ take (slice_index_or lengths.now s 0) (bytes_of lists.old s) }
 {
     for s in 0..16 {
         let length = lengths[s];
@@ -218,7 +235,11 @@ fn numbers_of(sessions: &[OutboundSession; 16]) -> [u64; 16]
 /// Gives each session that next number.
 fn renumber(sessions: &mut [OutboundSession; 16], numbers: &[u64; 16])
     ensures size { length sessions.new ≡ 16 }
-    ensures numbered { (s : ℕ) → s < 16 → outbound_at sessions.new s ≡ record { next = slice_index_or numbers.now s 0; comp_ids = (outbound_at sessions.old s).comp_ids } }
+    ensures numbered { (s : ℕ) → s < 16 → outbound_at sessions.new s
+        ≡ record {
+          next = slice_index_or numbers.now s 0;
+          comp_ids = (outbound_at sessions.old s).comp_ids;
+        } }
 {
     for s in 0..16 {
         let comp_ids = sessions[s].comp_ids;
@@ -238,7 +259,10 @@ fn restore(
 )
     requires { session < 16 }
     ensures size { length sessions.new ≡ 16 }
-    ensures restored { (s : ℕ) → s < 16 → outbound_at sessions.new s ≡ record { next = slice_index_or numbers.now s 0; comp_ids = if session == s then comp_ids else (outbound_at sessions.old s).comp_ids } }
+    ensures restored { (s : ℕ) → s < 16 → outbound_at sessions.new s ≡ record {
+      next = slice_index_or numbers.now s 0;
+      comp_ids = if session == s then comp_ids else (outbound_at sessions.old s).comp_ids;
+    } }
 {
     sessions[session as usize].comp_ids = comp_ids;
     renumber(sessions, numbers);

@@ -1,5 +1,5 @@
 //! The session's own messages, one method for each kind.
-ghost use Rattle.std.specs.Prelude.{◌≡◌, ◌<◌, ◌≤◌, ◌∷◌, [], length, codes};
+ghost use Rattle.std.specs.Prelude.{◌≡◌, ◌<◌, ◌≤◌, ◌∷◌, [], length};
 ghost use Rattle.spread_report.specs.Desk.{Sends};
 ghost use Rattle.spread_report.specs.EntryMessages.{numbered_message, text, number, gap_fill};
 ghost use Rattle.spread_report.specs.EntryMessages.{close_messages, place_field};
@@ -23,7 +23,8 @@ impl Desk {
     ) -> Result<(), DeskFault>
         requires lists { length lists.old ≡ 16 }
         requires session { session < 16 }
-        ensures { Sends self.old self.new lists.old lists.new (numbered_message session 65 (number 98 0 ∷ number 108 beat ∷ []) ∷ []) result }
+        ensures { Sends self.old self.new lists.old lists.new
+            (numbered_message session 65 (number 98 0 ∷ number 108 beat ∷ []) ∷ []) result }
     {
         let fields = [number_field!(98, 0), number_field!(108, beat as u64)];
         self.send(lists, session, b'A', &fields)
@@ -38,7 +39,8 @@ impl Desk {
     ) -> Result<(), DeskFault>
         requires lists { length lists.old ≡ 16 }
         requires session { session < 16 }
-        ensures { Sends self.old self.new lists.old lists.new (numbered_message session 48 (text 112 answer.now ∷ []) ∷ []) result }
+        ensures { Sends self.old self.new lists.old lists.new
+            (numbered_message session 48 (text 112 answer.now ∷ []) ∷ []) result }
     {
         let fields = [text_field!(112, *answer)];
         self.send(lists, session, b'0', &fields)
@@ -53,7 +55,8 @@ impl Desk {
     ) -> Result<(), DeskFault>
         requires lists { length lists.old ≡ 16 }
         requires session { session < 16 }
-        ensures { Sends self.old self.new lists.old lists.new (numbered_message session 50 (number 7 first ∷ number 16 0 ∷ []) ∷ []) result }
+        ensures { Sends self.old self.new lists.old lists.new
+            (numbered_message session 50 (number 7 first ∷ number 16 0 ∷ []) ∷ []) result }
     {
         let fields = [number_field!(7, first as u64), number_field!(16, 0)];
         self.send(lists, session, b'2', &fields)
@@ -69,7 +72,9 @@ impl Desk {
     ) -> Result<(), DeskFault>
         requires lists { length lists.old ≡ 16 }
         requires session { session < 16 }
-        ensures { Sends self.old self.new lists.old lists.new (numbered_message session 51 (number 45 refused ∷ number 373 reason ∷ []) ∷ []) result }
+        ensures { Sends self.old self.new lists.old lists.new
+            (numbered_message session 51 (number 45 refused ∷ number 373 reason ∷ []) ∷ [])
+            result }
     {
         let fields = [
             number_field!(45, refused as u64),
@@ -87,7 +92,8 @@ impl Desk {
     ) -> Result<(), DeskFault>
         requires lists { length lists.old ≡ 16 }
         requires session { session < 16 }
-        ensures { Sends self.old self.new lists.old lists.new (close_messages session reason) result }
+        ensures { Sends self.old self.new lists.old lists.new
+            (close_messages session reason) result }
     {
         if reason == 1 {
             self.send(lists, session, b'5', &[])
@@ -112,7 +118,8 @@ impl Desk {
     ) -> Result<(), DeskFault>
         requires lists { length lists.old ≡ 16 }
         requires session { session < 16 }
-        ensures { Sends self.old self.new lists.old lists.new (record { to = session; content = gap_fill first last } ∷ []) result }
+        ensures { Sends self.old self.new lists.old lists.new
+            (record { to = session; content = gap_fill first last } ∷ []) result }
     {
         let at = session as usize;
         let outbound = self.sessions[at];
@@ -151,7 +158,11 @@ impl Desk {
     ) -> Result<(), DeskFault>
         requires lists { length lists.old ≡ 16 }
         requires session { request.now.session < 16 }
-        ensures { Sends self.old self.new lists.old lists.new (numbered_message request.now.session 57 (place_field place ∷ text 11 request.now.id ∷ text 41 request.now.original ∷ number 39 status ∷ number 434 1 ∷ number 102 reason ∷ []) ∷ []) result }
+        ensures { Sends self.old self.new lists.old lists.new
+            (numbered_message request.now.session 57 (place_field place ∷ text 11 request.now.id
+            ∷ text 41 request.now.original ∷ number 39 status ∷ number 434 1
+            ∷ number 102 reason ∷ [])
+            ∷ []) result }
     {
         let named = if place == 0 {
             Value::Text(known_id(b"NONE"))

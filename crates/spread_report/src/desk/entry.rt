@@ -1,7 +1,7 @@
 //! What an entry sends, by its event and by what came of it.
-ghost use Rattle.std.specs.Prelude.{◌≡◌, ℕ, ◌<◌, ◌+◌, ◌∷◌, length, slice_index_or, IfOk};
+ghost use Rattle.std.specs.Prelude.{◌≡◌, ℕ, ◌<◌, ◌+◌, ◌∷◌, length, IfOk};
 ghost use Rattle.spread_rules.specs.declared.fill.Fill.{Fill};
-ghost use Rattle.spread_rules.specs.Ranges.{FitsCancel, FitsNew, FitsOutcome, FitsFill};
+ghost use Rattle.spread_rules.specs.Ranges.{FitsCancel, FitsNew, FitsOutcome, FitFills};
 ghost use Rattle.spread_report.specs.Desk.{Sends};
 ghost use Rattle.spread_report.specs.EntryMessages.{messages_of, new_messages, cancel_messages, report, new_report, fills_reports, reports_of};
 ghost use Rattle.spread_report.specs.Outgoing.{outbound_at_entry};
@@ -48,7 +48,8 @@ impl Desk {
     pub(super) fn note_comp_ids(&mut self, entry: &Entry)
         requires { entry.now.session < 16 }
         ensures stamp { self.new.stamp ≡ self.old.stamp }
-        ensures noted { (s : ℕ) → s < 16 → outbound_at self.new.sessions s ≡ outbound_at_entry s (outbound_at self.old.sessions s) entry.now.session entry.now.event }
+        ensures noted { (s : ℕ) → s < 16 → outbound_at self.new.sessions s ≡ outbound_at_entry s
+            (outbound_at self.old.sessions s) entry.now.session entry.now.event }
     {
         if let Event::Logon { client, host, .. } = entry.event {
             self.sessions[entry.session as usize].comp_ids = Some(CompIds { client, host });
@@ -64,19 +65,22 @@ impl Desk {
     ) -> Result<(), DeskFault>
         requires lists { length lists.old ≡ 16 }
         requires session { applied.now.entry.now.session < 16 }
-        requires outcome { FitsOutcome rules.now applied.now.entry.now.event applied.now.outcome.now }
-        requires fills { (k : ℕ) (d : Fill) → k < length applied.now.fills.now → FitsFill rules.now (slice_index_or applied.now.fills.now k d) }
-        ensures { Sends self.old self.new lists.old lists.new (messages_of rules.now applied.now.place applied.now.entry.now applied.now.outcome.now applied.now.fills.now) result }
+        requires outcome { FitsOutcome rules.now applied.now.entry.now.event
+            applied.now.outcome.now }
+        requires fills { FitFills rules.now applied.now.fills.now }
+        ensures { Sends self.old self.new lists.old lists.new
+            (messages_of rules.now applied.now.place applied.now.entry.now
+            applied.now.outcome.now applied.now.fills.now) result }
     {
         let place = applied.place;
         let session = applied.entry.session;
-        match applied.entry.event {
-            Event::Logon { beat, .. } => self.logon(lists, session, beat),
+        match &applied.entry.event {
+            Event::Logon { beat, .. } => self.logon(lists, session, *beat),
             Event::New(ticket) => {
                 let order = NewOrder {
                     place,
                     session,
-                    ticket,
+                    ticket: *ticket,
                 };
                 self.new_entry(lists, rules, &order, applied.outcome, applied.fills)
             }
@@ -84,16 +88,16 @@ impl Desk {
                 let request = CancelRequest {
                     place,
                     session,
-                    id,
-                    original,
+                    id: *id,
+                    original: *original,
                 };
                 self.cancel_entry(lists, rules, &request, applied.outcome)
             }
-            Event::TestReply { text } => self.heartbeat(lists, session, &text),
-            Event::Gap { first } => self.resend_request(lists, session, first),
-            Event::Resend { first, last } => self.fill_gap(lists, session, first, last),
-            Event::Reject { number, reason } => self.reject(lists, session, number, reason),
-            Event::Close { reason } => self.logout(lists, session, reason),
+            Event::TestReply { text } => self.heartbeat(lists, session, text),
+            Event::Gap { first } => self.resend_request(lists, session, *first),
+            Event::Resend { first, last } => self.fill_gap(lists, session, *first, *last),
+            Event::Reject { number, reason } => self.reject(lists, session, *number, *reason),
+            Event::Close { reason } => self.logout(lists, session, *reason),
         }
     }
 
@@ -109,8 +113,10 @@ impl Desk {
         requires lists { length lists.old ≡ 16 }
         requires session { order.now.session < 16 }
         requires outcome { FitsNew order.now.ticket.quantity outcome.now }
-        requires fills { (k : ℕ) (d : Fill) → k < length fills.now → FitsFill rules.now (slice_index_or fills.now k d) }
-        ensures { Sends self.old self.new lists.old lists.new (new_messages rules.now order.now.place order.now.session order.now.ticket outcome.now fills.now) result }
+        requires fills { FitFills rules.now fills.now }
+        ensures { Sends self.old self.new lists.old lists.new
+            (new_messages rules.now order.now.place order.now.session order.now.ticket
+            outcome.now fills.now) result }
     {
         match *outcome {
             Outcome::Refused(reason) => self.rejected(lists, order, reason),
@@ -136,8 +142,10 @@ impl Desk {
     ) -> Result<u64, DeskFault>
         requires lists { length lists.old ≡ 16 }
         requires session { order.now.session < 16 }
-        requires fills { (k : ℕ) (d : Fill) → k < length fills.now → FitsFill rules.now (slice_index_or fills.now k d) }
-        ensures sent { Sends self.old self.new lists.old lists.new (report order.now.session (new_report order.now.place order.now.ticket) ∷ fills_reports rules.now order.now.place 2 fills.now) result }
+        requires fills { FitFills rules.now fills.now }
+        ensures sent { Sends self.old self.new lists.old lists.new
+            (report order.now.session (new_report order.now.place order.now.ticket)
+            ∷ fills_reports rules.now order.now.place 2 fills.now) result }
         ensures index { IfOk result (λ i. i ≡ 2 + reports_of fills.now) }
     {
         self.accepted(lists, order)?;
@@ -155,7 +163,9 @@ impl Desk {
         requires lists { length lists.old ≡ 16 }
         requires session { request.now.session < 16 }
         requires outcome { FitsCancel rules.now outcome.now }
-        ensures { Sends self.old self.new lists.old lists.new (cancel_messages rules.now request.now.place request.now.session request.now.id request.now.original outcome.now) result }
+        ensures { Sends self.old self.new lists.old lists.new
+            (cancel_messages rules.now request.now.place request.now.session request.now.id
+            request.now.original outcome.now) result }
     {
         match *outcome {
             Outcome::Cancelled(order) => {

@@ -1,10 +1,10 @@
 //! Execution reports, one method for each kind.
-ghost use Rattle.std.specs.Prelude.{◌≡◌, ℕ, ◌<◌, ◌≤◌, ◌+◌, ◌∷◌, [], length, FitsSigned, IfOk, slice_index_or};
+ghost use Rattle.std.specs.Prelude.{◌≡◌, ◌<◌, ◌≤◌, ◌+◌, ◌∷◌, [], length, FitsSigned, IfOk};
 ghost use Rattle.std.specs.Int.{w64};
 ghost use Rattle.spread_rules.specs.Legs.{other_side};
 ghost use Rattle.spread_rules.specs.Rulebook.{month_count};
 ghost use Rattle.spread_rules.specs.declared.fill.Fill.{Fill};
-ghost use Rattle.spread_rules.specs.Ranges.{FitsFill};
+ghost use Rattle.spread_rules.specs.Ranges.{FitFills, FitsFill};
 ghost use Rattle.spread_report.specs.Desk.{Sends};
 ghost use Rattle.spread_report.specs.EntryMessages.{report, new_report, rejected_report, ended_report, cancelled_report, fill_report, leg_reports, fill_reports, fills_reports, reports_of, fill_status, report_count};
 
@@ -37,7 +37,8 @@ impl Desk {
     ) -> Result<(), DeskFault>
         requires lists { length lists.old ≡ 16 }
         requires session { order.now.session < 16 }
-        ensures { Sends self.old self.new lists.old lists.new (report order.now.session (new_report order.now.place order.now.ticket) ∷ []) result }
+        ensures { Sends self.old self.new lists.old lists.new
+            (report order.now.session (new_report order.now.place order.now.ticket) ∷ []) result }
     {
         let ticket = &order.ticket;
         let report = OrderReport {
@@ -66,7 +67,9 @@ impl Desk {
     ) -> Result<(), DeskFault>
         requires lists { length lists.old ≡ 16 }
         requires session { order.now.session < 16 }
-        ensures { Sends self.old self.new lists.old lists.new (report order.now.session (rejected_report order.now.place order.now.ticket reason) ∷ []) result }
+        ensures { Sends self.old self.new lists.old lists.new
+            (report order.now.session (rejected_report order.now.place order.now.ticket reason)
+            ∷ []) result }
     {
         let ticket = &order.ticket;
         let report = RejectReport {
@@ -100,7 +103,9 @@ impl Desk {
         requires lists { length lists.old ≡ 16 }
         requires session { order.now.session < 16 }
         requires left { left ≤ order.now.ticket.quantity }
-        ensures { Sends self.old self.new lists.old lists.new (report order.now.session (ended_report order.now.place index order.now.ticket left) ∷ []) result }
+        ensures { Sends self.old self.new lists.old lists.new
+            (report order.now.session (ended_report order.now.place index order.now.ticket left)
+            ∷ []) result }
     {
         let ticket = &order.ticket;
         let filled = ticket.quantity - left;
@@ -132,7 +137,9 @@ impl Desk {
         requires lists { length lists.old ≡ 16 }
         requires session { request.now.session < 16 }
         requires left { order.now.leaves ≤ order.now.quantity }
-        ensures { Sends self.old self.new lists.old lists.new (report request.now.session (cancelled_report symbol.now request.now.place request.now.id request.now.original order.now) ∷ []) result }
+        ensures { Sends self.old self.new lists.old lists.new
+            (report request.now.session (cancelled_report symbol.now request.now.place
+            request.now.id request.now.original order.now) ∷ []) result }
     {
         let filled = order.quantity - order.leaves;
         let report = CancelReport {
@@ -167,7 +174,9 @@ impl Desk {
         requires session { fill.now.session < 16 }
         requires left { fill.now.leaves ≤ fill.now.total }
         requires price { FitsSigned w64 part.now.price }
-        ensures { Sends self.old self.new lists.old lists.new (report fill.now.session (fill_report exec_id.place exec_id.index fill.now part.now.symbol part.now.side part.now.price part.now.legs) ∷ []) result }
+        ensures { Sends self.old self.new lists.old lists.new
+            (report fill.now.session (fill_report exec_id.place exec_id.index fill.now
+            part.now.symbol part.now.side part.now.price part.now.legs) ∷ []) result }
     {
         let filled = fill.total - fill.leaves;
         let report = FillReport {
@@ -203,7 +212,9 @@ impl Desk {
         requires far { months.1 < month_count rules.now }
         requires fits { FitsFill rules.now fill.now }
         requires index { exec_id.index < 18446744073709551614 }
-        ensures { Sends self.old self.new lists.old lists.new (leg_reports months.0 months.1 rules.now exec_id.place exec_id.index fill.now) result }
+        ensures { Sends self.old self.new lists.old lists.new
+            (leg_reports months.0 months.1 rules.now exec_id.place exec_id.index fill.now)
+            result }
     {
         let near = ReportedPart {
             symbol: rules.name_id(months.0),
@@ -232,7 +243,8 @@ impl Desk {
         requires lists { length lists.old ≡ 16 }
         requires fits { FitsFill rules.now fill.now }
         requires index { exec_id.index < 18446744073709551613 }
-        ensures { Sends self.old self.new lists.old lists.new (fill_reports rules.now exec_id.place exec_id.index fill.now) result }
+        ensures { Sends self.old self.new lists.old lists.new
+            (fill_reports rules.now exec_id.place exec_id.index fill.now) result }
     {
         let symbol = symbol_of(rules, fill.instrument);
         match fill.instrument {
@@ -267,8 +279,9 @@ impl Desk {
         fills: &[Fill],
     ) -> Result<u64, DeskFault>
         requires lists { length lists.old ≡ 16 }
-        requires fills { (k : ℕ) (d : Fill) → k < length fills.now → FitsFill rules.now (slice_index_or fills.now k d) }
-        ensures sent { Sends self.old self.new lists.old lists.new (fills_reports rules.now place 2 fills.now) result }
+        requires fills { FitFills rules.now fills.now }
+        ensures sent { Sends self.old self.new lists.old lists.new
+            (fills_reports rules.now place 2 fills.now) result }
         ensures index { IfOk result (λ i. i ≡ 2 + reports_of fills.now) }
     {
         let mut index = 2;

@@ -81,7 +81,8 @@ fn side_code(side: Side) -> u64
 #[inline(always)]
 fn put_order(room: &mut [u8], at: usize, report: &OrderReport) -> usize
     requires within { at + 128 ≤ length room.old }
-    ensures text { take result room.new ≡ take at room.old ++ flat_map (λ f. field_text (field_of_given f)) (order_fields report.now) }
+    ensures text { take result room.new ≡ take at room.old
+        ++ flat_map (λ f. field_text (field_of_given f)) (order_fields report.now) }
     ensures most { result ≤ at + 128 }
     ensures values { AllByRecursion FitsValueOf (order_fields report.now) }
     ensures size { length room.new ≡ length room.old }
@@ -93,7 +94,8 @@ fn put_order(room: &mut [u8], at: usize, report: &OrderReport) -> usize
 #[inline(always)]
 fn put_event(room: &mut [u8], at: usize, report: &OrderReport) -> usize
     requires within { at + 256 ≤ length room.old }
-    ensures text { take result room.new ≡ take at room.old ++ flat_map (λ f. field_text (field_of_given f)) (event_fields report.now) }
+    ensures text { take result room.new ≡ take at room.old
+        ++ flat_map (λ f. field_text (field_of_given f)) (event_fields report.now) }
     ensures most { result ≤ at + 256 }
     ensures values { AllByRecursion FitsValueOf (event_fields report.now) }
     ensures size { length room.new ≡ length room.old }
@@ -108,7 +110,8 @@ fn put_event(room: &mut [u8], at: usize, report: &OrderReport) -> usize
 #[inline(always)]
 fn put_terms(room: &mut [u8], at: usize, report: &OrderReport) -> usize
     requires within { at + 192 ≤ length room.old }
-    ensures text { take result room.new ≡ take at room.old ++ flat_map (λ f. field_text (field_of_given f)) (terms_fields report.now) }
+    ensures text { take result room.new ≡ take at room.old
+        ++ flat_map (λ f. field_text (field_of_given f)) (terms_fields report.now) }
     ensures most { result ≤ at + 192 }
     ensures values { AllByRecursion FitsValueOf (terms_fields report.now) }
     ensures size { length room.new ≡ length room.old }
@@ -121,7 +124,8 @@ fn put_terms(room: &mut [u8], at: usize, report: &OrderReport) -> usize
 #[inline(always)]
 fn put_left(room: &mut [u8], at: usize, report: &OrderReport) -> usize
     requires within { at + 192 ≤ length room.old }
-    ensures text { take result room.new ≡ take at room.old ++ flat_map (λ f. field_text (field_of_given f)) (left_fields report.now) }
+    ensures text { take result room.new ≡ take at room.old
+        ++ flat_map (λ f. field_text (field_of_given f)) (left_fields report.now) }
     ensures most { result ≤ at + 192 }
     ensures values { AllByRecursion FitsValueOf (left_fields report.now) }
     ensures size { length room.new ≡ length room.old }
@@ -134,7 +138,8 @@ fn put_left(room: &mut [u8], at: usize, report: &OrderReport) -> usize
 #[inline(always)]
 fn put_last(room: &mut [u8], at: usize, quantity: u64, price: i64) -> usize
     requires within { at + 128 ≤ length room.old }
-    ensures text { take result room.new ≡ take at room.old ++ flat_map (λ f. field_text (field_of_given f)) (last_fields quantity price) }
+    ensures text { take result room.new ≡ take at room.old
+        ++ flat_map (λ f. field_text (field_of_given f)) (last_fields quantity price) }
     ensures most { result ≤ at + 128 }
     ensures values { AllByRecursion FitsValueOf (last_fields quantity price) }
     ensures size { length room.new ≡ length room.old }

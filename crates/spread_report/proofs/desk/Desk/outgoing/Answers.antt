@@ -4,7 +4,7 @@ use Rattle.spread_report.specs.Desk.{DeskState}
 use Rattle.spread_report.specs.EntryMessages.{messages_of}
 use Rattle.spread_report.specs.Outgoing.{outbound_at_entry}
 use Rattle.spread_report.specs.Sessions.{outbound_at, OnlyAppended}
-use Rattle.spread_report.proofs.Cuts.{lines_back, after_refusal, desk_of, desk_back}
+use Rattle.spread_report.proofs.Cuts.{sessions_back, after_refusal, desk_of, desk_back}
 use Rattle.spread_report.proofs.desk.Desk.outgoing.Goals as goal
 
 pub returns-then-is_err-clause-desk_kept : goal.returns-then-is_err-clause-desk_kept
@@ -25,6 +25,6 @@ returns-then-is_err-clause-desk_kept g c =
     let grown : OnlyAppended noted.sessions c.self-2.inside.sessions c.args.lists.now w.new.lists =
     subst (λ (l : List OutboundSession). OnlyAppended noted.sessions l c.args.lists.now w.new.lists) after appended in
     let back : c.restore.new.sessions ≡ i.sessions =
-    lines_back i.sessions noted.sessions c.self-2.inside.sessions c.restore.new.sessions c.args.lists.now w.new.lists c.numbers_of-numbers.result e.session e.event c.index-self-entry.result
+    sessions_back i.sessions noted.sessions c.self-2.inside.sessions c.restore.new.sessions c.args.lists.now w.new.lists c.numbers_of-numbers.result e.session e.event c.index-self-entry.result
     c.self.invariant.count c.restore.ensures.size c.requires.session opened grown c.numbers_of-numbers.ensures c.restore.ensures.restored in
     desk_back c.args.self.now c.self-2.inside.stamp i.stamp i.sessions c.restore.new.sessions stamp back c.self.view_is)
