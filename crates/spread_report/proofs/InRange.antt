@@ -23,8 +23,8 @@ use Rattle.spread_rules.specs.declared.outcome.Outcome.TheVariants.{Rested, Fill
 use Rattle.spread_report.specs.EntryMessages.{MessageContent, numbered, gap_fill, AddressedMessage, text, number, price, pair, side_code, Traded, ExecutionReport, original_field, reason_field, last_fields, legs_field, report_fields, numbered_message, report, new_report, rejected_report, ended_report, cancelled_report, fill_status, fill_report, report_count, reports_by, fill_reports, fills_reports, reports_of, new_messages, place_field, cancel_messages, close_messages, event_messages}
 use Rattle.spread_report.specs.Outgoing.{WorkedEntry, entry_messages}
 use Rattle.spread_report.specs.Ranges.{AreNames, FillInRange, OutcomeInRange, EntryInRange}
-use Rattle.spread_report.proofs.Bodies.{FitsReport}
-use Rattle.spread_report.proofs.Symbols.{joined_id}
+use Rattle.spread_report.proofs.BodyLengths.{FitsReport}
+use Rattle.spread_report.proofs.SymbolIds.{joined_id}
 
 -- ---- ids
 

@@ -18,7 +18,7 @@ use Rattle.spread_report.specs.Outgoing.{WorkedEntry, new_seq_no, head_of, gap_f
 use Rattle.spread_report.proofs.FrameRows.{no_row, rows_both, message_row}
 use Rattle.spread_report.specs.Messages.{IsRow, as_message, texts_to, entry_texts, texts_from}
 use Rattle.spread_report.specs.Ranges.{AreNames, EntryInRange}
-use Rattle.spread_report.proofs.Bodies.{FitsReport, IsShortHead, fields_fit, body_short}
+use Rattle.spread_report.proofs.BodyLengths.{FitsReport, IsShortHead, fields_fit, body_short}
 use Rattle.spread_report.proofs.InRange.{FitsContent, FitsAddressed, id_plain, id_short, entry_fits}
 
 -- ---- outbound states

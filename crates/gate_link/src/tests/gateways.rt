@@ -42,23 +42,22 @@ fn stands_and_steps_agree(rt: HostRuntime) -> Result<(), Fail> {
     let gateway = &mut gateways[0];
     assert!(rt; !gateway.stands());
     assert_eq!(rt; gateway.step(), Step::Need);
-    let mut sent = 0;
+    let mut waits = false;
     for i in 0..DAY.len() {
         assert_eq!(rt; gateway.put(&DAY[i..i + 1]), 1);
         if !gateway.stands() {
             assert_eq!(rt; gateway.step(), Step::Need);
             continue;
         }
-        if sent > 0 {
+        if waits {
             assert_eq!(rt; gateway.step(), Step::Full);
             assert!(rt; gateway.stands());
             assert_eq!(rt; sequencer.turn(0), Turn::Took);
         }
         assert_eq!(rt; gateway.step(), Step::Sent);
         assert!(rt; !gateway.stands());
-        sent += 1;
+        waits = true;
     }
-    assert_eq!(rt; sent, 4);
     assert!(rt; gateway.is_closed());
     assert_eq!(rt; gateway.step(), Step::Closed);
     assert_eq!(rt; sequencer.turn(0), Turn::Took);

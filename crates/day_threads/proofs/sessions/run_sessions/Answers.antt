@@ -10,7 +10,7 @@ scoped-requires g c =
     let made = c.in-Ok.made in
     let opened = c.in-Ok.ensures in
     let gateways : vec_len made.0 ≡ length c.as_slice-all.result.now = search rules in
-    let few : vec_len made.0 ≤ 16 = omega (arith, opened.gateways.0, opened.sequencer.2, made.1.few, made.1.lanes.ok.0) in
+    let few : vec_len made.0 ≤ 16 = omega (arith, opened.gateways.0, opened.sequencer.2, made.1.few, made.1.inboxes.ok.0) in
     Once-at_one _ _ (λ scope. (((c.args.caps.ring, opened.gateways.1), opened.pairs, gateways, few), (b.send-A, record { shared = b.sync-R.shared }, record { shared = b.sync-G.shared }, b.frees-A-Allocator)))
 
 pub returns-clause-journal : goal.returns-clause-journal

@@ -4,7 +4,7 @@ use Rattle.spread_report.specs.Desk.{DeskState}
 use Rattle.spread_report.specs.EntryMessages.{messages_of}
 use Rattle.spread_report.specs.Outgoing.{outbound_at_entry}
 use Rattle.spread_report.specs.Sessions.{outbound_at, OnlyAppended}
-use Rattle.spread_report.proofs.Cuts.{sessions_back, after_refusal, desk_of, desk_back}
+use Rattle.spread_report.proofs.TakenBack.{sessions_back, after_refusal, desk_of, desk_back}
 use Rattle.spread_report.proofs.desk.Desk.outgoing.Goals as goal
 
 pub returns-then-is_err-clause-desk_kept : goal.returns-then-is_err-clause-desk_kept

@@ -1,4 +1,4 @@
--- Lists that are cut one after the other.
+-- What is taken back after a refusal: lists are cut to their lengths, and sessions are as before.
 use Rattle.std.proofs.Common.{◌≡◌, ◌≢◌, ℕ, ◌+◌, ◌<◌, ◌≤◌, List, [], length, get_or, take, sym, ap, ◌∙◌, inl, inr, arith, Err}
 use Rattle.std.proofs.Math.ListN.{set}
 use Rattle.std.proofs.lemmas.List.{get_or-map, get_or-set_same, get_or-set_other}
@@ -17,7 +17,7 @@ use Rattle.spread_report.specs.declared.outbound.CompIds.{CompIds}
 use Rattle.spread_report.specs.Outgoing.{outbound_before_logon, outbound_at_entry}
 use Rattle.spread_report.specs.Desk.{DeskState}
 use Rattle.spread_report.specs.Sessions.{bytes_of, outbound_at, OnlyAppended, SendResult}
-use Rattle.spread_report.proofs.Steps.{row_same, row_other}
+use Rattle.spread_report.proofs.OneMessage.{row_same, row_other}
 
 module _ {A : Type 0} (x x₀ : List (Vec ℕ A)) (i : ℕ) (v w : Vec ℕ A) (ns : List ℕ) where
   pub cut_more : i < length x → ((t : ℕ) → t < i → bytes_of x t ≡ take (get_or ns t 0) (bytes_of x₀ t)) → ((t : ℕ) → i ≤ t → bytes_of x t ≡ bytes_of x₀ t)

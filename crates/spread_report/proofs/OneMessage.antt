@@ -63,7 +63,7 @@ module _ (stamp : List ℕ) (l : OutboundSession) (content : MessageContent) whe
   spends_other i s apart = rw (ne_eqb i s (λ h. apart (sym h))) refl
 
 module _ {A : Type 0} (stamp : List ℕ) (a : List OutboundSession) (x : List (Vec ℕ A)) (i : ℕ) (content : MessageContent) where
-  -- the session's list got the text, and its line went on
+  -- the session's list got the text, and its outbound state went on
   pub sent_at : (v : Vec ℕ A) (l : OutboundSession) → i < length a → i < length x
       → v.items ≡ bytes_of x i ++ text_under stamp (outbound_at a i).comp_ids (outbound_at a i).next content
       → l ≡ record { next = next_under (outbound_at a i).comp_ids (outbound_at a i).next content; comp_ids = (outbound_at a i).comp_ids }
@@ -172,7 +172,7 @@ module _ {A : Type 0} (a : List OutboundSession) (x : List (Vec ℕ A)) (i : ℕ
   appended_line v in_x below same = appended_same a x i v (rw in_x below) (same ∙ sym (get_or-map (λ (v : Vec ℕ A). v.items) x i w [] (rw in_x below)))
 
 module _ {A : Type 0} (stamp : List ℕ) (a : List OutboundSession) (x : List (Vec ℕ A)) (i : ℕ) (first last : ℕ) (r : OutboundSession) (w : Vec ℕ A) (ids : CompIds) where
-  -- a gap fill leaves the line as it was
+  -- a gap fill leaves the outbound state as it was
   pub gap_line : (v : Vec ℕ A) (t : List ℕ) → length a ≡ 16 → length x ≡ 16 → i < 16 → r ≡ get_or a i r → r.comp_ids ≡ Some ids
       → v.items ≡ (get_or x i w).items ++ t → t ≡ content_text stamp ids r.next (gap_fill first last) → IsRow (as_message t) t
       → Sent stamp a a x (set x i v) (one i (gap_fill first last))

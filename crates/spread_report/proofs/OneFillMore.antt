@@ -4,7 +4,7 @@ use Rattle.std.proofs.lemmas.List.{take_more, take-append-drop}
 use Rattle.std.specs.declared.vec.Vec.{Vec}
 use Rattle.spread_report.specs.declared.fault.DeskFault.{DeskFault}
 use Rattle.spread_report.specs.Desk.{DeskState, Sends}
-use Rattle.spread_report.proofs.Runs.{all_sent, sends_after, sends_no_more}
+use Rattle.spread_report.proofs.MoreMessages.{all_sent, sends_after, sends_no_more}
 use Rattle.spread_rules.specs.declared.fill.Fill.{Fill}
 use Rattle.spread_rules.specs.Rulebook.{Rules}
 use Rattle.spread_report.specs.EntryMessages.{AddressedMessage, fill_reports, fills_reports, reports_of, report_count}

@@ -1,4 +1,4 @@
--- The body of a message with at most 18 fields has at most 1,300 bytes.
+-- The body of a message with at most 18 fields has at most 4,096 bytes.
 use Rattle.std.proofs.Common.{◌≡◌, ℕ, ◌+◌, ◌*◌, ◌/◌, ◌%◌, ◌<◌, ◌≤◌, ◌^◌, Bool, true, false, if◌then◌else◌, List, [], ◌∷◌, ◌++◌, map, length, ◌∙◌, arith, length-append}
 use Rattle.std.proofs.lemmas.List.{length-map}
 use Rattle.std.specs.Prelude.{ℤ, pos, unsigned_abs, decimal, int_lt}
