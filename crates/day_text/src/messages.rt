@@ -1,5 +1,5 @@
 //! The lines of outgoing messages, written in pieces.
-ghost use Rattle.std.specs.Prelude.{◌≡◌, ◌<◌, ◌≤◌, ◌+◌, ◌++◌, [], List, All, map, length, OnOk, OnErr, vec_len, vec_capacity, true, false};
+ghost use Rattle.std.specs.Prelude.{◌≡◌, ◌<◌, ◌≤◌, ◌+◌, ◌++◌, [], All, map, length, OnOk, OnErr, vec_len, vec_capacity, true, false};
 ghost use Rattle.std.specs.Io.KnownBytes.{Appends};
 ghost use Rattle.host_base.specs.Ends.{AppendsPrefix};
 ghost use Rattle.fix_wire.specs.Frames.{IsFrameRow};

@@ -1,6 +1,6 @@
 //! The fault lines and the statuses.
 use gate_link::LinkFault;
-use spread_host::fault::HostFault;
+use spread_host::HostFault;
 use spread_journal::JournalFault;
 use spread_rules::RuleFault;
 use std::fmt;

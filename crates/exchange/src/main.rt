@@ -6,12 +6,7 @@ mod words;
 
 use fault::Fault;
 use host_base::{FromReader, Id, ToWriter};
-use spread_host::check::check;
-use spread_host::day::write_day;
-use spread_host::fault::HostFault;
-use spread_host::live::{Caps, run_day};
-use spread_host::replay::replay;
-use spread_host::worker::Gate;
+use spread_host::{Caps, Gate, HostFault, check, replay, run_day, write_day};
 use spread_rules::Rulebook;
 use std::fs::Files;
 use std::process::ExitCode;

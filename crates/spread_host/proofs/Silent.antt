@@ -10,7 +10,7 @@ use Rattle.spread_rules.specs.Rulebook.{Rules}
 use Rattle.spread_report.specs.declared.outbound.OutboundSession.{OutboundSession}
 use Rattle.spread_report.specs.EntryMessages.{AddressedMessage}
 use Rattle.spread_report.specs.Outgoing.{bytes_to, bytes_from, entry_messages, text_for, outbound_after, outbound_at_entry, outbound_before_logon, outbound_for}
-use Rattle.spread_host.specs.Working.{worked_with, worked_entries_from, outgoing_bytes}
+use Rattle.day_apply.specs.Applied.{worked_with, worked_entries_from, outgoing_bytes}
 
 text_silent : (stamp : List ℕ) (s n : ℕ) (m : AddressedMessage) → text_for stamp s (outbound_before_logon n) m ≡ []
 text_silent stamp s n m = by_test (eqb m.to s)

@@ -10,8 +10,9 @@ use Rattle.spread_report.specs.Messages.{IsRow}
 use Rattle.spread_report.specs.Sessions.{bytes_of}
 use Rattle.std.specs.List.{All}
 use Rattle.std.proofs.lemmas.List.Elements.{All-from_get_or}
-use Rattle.spread_host.specs.Working.{outgoing_bytes}
-use Rattle.spread_host.specs.Days.{texts_of, texts_below}
+use Rattle.day_apply.specs.Applied.{outgoing_bytes}
+use Rattle.day_text.specs.DayText.{texts_of}
+use Rattle.spread_host.specs.Days.{texts_below}
 
 texts_length : (n : ℕ) (rules : Rules) (stamp : List ℕ) (journal : List Entry) → length (texts_below n rules stamp journal) ≡ n
 texts_length zero rules stamp journal = refl

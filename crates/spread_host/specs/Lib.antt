@@ -1,17 +1,4 @@
-pub mod DayText
 pub mod Faults
-pub mod LinesRead
-pub mod DayLines
-pub mod JournalParts
-pub mod Output
-pub mod Pieces
-pub mod Sums
-pub mod Totals
 pub mod Days
 pub mod Checks
-pub mod Working
-pub mod Workers
-pub mod Turning
-pub mod Handing
-pub mod Streams
 pub mod LiveDays

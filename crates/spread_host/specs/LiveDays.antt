@@ -5,8 +5,8 @@ use Rattle.spread_rules.specs.declared.event.Entry.{Entry}
 use Rattle.spread_rules.specs.Journal.{restricted}
 use Rattle.spread_rules.specs.Rulebook.{Rules}
 use Rattle.gate_link.specs.Opening.{IsRefusal}
-use Rattle.spread_host.specs.Streams.{whole_at, all_events}
-use Rattle.spread_host.specs.Working.{SpendsAt}
+use Rattle.day_threads.specs.Streams.{whole_at, all_events}
+use Rattle.day_apply.specs.Applied.{SpendsAt}
 use Rattle.spread_host.specs.declared.fault.HostFault.{HostFault}
 use Rattle.spread_host.specs.declared.fault.HostFault.TheVariants.{DayLine, Rule, Link, Spawn, JournalFull, NoMemory, Read, Write, NumbersSpent, Journal}
 

@@ -1,9 +1,13 @@
 //! Why a run ended without its day.
 ghost use Rattle.std.specs.Prelude.{◌≡◌};
-ghost use Rattle.spread_host.specs.Faults.{number_of, of_lines};
+ghost use Rattle.spread_host.specs.Faults.{number_of, of_apply, of_lines, of_read, of_text, of_threads};
 
-use crate::day_lines::LinesFault;
+use day_apply::ApplyFault;
+use day_lines::LinesFault;
+use day_text::TextFault;
+use day_threads::ThreadsFault;
 use gate_link::LinkFault;
+use host_base::ReadFault;
 use spread_journal::JournalFault;
 use spread_rules::RuleFault;
 use thiserror::Error;
@@ -64,6 +68,18 @@ impl HostFault {
     }
 }
 
+/// Want of memory for the input comes before any entry is begun.
+impl From<ReadFault> for HostFault {
+    ghost from_gives = { λ read f. f ≡ of_read read };
+
+    fn from(read: ReadFault) -> HostFault {
+        match read {
+            ReadFault::Read => HostFault::Read,
+            ReadFault::NoMemory => HostFault::NoMemory(0),
+        }
+    }
+}
+
 /// Want of memory for day lines comes before any entry is begun.
 impl From<LinesFault> for HostFault {
     ghost from_gives = { λ lines f. f ≡ of_lines lines };
@@ -71,7 +87,45 @@ impl From<LinesFault> for HostFault {
     fn from(lines: LinesFault) -> HostFault {
         match lines {
             LinesFault::BadLine(line) => HostFault::DayLine(line),
+            LinesFault::JournalFull => HostFault::JournalFull,
             LinesFault::NoMemory => HostFault::NoMemory(0),
+        }
+    }
+}
+
+/// Want of memory for the threads comes before any entry is begun.
+impl From<ThreadsFault> for HostFault {
+    ghost from_gives = { λ threads f. f ≡ of_threads threads };
+
+    fn from(threads: ThreadsFault) -> HostFault {
+        match threads {
+            ThreadsFault::Link(fault) => HostFault::Link(fault),
+            ThreadsFault::Spawn(session) => HostFault::Spawn(session),
+            ThreadsFault::JournalFull => HostFault::JournalFull,
+            ThreadsFault::NoMemory => HostFault::NoMemory(0),
+        }
+    }
+}
+
+impl From<ApplyFault> for HostFault {
+    ghost from_gives = { λ applied f. f ≡ of_apply applied };
+
+    fn from(applied: ApplyFault) -> HostFault {
+        match applied {
+            ApplyFault::NoMemory(place) => HostFault::NoMemory(place),
+            ApplyFault::NumbersSpent(place) => HostFault::NumbersSpent(place),
+        }
+    }
+}
+
+/// Want of memory for the lines of fills has place 0; that for the text of a whole day has another.
+impl From<TextFault> for HostFault {
+    ghost from_gives = { λ text f. f ≡ of_text text };
+
+    fn from(text: TextFault) -> HostFault {
+        match text {
+            TextFault::NoMemory => HostFault::NoMemory(0),
+            TextFault::Write => HostFault::Write,
         }
     }
 }

@@ -1,24 +1,21 @@
-//! A day, from day lines or from sessions in threads, to its journal, fills, outgoing messages and totals.
+//! A day, from day lines or from sessions in threads, to its journal, fills, outgoing messages and text.
+//!
+//! `replay` reads day lines (`day_lines`), applies their journal (`day_apply`) and writes the day's text (`day_text`).
+//! `run_day` takes its journal from a thread for each session (`day_threads`). `check` applies a journal text again.
 #![tactic(auto)]
 
-pub mod check;
-pub mod day;
-pub mod day_journal;
-pub mod day_lines;
-pub mod fault;
-pub mod lanes;
-pub mod laws;
-pub mod live;
-#[cfg(test)]
-mod live_tests;
-pub mod outgoing;
-pub mod output;
-pub mod replay;
+mod day;
+mod fault;
+mod from_journal;
+mod from_lines;
+mod from_sessions;
 #[cfg(test)]
 mod tests;
-pub mod totals;
-mod turns;
-#[cfg(test)]
-mod twice;
-pub mod worker;
-pub mod working;
+
+pub use day::{write_day, write_fills};
+pub use day_text::Day;
+pub use day_threads::{Caps, Gate};
+pub use fault::HostFault;
+pub use from_journal::check;
+pub use from_lines::replay;
+pub use from_sessions::run_day;

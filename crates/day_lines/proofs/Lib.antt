@@ -1,0 +1,6 @@
+pub mod Next
+pub mod Said
+pub mod Behind
+pub mod Feeding
+pub mod Inlets
+pub mod DayJournals

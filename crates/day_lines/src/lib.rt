@@ -1,0 +1,12 @@
+//! Day lines: the text that `replay` reads, to the journal of its sessions.
+#![tactic(auto)]
+
+mod lanes;
+pub mod laws;
+mod lines;
+mod reading;
+#[cfg(test)]
+mod tests;
+
+pub use lines::LinesFault;
+pub use reading::read_day_lines;

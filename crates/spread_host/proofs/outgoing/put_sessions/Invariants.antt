@@ -1,9 +1,0 @@
-use Rattle.std.proofs.Common.{◌≡◌, ◌<◌, ◌++◌, map, take, vec_capacity, false}
-use Rattle.spread_host.specs.Output.{outgoing_lines_from}
-use Rattle.spread_host.specs.Pieces.{IsPut}
-use Rattle.spread_host.proofs.outgoing.put_sessions.Given as goal
-
-abbrev pub invariant-loop-session : goal.invariant-loop-session
-invariant-loop-session g l =
-    IsPut (g.K.Sink.written l.initial.sink) (g.K.Sink.written l.sink) l.piece.items (l.initial.piece.items ++ outgoing_lines_from 0 (take l.session (map (λ v. v.items) l.lists)))
-    × (g.K.Sink.has_failed l.sink ≡ false) × (0 < vec_capacity l.piece)

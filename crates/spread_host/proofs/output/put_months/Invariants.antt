@@ -1,7 +1,0 @@
-use Rattle.std.proofs.Common.{◌≡◌, ◌++◌, take}
-use Rattle.spread_rules.specs.Rulebook.{names_of}
-use Rattle.spread_host.specs.Output.{month_lines_from}
-use Rattle.spread_host.proofs.output.put_months.Given as goal
-
-abbrev pub invariant-loop-month : goal.invariant-loop-month
-invariant-loop-month g l = l.out.items ≡ l.initial.out.items ++ month_lines_from 0 (take l.month (names_of l.rulebook)) l.fills

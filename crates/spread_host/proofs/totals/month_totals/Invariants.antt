@@ -1,7 +1,0 @@
-use Rattle.std.proofs.Common.{◌≡◌, take}
-use Rattle.std.specs.Prelude.{fold}
-use Rattle.spread_host.specs.Sums.{with_fill, twelve}
-use Rattle.spread_host.proofs.totals.month_totals.Given as goal
-
-abbrev pub invariant-loop-fill : goal.invariant-loop-fill
-invariant-loop-fill l = l.totals ≡ fold with_fill twelve (take l.fill-index l.fills)
