@@ -1,10 +1,10 @@
 //! Each request for memory refused in turn.
 use super::{Filled, H6, H6_M6, M6, Run, day, fill, logon, stamp};
 use crate::{Desk, DeskFault};
-use test_support::Refusing;
 use spread_rules::{Entry, Fill, Outcome, Side};
 use std::alloc::Allocator;
 use std::test::Fail;
+use test_support::Refusing;
 
 const SOLD_A: Filled = Filled {
     order: 2,
