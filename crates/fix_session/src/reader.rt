@@ -82,6 +82,7 @@ impl Reader {
 
     /// What the first message says and the session after it, if one stands. It is judged once, however often it is asked
     /// for.
+    #[inline(always)]
     fn find(&mut self) -> Option<(Verdict, Session)>
         ensures found { result ≡ judged self.old }
         ensures skipped { self.new ≡ skipped self.old }
