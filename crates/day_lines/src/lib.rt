@@ -5,8 +5,6 @@ mod lanes;
 pub mod laws;
 mod lines;
 mod reading;
-#[cfg(test)]
-mod tests;
 
 pub use lines::LinesFault;
 pub use reading::read_day_lines;

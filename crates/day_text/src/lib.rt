@@ -6,8 +6,6 @@ mod fault;
 mod fills;
 mod messages;
 mod months;
-#[cfg(test)]
-mod tests;
 
 pub use day_text::{Day, write_day, write_fills};
 pub use fault::TextFault;

@@ -6,8 +6,6 @@ mod pieces;
 mod reader;
 mod session;
 mod table;
-#[cfg(test)]
-mod tests;
 
 pub use pieces::read_pieces;
 pub use reader::Reader;

@@ -8,8 +8,6 @@ mod memory;
 mod sink;
 mod source;
 mod test_ends;
-#[cfg(test)]
-mod tests;
 mod text;
 mod whole;
 

@@ -9,8 +9,6 @@ mod list;
 mod newest;
 mod own_key;
 mod queue_key;
-#[cfg(test)]
-mod tests;
 mod tree;
 
 pub use book::Book;

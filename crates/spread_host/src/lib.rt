@@ -9,10 +9,8 @@ mod fault;
 mod from_journal;
 mod from_lines;
 mod from_sessions;
-#[cfg(test)]
-mod tests;
 
-pub use day::{write_day, write_fills};
+pub use day::{day_of, write_day, write_fills};
 pub use day_text::Day;
 pub use day_threads::{Caps, Gate};
 pub use fault::HostFault;

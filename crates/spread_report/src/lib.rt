@@ -46,6 +46,3 @@ mod symbol;
 pub use desk::Desk;
 pub use fault::DeskFault;
 pub use outbound::{CompIds, OutboundSession};
-
-#[cfg(test)]
-mod tests;

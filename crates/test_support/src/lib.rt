@@ -9,6 +9,3 @@ pub use refusing::Refusing;
 pub use samples::{
     FIRST_TRADE, FIRST_TRADE_JOURNAL, FIRST_TRADE_LINES, FIRST_TRADE_TEXT, THREE_MONTHS, id, stamp,
 };
-
-#[cfg(test)]
-mod tests;

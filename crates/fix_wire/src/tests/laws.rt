@@ -1,9 +1,0 @@
-//! The laws hold of nothing but definitions, and want nothing.
-use crate::laws;
-
-#[test]
-fn laws_are_called() {
-    laws::scan();
-    laws::frame_by_frame();
-    laws::read_back();
-}

@@ -1,5 +1,0 @@
-use Rattle.gate_link.specs.Gates.{SameGate}
-use Rattle.gate_link.proofs.tests.threads.drive.Given as goal
-
-abbrev pub invariant-loop : goal.invariant-loop
-invariant-loop g l = SameGate l.initial.gateway l.gateway

@@ -1,8 +1,0 @@
-//! The laws hold of nothing but definitions, and want nothing.
-use crate::laws::{owed, schedule};
-
-#[test]
-fn laws_hold() {
-    owed();
-    schedule();
-}

@@ -1,0 +1,85 @@
+//! The text of a day, part by part.
+ghost use Rattle.std.specs.Prelude.{◌<◌, ◌≤◌, All, length};
+ghost use Rattle.fix_wire.specs.Frames.{IsFrameRow};
+ghost use Rattle.day_text.specs.DayText.{texts_of};
+
+use super::plain_matcher::{journal_of_seed, read_again};
+use day_text::{Day, write_sessions};
+use host_base::TestSink;
+use spread_host::{check, day_of, write_day};
+use spread_journal::text_of_journal;
+use spread_rules::Rulebook;
+use std::alloc::Global;
+use std::test::Fail;
+use test_support::{THREE_MONTHS, id};
+
+/// Where the lines of the months begin.
+fn months_at(text: &[u8]) -> usize
+    ensures { result ≤ length text.now }
+{
+    for place in 0..text.len() {
+        if text[place..].starts_with(b"M H6 ") {
+            return place;
+        }
+    }
+    0
+}
+
+/// The lines of what each session is sent, written in pieces of so many bytes.
+fn sent_lines(alloc: Global, day: &Day<Global>, room: usize) -> Result<TestSink, Fail>
+    requires lists { length day.now.out.items ≤ 16 }
+    requires rows { All IsFrameRow (texts_of day.now.out.items) }
+    requires some { 0 < room }
+{
+    let mut sink = TestSink::new(alloc, 300_000, 0)?;
+    let mut piece = Vec::with_capacity(alloc, room)?;
+    write_sessions(&mut piece, &mut sink, &day.out)?;
+    Ok(sink)
+}
+
+// The journal, the fills, what each session is sent, and the months, in that order; or the journal alone.
+#[test]
+fn day_written(rt: HostRuntime) -> Result<(), Fail> {
+    let rules = Rulebook::read(THREE_MONTHS)?;
+    let journal = journal_of_seed(rt.alloc(), 7)?;
+    let text = text_of_journal(rt.alloc(), &journal)?;
+    let mut lines = TestSink::new(rt.alloc(), 100_000, 0)?;
+    check(rt.alloc(), &rules, &text, &mut lines)?;
+    let again = read_again(rt.alloc(), &text)?;
+    let day = day_of(rt.alloc(), &rules, id(b"s"), again)?;
+    assert!(rt; day.journal.as_slice() == journal.as_slice());
+    let mut want = text.clone()?;
+    let mut alone = TestSink::new(rt.alloc(), 100_000, 0)?;
+    write_day(rt.alloc(), &rules, &day, true, &mut alone)?;
+    assert!(rt; alone.bytes() == want.as_slice());
+    let (fills, months) = lines.bytes().split_at(months_at(lines.bytes()));
+    want.extend_from_slice(fills)?;
+    let sent = sent_lines(rt.alloc(), &day, 4096)?;
+    assert!(rt; sent_lines(rt.alloc(), &day, 1)?.bytes() == sent.bytes());
+    assert!(rt; sent_lines(rt.alloc(), &day, 100)?.bytes() == sent.bytes());
+    want.extend_from_slice(sent.bytes())?;
+    want.extend_from_slice(months)?;
+    let mut whole = TestSink::new(rt.alloc(), 400_000, 0)?;
+    write_day(rt.alloc(), &rules, &day, false, &mut whole)?;
+    assert!(rt; whole.bytes() == want.as_slice());
+    Ok(())
+}
+
+/// The Logons of sessions 0 and 12.
+const TWO_LOGONS: &[u8] =
+    b"JOURNAL 1\n0 logon 4331 484f5354 30\n12 logon 4332 484f5354 30\nEND 2\n";
+
+/// Their day.
+const TWO_ANSWERS: &[u8] =
+    b"JOURNAL 1\n0 logon 4331 484f5354 30\n12 logon 4332 484f5354 30\nEND 2\nO 0:8=FIX.4.2|9=57|35=A|34=1|49=HOST|52=20260105-14:30:00|56=C1|98=0|108=30|10=220|\nO 12:8=FIX.4.2|9=57|35=A|34=1|49=HOST|52=20260105-14:30:00|56=C2|98=0|108=30|10=221|\nM H6 0 0 0 0\nM M6 0 0 0 0\nM U6 0 0 0 0\n";
+
+#[test]
+fn outgoing_lines(rt: HostRuntime) -> Result<(), Fail> {
+    let rules = Rulebook::read(THREE_MONTHS)?;
+    let journal = read_again(rt.alloc(), TWO_LOGONS)?;
+    let day = day_of(rt.alloc(), &rules, id(b"20260105-14:30:00"), journal)?;
+    let mut sink = TestSink::new(rt.alloc(), 1000, 0)?;
+    write_day(rt.alloc(), &rules, &day, false, &mut sink)?;
+    assert!(rt; sink.bytes() == TWO_ANSWERS);
+    Ok(())
+}

@@ -1,0 +1,323 @@
+//! Days in threads. Each ends by itself, whatever the schedule.
+ghost use Rattle.day_text.specs.DayText.{AreShown};
+
+use day_text::{Day, put_months};
+use day_threads::{Caps, Gate, run_sessions};
+use gate_link::LinkFault;
+use spread_host::{HostFault, run_day};
+use spread_rules::{Entry, Event, Rulebook, Side, Ticket};
+use std::alloc::{AllocError, Allocator, Global};
+use std::sync::atomic::{AtomicU32, Ordering};
+use std::test::Fail;
+use std::thread;
+use test_support::{FIRST_TRADE, THREE_MONTHS, id, stamp};
+
+pub const USUAL: Caps = Caps {
+    ring: 256,
+    journal: 100_000,
+};
+
+fn order(text: &[u8], side: Side) -> Event {
+    Event::New(Ticket {
+        id: id(text),
+        symbol: id(b"H6"),
+        side,
+        quantity: 5,
+        price: 10_000,
+        immediate: false,
+    })
+}
+
+/// The events of the first trade's stream.
+fn first_trade() -> [Event; 4] {
+    [
+        Event::Logon {
+            client: id(b"C1"),
+            host: id(b"HOST"),
+            beat: 30,
+        },
+        order(b"a", Side::Sell),
+        order(b"b", Side::Buy),
+        Event::Close { reason: 1 },
+    ]
+}
+
+/// So many streams of these bytes.
+pub fn streams_of<A: Allocator + Copy>(
+    heap: A,
+    count: usize,
+    bytes: &[u8],
+) -> Result<Vec<Vec<u8, A>, A>, AllocError> {
+    let mut all = Vec::new(heap);
+    for _ in 0..count {
+        let mut one = Vec::new(heap);
+        one.extend_from_slice(bytes)?;
+        all.push(one)?;
+    }
+    Ok(all)
+}
+
+/// The events of one session.
+fn part(alloc: Global, journal: &[Entry], session: u8) -> Result<Vec<Event>, AllocError> {
+    let mut events = Vec::new(alloc);
+    for entry in journal {
+        if entry.session == session {
+            events.push(entry.event)?;
+        }
+    }
+    Ok(events)
+}
+
+/// The month lines of a day.
+fn months_of(alloc: Global, rulebook: &Rulebook, day: &Day<Global>) -> Result<Vec<u8>, AllocError>
+    requires { AreShown rulebook.now day.now.fills.items }
+{
+    let mut text = Vec::new(alloc);
+    put_months(&mut text, rulebook, &day.fills)?;
+    Ok(text)
+}
+
+pub struct Open;
+
+impl Gate for Open {
+    fn before(&self, _session: u8, _message: u32) {}
+}
+
+/// Waits until the flag is set, and says whether it came within ten million turns.
+fn comes(flag: &AtomicU32) -> bool {
+    for _ in 0..10_000_000 {
+        if flag.load(Ordering::SeqCst) == 1 {
+            return true;
+        }
+        thread::yield_now();
+    }
+    false
+}
+
+/// Message 0 of each session waits until message 0 of the other has come too.
+#[derive(Drop)]
+struct Meet {
+    first: AtomicU32,
+    second: AtomicU32,
+    late: AtomicU32,
+}
+
+impl Gate for Meet {
+    fn before(&self, session: u8, message: u32) {
+        if message != 0 {
+            return;
+        }
+        let (mine, other) = if session == 0 {
+            (&self.first, &self.second)
+        } else {
+            (&self.second, &self.first)
+        };
+        mine.store(1, Ordering::SeqCst);
+        if !comes(other) {
+            self.late.store(1, Ordering::SeqCst);
+        }
+    }
+}
+
+/// Message 0 of the held session waits until message 3 of another one has come.
+#[derive(Drop)]
+struct Hold {
+    held: u8,
+    come: AtomicU32,
+    late: AtomicU32,
+}
+
+impl Gate for Hold {
+    fn before(&self, session: u8, message: u32) {
+        if session != self.held && message == 3 {
+            self.come.store(1, Ordering::SeqCst);
+        }
+        if session == self.held && message == 0 && !comes(&self.come) {
+            self.late.store(1, Ordering::SeqCst);
+        }
+    }
+}
+
+/// Counts the messages of session 0, and notes any that comes out of turn.
+#[derive(Drop)]
+struct InTurn {
+    next: AtomicU32,
+    wrong: AtomicU32,
+}
+
+impl Gate for InTurn {
+    fn before(&self, session: u8, message: u32) {
+        let due = self.next.fetch_add(1, Ordering::SeqCst);
+        if session != 0 || message != due {
+            self.wrong.store(1, Ordering::SeqCst);
+        }
+    }
+}
+
+/// A stream of no bytes: its session is closed at its end, and nothing goes out.
+#[test]
+fn no_bytes(rt: HostRuntime) -> Result<(), Fail> {
+    let rulebook = Rulebook::read(THREE_MONTHS)?;
+    let streams = streams_of(rt.alloc(), 1, b"")?;
+    let day = run_day(&rt, rt.alloc(), &rulebook, stamp(), streams, &Open, USUAL)?;
+    assert!(rt; day.journal.len() == 1);
+    assert!(rt;
+        day.journal[0]
+            == Entry {
+                session: 0,
+                event: Event::Close { reason: 5 }
+            }
+    );
+    assert!(rt; day.fills.is_empty());
+    assert!(rt; day.out.len() == 16);
+    for list in &day.out {
+        assert!(rt; list.is_empty());
+    }
+    Ok(())
+}
+
+/// Two sessions in threads of their own, each of which waits for the other.
+#[test]
+fn two_sessions_meet(rt: HostRuntime) -> Result<(), Fail> {
+    let gate = Meet {
+        first: AtomicU32::new(0),
+        second: AtomicU32::new(0),
+        late: AtomicU32::new(0),
+    };
+    let rulebook = Rulebook::read(THREE_MONTHS)?;
+    let streams = streams_of(rt.alloc(), 2, FIRST_TRADE)?;
+    let day = run_day(&rt, rt.alloc(), &rulebook, stamp(), streams, &gate, USUAL)?;
+    assert!(rt; gate.late.load(Ordering::SeqCst) == 0);
+    assert!(rt; day.journal.len() == 8);
+    let want = first_trade();
+    let first = part(rt.alloc(), &day.journal, 0)?;
+    assert!(rt; first.as_slice() == want.as_slice());
+    let second = part(rt.alloc(), &day.journal, 1)?;
+    assert!(rt; second.as_slice() == want.as_slice());
+    let months = months_of(rt.alloc(), &rulebook, &day)?;
+    assert!(rt;
+        months.as_slice() == b"M H6 10 10 100000 100000\nM M6 0 0 0 0\nM U6 0 0 0 0\n".as_slice()
+    );
+    Ok(())
+}
+
+/// Seventeen streams, or none.
+#[test]
+fn numbers_of_streams(rt: HostRuntime) -> Result<(), Fail> {
+    let rulebook = Rulebook::read(THREE_MONTHS)?;
+    for count in [0, 17] {
+        let streams = streams_of(rt.alloc(), count, FIRST_TRADE)?;
+        match run_day(&rt, rt.alloc(), &rulebook, stamp(), streams, &Open, USUAL) {
+            Err(fault) => assert!(rt; fault == HostFault::Link(LinkFault::Sessions)),
+            Ok(_) => return Err(Fail::from("a day")),
+        }
+    }
+    Ok(())
+}
+
+/// The gate sees each message once, in order.
+#[test]
+fn each_message_once(rt: HostRuntime) -> Result<(), Fail> {
+    let gate = InTurn {
+        next: AtomicU32::new(0),
+        wrong: AtomicU32::new(0),
+    };
+    let streams = streams_of(rt.alloc(), 1, FIRST_TRADE)?;
+    let journal = run_sessions(&rt, rt.alloc(), streams, &gate, USUAL)?;
+    assert!(rt; gate.next.load(Ordering::SeqCst) == 4);
+    assert!(rt; gate.wrong.load(Ordering::SeqCst) == 0);
+    let events = part(rt.alloc(), &journal, 0)?;
+    assert!(rt; events.as_slice() == first_trade().as_slice());
+    Ok(())
+}
+
+/// One session is held while the other goes on over a ring of one event: its first entries come first.
+#[test]
+fn one_session_held(rt: HostRuntime) -> Result<(), Fail> {
+    let rulebook = Rulebook::read(THREE_MONTHS)?;
+    for held in [0u8, 1] {
+        let gate = Hold {
+            held,
+            come: AtomicU32::new(0),
+            late: AtomicU32::new(0),
+        };
+        let caps = Caps {
+            ring: 1,
+            journal: 100_000,
+        };
+        let streams = streams_of(rt.alloc(), 2, FIRST_TRADE)?;
+        let day = run_day(&rt, rt.alloc(), &rulebook, stamp(), streams, &gate, caps)?;
+        assert!(rt; gate.late.load(Ordering::SeqCst) == 0);
+        assert!(rt; day.journal.len() == 8);
+        assert!(rt; day.journal[0].session != held);
+        assert!(rt; day.journal[1].session != held);
+    }
+    Ok(())
+}
+
+/// Rings of one event are enough, and so is a journal of just so many entries as there are; one fewer is not.
+#[test]
+fn journal_of_just_enough(rt: HostRuntime) -> Result<(), Fail> {
+    let rulebook = Rulebook::read(THREE_MONTHS)?;
+    for journal in [100_000, 8, 7, 1, 0] {
+        let streams = streams_of(rt.alloc(), 2, FIRST_TRADE)?;
+        let caps = Caps { ring: 1, journal };
+        match run_day(&rt, rt.alloc(), &rulebook, stamp(), streams, &Open, caps) {
+            Ok(day) => {
+                assert!(rt; journal >= 8);
+                assert!(rt; day.journal.len() == 8);
+            }
+            Err(fault) => {
+                assert!(rt; journal < 8);
+                assert!(rt; fault == HostFault::JournalFull);
+            }
+        }
+    }
+    Ok(())
+}
+
+/// Sixteen sessions over rings of one event.
+#[test]
+fn sixteen_sessions(rt: HostRuntime) -> Result<(), Fail> {
+    let rulebook = Rulebook::read(THREE_MONTHS)?;
+    let streams = streams_of(rt.alloc(), 16, FIRST_TRADE)?;
+    let caps = Caps {
+        ring: 1,
+        journal: 64,
+    };
+    let day = run_day(&rt, rt.alloc(), &rulebook, stamp(), streams, &Open, caps)?;
+    assert!(rt; day.journal.len() == 64);
+    let want = first_trade();
+    for session in 0..16u8 {
+        let events = part(rt.alloc(), &day.journal, session)?;
+        assert!(rt; events.as_slice() == want.as_slice(), "{session}");
+    }
+    let months = months_of(rt.alloc(), &rulebook, &day)?;
+    assert!(rt;
+        months.as_slice() == b"M H6 80 80 800000 800000\nM M6 0 0 0 0\nM U6 0 0 0 0\n".as_slice()
+    );
+    Ok(())
+}
+
+/// A stream longer than a gateway's buffer.
+#[test]
+fn long_stream(rt: HostRuntime) -> Result<(), Fail> {
+    let mut stream = Vec::new(rt.alloc());
+    for _ in 0..20_000 {
+        stream.push(b'x')?;
+    }
+    stream.extend_from_slice(FIRST_TRADE)?;
+    let streams = streams_of(rt.alloc(), 3, &stream)?;
+    let caps = Caps {
+        ring: 1,
+        journal: 12,
+    };
+    let journal = run_sessions(&rt, rt.alloc(), streams, &Open, caps)?;
+    assert!(rt; journal.len() == 12);
+    let want = first_trade();
+    for session in 0..3u8 {
+        let events = part(rt.alloc(), &journal, session)?;
+        assert!(rt; events.as_slice() == want.as_slice(), "{session}");
+    }
+    Ok(())
+}

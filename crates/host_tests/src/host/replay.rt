@@ -1,0 +1,147 @@
+//! Day lines cut anywhere, and the faults of `replay`.
+use super::rows::{EMPTY_TEXT, text_of};
+use host_base::{TestSink, TestSource};
+use spread_host::{HostFault, replay};
+use spread_rules::Rulebook;
+use std::alloc::Global;
+use std::test::Fail;
+use test_support::{FIRST_TRADE_LINES, FIRST_TRADE_TEXT, THREE_MONTHS, stamp};
+
+/// Appends a day line of session 0 for each byte of the message.
+fn cut_into_lines(message: &[u8], lines: &mut Vec<u8>) -> Result<(), Fail> {
+    for byte in message {
+        lines.extend_from_slice(&[b'0', b':', *byte, b'\n'])?;
+    }
+    Ok(())
+}
+
+const MESSAGES: &[u8] =
+    b"8=FIX.4.2|9=57|35=A|34=1|49=C1|52=20260105-14:30:00|56=HOST|98=0|108=30|10=220|8=FIX.4.2|9=104|35=D|34=2|49=C1|52=20260105-14:30:00|56=HOST|11=a|21=1|55=H6|54=2|60=20260105-14:30:00|38=5|40=2|44=100|10=168|8=FIX.4.2|9=104|35=D|34=3|49=C1|52=20260105-14:30:00|56=HOST|11=b|21=1|55=H6|54=1|60=20260105-14:30:00|38=5|40=2|44=100|10=169|8=FIX.4.2|9=45|35=5|34=4|49=C1|52=20260105-14:30:00|56=HOST|10=183|";
+
+#[test]
+fn cut_and_nested_frames(rt: HostRuntime) -> Result<(), Fail> {
+    let mut cut = Vec::new(rt.alloc());
+    cut_into_lines(MESSAGES, &mut cut)?;
+    assert!(rt; text_of(rt.alloc(), &cut, false)?.bytes() == FIRST_TRADE_TEXT);
+    let mut nested = Vec::from_slice(rt.alloc(), b"0:8=FIX.4.2|9=4000|35=0|58=")?;
+    for _ in 0..3991 {
+        nested.push(b'x')?;
+    }
+    nested.extend_from_slice(b"|10=000|")?;
+    nested.extend_from_slice(MESSAGES)?;
+    assert!(rt; text_of(rt.alloc(), &nested, false)?.bytes() == FIRST_TRADE_TEXT);
+    let mut short = Vec::from_slice(rt.alloc(), b"0:8=FIX.4.2|9=200|")?;
+    short.extend_from_slice(MESSAGES)?;
+    assert!(rt; text_of(rt.alloc(), &short, false)?.bytes() == FIRST_TRADE_TEXT);
+    let mut waiting = Vec::from_slice(rt.alloc(), b"0:8=FIX.4.2|9=4000|")?;
+    waiting.extend_from_slice(MESSAGES)?;
+    assert!(rt;
+        text_of(rt.alloc(), &waiting, true)?.bytes() == b"JOURNAL 1\n0 close 5\nEND 1\n".as_slice()
+    );
+    Ok(())
+}
+
+// ---- faults
+
+/// What is answered, and how many bytes are out, where the source fails at a read and the sink at a write (0: never).
+fn fault_of(
+    alloc: Global,
+    lines: Vec<u8>,
+    fails: (u32, u32),
+    room: usize,
+) -> Result<(Option<HostFault>, TestSink), Fail> {
+    let rules = Rulebook::read(THREE_MONTHS)?;
+    let mut sink = TestSink::new(alloc, room, fails.1)?;
+    let mut source = TestSource::new(lines, fails.0);
+    match replay(alloc, &rules, stamp(), &mut source, &mut sink, false) {
+        Ok(_) => Ok((None, sink)),
+        Err(fault) => Ok((Some(fault), sink)),
+    }
+}
+
+#[test]
+fn bad_lines(rt: HostRuntime) -> Result<(), Fail> {
+    let rows: [(&[u8], u64); 6] = [
+        (b"x", 1),
+        (b"# one\n\n0:a\n16:b\nx\n", 4),
+        (b"0:\n\n# three\n\n01:8=FIX.4.2|\n", 5),
+        (b"0", 1),
+        (b"0:a\n ", 2),
+        (b"\n\n\n0;a\n", 4),
+    ];
+    for (lines, line) in rows {
+        let (fault, sink) = fault_of(
+            rt.alloc(),
+            Vec::from_slice(rt.alloc(), lines)?,
+            (0, 0),
+            4096,
+        )?;
+        assert!(rt; fault == Some(HostFault::DayLine(line)));
+        assert!(rt; sink.bytes() == b"".as_slice());
+    }
+    Ok(())
+}
+
+#[test]
+fn failing_reads(rt: HostRuntime) -> Result<(), Fail> {
+    // Three reads of bytes and one of none: a comment of 9,000 bytes.
+    for number in 1..6u32 {
+        let mut lines = Vec::from_slice(rt.alloc(), b"#")?;
+        lines.resize(9000, b' ')?;
+        let (fault, sink) = fault_of(rt.alloc(), lines, (number, 0), 4096)?;
+        if number < 5 {
+            assert!(rt; fault == Some(HostFault::Read));
+            assert!(rt; sink.bytes() == b"".as_slice());
+        } else {
+            assert!(rt; fault == None);
+            assert!(rt; sink.bytes() == EMPTY_TEXT);
+        }
+    }
+    Ok(())
+}
+
+#[test]
+fn too_many_bytes(rt: HostRuntime) -> Result<(), Fail> {
+    let rows: [(&[u8], usize, Option<HostFault>); 3] = [
+        (b"#", 16_777_216, None),
+        (b"#", 16_777_217, Some(HostFault::Read)),
+        (b"x\n", 16_777_217, Some(HostFault::Read)),
+    ];
+    for (start, count, want) in rows {
+        let mut lines = Vec::from_slice(rt.alloc(), start)?;
+        lines.resize(count, b' ')?;
+        let (fault, sink) = fault_of(rt.alloc(), lines, (0, 0), 4096)?;
+        assert!(rt; fault == want);
+        if want.is_some() {
+            assert!(rt; sink.bytes() == b"".as_slice());
+        } else {
+            assert!(rt; sink.bytes() == EMPTY_TEXT);
+        }
+    }
+    Ok(())
+}
+
+#[test]
+fn failing_writes(rt: HostRuntime) -> Result<(), Fail> {
+    let whole = FIRST_TRADE_TEXT.len();
+    let rows = [
+        (whole, 0, whole),
+        (4096, 1, 0),
+        (0, 0, 0),
+        (100, 0, 100),
+        (100, 2, 100),
+        (whole - 1, 0, whole - 1),
+    ];
+    for (room, fail, written) in rows {
+        let lines = Vec::from_slice(rt.alloc(), FIRST_TRADE_LINES)?;
+        let (fault, sink) = fault_of(rt.alloc(), lines, (0, fail), room)?;
+        if written == whole {
+            assert!(rt; fault == None);
+        } else {
+            assert!(rt; fault == Some(HostFault::Write));
+        }
+        assert!(rt; sink.bytes().len() == written);
+        assert!(rt; FIRST_TRADE_TEXT.starts_with(sink.bytes()));
+    }
+    Ok(())
+}

@@ -1,0 +1,8 @@
+//! The laws hold of nothing but definitions, and want nothing.
+use gate_link::laws::{owed, schedule};
+
+#[test]
+fn laws_hold() {
+    owed();
+    schedule();
+}

@@ -1,0 +1,143 @@
+//! Gateways in threads of their own.
+ghost use Rattle.std.specs.Prelude.{ℕ, ◌<◌, length, slice_index_or};
+ghost use Rattle.gate_link.specs.Gates.{SameGate};
+ghost use Rattle.gate_link.specs.Links.{IsLinkOf, SameLink};
+ghost use Rattle.gate_link.specs.declared.gateway.Gateway.{Gateway};
+ghost use Rattle.std.specs.declared.alloc.Global.{Global};
+ghost use denote.Param.Send.{IsSync};
+
+use super::of_day;
+use gate_link::{Gateway, Sequencer, Settle, Step, Turn, link};
+use std::alloc::{Allocator, Global};
+use std::test::Fail;
+use std::thread;
+use std::thread::{Threads, join_mut};
+use test_support::FIRST_TRADE;
+
+/// Puts the day into a gateway, and sends its events as the ring gives room.
+fn drive<A: Allocator>(gateway: &mut Gateway<A>)
+    ensures { SameGate gateway.old gateway.new }
+{
+    gateway.put(FIRST_TRADE);
+    for _ in 0..10_000_000 {
+        match gateway.end() {
+            Step::Closed => return,
+            Step::Full => thread::yield_now(),
+            _ => {}
+        }
+    }
+}
+
+/// Takes a turn of each session, and says whether all are done.
+fn turn_each<A: Allocator>(sequencer: &mut Sequencer<A>) -> bool
+    ensures { SameLink sequencer.old sequencer.new }
+{
+    let mut done = true;
+    for s in 0..sequencer.sessions() {
+        match sequencer.turn(s as u8) {
+            Turn::Done => {}
+            Turn::Empty => {
+                done = false;
+                thread::yield_now();
+            }
+            _ => done = false,
+        }
+    }
+    done
+}
+
+/// Takes turns until each session is done.
+fn take_turns<A: Allocator>(sequencer: &mut Sequencer<A>)
+    ensures { SameLink sequencer.old sequencer.new }
+{
+    for _ in 0..10_000_000 {
+        if turn_each(sequencer) {
+            return;
+        }
+    }
+}
+
+/// Two threads drive the gateways.
+fn drive_all<R: Threads + Sync>(rt: &R, gateways: &mut [Gateway<Global>])
+    ensures { (s : ℕ) (g : Gateway Global) → s < length gateways.old → SameGate (slice_index_or gateways.old s g) (slice_index_or gateways.new s g) }
+{
+    thread::for_each_mut(rt, gateways, 2, &|_, gateway| drive(gateway));
+}
+
+/// Two threads drive the gateways, and a third one takes turns.
+fn run<R: Threads + Sync>(
+    rt: &R,
+    gateways: &mut [Gateway<Global>],
+    sequencer: &mut Sequencer<Global>,
+)
+    requires { IsLinkOf sequencer.old gateways.old }
+    ensures { IsLinkOf sequencer.new gateways.new }
+{
+    join_mut(
+        rt,
+        &mut ||
+            requires { IsSync R.row }
+            ensures { (s : ℕ) (g : Gateway Global) → s < length gateways.entry.now → SameGate (slice_index_or gateways.entry.now s g) (slice_index_or gateways.exit.now s g) }
+        { drive_all(rt, gateways) },
+        &mut ||
+            ensures { SameLink sequencer.entry.now sequencer.exit.now }
+        { take_turns(sequencer) },
+    );
+}
+
+/// Two sessions over rings of one event: the journal has the whole day of each.
+#[test]
+fn two_threads(rt: HostRuntime) -> Result<(), Fail> {
+    let Ok((mut gateways, mut sequencer)) = link(rt.alloc(), 2, 1, 8) else {
+        return Err(Fail::from("memory"));
+    };
+    run(&rt, gateways.as_mut_slice(), &mut sequencer);
+    assert!(rt; sequencer.settle(gateways.as_mut_slice()) == Settle::Settled);
+    for session in 0..2u8 {
+        let mut n = 0;
+        for entry in sequencer.journal() {
+            if entry.session == session && n < 5 {
+                assert!(rt; entry.event == of_day(n));
+                n += 1;
+            }
+        }
+        assert!(rt; n == 4);
+    }
+    Ok(())
+}
+
+/// Half of the day is put and sent in another thread, the rest here.
+fn first_half<A: Allocator>(gateway: Gateway<A>) -> Gateway<A> {
+    let mut gateway = gateway;
+    gateway.put(&FIRST_TRADE[..250]);
+    for _ in 0..4 {
+        gateway.step();
+    }
+    gateway
+}
+
+#[test]
+fn a_gateway_that_moves(rt: HostRuntime) -> Result<(), Fail> {
+    let Ok((mut gateways, mut sequencer)) = link(rt.alloc(), 1, 2, 10) else {
+        return Err(Fail::from("memory"));
+    };
+    let Some(first) = gateways.pop() else {
+        return Err(Fail::from("no gateway"));
+    };
+    let (mut gateway, _) = thread::join(&rt, move || first_half(first), || 0u8);
+    assert!(rt; gateway.put(&FIRST_TRADE[250..]) == 150);
+    assert!(rt; gateway.step() == Step::Full);
+    assert!(rt; sequencer.turn(0) == Turn::Took);
+    assert!(rt; gateway.end() == Step::Sent);
+    assert!(rt; sequencer.turn(0) == Turn::Took);
+    assert!(rt; gateway.end() == Step::Sent);
+    assert!(rt; sequencer.turn(0) == Turn::Took);
+    assert!(rt; gateway.end() == Step::Closed);
+    assert!(rt; sequencer.turn(0) == Turn::Took);
+    assert!(rt; gateway.is_closed());
+    assert!(rt; sequencer.turn(0) == Turn::Done);
+    for (n, entry) in sequencer.journal().iter().enumerate() {
+        assert!(rt; entry.event == of_day(n));
+    }
+    Ok(())
+}

@@ -1,0 +1,59 @@
+//! Each kind of book in turn.
+use super::queues::{
+    buyers, last_leaves, one_after_another, one_comes_behind, queues_apart, sellers,
+};
+use spread_books::{IndexBook, ListBook, NewestBook, TreeBook};
+use spread_rules::Instrument;
+use std::test::Fail;
+
+#[test]
+fn list_book(rt: HostRuntime) -> Result<(), Fail> {
+    sellers(&rt, &mut ListBook::new(rt.alloc()))?;
+    buyers(&rt, &mut ListBook::new(rt.alloc()))?;
+    queues_apart(&rt, &mut ListBook::new(rt.alloc()))?;
+    one_after_another(&rt, &mut ListBook::new(rt.alloc()))?;
+    for queue in [Instrument::Outright(0), Instrument::Spread(1, 24)] {
+        last_leaves(&rt, &mut ListBook::new(rt.alloc()), queue)?;
+        one_comes_behind(&rt, &mut ListBook::new(rt.alloc()), queue)?;
+    }
+    Ok(())
+}
+
+#[test]
+fn tree_book(rt: HostRuntime) -> Result<(), Fail> {
+    sellers(&rt, &mut TreeBook::new(rt.alloc()))?;
+    buyers(&rt, &mut TreeBook::new(rt.alloc()))?;
+    queues_apart(&rt, &mut TreeBook::new(rt.alloc()))?;
+    one_after_another(&rt, &mut TreeBook::new(rt.alloc()))?;
+    for queue in [Instrument::Outright(0), Instrument::Spread(1, 24)] {
+        last_leaves(&rt, &mut TreeBook::new(rt.alloc()), queue)?;
+        one_comes_behind(&rt, &mut TreeBook::new(rt.alloc()), queue)?;
+    }
+    Ok(())
+}
+
+#[test]
+fn newest_book(rt: HostRuntime) -> Result<(), Fail> {
+    sellers(&rt, &mut NewestBook::new(rt.alloc()))?;
+    buyers(&rt, &mut NewestBook::new(rt.alloc()))?;
+    queues_apart(&rt, &mut NewestBook::new(rt.alloc()))?;
+    one_after_another(&rt, &mut NewestBook::new(rt.alloc()))?;
+    for queue in [Instrument::Outright(0), Instrument::Spread(1, 24)] {
+        last_leaves(&rt, &mut NewestBook::new(rt.alloc()), queue)?;
+        one_comes_behind(&rt, &mut NewestBook::new(rt.alloc()), queue)?;
+    }
+    Ok(())
+}
+
+#[test]
+fn index_book(rt: HostRuntime) -> Result<(), Fail> {
+    sellers(&rt, &mut IndexBook::new(rt.alloc()))?;
+    buyers(&rt, &mut IndexBook::new(rt.alloc()))?;
+    queues_apart(&rt, &mut IndexBook::new(rt.alloc()))?;
+    one_after_another(&rt, &mut IndexBook::new(rt.alloc()))?;
+    for queue in [Instrument::Outright(0), Instrument::Spread(1, 24)] {
+        last_leaves(&rt, &mut IndexBook::new(rt.alloc()), queue)?;
+        one_comes_behind(&rt, &mut IndexBook::new(rt.alloc()), queue)?;
+    }
+    Ok(())
+}

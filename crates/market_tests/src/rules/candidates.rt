@@ -1,0 +1,54 @@
+//! Candidates and their rank.
+use super::{H6, M6, order};
+use spread_rules::{
+    Choice, Counterparty, Instrument, Level, Members, Rank, Side, better, candidate_for, chosen,
+    is_within, levels_meet, plain_candidate, price_at, ranking,
+};
+
+#[test]
+fn candidates_ranked(rt: HostRuntime) {
+    let buy = order(5, H6, Side::Buy, 6, 10000);
+    let spread = order(3, Instrument::Spread(0, 1), Side::Sell, 3, 200);
+    let far = order(4, M6, Side::Sell, 4, 9700);
+    let spread_level = Level {
+        instrument: Instrument::Spread(0, 1),
+        side: Side::Sell,
+        price: 200,
+    };
+    assert!(rt; spread.level() == spread_level);
+    let far_level = far.level();
+    assert!(rt; levels_meet(&buy, &spread_level, &far_level));
+    assert!(rt; !levels_meet(&order(5, H6, Side::Buy, 6, 9899), &spread_level, &far_level));
+    let pair = Counterparty::Implied(spread, far);
+    assert!(rt; price_at(&buy, &pair) == Some(9900));
+    assert!(rt; is_within(&buy, 10000));
+    assert!(rt; !is_within(&buy, 10001));
+    let direct = candidate_for(
+        &buy,
+        Counterparty::Direct(order(2, H6, Side::Sell, 2, 10000)),
+    );
+    match better(&buy, direct, candidate_for(&buy, pair)) {
+        None => assert!(rt; false, "no candidate"),
+        Some(best) => {
+            let rank = Rank {
+                cost: 9900,
+                implied: true,
+                month: 1,
+                first: 3,
+                second: 4,
+            };
+            assert!(rt; ranking(&buy, &best) == rank);
+            let choice = Choice {
+                price: 9900,
+                quantity: 3,
+                members: Members::Implied(3, 4),
+            };
+            assert!(rt; chosen(&buy, &best) == choice);
+        }
+    }
+    let resting = [order(2, H6, Side::Sell, 2, 10000)];
+    match plain_candidate(&resting, &buy) {
+        None => assert!(rt; false, "no candidate"),
+        Some(found) => assert!(rt; found.price == 10000),
+    }
+}

@@ -1,0 +1,82 @@
+//! A rulebook read, and its faults.
+use spread_rules::laws::{one_rulebook, quiet};
+use spread_rules::{Instrument, RuleFault, Rulebook};
+use std::test::Fail;
+
+const THREE_MONTHS: &[u8] =
+    b"# March, June and September\n\ntick 1\nmonth H6 10000\nmonth M6 9800\nmonth U6 9500";
+
+#[test]
+fn rulebook_read(rt: HostRuntime) -> Result<(), Fail> {
+    let rules = match Rulebook::read(THREE_MONTHS) {
+        Ok(rules) => rules,
+        Err(fault) => {
+            assert!(rt; false, "{fault}");
+            return Ok(());
+        }
+    };
+    assert!(rt; rules.months() == 3);
+    assert!(rt; rules.tick() == 1);
+    for month in 0..rules.months() {
+        let name: &[u8] = [b"H6", b"M6", b"U6"][month as usize % 3];
+        assert!(rt; rules.name(month) == name);
+        assert!(rt; rules.name_id(month).bytes() == name);
+        assert!(rt; rules.reference(month) == [10000, 9800, 9500][month as usize % 3]);
+    }
+    let symbols: [(&[u8], Option<Instrument>); 9] = [
+        (b"H6", Some(Instrument::Outright(0))),
+        (b"U6", Some(Instrument::Outright(2))),
+        (b"H6-M6", Some(Instrument::Spread(0, 1))),
+        (b"H6-U6", Some(Instrument::Spread(0, 2))),
+        (b"M6-H6", None),
+        (b"H6-H6", None),
+        (b"H6-", None),
+        (b"h6", None),
+        (b"", None),
+    ];
+    for (symbol, instrument) in symbols {
+        assert!(rt; rules.find(symbol) == instrument);
+    }
+    one_rulebook();
+    quiet();
+    Ok(())
+}
+
+#[test]
+fn rulebook_faults(rt: HostRuntime) {
+    let rows: [(&[u8], RuleFault, u8); 12] = [
+        (b"", RuleFault::NoMonth, 2),
+        (b"tick 1\n", RuleFault::NoMonth, 2),
+        (b"tick 0", RuleFault::BadLine(1), 1),
+        (b"tick 01", RuleFault::BadLine(1), 1),
+        (b"month H6 1\n", RuleFault::BadLine(1), 1),
+        (b"tick 5\nmonth H6 10001\n", RuleFault::BadLine(2), 1),
+        (b"#\n\ntick 5\n\nmonth H6  5\n", RuleFault::BadLine(5), 1),
+        (b"tick 5\nmonth H-6 5", RuleFault::BadLine(2), 1),
+        (
+            b"tick 5\nmonth ABCDEFGHIJKLMNOP 5",
+            RuleFault::BadLine(2),
+            1,
+        ),
+        (
+            b"tick 1\nmonth H6 1\nmonth H6 -2\n",
+            RuleFault::NamedTwice,
+            4,
+        ),
+        (
+            b"tick 1\nmonth a 1\nmonth b 1\nmonth c 1\nmonth d 1\nmonth e 1\nmonth f 1\nmonth g 1\nmonth h 1\nmonth i 1\nmonth j 1\nmonth k 1\nmonth l 1\nmonth a 1\n",
+            RuleFault::TooManyMonths,
+            3,
+        ),
+        (b"tick 1\nmonth H6 1000000001\n", RuleFault::BadLine(2), 1),
+    ];
+    for (text, fault, number) in rows {
+        match Rulebook::read(text) {
+            Ok(_) => assert!(rt; false, "no {fault}"),
+            Err(found) => {
+                assert!(rt; found == fault);
+                assert!(rt; found.number() == number);
+            }
+        }
+    }
+}

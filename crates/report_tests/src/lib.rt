@@ -1,0 +1,9 @@
+//! Tests of `spread_report`, `spread_journal` and `day_text`.
+#![tactic(auto)]
+
+#[cfg(test)]
+mod journal;
+#[cfg(test)]
+mod report;
+#[cfg(test)]
+mod text;

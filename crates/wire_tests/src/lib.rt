@@ -1,0 +1,13 @@
+//! Tests of `host_base`, `test_support`, `fix_wire`, `fix_session` and `day_lines`.
+#![tactic(auto)]
+
+#[cfg(test)]
+mod base;
+#[cfg(test)]
+mod lines;
+#[cfg(test)]
+mod session;
+#[cfg(test)]
+mod support;
+#[cfg(test)]
+mod wire;

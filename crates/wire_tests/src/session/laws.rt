@@ -1,0 +1,11 @@
+//! The laws hold of nothing but definitions, and want nothing.
+use fix_session::laws;
+
+#[test]
+fn laws_hold() {
+    laws::judged();
+    laws::lawful();
+    laws::said_after();
+    laws::closed_after();
+    laws::closes_once();
+}
