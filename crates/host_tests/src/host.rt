@@ -1,3 +1,4 @@
+mod applied;
 mod check;
 mod day;
 mod faults;

@@ -3,7 +3,6 @@ ghost use Rattle.std.specs.Prelude.{◌≡◌, true, All, IfOk};
 ghost use Rattle.spread_rules.specs.Candidates.{HasOrderPrice};
 ghost use Rattle.spread_rules.specs.Journal.{IsLawful};
 
-use super::rows::MONTHS;
 use day_apply::apply_journal;
 use host_base::{Id, TestSink};
 use spread_host::check;
@@ -13,6 +12,7 @@ use spread_rules::{
 };
 use std::alloc::Global;
 use std::test::Fail;
+use test_support::{THREE_MONTHS, id};
 
 const LETTERS: &[u8; 26] = b"abcdefghijklmnopqrstuvwxyz";
 
@@ -278,7 +278,7 @@ pub fn read_again(alloc: Global, text: &[u8]) -> Result<Vec<Entry>, Fail>
 
 #[test]
 fn plain_matcher_agrees(rt: HostRuntime) -> Result<(), Fail> {
-    let rules = Rulebook::read(MONTHS)?;
+    let rules = Rulebook::read(THREE_MONTHS)?;
     let mut most = 0;
     for seed in 1..6u32 {
         let journal = journal_of_seed(rt.alloc(), seed)?;

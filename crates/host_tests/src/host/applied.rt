@@ -1,0 +1,43 @@
+//! The orders that rest behind a journal.
+ghost use Rattle.std.specs.Prelude.{All};
+ghost use Rattle.spread_rules.specs.Journal.{FitsEntry};
+
+use super::check::DIRECT_BEFORE_IMPLIED;
+use super::plain_matcher::read_again;
+use day_apply::AppliedJournal;
+use spread_books::Book;
+use spread_rules::{Entry, Rulebook};
+use std::alloc::Global;
+use std::process::Abort;
+use std::test::Fail;
+use test_support::THREE_MONTHS;
+
+/// Each order that rests, in order of place: its place, and how much of it is left.
+fn expect_resting(
+    rt: &impl Abort,
+    alloc: Global,
+    rules: &Rulebook,
+    journal: &[Entry],
+    want: &[(u64, u32)],
+) -> Result<(), Fail>
+    requires { All FitsEntry journal.now }
+{
+    let mut applied = AppliedJournal::new(alloc, rules, journal);
+    for n in 0..journal.len() {
+        applied.apply()?;
+    }
+    let book = applied.book();
+    assert!(rt; book.len() == want.len());
+    for n in 0..want.len() {
+        let order = book.walk(n).ok_or("an order")?;
+        assert!(rt; (order.place, order.leaves) == want[n]);
+    }
+    Ok(())
+}
+
+#[test]
+fn resting(rt: HostRuntime) -> Result<(), Fail> {
+    let rules = Rulebook::read(THREE_MONTHS)?;
+    let journal = read_again(rt.alloc(), DIRECT_BEFORE_IMPLIED)?;
+    expect_resting(&rt, rt.alloc(), &rules, &journal, &[(4, 1), (5, 1)])
+}
