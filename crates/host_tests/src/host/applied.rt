@@ -3,14 +3,14 @@ ghost use Rattle.std.specs.Prelude.{All};
 ghost use Rattle.spread_rules.specs.Journal.{FitsEntry};
 
 use super::check::DIRECT_BEFORE_IMPLIED;
-use super::plain_matcher::read_again;
-use day_apply::AppliedJournal;
+use super::read_again;
+use day_apply::{AppliedJournal, apply_journal, fills_of_journal};
 use spread_books::Book;
 use spread_rules::{Entry, Rulebook};
 use std::alloc::Global;
 use std::process::Abort;
 use std::test::Fail;
-use test_support::THREE_MONTHS;
+use test_support::{THREE_MONTHS, stamp};
 
 /// Each order that rests, in order of place: its place, and how much of it is left.
 fn expect_resting(
@@ -40,4 +40,17 @@ fn resting(rt: HostRuntime) -> Result<(), Fail> {
     let rules = Rulebook::read(THREE_MONTHS)?;
     let journal = read_again(rt.alloc(), DIRECT_BEFORE_IMPLIED)?;
     expect_resting(&rt, rt.alloc(), &rules, &journal, &[(4, 1), (5, 1)])
+}
+
+#[test]
+fn a_whole_journal(rt: HostRuntime) -> Result<(), Fail> {
+    let rules = Rulebook::read(THREE_MONTHS)?;
+    let journal = read_again(rt.alloc(), DIRECT_BEFORE_IMPLIED)?;
+    let applied = apply_journal(rt.alloc(), &rules, stamp(), &journal)?;
+    assert!(rt; applied.fills.len() == 5);
+    assert!(rt; applied.out.len() == 16);
+    assert!(rt;
+        fills_of_journal(rt.alloc(), &rules, &journal)?.as_slice() == applied.fills.as_slice()
+    );
+    Ok(())
 }

@@ -1,29 +1,16 @@
-//! The text of a day, part by part.
+//! A day's text, and what goes into it.
 ghost use Rattle.std.specs.Prelude.{◌<◌, ◌≤◌, All, length};
 ghost use Rattle.fix_wire.specs.Frames.{IsFrameRow};
 ghost use Rattle.day_text.specs.DayText.{texts_of};
 
-use super::plain_matcher::{journal_of_seed, read_again};
+use super::read_again;
 use day_text::{Day, write_sessions};
 use host_base::TestSink;
-use spread_host::{check, day_of, write_day};
-use spread_journal::text_of_journal;
+use spread_host::{day_of, write_day};
 use spread_rules::Rulebook;
 use std::alloc::Global;
 use std::test::Fail;
-use test_support::{THREE_MONTHS, id};
-
-/// Where the lines of the months begin.
-fn months_at(text: &[u8]) -> usize
-    ensures { result ≤ length text.now }
-{
-    for place in 0..text.len() {
-        if text[place..].starts_with(b"M H6 ") {
-            return place;
-        }
-    }
-    0
-}
+use test_support::{FIRST_TRADE_JOURNAL, FIRST_TRADE_TEXT, THREE_MONTHS, stamp};
 
 /// The lines of what each session is sent, written in pieces of so many bytes.
 fn sent_lines(alloc: Global, day: &Day<Global>, room: usize) -> Result<TestSink, Fail>
@@ -41,27 +28,28 @@ fn sent_lines(alloc: Global, day: &Day<Global>, room: usize) -> Result<TestSink,
 #[test]
 fn day_written(rt: HostRuntime) -> Result<(), Fail> {
     let rules = Rulebook::read(THREE_MONTHS)?;
-    let journal = journal_of_seed(rt.alloc(), 7)?;
-    let text = text_of_journal(rt.alloc(), &journal)?;
-    let mut lines = TestSink::new(rt.alloc(), 100_000, 0)?;
-    check(rt.alloc(), &rules, &text, &mut lines)?;
-    let again = read_again(rt.alloc(), &text)?;
-    let day = day_of(rt.alloc(), &rules, id(b"s"), again)?;
-    assert!(rt; day.journal.as_slice() == journal.as_slice());
-    let mut want = text.clone()?;
-    let mut alone = TestSink::new(rt.alloc(), 100_000, 0)?;
+    let journal = read_again(rt.alloc(), FIRST_TRADE_JOURNAL)?;
+    let day = day_of(rt.alloc(), &rules, stamp(), journal)?;
+    let mut alone = TestSink::new(rt.alloc(), 1000, 0)?;
     write_day(rt.alloc(), &rules, &day, true, &mut alone)?;
-    assert!(rt; alone.bytes() == want.as_slice());
-    let (fills, months) = lines.bytes().split_at(months_at(lines.bytes()));
-    want.extend_from_slice(fills)?;
-    let sent = sent_lines(rt.alloc(), &day, 4096)?;
-    assert!(rt; sent_lines(rt.alloc(), &day, 1)?.bytes() == sent.bytes());
-    assert!(rt; sent_lines(rt.alloc(), &day, 100)?.bytes() == sent.bytes());
-    want.extend_from_slice(sent.bytes())?;
-    want.extend_from_slice(months)?;
-    let mut whole = TestSink::new(rt.alloc(), 400_000, 0)?;
+    assert!(rt; alone.bytes() == FIRST_TRADE_JOURNAL);
+    let mut whole = TestSink::new(rt.alloc(), 4096, 0)?;
     write_day(rt.alloc(), &rules, &day, false, &mut whole)?;
-    assert!(rt; whole.bytes() == want.as_slice());
+    assert!(rt; whole.bytes() == FIRST_TRADE_TEXT);
+    Ok(())
+}
+
+// The same lines in pieces of any size.
+#[test]
+fn lines_in_pieces(rt: HostRuntime) -> Result<(), Fail> {
+    let rules = Rulebook::read(THREE_MONTHS)?;
+    let journal = read_again(rt.alloc(), FIRST_TRADE_JOURNAL)?;
+    let day = day_of(rt.alloc(), &rules, stamp(), journal)?;
+    let sent = sent_lines(rt.alloc(), &day, 4096)?;
+    assert!(rt; sent.bytes().starts_with(b"O 0:8=FIX.4.2|9=57|35=A|"));
+    for room in [1, 100] {
+        assert!(rt; sent_lines(rt.alloc(), &day, room)?.bytes() == sent.bytes());
+    }
     Ok(())
 }
 
@@ -77,7 +65,7 @@ const TWO_ANSWERS: &[u8] =
 fn outgoing_lines(rt: HostRuntime) -> Result<(), Fail> {
     let rules = Rulebook::read(THREE_MONTHS)?;
     let journal = read_again(rt.alloc(), TWO_LOGONS)?;
-    let day = day_of(rt.alloc(), &rules, id(b"20260105-14:30:00"), journal)?;
+    let day = day_of(rt.alloc(), &rules, stamp(), journal)?;
     let mut sink = TestSink::new(rt.alloc(), 1000, 0)?;
     write_day(rt.alloc(), &rules, &day, false, &mut sink)?;
     assert!(rt; sink.bytes() == TWO_ANSWERS);

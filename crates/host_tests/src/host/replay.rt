@@ -1,11 +1,22 @@
 //! Day lines cut anywhere, and the faults of `replay`.
-use super::rows::{EMPTY_TEXT, text_of};
 use host_base::{TestSink, TestSource};
 use spread_host::{HostFault, replay};
 use spread_rules::Rulebook;
 use std::alloc::Global;
 use std::test::Fail;
 use test_support::{FIRST_TRADE_LINES, FIRST_TRADE_TEXT, THREE_MONTHS, stamp};
+
+/// What a day without entries writes.
+const EMPTY_TEXT: &[u8] = b"JOURNAL 1\nEND 0\nM H6 0 0 0 0\nM M6 0 0 0 0\nM U6 0 0 0 0\n";
+
+/// The whole text that is written on day lines.
+fn text_of(alloc: Global, lines: &[u8], journal_only: bool) -> Result<TestSink, Fail> {
+    let rules = Rulebook::read(THREE_MONTHS)?;
+    let mut sink = TestSink::new(alloc, 4096, 0)?;
+    let mut source = TestSource::new(Vec::from_slice(alloc, lines)?, 0);
+    replay(alloc, &rules, stamp(), &mut source, &mut sink, journal_only)?;
+    Ok(sink)
+}
 
 /// Appends a day line of session 0 for each byte of the message.
 fn cut_into_lines(message: &[u8], lines: &mut Vec<u8>) -> Result<(), Fail> {
