@@ -1,6 +1,6 @@
 use Rattle.std.proofs.Common.{rules, ◌≡◌, Bool, true, false, Option, Some, None, refl, sym}
 use Rattle.std.specs.Ordering.{is_lt}
-use Rattle.spread_rules.specs.Candidates.{better_by, is_before, rank_cmp, rank_of}
+use Rattle.spread_rules.specs.Candidates.{better_by, is_before, rank_cmp}
 use Rattle.spread_rules.proofs.candidate.better.Goals as goal
 
 -- against none

@@ -1,4 +1,4 @@
-use Rattle.std.proofs.Common.{rules, ◌≡◌, ◌==◌, ◌&&◌, ◌+ℤ◌, ◌-ℤ◌, None, refl, sym, ◌∙◌}
+use Rattle.std.proofs.Common.{rules, ◌≡◌, ◌==◌, ◌&&◌, ◌+ℤ◌, ◌-ℤ◌, sym, ◌∙◌}
 use Rattle.spread_rules.specs.Candidates.{if_so}
 use Rattle.spread_rules.proofs.ranks.ImpliedPrices.{outright_first, spread_second, outright_alike, spread_alike, both_differ}
 use Rattle.spread_rules.proofs.candidate.outright_price.Goals as goal
