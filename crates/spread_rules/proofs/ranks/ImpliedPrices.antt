@@ -1,12 +1,24 @@
 -- the implied price where it is known which instruments meet, and which sides are alike
 use denote.Enum.Bare.{sameb}
-use Rattle.std.proofs.Common.{◌≡◌, ℕ, ℤ, ◌==◌, ◌&&◌, ◌+ℤ◌, ◌-ℤ◌, None, true, false, refl}
+use Rattle.std.proofs.Common.{◌≡◌, ℕ, ℤ, Bool, ◌==◌, ◌&&◌, ◌+ℤ◌, ◌-ℤ◌, IfSome, None, true, false, refl, arith}
+use Rattle.std.proofs.lemmas.Int.{ints}
 use Rattle.spread_rules.specs.contracts.order.Side.{the_type}
 use Rattle.spread_rules.specs.declared.order.Side.{Side}
 use Rattle.spread_rules.specs.declared.order.Side.TheVariants.{Buy, Sell}
 use Rattle.spread_rules.specs.declared.order.Instrument.{Instrument}
 use Rattle.spread_rules.specs.declared.order.Instrument.TheVariants.{Outright, Spread}
 use Rattle.spread_rules.specs.Candidates.{implied_price, if_so}
+use Rattle.spread_rules.specs.Prices.{IsOrderPrice, IsLegPrice}
+
+pub small_if : (holds : Bool) (price : ℤ) → IsLegPrice price → IfSome (if_so holds price) IsLegPrice
+small_if true price h = h
+small_if false price h = tt
+
+pub small_sum : (p q : ℤ) → IsOrderPrice p → IsOrderPrice q → IsLegPrice (p +ℤ q)
+small_sum p q h k = record { low = omega (arith, ints); high = omega (arith, ints) }
+
+pub small_difference : (p q : ℤ) → IsOrderPrice p → IsOrderPrice q → IsLegPrice (p -ℤ q)
+small_difference p q h k = record { low = omega (arith, ints); high = omega (arith, ints) }
 
 module _ (m : ℕ) (p q : ℤ) where
   -- ---- an outright of month m
