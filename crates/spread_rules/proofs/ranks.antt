@@ -1,4 +1,3 @@
 pub mod FirstOfAFold
 pub mod PlainIsLeast
 pub mod LeastIsOne
-pub mod ImpliedPrices
