@@ -3,3 +3,4 @@ pub mod NotAgainstItself
 pub mod OneTurn
 pub mod StaysTradable
 pub mod ThreeFillsAtMost
+pub mod FillsOfATurn

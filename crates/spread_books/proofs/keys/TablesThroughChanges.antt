@@ -125,3 +125,8 @@ from_ok (Err y) h e = cc
 pub from_err : {X E P : Type 0} (r : Result X E) → OnErr r P → is_err r ≡ true → P
 from_err (Ok x) h e = cc
 from_err (Err y) h e = h
+
+-- what follows both where it did and where it did not, follows
+pub from_both : {X E P Q R : Type 0} (r : Result X E) → OnOk r P → OnErr r Q → (P → R) → (Q → R) → R
+from_both (Ok x) p q f g = f p
+from_both (Err y) p q f g = g q

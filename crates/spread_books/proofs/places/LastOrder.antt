@@ -4,7 +4,7 @@ use Rattle.std.specs.Ordering.{nat_cmp}
 use Rattle.std.specs.declared.cmp.Ordering.TheVariants.{Less}
 use Rattle.std.specs.List.{find}
 use Rattle.std.specs.List.Sorted.{IsStrictlySortedBy}
-use Rattle.std.specs.Option.{option_to_list, option_or}
+use Rattle.std.specs.Option.{IfSome, option_to_list, option_or}
 use Rattle.std.proofs.lemmas.Bool.Decides.{nat_tests}
 use Rattle.std.proofs.lemmas.List.{map-append}
 use Rattle.std.proofs.lemmas.List.Elements.{All-contains, All-contains_itself, All-map, All-head, All-tail, All-weaker, recursion_from_All, Contains-append_cases, Contains-append_left, Contains-push, Contains-push_cases, filter-append}
@@ -62,6 +62,10 @@ below_last (x ∷ xs) n s o c =
 
 pub all_below : (xs : List Order) (n : Order) → Ascends (xs ++ n ∷ []) → All (λ o. o.place < n.place) xs
 all_below xs n s = all_of (λ (o : Order). o.place < n.place) xs (below_last xs n s)
+
+pub newest_above : (xs : List Order) (newest : Option Order) → Ascends (xs ++ option_to_list newest) → IfSome newest (λ n. All (λ o. o.place < n.place) xs)
+newest_above xs None s = tt
+newest_above xs (Some n) s = all_below xs n s
 
 -- ---- a place that no order of the list has
 

@@ -15,6 +15,19 @@ use Rattle.spread_books.proofs.keys.TablesThroughChanges.{index_added, as_index,
 use Rattle.spread_books.proofs.tree.TreeBookBook.add.Given.{Over}
 use Rattle.spread_books.proofs.tree.TreeBookBook.add.Goals as goal
 
+pub invariant_of-self : goal.invariant_of-self
+invariant_of-self g c =
+    let xs = c.args.self.now in
+    let now = subst (λ (ys : List Order). IsIndexOf ys c.self.inside.orders.entries c.self.inside.queues c.self.inside.ids) c.self.view_is c.self.invariant in
+    let same : c.insert.new.self.keys ≡ c.self.inside.queues.keys = from_err c.insert.result c.insert.ensures.err (sym c.is_err.ensures.value ∙ c.if-is_err.true) in
+    as_index xs c.self.inside.orders.entries c.insert.new.self c.self.inside.ids (record {
+      placed = now.placed;
+      ordered = now.ordered;
+      queued = λ k. ap (λ (ks : List QueueKey). list_any (is_at (queue_key_cmp k)) ks) same ∙ now.queued k;
+      owned = now.owned;
+      kept = now.kept;
+    })
+
 pub invariant_of-self-then-is_err-2 : goal.invariant_of-self-then-is_err-2
 invariant_of-self-then-is_err-2 g c =
     let o = c.args.order in

@@ -1,0 +1,11 @@
+use Rattle.std.proofs.Common.{rules}
+use Rattle.spread_match.proofs.floor.judge_fields.Goals as goal
+
+pub returns-then-ticket-gt999999 : goal.returns-then-ticket-gt999999
+returns-then-ticket-gt999999 c = rw c.in-Some.is (search rules)
+
+pub returns-then-ticket-tick-ne0 : goal.returns-then-ticket-tick-ne0
+returns-then-ticket-tick-ne0 c = rw c.in-Some.is (search rules)
+
+pub returns-else-ticket-tick-ne0 : goal.returns-else-ticket-tick-ne0
+returns-else-ticket-tick-ne0 c = rw c.in-Some.is (search rules)
