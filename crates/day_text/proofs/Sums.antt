@@ -49,54 +49,85 @@ small_128 z low high = fits_128 z (omega (arith, ints)) (omega (arith, ints))
 
 -- ---- room
 
+lots_more : (n m k : ℕ) → n ≤ m → k ≤ 999999 * n → k ≤ 999999 * m
+lots_more n m k le most = omega arith
+
+low_more : (n m : ℕ) (z : ℤ) → n ≤ m → neg_ℤ (pos (1999998000000000 * n)) ≤ℤ z → neg_ℤ (pos (1999998000000000 * m)) ≤ℤ z
+low_more n m z le low = omega (arith, ints)
+
+high_more : (n m : ℕ) (z : ℤ) → n ≤ m → z ≤ℤ pos (1999998000000000 * n) → z ≤ℤ pos (1999998000000000 * m)
+high_more n m z le high = omega (arith, ints)
+
 pub room_more : (n m : ℕ) (t : MonthTotals) → n ≤ m → HasRoom n t → HasRoom m t
 room_more n m t le h = record {
-  bought = omega arith;
-  sold = omega arith;
-  paid_low = omega (arith, ints);
-  paid_high = omega (arith, ints);
-  received_low = omega (arith, ints);
-  received_high = omega (arith, ints);
+  bought = lots_more n m t.bought le h.bought;
+  sold = lots_more n m t.sold le h.sold;
+  paid_low = low_more n m t.paid le h.paid_low;
+  paid_high = high_more n m t.paid le h.paid_high;
+  received_low = low_more n m t.received le h.received_low;
+  received_high = high_more n m t.received le h.received_high;
 }
+
+zero_low : (n : ℕ) → neg_ℤ (pos (1999998000000000 * n)) ≤ℤ pos 0
+zero_low n = omega (arith, ints)
+
+zero_high : (n : ℕ) → pos 0 ≤ℤ pos (1999998000000000 * n)
+zero_high n = omega (arith, ints)
+
+zero_lots : (n : ℕ) → 0 ≤ 999999 * n
+zero_lots n = omega arith
 
 room_none : (n : ℕ) → HasRoom n none
 room_none n = record {
-  bought = omega arith;
-  sold = omega arith;
-  paid_low = omega (arith, ints);
-  paid_high = omega (arith, ints);
-  received_low = omega (arith, ints);
-  received_high = omega (arith, ints);
+  bought = zero_lots n;
+  sold = zero_lots n;
+  paid_low = zero_low n;
+  paid_high = zero_high n;
+  received_low = zero_low n;
+  received_high = zero_high n;
 }
 
+-- one leg more
+one_more : (n : ℕ) → n ≤ n + 1
+one_more n = omega arith
+
+lots_added : (n k q : ℕ) → k ≤ 999999 * n → q ≤ 999999 → k + q ≤ 999999 * (n + 1)
+lots_added n k q most few = omega arith
+
+low_added : (n : ℕ) (z x : ℤ) → neg_ℤ (pos (1999998000000000 * n)) ≤ℤ z → neg_ℤ (pos 1999998000000000) ≤ℤ x → neg_ℤ (pos (1999998000000000 * (n + 1))) ≤ℤ (z +ℤ x)
+low_added n z x low least = omega (arith, ints)
+
+high_added : (n : ℕ) (z x : ℤ) → z ≤ℤ pos (1999998000000000 * n) → x ≤ℤ pos 1999998000000000 → (z +ℤ x) ≤ℤ pos (1999998000000000 * (n + 1))
+high_added n z x high most = omega (arith, ints)
+
 room_added : (s : Side) (q : ℕ) (p : ℤ) (t : MonthTotals) (n : ℕ) → q ≤ 999999 → neg_ℤ (pos 2000000000) ≤ℤ p → p ≤ℤ pos 2000000000 → HasRoom n t → HasRoom (n + 1) (added s q p t)
-room_added Buy q p t n few low high h =
-    let least = money_low q p few low high in
-    let most = money_high q p few low high in
-    record {
-      bought = omega arith;
-      sold = omega arith;
-      paid_low = omega (arith, ints, least);
-      paid_high = omega (arith, ints, most);
-      received_low = omega (arith, ints);
-      received_high = omega (arith, ints);
-    }
-room_added Sell q p t n few low high h =
-    let least = money_low q p few low high in
-    let most = money_high q p few low high in
-    record {
-      bought = omega arith;
-      sold = omega arith;
-      paid_low = omega (arith, ints);
-      paid_high = omega (arith, ints);
-      received_low = omega (arith, ints, least);
-      received_high = omega (arith, ints, most);
-    }
+room_added Buy q p t n few low high h = record {
+  bought = lots_added n t.bought q h.bought few;
+  sold = lots_more n (n + 1) t.sold (one_more n) h.sold;
+  paid_low = low_added n t.paid (pos q *ℤ p) h.paid_low (money_low q p few low high);
+  paid_high = high_added n t.paid (pos q *ℤ p) h.paid_high (money_high q p few low high);
+  received_low = low_more n (n + 1) t.received (one_more n) h.received_low;
+  received_high = high_more n (n + 1) t.received (one_more n) h.received_high;
+}
+room_added Sell q p t n few low high h = record {
+  bought = lots_more n (n + 1) t.bought (one_more n) h.bought;
+  sold = lots_added n t.sold q h.sold few;
+  paid_low = low_more n (n + 1) t.paid (one_more n) h.paid_low;
+  paid_high = high_more n (n + 1) t.paid (one_more n) h.paid_high;
+  received_low = low_added n t.received (pos q *ℤ p) h.received_low (money_low q p few low high);
+  received_high = high_added n t.received (pos q *ℤ p) h.received_high (money_high q p few low high);
+}
+
+some_below : (n : ℕ) → 0 < suc n
+some_below n = omega arith
+
+next_below : (k n : ℕ) → k < n → suc k < suc n
+next_below k n lt = omega arith
 
 room_at : (n : ℕ) (ts : List MonthTotals) (m : ℕ) → All (HasRoom n) ts → HasRoom n (get_or ts m none)
 room_at n [] m h = room_none n
-room_at n (t ∷ ts) zero h = h 0 none (omega arith)
-room_at n (t ∷ ts) (suc m) h = room_at n ts m (λ k d lt. h (suc k) d (omega (arith, lt)))
+room_at n (t ∷ ts) zero h = h 0 none (some_below (length ts))
+room_at n (t ∷ ts) (suc m) h = room_at n ts m (λ k d lt. h (suc k) d (next_below k (length ts) lt))
 
 pub room_leg : (n : ℕ) (ts : List MonthTotals) (l : Leg) → IsSmallLeg l → All (HasRoom n) ts → All (HasRoom (n + 1)) (with_leg ts l)
 room_leg n ts l small h =
@@ -131,13 +162,24 @@ same_totals : (a b a' b' : ℕ) (x y x' y' : ℤ) → a ≡ a' → b ≡ b' → 
     → (let t : MonthTotals = record { bought = a; sold = b; paid = x; received = y } in t) ≡ (let t : MonthTotals = record { bought = a'; sold = b'; paid = x'; received = y' } in t)
 same_totals a b a' b' x y x' y' e f g h = cc
 
+zero_apart : (m : ℕ) → (zero == suc m) ≡ false
+zero_apart m = grind (arith, nat_tests)
+
+suc_apart : (i : ℕ) → (suc i == zero) ≡ false
+suc_apart i = grind (arith, nat_tests)
+
+suc_same : (i m : ℕ) → (suc i == suc m) ≡ (i == m)
+suc_same i m = grind (arith, nat_tests)
+
+same_of : (i m : ℕ) → (i == m) ≡ true → i ≡ m
+same_of i m h = grind (arith, nat_tests)
+
 at_set : (ts : List MonthTotals) (i m : ℕ) (v d : MonthTotals) → m < length ts → get_or (set ts i v) m d ≡ cond (i == m) v (get_or ts m d)
 at_set [] i m v d lt = absurd (omega arith)
 at_set (t ∷ ts) zero zero v d lt = refl
-at_set (t ∷ ts) zero (suc m) v d lt = let e : (zero == suc m) ≡ false = grind (arith, nat_tests) in rw e refl
-at_set (t ∷ ts) (suc i) zero v d lt = let e : (suc i == zero) ≡ false = grind (arith, nat_tests) in rw e refl
-at_set (t ∷ ts) (suc i) (suc m) v d lt =
-    let e : (suc i == suc m) ≡ (i == m) = grind (arith, nat_tests) in rw e (at_set ts i m v d (omega arith))
+at_set (t ∷ ts) zero (suc m) v d lt = rw (zero_apart m) refl
+at_set (t ∷ ts) (suc i) zero v d lt = rw (suc_apart i) refl
+at_set (t ∷ ts) (suc i) (suc m) v d lt = rw (suc_same i m) (at_set ts i m v d (omega arith))
 
 -- a month's sums with one more leg
 abbrev pub after_leg : MonthTotals → ℕ → Leg → MonthTotals
@@ -156,16 +198,22 @@ after_legs t m ls = record {
   received = t.received +ℤ money Sell m ls;
 }
 
+no_lots : (n : ℕ) → n ≡ n + 0
+no_lots n = omega arith
+
+no_money : (z : ℤ) → z ≡ z +ℤ pos 0
+no_money z = omega (arith, ints)
+
 cond_step : (b : Bool) (s : Side) (q : ℕ) (p : ℤ) (t u : MonthTotals) → (b ≡ true → t ≡ u) → cond b (added s q p t) u ≡ record {
   bought = u.bought + cond (is_side Buy s && b) q 0;
   sold = u.sold + cond (is_side Sell s && b) q 0;
   paid = u.paid +ℤ cond (is_side Buy s && b) (pos q *ℤ p) (pos 0);
   received = u.received +ℤ cond (is_side Sell s && b) (pos q *ℤ p) (pos 0);
 }
-cond_step false Buy q p t u h = same_totals u.bought u.sold _ _ u.paid u.received _ _ (omega arith) (omega arith) (omega (arith, ints)) (omega (arith, ints))
-cond_step false Sell q p t u h = same_totals u.bought u.sold _ _ u.paid u.received _ _ (omega arith) (omega arith) (omega (arith, ints)) (omega (arith, ints))
-cond_step true Buy q p t u h = rw (h refl) (same_totals _ u.sold _ _ _ u.received _ _ (omega arith) (omega arith) (omega (arith, ints)) (omega (arith, ints)))
-cond_step true Sell q p t u h = rw (h refl) (same_totals u.bought _ _ _ u.paid _ _ _ (omega arith) (omega arith) (omega (arith, ints)) (omega (arith, ints)))
+cond_step false Buy q p t u h = same_totals u.bought u.sold _ _ u.paid u.received _ _ (no_lots u.bought) (no_lots u.sold) (no_money u.paid) (no_money u.received)
+cond_step false Sell q p t u h = same_totals u.bought u.sold _ _ u.paid u.received _ _ (no_lots u.bought) (no_lots u.sold) (no_money u.paid) (no_money u.received)
+cond_step true Buy q p t u h = ap (λ (x : MonthTotals). added Buy q p x) (h refl) ∙ same_totals (u.bought + q) u.sold _ _ (u.paid +ℤ (pos q *ℤ p)) u.received _ _ refl (no_lots u.sold) refl (no_money u.received)
+cond_step true Sell q p t u h = ap (λ (x : MonthTotals). added Sell q p x) (h refl) ∙ same_totals u.bought (u.sold + q) _ _ u.paid (u.received +ℤ (pos q *ℤ p)) _ _ (no_lots u.bought) refl (no_money u.paid) refl
 
 get_any : (ts : List MonthTotals) (m : ℕ) (d e : MonthTotals) → m < length ts → get_or ts m d ≡ get_or ts m e
 get_any [] m d e lt = absurd (omega arith)
@@ -173,21 +221,28 @@ get_any (t ∷ ts) zero d e lt = refl
 get_any (t ∷ ts) (suc m) d e lt = get_any ts m d e (omega arith)
 
 get_same : (ts : List MonthTotals) (i m : ℕ) (d e : MonthTotals) → m < length ts → (i == m) ≡ true → get_or ts i d ≡ get_or ts m e
-get_same ts i m d e lt h = let k : i ≡ m = grind (arith, nat_tests) in rw k (get_any ts m d e lt)
+get_same ts i m d e lt h = rw (same_of i m h) (get_any ts m d e lt)
 
 one_leg : (ts : List MonthTotals) (l : Leg) (m : ℕ) (d : MonthTotals) → m < length ts → get_or (with_leg ts l) m d ≡ after_leg (get_or ts m d) m l
 one_leg ts l m d lt =
     at_set ts l.month m (added l.side l.quantity l.price (get_or ts l.month none)) d lt
     ∙ cond_step (l.month == m) l.side l.quantity l.price (get_or ts l.month none) (get_or ts m d) (λ h. get_same ts l.month m none d lt h)
 
+lots_assoc : (a b n : ℕ) → a + b + n ≡ a + (b + n)
+lots_assoc a b n = omega arith
+
+money_assoc : (x y z : ℤ) → (x +ℤ y) +ℤ z ≡ x +ℤ (y +ℤ z)
+money_assoc x y z = omega (arith, ints)
+
 pub fold_is : (ls : List Leg) (ts : List MonthTotals) (m : ℕ) (d : MonthTotals) → m < length ts → get_or (fold with_leg ts ls) m d ≡ after_legs (get_or ts m d) m ls
-fold_is [] ts m d lt = let u = get_or ts m d in same_totals u.bought u.sold _ _ u.paid u.received _ _ (omega arith) (omega arith) (omega (arith, ints)) (omega (arith, ints))
+fold_is [] ts m d lt = let u = get_or ts m d in same_totals u.bought u.sold _ _ u.paid u.received _ _ (no_lots u.bought) (no_lots u.sold) (no_money u.paid) (no_money u.received)
 fold_is (l ∷ ls) ts m d lt =
     let len = length-set ts l.month (added l.side l.quantity l.price (get_or ts l.month none)) in
     let u = get_or ts m d in
     fold_is ls (with_leg ts l) m d (omega (arith, len))
     ∙ (ap (λ (t : MonthTotals). after_legs t m ls) (one_leg ts l m d lt)
-    ∙ same_totals _ _ _ _ _ _ _ _ (omega arith) (omega arith) (omega (arith, ints)) (omega (arith, ints)))
+    ∙ same_totals _ _ _ _ _ _ _ _ (lots_assoc u.bought (quantity_in Buy m l) (quantities Buy m ls)) (lots_assoc u.sold (quantity_in Sell m l) (quantities Sell m ls))
+    (money_assoc u.paid (money_in Buy m l) (money Buy m ls)) (money_assoc u.received (money_in Sell m l) (money Sell m ls)))
 
 pub fold_fills : (fs : List Fill) (ts : List MonthTotals) → fold with_fill ts fs ≡ fold with_leg ts (legs fs)
 fold_fills [] ts = refl
@@ -195,6 +250,12 @@ fold_fills (f ∷ fs) ts = fold_fills fs (with_fill ts f) ∙ sym (fold-append w
 
 twelve_none : All (λ t. t ≡ none) twelve
 twelve_none = All-replicate (λ t. t ≡ none) 12 none refl
+
+from_no_lots : (n : ℕ) → 0 + n ≡ n
+from_no_lots n = omega arith
+
+from_no_money : (z : ℤ) → pos 0 +ℤ z ≡ z
+from_no_money z = omega (arith, ints)
 
 -- from nothing, the sums of all fills
 pub sums_are : (fs : List Fill) → AreTotals fs (fold with_fill twelve fs)
@@ -204,7 +265,7 @@ sums_are fs = λ m d lt.
     ap (λ (xs : List MonthTotals). get_or xs m d) (fold_fills fs twelve)
     ∙ (fold_is (legs fs) twelve m d less
     ∙ (ap (λ (t : MonthTotals). after_legs t m (legs fs)) (twelve_none m d less)
-    ∙ same_totals _ _ _ _ _ _ _ _ (omega arith) (omega arith) (omega (arith, ints)) (omega (arith, ints))))
+    ∙ same_totals _ _ _ _ _ _ _ _ (from_no_lots (quantities Buy m (legs fs))) (from_no_lots (quantities Sell m (legs fs))) (from_no_money (money Buy m (legs fs))) (from_no_money (money Sell m (legs fs)))))
 
 -- room for the far leg of a spread
 pub room_far : (ts us : List MonthTotals) (month : ℕ) (s : Side) (f : Fill) → us ≡ with_leg ts (record { month = month; side = s; quantity = f.quantity; price = to_z w64 (of_z w64 f.near) }) → IsSummable f → All (HasRoom (2 ^ 66)) ts → All (HasRoom (2 ^ 67)) us
@@ -229,26 +290,59 @@ room_taken fs n ts is all few =
 
 -- ---- one addition of the code
 
+-- sums with room, and with one leg's money more, fit 128 bits
+room_128 : (z : ℤ) → neg_ℤ (pos (1999998000000000 * 2 ^ 67)) ≤ℤ z → z ≤ℤ pos (1999998000000000 * 2 ^ 67) → to_z w128 (of_z w128 z) ≡ z
+room_128 z low high = fits_128 z (omega (arith, ints)) (omega (arith, ints))
+
+more_128 : (z : ℤ) → neg_ℤ (pos (1999998000000000 * (2 ^ 67 + 1))) ≤ℤ z → z ≤ℤ pos (1999998000000000 * (2 ^ 67 + 1)) → to_z w128 (of_z w128 z) ≡ z
+more_128 z low high = fits_128 z (omega (arith, ints)) (omega (arith, ints))
+
+money_128 : (z : ℤ) → neg_ℤ (pos 1999998000000000) ≤ℤ z → z ≤ℤ pos 1999998000000000 → to_z w128 (of_z w128 z) ≡ z
+money_128 z low high = fits_128 z (omega (arith, ints)) (omega (arith, ints))
+
+lots_128 : (q : ℕ) → q ≤ 999999 → to_z w128 (of_z w128 (pos q)) ≡ pos q
+lots_128 q few = fits_128 (pos q) (omega (arith, ints)) (omega (arith, ints))
+
+-- money is added as it is
+money_added : (q : ℕ) (p y x z : ℤ) → y ≡ pos q → x ≡ p → q ≤ 999999 → neg_ℤ (pos 2000000000) ≤ℤ p → p ≤ℤ pos 2000000000
+    → neg_ℤ (pos (1999998000000000 * 2 ^ 67)) ≤ℤ z → z ≤ℤ pos (1999998000000000 * 2 ^ 67)
+    → to_z w128 (of_z w128 (to_z w128 (of_z w128 z) +ℤ to_z w128 (of_z w128 (to_z w128 (of_z w128 y) *ℤ to_z w128 (of_z w128 x))))) ≡ z +ℤ (pos q *ℤ p)
+money_added q p y x z f g few low high room_low room_high =
+    let least = money_low q p few low high in
+    let most = money_high q p few low high in
+    let whole = more_128 (z +ℤ (pos q *ℤ p)) (low_added (2 ^ 67) z (pos q *ℤ p) room_low least) (high_added (2 ^ 67) z (pos q *ℤ p) room_high most) in
+    rw (f, g, lots_128 q few, small_128 p low high, money_128 (pos q *ℤ p) least most, room_128 z room_low room_high, whole) refl
+
+-- and fits
+fits_money : (z : ℤ) → neg_ℤ (pos 1999998000000000) ≤ℤ z → z ≤ℤ pos 1999998000000000 → FitsSigned w128 z
+fits_money z low high = omega (arith, ints)
+
+pub money_fits : (q : ℕ) (p y x : ℤ) → y ≡ pos q → x ≡ p → q ≤ 999999 → neg_ℤ (pos 2000000000) ≤ℤ p → p ≤ℤ pos 2000000000 → FitsSigned w128 (to_z w128 (of_z w128 y) *ℤ to_z w128 (of_z w128 x))
+money_fits q p y x f g few low high = rw (f, g, lots_128 q few, small_128 p low high) (fits_money (pos q *ℤ p) (money_low q p few low high) (money_high q p few low high))
+
+fits_more : (z : ℤ) → neg_ℤ (pos (1999998000000000 * (2 ^ 67 + 1))) ≤ℤ z → z ≤ℤ pos (1999998000000000 * (2 ^ 67 + 1)) → FitsSigned w128 z
+fits_more z low high = omega (arith, ints)
+
+pub sum_fits : (q : ℕ) (p y x z : ℤ) → y ≡ pos q → x ≡ p → q ≤ 999999 → neg_ℤ (pos 2000000000) ≤ℤ p → p ≤ℤ pos 2000000000
+    → neg_ℤ (pos (1999998000000000 * 2 ^ 67)) ≤ℤ z → z ≤ℤ pos (1999998000000000 * 2 ^ 67)
+    → FitsSigned w128 (to_z w128 (of_z w128 z) +ℤ to_z w128 (of_z w128 (to_z w128 (of_z w128 y) *ℤ to_z w128 (of_z w128 x))))
+sum_fits q p y x z f g few low high room_low room_high =
+    let least = money_low q p few low high in
+    let most = money_high q p few low high in
+    rw (f, g, lots_128 q few, small_128 p low high, money_128 (pos q *ℤ p) least most, room_128 z room_low room_high)
+    (fits_more (z +ℤ (pos q *ℤ p)) (low_added (2 ^ 67) z (pos q *ℤ p) room_low least) (high_added (2 ^ 67) z (pos q *ℤ p) room_high most))
+
+pub lots_fit : (n k q : ℕ) → k ≡ q → q ≤ 999999 → n ≤ 999999 * 2 ^ 67 → n + k < 2 ^ 128
+lots_fit n k q same few most = omega arith
+
 pub added_buy : (s : Side) (q k : ℕ) (p y x : ℤ) (t : MonthTotals) → s ≡ Buy → k ≡ q → y ≡ pos q → x ≡ p → q ≤ 999999 → neg_ℤ (pos 2000000000) ≤ℤ p → p ≤ℤ pos 2000000000 → HasRoom (2 ^ 67) t
     → (let u : MonthTotals = record { bought = t.bought + k; sold = t.sold; paid = to_z w128 (of_z w128 (to_z w128 (of_z w128 t.paid) +ℤ to_z w128 (of_z w128 (to_z w128 (of_z w128 y) *ℤ to_z w128 (of_z w128 x))))); received = t.received } in u) ≡ added s q p t
 added_buy s q k p y x t is e f g few low high room =
-    let least = money_low q p few low high in
-    let most = money_high q p few low high in
-    let a = small_128 p low high in
-    let b = fits_128 (pos q) (omega (arith, ints)) (omega (arith, ints)) in
-    let m = fits_128 (pos q *ℤ p) (omega (arith, ints, least)) (omega (arith, ints, most)) in
-    let r = fits_128 t.paid (omega (arith, ints, room.paid_low)) (omega (arith, ints, room.paid_high)) in
-    let whole = fits_128 (t.paid +ℤ (pos q *ℤ p)) (omega (arith, ints, least, room.paid_low)) (omega (arith, ints, most, room.paid_high)) in
-    rw (is, e, f, g, a, b, m, r, whole) refl
+    same_totals (t.bought + k) t.sold (t.bought + q) t.sold _ t.received _ t.received (ap (λ (n : ℕ). t.bought + n) e) refl (money_added q p y x t.paid f g few low high room.paid_low room.paid_high) refl
+    ∙ ap (λ (side : Side). added side q p t) (sym is)
 
 pub added_sell : (s : Side) (q k : ℕ) (p y x : ℤ) (t : MonthTotals) → s ≡ Sell → k ≡ q → y ≡ pos q → x ≡ p → q ≤ 999999 → neg_ℤ (pos 2000000000) ≤ℤ p → p ≤ℤ pos 2000000000 → HasRoom (2 ^ 67) t
     → (let u : MonthTotals = record { bought = t.bought; sold = t.sold + k; paid = t.paid; received = to_z w128 (of_z w128 (to_z w128 (of_z w128 t.received) +ℤ to_z w128 (of_z w128 (to_z w128 (of_z w128 y) *ℤ to_z w128 (of_z w128 x))))) } in u) ≡ added s q p t
 added_sell s q k p y x t is e f g few low high room =
-    let least = money_low q p few low high in
-    let most = money_high q p few low high in
-    let a = small_128 p low high in
-    let b = fits_128 (pos q) (omega (arith, ints)) (omega (arith, ints)) in
-    let m = fits_128 (pos q *ℤ p) (omega (arith, ints, least)) (omega (arith, ints, most)) in
-    let r = fits_128 t.received (omega (arith, ints, room.received_low)) (omega (arith, ints, room.received_high)) in
-    let whole = fits_128 (t.received +ℤ (pos q *ℤ p)) (omega (arith, ints, least, room.received_low)) (omega (arith, ints, most, room.received_high)) in
-    rw (is, e, f, g, a, b, m, r, whole) refl
+    same_totals t.bought (t.sold + k) t.bought (t.sold + q) t.paid _ t.paid _ refl (ap (λ (n : ℕ). t.sold + n) e) refl (money_added q p y x t.received f g few low high room.received_low room.received_high)
+    ∙ ap (λ (side : Side). added side q p t) (sym is)
