@@ -1,4 +1,3 @@
-pub mod Next
 pub mod Said
 pub mod Behind
 pub mod Feeding

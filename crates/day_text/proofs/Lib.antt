@@ -1,4 +1,3 @@
-pub mod Next
 pub mod Sums
 pub mod MonthLines
 pub mod Putting

@@ -1,6 +1,6 @@
 use Rattle.std.proofs.Common.{◌≡◌, ℕ, List, set, get_or, ap, ◌∙◌}
 use Rattle.day_lines.specs.LineText.{byte_of}
-use Rattle.day_lines.proofs.Next.{map_next, map_rest}
+use Rattle.host_base.proofs.MappedInPlace.{map_next, map_rest}
 use Rattle.day_lines.proofs.lines.put_field_ends.Goals as goal
 
 pub loop-byte-preserved : goal.loop-byte-preserved
