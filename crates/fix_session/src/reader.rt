@@ -5,7 +5,8 @@ ghost use Rattle.fix_wire.specs.Frames.{frames};
 ghost use Rattle.fix_wire.specs.Held.{first_frame, from_first_start};
 ghost use Rattle.fix_wire.specs.Pieces.{IsDrained};
 ghost use Rattle.fix_session.specs.Steps.{judge, ended, is_closed};
-ghost use Rattle.fix_session.specs.Reading.{ReaderState, new_reader, with_more, first_message, judged, first_verdict, skipped, passed, Fed};
+ghost use Rattle.fix_session.specs.Reading.{ReaderState, new_reader, with_more, first_message, first_verdict, skipped, passed, Fed};
+ghost use Rattle.fix_session.specs.ReaderFields.{IsKept};
 
 use crate::session::{Session, Verdict};
 use fix_wire::{Framer, Next};
@@ -45,6 +46,18 @@ fn judge_first(framer: &mut Framer, session: &Session) -> Option<(Verdict, Sessi
     }
 }
 
+/// Finds what the first message says, unless it was found before: a message is judged once, however often it is asked for.
+#[inline(always)]
+fn find_due(framer: &mut Framer, session: &Session, due: &mut Option<(Verdict, Session)>)
+    requires kept { IsKept (record { framer = framer.old; session = session.now; due = due.old }) }
+    ensures found { due.new ≡ option_map (judge session.now) (first_frame (frames framer.old)) }
+    ensures held { framer.new ≡ from_first_start framer.old }
+{
+    if due.is_none() {
+        *due = judge_first(framer, session);
+    }
+}
+
 /// The bytes from a place on.
 fn from(bytes: &[u8], place: usize) -> &[u8]
     requires { place ≤ length bytes.now }
@@ -80,25 +93,13 @@ impl Reader {
         self.session.is_closed()
     }
 
-    /// What the first message says and the session after it, if one stands. It is judged once, however often it is asked
-    /// for.
-    #[inline(always)]
-    fn find(&mut self) -> Option<(Verdict, Session)>
-        ensures found { result ≡ judged self.old }
-        ensures skipped { self.new ≡ skipped self.old }
-    {
-        if self.due.is_none() {
-            self.due = judge_first(&mut self.framer, &self.session);
-        }
-        self.due
-    }
-
     /// What the first message says, if one stands. Bytes at which no frame stands are skipped, and nothing else changes.
     pub fn look(&mut self) -> Option<Verdict>
         ensures says { result ≡ first_verdict self.old }
         ensures skipped { self.new ≡ skipped self.old }
     {
-        match self.find() {
+        find_due(&mut self.framer, &self.session, &mut self.due);
+        match self.due {
             Some((verdict, _)) => Some(verdict),
             None => None,
         }
@@ -109,7 +110,8 @@ impl Reader {
         ensures stands { result ≡ is_some (first_message self.old) }
         ensures passed { self.new ≡ passed self.old }
     {
-        let Some((_, after)) = self.find() else {
+        find_due(&mut self.framer, &self.session, &mut self.due);
+        let Some((_, after)) = self.due else {
             return false;
         };
         self.framer.pass();

@@ -1,5 +1,5 @@
 -- One more gateway, and its inbox.
-use Rattle.std.proofs.Common.{◌≡◌, ℕ, ◌<◌, ◌≤◌, List, [], ◌∷◌, ◌++◌, ◌⊎◌, length, sym, ap, ◌∙◌, inl, inr, arith, length-append}
+use Rattle.std.proofs.Common.{◌≡◌, ℕ, ◌<◌, ◌≤◌, List, [], ◌∷◌, ◌++◌, ◌⊎◌, length, refl, sym, ap, ◌∙◌, inl, inr, arith, length-append}
 use Rattle.std.proofs.lemmas.List.{get_or_append_left, get_or_push}
 use Rattle.std.proofs.lemmas.Bool.{cases_lt, cases_eq}
 use Rattle.gate_link.proofs.Rowing.{row_at, row_past}
@@ -8,6 +8,13 @@ use Rattle.gate_link.specs.Inboxes.{IsInboxOf, ArePairs}
 use Rattle.gate_link.specs.Opening.{IsFresh, AreFresh}
 use Rattle.gate_link.specs.declared.inbox.Inbox.{Inbox}
 use Rattle.gate_link.specs.declared.gateway.Gateway.{Gateway}
+
+-- none was made yet
+pub no_pairs : {A : Type 0} → ArePairs {A = A} [] []
+no_pairs = (refl, λ s d e below. absurd (omega (arith, below)))
+
+pub none_fresh : {A : Type 0} (ring : ℕ) → AreFresh {A = A} ring []
+none_fresh ring s e below = absurd (omega (arith, below))
 
 -- a place of a list with one more element: an earlier one, or the last
 pub snoc_cases : {X : Type 0} (xs : List X) (y : X) (s : ℕ) → s < length (xs ++ y ∷ []) → (s < length xs) ⊎ (s ≡ length xs)

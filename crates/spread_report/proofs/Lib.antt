@@ -9,3 +9,4 @@ pub mod InRange
 pub mod ReadBack
 pub mod Running
 pub mod FieldsInTurn
+pub mod EntrySent

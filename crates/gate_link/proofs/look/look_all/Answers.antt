@@ -1,4 +1,4 @@
-use Rattle.std.proofs.Common.{arith, ◌<◌, length}
+use Rattle.std.proofs.Common.{arith, ◌<◌, length, refl}
 use Rattle.gate_link.specs.Inboxes.{LookedAt}
 use Rattle.gate_link.proofs.Pairing.{pairs_more, left_more}
 use Rattle.gate_link.proofs.look.look_all.Goals as goal
@@ -21,3 +21,19 @@ loop-s-preserved g c =
 pub returns : goal.returns
 returns g c =
     (c.loop-s.auto.inboxes, c.loop-s.auto.gateways, (λ s d g below. c.loop-s.invariant.done s d g (omega (arith, c.loop-s-test.false))))
+
+pub loop-s-init : goal.loop-s-init
+loop-s-init g c = record {
+  done = λ s d g below. absurd (omega (arith, below));
+  inboxes_left = λ s d after. refl;
+  gateways_left = λ s g after. refl;
+}
+
+-- the ends at this place are still those of one ring
+pub look-requires : goal.look-requires
+look-requires g c =
+    let was = c.loop-s.invariant in
+    let i = c.loop-s.s in
+    let x = c.index-inboxes-s.result in
+    let y = c.index-gateways-s.result in
+    rw (was.inboxes_left i x (omega arith), was.gateways_left i y (omega arith)) (c.requires.1 i x y c.loop-s-test.true)

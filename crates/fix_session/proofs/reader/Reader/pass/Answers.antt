@@ -1,14 +1,18 @@
-use Rattle.std.proofs.Common.{◌≡◌, None, sym, ap, ◌∙◌, rules}
-use Rattle.fix_session.specs.Reading.{judged}
-use Rattle.fix_session.proofs.FirstMessage.{none_passed, one_passed}
+use Rattle.std.proofs.Common.{sym, ◌∙◌}
+use Rattle.fix_session.specs.ReaderFields.{state_of}
+use Rattle.fix_session.proofs.FirstMessage.{found_kept, none_passed, one_passed}
 use Rattle.fix_session.proofs.reader.Reader.pass.Goals as goal
+
+pub invariant_of-self : goal.invariant_of-self
+invariant_of-self c =
+    found_kept c.self.inside.framer c.find_due.new.framer c.self.inside.session c.find_due.new.due c.find_due.ensures.held c.find_due.ensures.found
 
 pub returns-in_default-clause-passed : goal.returns-in_default-clause-passed
 returns-in_default-clause-passed c =
-    let none : judged c.args.self.now ≡ None = search rules in
-    c.find.ensures.skipped ∙ none_passed c.args.self.now none
+    rw (← c.self.view_is, c.find_due.ensures.held) (none_passed (state_of c.self.inside) (sym c.find_due.ensures.found ∙ c.in_default.is))
 
 pub returns-clause-passed : goal.returns-clause-passed
 returns-clause-passed c =
-    let mid = ap (λ r. r.held) (c.self.view_is ∙ c.find.ensures.skipped) in
-    one_passed c.args.self.now c.self.inside.framer c.pass.new.self (c.in-Some.field-0-0, c.in-Some.after) c.pass.result mid (sym c.in-Some.ensures.found) c.pass.ensures.stands c.pass.ensures.passed
+    rw (← c.self.view_is)
+    (one_passed (state_of c.self.inside) c.find_due.new.framer c.pass.new.self (c.in-Some.field-0-0, c.in-Some.after) c.pass.result
+    c.find_due.ensures.held (sym c.find_due.ensures.found ∙ c.in-Some.is) c.pass.ensures.stands c.pass.ensures.passed)
