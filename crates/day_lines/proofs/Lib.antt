@@ -1,5 +1,5 @@
-pub mod Said
-pub mod Behind
-pub mod Feeding
-pub mod Inlets
-pub mod DayJournals
+pub mod LinesReadInTurn
+pub mod StreamRead
+pub mod LineFed
+pub mod LanesOfLines
+pub mod PartsOfTheJournal

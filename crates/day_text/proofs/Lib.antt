@@ -1,4 +1,4 @@
-pub mod Sums
+pub mod MonthSums
 pub mod MonthLines
-pub mod Putting
+pub mod PiecesInTurn
 pub mod SessionLines

@@ -1,6 +1,6 @@
 pub mod SentAndOwed
-pub mod Starting
-pub mod Joining
-pub mod Filling
-pub mod Draining
-pub mod Parts
+pub mod StartedWorkers
+pub mod JoinedWorkers
+pub mod FullJournal
+pub mod ElementByElement
+pub mod LawfulJournal

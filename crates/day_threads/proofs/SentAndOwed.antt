@@ -6,12 +6,12 @@ use Rattle.fix_session.specs.Steps.{new_session}
 use Rattle.spread_rules.specs.declared.event.Event.{Event}
 use Rattle.fix_wire.specs.Frames.{frames}
 use Rattle.fix_session.specs.declared.session.Session.{Session}
-use Rattle.fix_session.proofs.Judged.{whole_law}
+use Rattle.fix_session.proofs.events.StateOfPlaces.{whole_law}
 use Rattle.gate_link.specs.Owed.{owes}
 use Rattle.fix_session.specs.Streams.{whole}
 use Rattle.gate_link.specs.Gates.{gate_sent, gate_owed, gate_state, gate_held, SameGate}
 use Rattle.gate_link.specs.declared.gateway.Gateway.{Gateway}
-use Rattle.gate_link.proofs.Keeping.{kept_of_put, sent_is_prefix, sent_is_whole}
+use Rattle.gate_link.proofs.gateways.SentAndOwed.{kept_of_put, sent_is_prefix, sent_is_whole}
 use Rattle.day_threads.specs.Workers.{HasSent, IsUnused, sent_and_owed}
 
 pub sent_of : {A : Type 0} (stream : List ℕ) (a b : Gateway A) (rest : List ℕ) → SameGate a b → sent_and_owed b rest ≡ whole stream → HasSent stream a b

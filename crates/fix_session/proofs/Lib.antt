@@ -1,8 +1,2 @@
-pub mod Judged
-pub mod Opens
-pub mod Given
-pub mod Lawful
-pub mod Closing
-pub mod FirstMessage
-pub mod Feeding
-pub mod Copying
+pub mod events
+pub mod readers

@@ -1,4 +1,4 @@
 pub mod SixteenTexts
-pub mod Shown
-pub mod Theorems
-pub mod Silent
+pub mod FillsShown
+pub mod LawfulJournals
+pub mod SessionsWithoutEntries

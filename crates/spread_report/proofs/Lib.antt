@@ -1,12 +1,3 @@
-pub mod FrameRows
-pub mod MoreMessages
-pub mod OneMessage
-pub mod OneFillMore
-pub mod TakenBack
-pub mod SymbolIds
-pub mod BodyLengths
-pub mod InRange
-pub mod ReadBack
-pub mod Running
-pub mod FieldsInTurn
-pub mod EntrySent
+pub mod frames
+pub mod messages
+pub mod entries

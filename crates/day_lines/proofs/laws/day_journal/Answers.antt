@@ -1,4 +1,4 @@
-use Rattle.day_lines.proofs.DayJournals as journals
+use Rattle.day_lines.proofs.PartsOfTheJournal as journals
 use Rattle.day_lines.proofs.laws.day_journal.Goals as goal
 
 pub returns-clause-part : goal.returns-clause-part

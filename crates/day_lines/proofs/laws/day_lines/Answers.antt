@@ -1,4 +1,4 @@
-use Rattle.day_lines.proofs.Behind as behind
+use Rattle.day_lines.proofs.StreamRead as behind
 use Rattle.day_lines.proofs.laws.day_lines.Goals as goal
 
 pub returns-clause-starts : goal.returns-clause-starts

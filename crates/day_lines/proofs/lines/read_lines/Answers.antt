@@ -1,7 +1,7 @@
 use Rattle.std.proofs.Common.{◌∙◌, ap, List, length, ℕ, arith, length-append}
 use Rattle.day_lines.specs.LineText.{lines_of, behind, session_lines}
 use Rattle.day_lines.specs.LinesRead.{said_by}
-use Rattle.day_lines.proofs.Said.{lines_cut, lines_last, took, last_took}
+use Rattle.day_lines.proofs.LinesReadInTurn.{lines_cut, lines_last, took, last_took}
 use Rattle.day_lines.proofs.lines.read_lines.Goals as goal
 
 pub returns-in-None-clause-lines : goal.returns-in-None-clause-lines

@@ -5,7 +5,7 @@ use Rattle.day_lines.specs.LineText.{lines_said}
 use Rattle.day_lines.specs.LinesRead.{said_by}
 use Rattle.day_lines.specs.declared.lines.Line.{Line}
 use Rattle.day_lines.specs.DayLines.{journal_of}
-use Rattle.day_lines.proofs.DayJournals.{said_of_sessions}
+use Rattle.day_lines.proofs.PartsOfTheJournal.{said_of_sessions}
 use Rattle.day_lines.proofs.reading.read_day_lines.Goals as goal
 
 pub returns-then-len-gt-MAX_JOURNAL_ENTRIES-clause-fault : goal.returns-then-len-gt-MAX_JOURNAL_ENTRIES-clause-fault

@@ -7,7 +7,7 @@ use Rattle.day_text.specs.DayText.{day_text, texts_of}
 use Rattle.day_text.specs.Fills.{fill_lines}
 use Rattle.day_text.specs.Months.{month_lines}
 use Rattle.day_text.specs.Messages.{outgoing_lines_from}
-use Rattle.day_text.proofs.Putting.{of_err}
+use Rattle.day_text.proofs.PiecesInTurn.{of_err}
 use Rattle.day_text.proofs.day_text.write_day.Goals as goal
 use Rattle.day_text.proofs.day_text.write_day.Goals.{then-journal_only, else-journal_only+in-Ok-texts_around}
 

@@ -4,7 +4,7 @@ use Rattle.std.specs.Io.KnownBytes.{Appends}
 use Rattle.host_base.specs.Ends.{AppendsPrefix}
 use Rattle.day_text.specs.DayText.{texts_of}
 use Rattle.day_text.specs.Messages.{outgoing_lines_from}
-use Rattle.day_text.proofs.Putting.{front_after, front_of_more, on_err, on_err_any}
+use Rattle.day_text.proofs.PiecesInTurn.{front_after, front_of_more, on_err, on_err_any}
 use Rattle.day_text.proofs.day_text.write_parts.Goals as goal
 
 pub returns-in_err-write_sessions-clause-front : goal.returns-in_err-write_sessions-clause-front

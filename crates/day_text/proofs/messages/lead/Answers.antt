@@ -1,5 +1,5 @@
 use Rattle.std.proofs.Common.{◌≡◌, refl, arith}
-use Rattle.day_text.proofs.Putting.{lead_of_one, lead_of_two}
+use Rattle.day_text.proofs.PiecesInTurn.{lead_of_one, lead_of_two}
 use Rattle.day_text.proofs.messages.lead.Goals as goal
 
 pub returns-in-0 : goal.returns-in-0

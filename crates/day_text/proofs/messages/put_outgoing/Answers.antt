@@ -1,7 +1,7 @@
 use Rattle.std.proofs.Common.{rules, ◌≡◌, ◌++◌, List, ℕ, sym, ap, ◌∙◌, append_assoc}
 use Rattle.std.specs.List.{flat_map}
 use Rattle.day_text.specs.Messages.{outgoing_line, outgoing_lines}
-use Rattle.day_text.proofs.Putting.{put_after, put_fails, on_err_any}
+use Rattle.day_text.proofs.PiecesInTurn.{put_after, put_fails, on_err_any}
 use Rattle.day_text.proofs.messages.put_outgoing.Goals as goal
 
 pub returns-in_err-put_message-clause-front : goal.returns-in_err-put_message-clause-front

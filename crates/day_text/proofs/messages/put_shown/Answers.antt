@@ -2,7 +2,7 @@ use Rattle.std.proofs.Common.{rules, ◌≡◌, ◌++◌, [], List, ℕ, map, sy
 use Rattle.std.proofs.lemmas.List.{map-append}
 use Rattle.day_text.specs.Messages.{shown}
 use Rattle.day_text.specs.Pieces.{IsPut}
-use Rattle.day_text.proofs.Putting.{put_fails, put_more, put_after, front_of_more, on_err_any}
+use Rattle.day_text.proofs.PiecesInTurn.{put_fails, put_more, put_after, front_of_more, on_err_any}
 use Rattle.day_text.proofs.messages.put_shown.Goals as goal
 
 pub returns-in_err-make_room-clause-front : goal.returns-in_err-make_room-clause-front

@@ -1,7 +1,7 @@
 use Rattle.std.proofs.Common.{◌≡◌, ◌++◌, List, ℕ, map, Vec, sym, subst, ◌∙◌, ap}
 use Rattle.host_base.specs.Ends.{AppendsPrefix}
 use Rattle.day_text.specs.Messages.{outgoing_lines_from}
-use Rattle.day_text.proofs.Putting.{front_after, on_err}
+use Rattle.day_text.proofs.PiecesInTurn.{front_after, on_err}
 use Rattle.day_text.proofs.messages.write_sessions.Goals as goal
 
 pub returns-clause-front : goal.returns-clause-front

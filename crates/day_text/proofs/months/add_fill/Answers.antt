@@ -1,4 +1,4 @@
-use Rattle.day_text.proofs.Sums.{room_far}
+use Rattle.day_text.proofs.MonthSums.{room_far}
 use Rattle.day_text.proofs.months.add_fill.Goals as goal
 
 pub add_leg-requires-in-Spread-2-clause-room : goal.add_leg-requires-in-Spread-2-clause-room

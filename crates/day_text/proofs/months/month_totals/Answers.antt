@@ -1,5 +1,5 @@
 use Rattle.std.proofs.Common.{arith}
-use Rattle.day_text.proofs.Sums.{room_taken, sums_taken}
+use Rattle.day_text.proofs.MonthSums.{room_taken, sums_taken}
 use Rattle.day_text.proofs.months.month_totals.Goals as goal
 
 pub add_fill-requires-clause-room : goal.add_fill-requires-clause-room

@@ -1,7 +1,7 @@
 use Rattle.std.proofs.Common.{rules, arith, ◌≡◌, ◌<◌, sym, length, vec_len}
 use Rattle.std.specs.Vec.Iter.{into_iter_items}
-use Rattle.day_threads.proofs.Draining.{next_is}
-use Rattle.day_threads.proofs.Joining.{kept_snoc}
+use Rattle.day_threads.proofs.ElementByElement.{next_is}
+use Rattle.day_threads.proofs.JoinedWorkers.{kept_snoc}
 use Rattle.day_threads.proofs.sessions.join_all.Goals as goal
 
 pub loop-handle-init : goal.loop-handle-init

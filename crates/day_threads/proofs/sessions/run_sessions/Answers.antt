@@ -1,5 +1,5 @@
 use Rattle.std.proofs.Common.{rules, arith, ◌≡◌, ◌≤◌, length, vec_len}
-use Rattle.day_threads.proofs.Parts.{lawful_result, fault_result}
+use Rattle.day_threads.proofs.LawfulJournal.{lawful_result, fault_result}
 use Rattle.gate_link.specs.Links.{room_of}
 use denote.Param.Always.{Once-at_one}
 use Rattle.day_threads.proofs.sessions.run_sessions.Goals as goal

@@ -4,8 +4,8 @@ use Rattle.gate_link.specs.declared.gateway.Gateway.{Gateway}
 use Rattle.gate_link.specs.Links.{SameGates, sent_at, session_count}
 use Rattle.day_threads.specs.Handing.{AreSent}
 use Rattle.day_threads.specs.Streams.{whole_at}
-use Rattle.day_threads.proofs.Joining.{all_sent, joined_pairs, closed_whole}
-use Rattle.day_threads.proofs.Filling.{sent_prefix, open_is_full, left_is_full}
+use Rattle.day_threads.proofs.JoinedWorkers.{all_sent, joined_pairs, closed_whole}
+use Rattle.day_threads.proofs.FullJournal.{sent_prefix, open_is_full, left_is_full}
 use Rattle.day_threads.proofs.sessions.sessions_in.Goals as goal
 use Rattle.day_threads.proofs.sessions.sessions_in.Goals.{After-as_mut_slice}
 

@@ -1,8 +1,8 @@
 use Rattle.std.proofs.Common.{rules, arith, ◌≡◌, ◌<◌, ◌∙◌, sym, length, get_or, vec_len}
 use Rattle.std.specs.Vec.Iter.{into_iter_items}
 use Rattle.gate_link.specs.Opening.{IsFresh}
-use Rattle.day_threads.proofs.Draining.{next_is}
-use Rattle.day_threads.proofs.Starting.{started_snoc}
+use Rattle.day_threads.proofs.ElementByElement.{next_is}
+use Rattle.day_threads.proofs.StartedWorkers.{started_snoc}
 use Rattle.day_threads.proofs.sessions.start_all.Goals as goal
 use Rattle.day_threads.proofs.sessions.start_all.Goals.{After-as_slice-stream}
 

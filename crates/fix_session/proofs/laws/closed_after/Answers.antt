@@ -1,4 +1,4 @@
-use Rattle.fix_session.proofs.Judged.{closed_law}
+use Rattle.fix_session.proofs.events.StateOfPlaces.{closed_law}
 use Rattle.fix_session.proofs.laws.closed_after.Goals as goal
 
 pub returns : goal.returns

@@ -1,4 +1,4 @@
-use Rattle.fix_session.proofs.Closing.{closes_with, closed_silent, ended_closed}
+use Rattle.fix_session.proofs.events.ClosesOnce.{closes_with, closed_silent, ended_closed}
 use Rattle.fix_session.proofs.laws.closes_once.Goals as goal
 
 pub returns-clause-open : goal.returns-clause-open

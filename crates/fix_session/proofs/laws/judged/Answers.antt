@@ -1,5 +1,5 @@
 use Rattle.fix_wire.specs.Frames.{frames}
-use Rattle.fix_session.proofs.Judged.{events_law, whole_law}
+use Rattle.fix_session.proofs.events.StateOfPlaces.{events_law, whole_law}
 use Rattle.fix_session.proofs.laws.judged.Goals as goal
 
 pub returns-clause-frames : goal.returns-clause-frames

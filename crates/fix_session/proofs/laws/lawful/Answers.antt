@@ -3,8 +3,8 @@ use Rattle.std.specs.List.{All}
 use Rattle.spread_rules.specs.Journal.{FitsEvent, is_in_order}
 use Rattle.fix_wire.specs.Frames.{frames}
 use Rattle.fix_session.specs.Streams.{events, whole}
-use Rattle.fix_session.proofs.Judged.{whole_law}
-use Rattle.fix_session.proofs.Lawful.{whole_lawful, events_fit, in_order_of}
+use Rattle.fix_session.proofs.events.StateOfPlaces.{whole_law}
+use Rattle.fix_session.proofs.events.InRangeAndOrder.{whole_lawful, events_fit, in_order_of}
 use Rattle.fix_session.proofs.laws.lawful.Goals as goal
 
 fits : (stream : _) → All FitsEvent (whole stream)

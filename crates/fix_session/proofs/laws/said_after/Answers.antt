@@ -1,4 +1,4 @@
-use Rattle.fix_session.proofs.Judged.{said_two, after_two}
+use Rattle.fix_session.proofs.events.StateOfPlaces.{said_two, after_two}
 use Rattle.std.proofs.Common.{[], ◌∷◌}
 use Rattle.fix_session.proofs.laws.said_after.Goals as goal
 

@@ -1,8 +1,8 @@
 use Rattle.std.proofs.Common.{[], map, subst, arith}
 use Rattle.std.proofs.lemmas.List.{take_all}
 use Rattle.fix_wire.specs.Pieces.{joined, GoesOn}
-use Rattle.fix_wire.proofs.Turns.{all_passed}
-use Rattle.fix_session.proofs.Copying.{behind}
+use Rattle.fix_wire.proofs.framing.OneTurn.{all_passed}
+use Rattle.fix_session.proofs.readers.MessagesCopied.{behind}
 use Rattle.fix_session.proofs.pieces.read_pieces.Goals as goal
 
 pub returns-clause-messages : goal.returns-clause-messages

@@ -1,7 +1,7 @@
 use Rattle.std.proofs.Common.{ap, ◌∙◌}
 use Rattle.fix_session.specs.Reading.{passed}
-use Rattle.fix_session.proofs.FirstMessage.{passed_skipped}
-use Rattle.fix_session.proofs.Copying.{copied_none, drained_none}
+use Rattle.fix_session.proofs.readers.FirstMessage.{passed_skipped}
+use Rattle.fix_session.proofs.readers.MessagesCopied.{copied_none, drained_none}
 use Rattle.fix_session.proofs.pieces.take_message.Goals as goal
 
 pub returns-clause-passed : goal.returns-clause-passed

@@ -2,8 +2,8 @@ use Rattle.std.proofs.Common.{rules, ◌≡◌, ◌+◌, ◌≤◌, drop, length
 use Rattle.std.specs.List.{position_or_len}
 use Rattle.std.proofs.lemmas.List.{length-drop, drop-drop, take_rest}
 use Rattle.fix_wire.specs.Texts.{is_end}
-use Rattle.fix_wire.proofs.Places.{front_found, front_none}
-use Rattle.fix_wire.proofs.Rows.{place_within}
+use Rattle.fix_wire.proofs.texts.FirstPlace.{front_found, front_none}
+use Rattle.fix_wire.proofs.fields.RowOfFields.{place_within}
 use Rattle.fix_wire.proofs.frame.field_end.Goals as goal
 
 pub returns-then-run-lt16 : goal.returns-then-run-lt16

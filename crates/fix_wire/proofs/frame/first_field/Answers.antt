@@ -2,7 +2,7 @@ use Rattle.std.proofs.Common.{◌+◌, ◌<◌, Some, take, drop, length, ap, �
 use Rattle.std.proofs.lemmas.Slice.{between_is}
 use Rattle.fix_wire.specs.Texts.{is_end}
 use Rattle.fix_wire.specs.Fronts.{tag_view}
-use Rattle.fix_wire.proofs.Rows.{first_field_found, place_within}
+use Rattle.fix_wire.proofs.fields.RowOfFields.{first_field_found, place_within}
 use Rattle.fix_wire.proofs.frame.first_field.Goals as goal
 
 pub returns-clause-field : goal.returns-clause-field

@@ -1,6 +1,6 @@
 use Rattle.std.proofs.Common.{sym, ap, ◌∙◌}
 use Rattle.std.proofs.lemmas.List.{take_rest}
-use Rattle.fix_wire.proofs.Fronts.{header_when}
+use Rattle.fix_wire.proofs.texts.WordAtTheFront.{header_when}
 use Rattle.fix_wire.specs.Frames.{header_after}
 use Rattle.fix_wire.proofs.frame.header_of.Goals as goal
 

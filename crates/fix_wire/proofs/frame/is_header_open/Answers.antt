@@ -1,4 +1,4 @@
-use Rattle.fix_wire.proofs.Fronts.{opens_short}
+use Rattle.fix_wire.proofs.texts.WordAtTheFront.{opens_short}
 use Rattle.fix_wire.proofs.frame.is_header_open.Goals as goal
 
 pub returns-then-text-lt12 : goal.returns-then-text-lt12

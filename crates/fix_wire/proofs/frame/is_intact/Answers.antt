@@ -1,5 +1,5 @@
 use Rattle.std.proofs.Common.{sym, ◌∙◌, arith}
-use Rattle.fix_wire.proofs.Kept.{intact_true, intact_false, table_true}
+use Rattle.fix_wire.proofs.framing.IntactFrame.{intact_true, intact_false, table_true}
 use Rattle.fix_wire.proofs.frame.is_intact.Goals as goal
 
 pub returns-then-is_trailer-clause-intact : goal.returns-then-is_trailer-clause-intact

@@ -1,9 +1,9 @@
 use Rattle.std.proofs.Common.{◌+◌, sym, ◌∙◌, arith, take}
 use Rattle.std.proofs.lemmas.Grind.{common_steps}
 use Rattle.std.proofs.lemmas.List.{length-take-le}
-use Rattle.fix_wire.proofs.Digits.{number_of_more, nine_digits}
-use Rattle.fix_wire.proofs.Places.{before_more, first_here}
-use Rattle.fix_wire.proofs.Rows.{field_found, no_field, not_digits, too_long}
+use Rattle.fix_wire.proofs.texts.Digits.{number_of_more, nine_digits}
+use Rattle.fix_wire.proofs.texts.FirstPlace.{before_more, first_here}
+use Rattle.fix_wire.proofs.fields.RowOfFields.{field_found, no_field, not_digits, too_long}
 use Rattle.fix_wire.proofs.frame.leading_tag.Goals as goal
 use Rattle.fix_wire.proofs.frame.leading_tag.Goals.{then-i-eq9-via-then-i-eq9, then-i-eq9-via-else-i-eq9+then-not-is_ascii_digit}
 

@@ -3,8 +3,8 @@ use Rattle.std.specs.List.{position_or_len}
 use Rattle.std.proofs.lemmas.List.{take_rest, drop-drop, length-drop}
 use Rattle.memchr.specs.Find.{is_byte}
 use Rattle.fix_wire.specs.Held.{from_first_start}
-use Rattle.fix_wire.proofs.Rows.{place_within}
-use Rattle.fix_wire.proofs.Skips.{skip_to_begin}
+use Rattle.fix_wire.proofs.fields.RowOfFields.{place_within}
+use Rattle.fix_wire.proofs.framing.FrameStarts.{skip_to_begin}
 use Rattle.fix_wire.proofs.frame.next_begin.Goals as goal
 
 place_of_rest : (c : goal.After-place_of) → c.place_of.result ≡ position_or_len (is_byte 56) (drop 1 c.args.text.now)

@@ -1,7 +1,7 @@
 use Rattle.std.proofs.Common.{◌+◌, ◌-◌, length, ap, ◌∙◌, arith}
 use Rattle.std.specs.List.{between}
 use borrow.Rule.Slice.PartMut.{put_mid}
-use Rattle.fix_wire.proofs.Ranges.{append_is}
+use Rattle.fix_wire.proofs.framing.HeldPart.{append_is}
 use Rattle.fix_wire.proofs.framer.append.Goals as goal
 
 pub returns : goal.returns

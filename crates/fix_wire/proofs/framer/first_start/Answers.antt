@@ -4,8 +4,8 @@ use Rattle.fix_wire.specs.Frames.{frame_at, may_begin}
 use Rattle.fix_wire.specs.Tabled.{IsTableOf}
 use Rattle.fix_wire.specs.Held.{from_first_start}
 use Rattle.fix_wire.specs.Fronts.{front_of}
-use Rattle.fix_wire.proofs.Scan.{front_frame, front_partial, front_garbled, start_frame, start_partial, start_next}
-use Rattle.fix_wire.proofs.Stays.{frame_within}
+use Rattle.fix_wire.proofs.framing.FramesHeld.{front_frame, front_partial, front_garbled, start_frame, start_partial, start_next}
+use Rattle.fix_wire.proofs.framing.FrontStays.{frame_within}
 use Rattle.fix_wire.proofs.framer.first_start.Goals as goal
 
 pub returns-in-Frame-clause-kept : goal.returns-in-Frame-clause-kept

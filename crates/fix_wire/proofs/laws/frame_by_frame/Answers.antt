@@ -1,6 +1,6 @@
 use Rattle.std.proofs.Common.{arith}
-use Rattle.fix_wire.proofs.Stays.{frame_within}
-use Rattle.fix_wire.proofs.Scan.{frames_frame, frames_partial, frames_nothing}
+use Rattle.fix_wire.proofs.framing.FrontStays.{frame_within}
+use Rattle.fix_wire.proofs.framing.FramesHeld.{frames_frame, frames_partial, frames_nothing}
 use Rattle.fix_wire.proofs.laws.frame_by_frame.Goals as goal
 
 pub returns-clause-frame : goal.returns-clause-frame

@@ -1,5 +1,5 @@
 use Rattle.fix_wire.specs.Layout.{message_text}
-use Rattle.fix_wire.proofs.Written.{written_frame, written_fields, read_first}
+use Rattle.fix_wire.proofs.writing.WrittenMessage.{written_frame, written_fields, read_first}
 use Rattle.fix_wire.proofs.laws.read_back.Goals as goal
 
 pub returns-clause-lawful : goal.returns-clause-lawful

@@ -1,7 +1,7 @@
 use Rattle.std.proofs.Common.{◌≡◌, ◌∷◌, [], List, ℕ, drop, Option, IfNone, sym, ap, ◌∙◌, subst}
 use Rattle.fix_wire.specs.declared.frame.FrameHeader.{FrameHeader}
 use Rattle.fix_wire.specs.Frames.{frames, frame_length, IsFrameRow}
-use Rattle.fix_wire.proofs.FrameRow.{Reads, reads}
+use Rattle.fix_wire.proofs.framing.RowOfFrames.{Reads, reads}
 use Rattle.fix_wire.proofs.row.first_of_row.Goals as goal
 
 pub returns-in_err-header-clause-none : goal.returns-in_err-header-clause-none

@@ -1,8 +1,8 @@
 use Rattle.std.proofs.Common.{◌++◌, take, ap, ◌∙◌, arith}
 use Rattle.fix_wire.specs.Layout.{body_text}
-use Rattle.fix_wire.proofs.HeadText.{step}
-use Rattle.fix_wire.proofs.Written.{body_is}
-use Rattle.fix_wire.proofs.Room.{ends}
+use Rattle.fix_wire.proofs.writing.HeadFields.{step}
+use Rattle.fix_wire.proofs.writing.WrittenMessage.{body_is}
+use Rattle.fix_wire.proofs.writing.PartsInRoom.{ends}
 use Rattle.fix_wire.proofs.spelling.put_body.Goals as goal
 
 pub returns-clause-text : goal.returns-clause-text

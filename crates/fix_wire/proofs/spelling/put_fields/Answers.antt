@@ -2,7 +2,7 @@ use Rattle.std.specs.List.{AllByRecursion}
 use Rattle.std.proofs.Common.{◌++◌, take, subst, ap, ◌∙◌, arith}
 use Rattle.std.proofs.lemmas.List.{take_all}
 use Rattle.fix_wire.specs.Layout.{field_text, field_of_given, FitsValueOf}
-use Rattle.fix_wire.proofs.Written.{fields_more, all_more}
+use Rattle.fix_wire.proofs.writing.WrittenMessage.{fields_more, all_more}
 use Rattle.fix_wire.proofs.spelling.put_fields.Goals as goal
 
 pub loop-field-preserved : goal.loop-field-preserved

@@ -1,5 +1,5 @@
 use Rattle.std.proofs.Common.{◌++◌, take, ap, ◌∙◌}
-use Rattle.fix_wire.proofs.HeadText.{head_appended}
+use Rattle.fix_wire.proofs.writing.HeadFields.{head_appended}
 use Rattle.fix_wire.proofs.spelling.put_head.Goals as goal
 
 pub returns-clause-text : goal.returns-clause-text

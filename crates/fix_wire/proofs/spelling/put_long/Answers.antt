@@ -1,6 +1,6 @@
 use Rattle.std.proofs.Common.{◌++◌, take, sym, ap, ◌∙◌}
-use Rattle.fix_wire.proofs.HeadText.{step}
-use Rattle.fix_wire.proofs.Numbers.{four_more}
+use Rattle.fix_wire.proofs.writing.HeadFields.{step}
+use Rattle.fix_wire.proofs.texts.LastTwoDigits.{four_more}
 use Rattle.fix_wire.proofs.spelling.put_long.Goals as goal
 
 pub returns-then-number-lt100000000-clause-text : goal.returns-then-number-lt100000000-clause-text

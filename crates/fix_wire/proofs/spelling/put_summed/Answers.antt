@@ -2,8 +2,8 @@ use Rattle.std.proofs.Common.{◌++◌, ◌-◌, ◌≡◌, ◌≤◌, ◌∷◌
 use Rattle.std.proofs.lemmas.List.{length-take-le}
 use Rattle.fix_wire.specs.Frames.{begin_text}
 use Rattle.fix_wire.specs.Layout.{body_text}
-use Rattle.fix_wire.proofs.HeadText.{step}
-use Rattle.fix_wire.proofs.Room.{ends, front_same, counted, behind, open_text}
+use Rattle.fix_wire.proofs.writing.HeadFields.{step}
+use Rattle.fix_wire.proofs.writing.PartsInRoom.{ends, front_same, counted, behind, open_text}
 use Rattle.fix_wire.proofs.spelling.put_summed.Goals as goal
 
 pub returns-then-count-lt1000-clause-text : goal.returns-then-count-lt1000-clause-text

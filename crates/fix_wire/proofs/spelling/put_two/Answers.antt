@@ -1,6 +1,6 @@
 use Rattle.std.proofs.Common.{◌++◌, ◌∷◌, [], take, ap, ◌∙◌}
-use Rattle.fix_wire.proofs.HeadText.{step}
-use Rattle.fix_wire.proofs.Pairs.{tens_at, ones_at}
+use Rattle.fix_wire.proofs.writing.HeadFields.{step}
+use Rattle.fix_wire.proofs.texts.PairsOfDigits.{tens_at, ones_at}
 use Rattle.fix_wire.proofs.spelling.put_two.Goals as goal
 
 pub returns-clause-text : goal.returns-clause-text

@@ -1,7 +1,7 @@
 use Rattle.std.proofs.Common.{get_or, sym}
 use Rattle.fix_wire.specs.Fronts.{leading_field_view}
 use Rattle.fix_wire.specs.Tabled.{place_at, leading_at}
-use Rattle.fix_wire.proofs.Rows.{kind_some, kind_nothing}
+use Rattle.fix_wire.proofs.fields.RowOfFields.{kind_some, kind_nothing}
 use Rattle.fix_wire.proofs.table.first_value.Goals as goal
 
 pub returns-then-table-gt0 : goal.returns-then-table-gt0

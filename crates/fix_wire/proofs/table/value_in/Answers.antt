@@ -3,7 +3,7 @@ use Rattle.std.proofs.lemmas.Bool.Decides.{nat_tests}
 use Rattle.std.proofs.lemmas.List.{take_rest}
 use Rattle.fix_wire.specs.Fields.{fields_of_body}
 use Rattle.fix_wire.specs.Fronts.{leading_field_view, value_of}
-use Rattle.fix_wire.proofs.Rows.{row_some, value_here, value_behind, value_none, first_some}
+use Rattle.fix_wire.proofs.fields.RowOfFields.{row_some, value_here, value_behind, value_none, first_some}
 use Rattle.fix_wire.proofs.table.value_in.Goals as goal
 
 pub returns-then-field-tag : goal.returns-then-field-tag

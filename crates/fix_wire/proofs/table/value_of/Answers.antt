@@ -6,8 +6,8 @@ use Rattle.std.proofs.lemmas.Bool.{eqb-true}
 use Rattle.fix_wire.specs.Fields.{fields_of_body}
 use Rattle.fix_wire.specs.Fronts.{value_of}
 use Rattle.fix_wire.specs.Tabled.{is_same, place_at, start_of, leading_at}
-use Rattle.fix_wire.proofs.Rows.{value_here, first_some}
-use Rattle.fix_wire.proofs.TableRows.{value_from}
+use Rattle.fix_wire.proofs.fields.RowOfFields.{value_here, first_some}
+use Rattle.fix_wire.proofs.fields.TableOfFields.{value_from}
 use Rattle.fix_wire.proofs.table.value_of.Goals as goal
 
 others_before : (tag i : ℕ) (tags : List ℕ) → i ≡ position_or_len (is_same tag) tags → (j : ℕ) → j < i → eqb (get_or tags j 0) tag ≡ false

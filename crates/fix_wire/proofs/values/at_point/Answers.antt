@@ -2,7 +2,7 @@ use Rattle.std.proofs.Common.{◌+◌, length, sym, arith}
 use Rattle.std.proofs.lemmas.Grind.{common_steps}
 use Rattle.std.proofs.lemmas.List.{take_all, take_rest}
 use Rattle.fix_wire.specs.Texts.{is_point}
-use Rattle.fix_wire.proofs.Places.{place_found, place_not_found}
+use Rattle.fix_wire.proofs.texts.FirstPlace.{place_found, place_not_found}
 use Rattle.fix_wire.proofs.values.at_point.Goals as goal
 
 pub returns-in-Some-clause-whole : goal.returns-in-Some-clause-whole

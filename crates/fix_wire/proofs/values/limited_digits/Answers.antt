@@ -1,6 +1,6 @@
 use Rattle.std.proofs.Common.{arith}
 use Rattle.std.proofs.lemmas.Grind.{common_steps}
-use Rattle.fix_wire.proofs.Digits.{number_of_more}
+use Rattle.fix_wire.proofs.texts.Digits.{number_of_more}
 use Rattle.fix_wire.proofs.values.limited_digits.Goals as goal
 
 pub loop-b-preserved : goal.loop-b-preserved

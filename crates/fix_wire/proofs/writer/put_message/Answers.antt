@@ -1,6 +1,6 @@
 use Rattle.std.proofs.Common.{sym, arith}
 use Rattle.std.proofs.lemmas.List.{length-take-le}
-use Rattle.fix_wire.proofs.Written.{message_closed}
+use Rattle.fix_wire.proofs.writing.WrittenMessage.{message_closed}
 use Rattle.fix_wire.proofs.writer.put_message.Goals as goal
 
 pub returns-clause-text : goal.returns-clause-text

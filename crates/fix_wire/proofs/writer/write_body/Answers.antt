@@ -1,7 +1,7 @@
 use Rattle.std.proofs.Common.{◌++◌, ◌+◌, take, length, ap, ◌∙◌, arith}
 use Rattle.fix_wire.specs.Layout.{message_text}
-use Rattle.fix_wire.proofs.Room.{front_stays, written_back}
-use Rattle.fix_wire.proofs.Written.{fits_together, read_back_is}
+use Rattle.fix_wire.proofs.writing.PartsInRoom.{front_stays, written_back}
+use Rattle.fix_wire.proofs.writing.WrittenMessage.{fits_together, read_back_is}
 use Rattle.fix_wire.proofs.writer.write_body.Goals as goal
 
 pub returns-clause-ok : goal.returns-clause-ok

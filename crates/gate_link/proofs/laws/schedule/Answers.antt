@@ -1,7 +1,7 @@
 use Rattle.fix_session.specs.Streams.{whole}
 use Rattle.spread_rules.specs.Journal.{restricted}
 use Rattle.gate_link.specs.Schedules.{no_events}
-use Rattle.gate_link.proofs.Scheduling.{in_order, at_first, prefix_whole}
+use Rattle.gate_link.proofs.links.InSentOrder.{in_order, at_first, prefix_whole}
 use Rattle.gate_link.proofs.laws.schedule.Goals as goal
 
 pub returns-clause-order : goal.returns-clause-order

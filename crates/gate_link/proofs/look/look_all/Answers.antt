@@ -1,6 +1,6 @@
 use Rattle.std.proofs.Common.{arith, ◌<◌, length, refl}
 use Rattle.gate_link.specs.Inboxes.{LookedAt}
-use Rattle.gate_link.proofs.Pairing.{pairs_more, left_more}
+use Rattle.gate_link.proofs.inboxes.AlongTwoLists.{pairs_more, left_more}
 use Rattle.gate_link.proofs.look.look_all.Goals as goal
 
 pub loop-s-preserved : goal.loop-s-preserved

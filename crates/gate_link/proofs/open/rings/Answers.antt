@@ -2,7 +2,7 @@ use Rattle.std.proofs.Common.{rules, arith, refl, ◌≡◌, ◌∙◌, [], leng
 use Rattle.gate_link.specs.Gates.{gate_sent, gate_room}
 use Rattle.gate_link.specs.Inboxes.{taken, IsInboxOf}
 use Rattle.gate_link.specs.Opening.{IsFresh}
-use Rattle.gate_link.proofs.Making.{no_pairs, none_fresh, pairs_snoc, fresh_snoc, idle_snoc}
+use Rattle.gate_link.proofs.inboxes.OneMore.{no_pairs, none_fresh, pairs_snoc, fresh_snoc, idle_snoc}
 use Rattle.gate_link.proofs.open.rings.Goals as goal
 
 pub loop-s-preserved : goal.loop-s-preserved

@@ -7,7 +7,7 @@ use Rattle.spread_host.specs.Days.{texts_below}
 use Rattle.spread_report.specs.Messages.{messages_to}
 use Rattle.day_apply.specs.Applied.{worked_entries}
 use Rattle.spread_host.proofs.SixteenTexts.{all_texts, all_rows}
-use Rattle.spread_host.proofs.Shown.{shown_of}
+use Rattle.spread_host.proofs.FillsShown.{shown_of}
 use Rattle.spread_host.proofs.day.day_of.Goals as goal
 
 pub returns-clause-texts : goal.returns-clause-texts

@@ -11,7 +11,7 @@ use Rattle.day_lines.specs.Reading.{IsJournalOf}
 use Rattle.spread_host.specs.Days.{IsPartOut}
 use Rattle.spread_host.specs.declared.fault.HostFault.{HostFault}
 use Rattle.spread_host.specs.declared.fault.HostFault.TheVariants as faults
-use Rattle.spread_host.proofs.Theorems.{day_holds, text_is, if_some}
+use Rattle.spread_host.proofs.LawfulJournals.{day_holds, text_is, if_some}
 use Rattle.spread_host.proofs.from_lines.replay.Goals as goal
 
 pub day_of-requires : goal.day_of-requires

@@ -2,11 +2,11 @@ use Rattle.std.proofs.Common.{◌∙◌, List, sym, subst}
 use Rattle.spread_rules.specs.declared.event.Entry.{Entry}
 use Rattle.spread_report.specs.Messages.{IsRow, messages_to}
 use Rattle.spread_report.specs.Sessions.{bytes_of}
-use Rattle.gate_link.proofs.Rowing.{row_past}
+use Rattle.gate_link.proofs.links.PartOfASession.{row_past}
 use Rattle.day_threads.specs.Streams.{whole_stream}
 use Rattle.day_apply.specs.Applied.{worked_entries}
-use Rattle.spread_host.proofs.Silent.{silent}
-use Rattle.spread_host.proofs.Theorems.{day_holds}
+use Rattle.spread_host.proofs.SessionsWithoutEntries.{silent}
+use Rattle.spread_host.proofs.LawfulJournals.{day_holds}
 use Rattle.spread_host.proofs.from_sessions.run_day.Goals as goal
 
 -- a session without a stream has no entry, and is sent nothing

@@ -1,6 +1,6 @@
 use Rattle.std.proofs.Common.{◌<◌, length, ◌∙◌, arith}
 use Rattle.std.proofs.lemmas.List.{length-set}
-use Rattle.spread_report.proofs.TakenBack.{cut_more, rest_more}
+use Rattle.spread_report.proofs.entries.TakenBack.{cut_more, rest_more}
 use Rattle.spread_report.proofs.desk.cut_back.Goals as goal
 
 pub loop-s-preserved : goal.loop-s-preserved

@@ -1,7 +1,7 @@
 use Rattle.std.proofs.Common.{ℕ, ◌<◌, length, ap, ◌∙◌, arith}
 use Rattle.std.specs.declared.vec.Vec.{Vec}
 use Rattle.std.proofs.lemmas.List.{length-set}
-use Rattle.spread_report.proofs.TakenBack.{lengths_more}
+use Rattle.spread_report.proofs.entries.TakenBack.{lengths_more}
 use Rattle.spread_report.proofs.desk.lengths_of.Goals as goal
 
 pub loop-s-preserved : goal.loop-s-preserved

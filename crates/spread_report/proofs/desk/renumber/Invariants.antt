@@ -1,6 +1,6 @@
 use Rattle.std.proofs.Common.{◌≡◌, ℕ, ◌<◌, ◌≤◌, length, get_or}
 use Rattle.spread_report.specs.Sessions.{outbound_at}
-use Rattle.spread_report.proofs.TakenBack.{renumbered}
+use Rattle.spread_report.proofs.entries.TakenBack.{renumbered}
 use Rattle.spread_report.proofs.desk.renumber.Given as goal
 
 abbrev pub invariant-loop-s : goal.invariant-loop-s

@@ -6,7 +6,7 @@ use Rattle.spread_rules.specs.Rulebook.{Rules}
 use Rattle.spread_report.specs.Outgoing.{WorkedEntry, outgoing_starting, spends_from, outbound_before_logon}
 use Rattle.spread_report.specs.Ranges.{AreNames, EntryInRange}
 use Rattle.spread_report.specs.Messages.{IsRow, messages_starting}
-use Rattle.spread_report.proofs.ReadBack.{from_is}
+use Rattle.spread_report.proofs.frames.ReadBack.{from_is}
 use Rattle.spread_report.proofs.laws.read_back.Goals as goal
 
 row : (next : ℕ) (rules : Rules) (stamp : List ℕ) (worked : List WorkedEntry) (s : ℕ) → next ≤ 999999999 → (e : is_id stamp ≡ true) → AreNames rules → AllByRecursion (EntryInRange rules) worked → spends_from rules s (outbound_before_logon next) worked ≡ false

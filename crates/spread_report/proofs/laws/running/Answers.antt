@@ -1,4 +1,4 @@
-use Rattle.spread_report.proofs.Running.{sent_start, sent_more, sent_same, sent_spent}
+use Rattle.spread_report.proofs.entries.OneEntryMore.{sent_start, sent_more, sent_same, sent_spent}
 use Rattle.spread_report.proofs.laws.running.Goals as goal
 
 pub returns-clause-start : goal.returns-clause-start

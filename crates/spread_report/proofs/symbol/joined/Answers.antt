@@ -1,6 +1,6 @@
 use Rattle.std.proofs.Common.{ℕ, List, ap, ◌∙◌}
 use Rattle.host_base.specs.Ids.{is_id}
-use Rattle.spread_report.proofs.SymbolIds.{joined_id}
+use Rattle.spread_report.proofs.messages.SymbolIds.{joined_id}
 use Rattle.spread_report.proofs.symbol.joined.Goals as goal
 
 pub known_id-requires : goal.known_id-requires

@@ -1,5 +1,5 @@
 use Rattle.std.proofs.Common.{◌<◌, length, drop, refl, arith, length-drop}
-use Rattle.spread_report.proofs.SymbolIds.{written_joined}
+use Rattle.spread_report.proofs.messages.SymbolIds.{written_joined}
 use Rattle.spread_report.proofs.symbol.write_joined.Goals as goal
 
 pub returns-clause-written : goal.returns-clause-written

@@ -1,5 +1,5 @@
 use Rattle.std.proofs.Common.{rules, arith}
-use Rattle.day_text.proofs.Sums.{added_buy, added_sell, money_fits, sum_fits, lots_fit}
+use Rattle.day_text.proofs.MonthSums.{added_buy, added_sell, money_fits, sum_fits, lots_fit}
 use Rattle.day_text.proofs.months.MonthTotals.add.Goals as goal
 
 pub returns-in-Buy : goal.returns-in-Buy

@@ -1,4 +1,4 @@
-use Rattle.fix_session.proofs.FirstMessage.{found_kept}
+use Rattle.fix_session.proofs.readers.FirstMessage.{found_kept}
 use Rattle.fix_session.proofs.reader.Reader.look.Goals as goal
 
 pub invariant_of-self : goal.invariant_of-self

@@ -1,6 +1,6 @@
 use Rattle.std.proofs.Common.{sym, ◌∙◌}
 use Rattle.fix_session.specs.ReaderFields.{state_of}
-use Rattle.fix_session.proofs.FirstMessage.{found_kept, none_passed, one_passed}
+use Rattle.fix_session.proofs.readers.FirstMessage.{found_kept, none_passed, one_passed}
 use Rattle.fix_session.proofs.reader.Reader.pass.Goals as goal
 
 pub invariant_of-self : goal.invariant_of-self

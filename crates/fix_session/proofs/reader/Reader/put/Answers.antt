@@ -1,5 +1,5 @@
 use Rattle.std.proofs.Common.{take}
-use Rattle.fix_session.proofs.FirstMessage.{put_kept}
+use Rattle.fix_session.proofs.readers.FirstMessage.{put_kept}
 use Rattle.fix_session.proofs.reader.Reader.put.Goals as goal
 
 pub invariant_of-self : goal.invariant_of-self

@@ -1,5 +1,5 @@
 use Rattle.fix_session.specs.Reading.{with_more}
-use Rattle.fix_session.proofs.Feeding.{fed_put}
+use Rattle.fix_session.proofs.readers.BytesFed.{fed_put}
 use Rattle.fix_session.proofs.reader.Reader.read.Goals as goal
 
 pub loop-rest-preserved : goal.loop-rest-preserved

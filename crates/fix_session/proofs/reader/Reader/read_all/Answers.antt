@@ -1,4 +1,4 @@
-use Rattle.fix_session.proofs.Feeding.{fed_two}
+use Rattle.fix_session.proofs.readers.BytesFed.{fed_two}
 use Rattle.fix_session.proofs.reader.Reader.read_all.Goals as goal
 
 pub loop-preserved : goal.loop-preserved

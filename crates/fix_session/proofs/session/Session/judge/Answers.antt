@@ -1,5 +1,5 @@
 use Rattle.std.proofs.Common.{sym, ◌∙◌}
-use Rattle.fix_session.proofs.Opens.{judge_opens}
+use Rattle.fix_session.proofs.events.OpensAtTwo.{judge_opens}
 use Rattle.fix_session.proofs.session.Session.judge.Goals as goal
 
 pub returns-in-Some-logon_of : goal.returns-in-Some-logon_of

@@ -2,11 +2,11 @@ use Rattle.std.proofs.Common.{ℕ, List, take, Some, sym, ap, ◌∙◌, subst}
 use Rattle.fix_wire.specs.Frames.{frame_at, IsFrame}
 use Rattle.fix_wire.specs.Tabled.{IsTableOf}
 use Rattle.fix_wire.specs.Held.{first_frame}
-use Rattle.fix_wire.proofs.Ranges.{range_take}
-use Rattle.fix_wire.proofs.Knows.{skip_within, knows_table}
-use Rattle.fix_wire.proofs.Stays.{frame_within, frame_alone}
-use Rattle.fix_wire.proofs.TableRows.{table_alone}
-use Rattle.fix_wire.proofs.Scan.{held_frames, no_frames}
+use Rattle.fix_wire.proofs.framing.HeldPart.{range_take}
+use Rattle.fix_wire.proofs.framing.FrontFrame.{skip_within, knows_table}
+use Rattle.fix_wire.proofs.framing.FrontStays.{frame_within, frame_alone}
+use Rattle.fix_wire.proofs.fields.TableOfFields.{table_alone}
+use Rattle.fix_wire.proofs.framing.FramesHeld.{held_frames, no_frames}
 use Rattle.fix_wire.proofs.framer.Framer.lend.Goals as goal
 
 pub of_frame-requires-clause-lawful : goal.of_frame-requires-clause-lawful

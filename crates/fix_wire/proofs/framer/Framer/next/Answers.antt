@@ -1,7 +1,7 @@
 use Rattle.std.proofs.Common.{refl, sym, ap, ◌∙◌}
 use Rattle.fix_wire.specs.Frames.{frames, frame_at}
 use Rattle.fix_wire.specs.Held.{first_frame, from_first_start}
-use Rattle.fix_wire.proofs.Scan.{start_again, start_frames, room_left}
+use Rattle.fix_wire.proofs.framing.FramesHeld.{start_again, start_frames, room_left}
 use Rattle.fix_wire.proofs.framer.Framer.next.Goals as goal
 
 pub lend-requires-clause-settled : goal.lend-requires-clause-settled

@@ -2,8 +2,8 @@ use Rattle.std.proofs.Common.{◌+◌, is_some, drop, sym, ap, ◌∙◌}
 use Rattle.std.proofs.lemmas.List.{drop-drop}
 use Rattle.std.specs.List.{between}
 use Rattle.fix_wire.specs.Held.{first_frame, from_first_start, past_frame}
-use Rattle.fix_wire.proofs.Ranges.{range_drop}
-use Rattle.fix_wire.proofs.Scan.{held_frames, no_frames}
+use Rattle.fix_wire.proofs.framing.HeldPart.{range_drop}
+use Rattle.fix_wire.proofs.framing.FramesHeld.{held_frames, no_frames}
 use Rattle.fix_wire.proofs.framer.Framer.pass.Goals as goal
 
 pub returns-in-Some-clause-stands : goal.returns-in-Some-clause-stands

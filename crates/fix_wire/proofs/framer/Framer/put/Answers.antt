@@ -1,7 +1,7 @@
 use Rattle.std.proofs.Common.{◌≤◌, length, ap, ◌∙◌, arith}
 use Rattle.std.proofs.lemmas.List.{length-take-le}
 use Rattle.fix_wire.specs.FramerFields.{held_of}
-use Rattle.fix_wire.proofs.Knows.{put_kept}
+use Rattle.fix_wire.proofs.framing.FrontFrame.{put_kept}
 use Rattle.fix_wire.proofs.framer.Framer.put.Goals as goal
 use Rattle.fix_wire.proofs.framer.Framer.put.Goals.{then-taken-self, else-taken-self}
 

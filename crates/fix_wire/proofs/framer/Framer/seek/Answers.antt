@@ -3,9 +3,9 @@ use Rattle.fix_wire.specs.FramerFields.{held_of}
 use Rattle.fix_wire.specs.Frames.{frame_at}
 use Rattle.fix_wire.specs.Held.{from_first_start}
 use Rattle.fix_wire.specs.Tabled.{IsTableOf}
-use Rattle.fix_wire.proofs.Ranges.{range_drop}
-use Rattle.fix_wire.proofs.Knows.{skip_within}
-use Rattle.fix_wire.proofs.Stays.{frame_within}
+use Rattle.fix_wire.proofs.framing.HeldPart.{range_drop}
+use Rattle.fix_wire.proofs.framing.FrontFrame.{skip_within}
+use Rattle.fix_wire.proofs.framing.FrontStays.{frame_within}
 use Rattle.fix_wire.proofs.framer.Framer.seek.Goals as goal
 
 pub invariant_of-self : goal.invariant_of-self

@@ -1,5 +1,5 @@
 use Rattle.std.proofs.Common.{refl}
-use Rattle.gate_link.proofs.Stepping.{looked}
+use Rattle.gate_link.proofs.gateways.OneStep.{looked}
 use Rattle.gate_link.proofs.gateway.Gateway.stands.Goals as goal
 
 pub returns-clause-rests : goal.returns-clause-rests

@@ -3,15 +3,15 @@ use Rattle.std.specs.List.{list_any}
 use Rattle.rtrb.specs.Ring.{sent}
 use Rattle.spread_rules.specs.Journal.{is_close}
 use Rattle.fix_wire.specs.Frames.{frames}
-use Rattle.fix_wire.proofs.Turns.{no_first}
+use Rattle.fix_wire.proofs.framing.OneTurn.{no_first}
 use Rattle.fix_session.specs.Steps.{event_in, is_closed, is_closing}
 use Rattle.fix_session.specs.Reading.{first_verdict}
-use Rattle.fix_session.proofs.Closing.{closes_with}
-use Rattle.fix_session.proofs.FirstMessage.{verdict_some, verdict_none}
-use Rattle.fix_session.proofs.Feeding.{leaves_passed, session_passed, drained_where_none}
+use Rattle.fix_session.proofs.events.ClosesOnce.{closes_with}
+use Rattle.fix_session.proofs.readers.FirstMessage.{verdict_some, verdict_none}
+use Rattle.fix_session.proofs.readers.BytesFed.{leaves_passed, session_passed, drained_where_none}
 use Rattle.gate_link.specs.Rows.{events, entry}
-use Rattle.gate_link.proofs.Owing.{owed_nothing, owed_event}
-use Rattle.gate_link.proofs.Stepping.{events_later, looked, message_passed, close_later}
+use Rattle.gate_link.proofs.gateways.StillOwed.{owed_nothing, owed_event}
+use Rattle.gate_link.proofs.gateways.OneStep.{events_later, looked, message_passed, close_later}
 use Rattle.gate_link.proofs.gateway.Gateway.step.Goals as goal
 
 -- no message stands

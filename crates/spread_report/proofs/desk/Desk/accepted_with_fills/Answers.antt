@@ -1,6 +1,6 @@
 use Rattle.std.proofs.Common.{[], ◌∷◌}
 use Rattle.spread_report.specs.EntryMessages.{report, new_report, fills_reports}
-use Rattle.spread_report.proofs.MoreMessages.{sends_after}
+use Rattle.spread_report.proofs.messages.MoreMessages.{sends_after}
 use Rattle.spread_report.proofs.desk.Desk.accepted_with_fills.Goals as goal
 
 pub returns-clause-sent : goal.returns-clause-sent

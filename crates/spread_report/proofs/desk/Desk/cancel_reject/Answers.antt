@@ -2,8 +2,8 @@ use Rattle.std.proofs.Common.{◌≡◌, List, ℕ, [], ◌∷◌, ap, sym, ◌�
 use Rattle.fix_wire.specs.declared.writer.Field.{Field}
 use Rattle.fix_wire.specs.declared.writer.Value.{Value}
 use Rattle.spread_report.specs.EntryMessages.{numbered_message, text, number, place_field}
-use Rattle.spread_report.proofs.MoreMessages.{sends_same}
-use Rattle.spread_report.proofs.OneMessage.{named_none, named_place}
+use Rattle.spread_report.proofs.messages.MoreMessages.{sends_same}
+use Rattle.spread_report.proofs.messages.OneMessage.{named_none, named_place}
 use Rattle.spread_report.proofs.desk.Desk.cancel_reject.Goals.{then-place-eq0, else-place-eq0}
 use Rattle.spread_report.proofs.desk.Desk.cancel_reject.Goals as goal
 

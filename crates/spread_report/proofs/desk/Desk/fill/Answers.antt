@@ -5,7 +5,7 @@ use Rattle.spread_rules.specs.declared.order.Instrument.{Instrument}
 use Rattle.spread_rules.specs.declared.order.Instrument.TheVariants.{Outright, Spread}
 use Rattle.spread_report.specs.EntryMessages.{report, fill_report, leg_reports, reports_by}
 use Rattle.spread_rules.specs.Rulebook.{symbol_of}
-use Rattle.spread_report.proofs.MoreMessages.{sends_after, sends_same}
+use Rattle.spread_report.proofs.messages.MoreMessages.{sends_after, sends_same}
 use Rattle.spread_report.proofs.desk.Desk.fill.Goals as goal
 
 pub returns-in-Outright : goal.returns-in-Outright

@@ -1,10 +1,10 @@
 use Rattle.std.proofs.Common.{◌≡◌, [], ◌∷◌, true, false, nat_lt, get_or, refl, ap, arith, rules}
 use Rattle.std.proofs.lemmas.Result.{err_from_is_err_and}
 use Rattle.spread_report.specs.declared.outbound.OutboundSession.{OutboundSession}
-use Rattle.spread_report.proofs.OneMessage.{gap_line, gap_text, gap_none, appended_line, sent_off}
+use Rattle.spread_report.proofs.messages.OneMessage.{gap_line, gap_text, gap_none, appended_line, sent_off}
 use Rattle.spread_report.specs.EntryMessages.{number, text, gap_fill}
 use Rattle.spread_report.specs.Outgoing.{head_of}
-use Rattle.spread_report.proofs.FrameRows.{written_row}
+use Rattle.spread_report.proofs.frames.FrameRows.{written_row}
 use Rattle.spread_report.proofs.desk.Desk.fill_gap.Goals as goal
 
 pub returns-then-number-outbound : goal.returns-then-number-outbound

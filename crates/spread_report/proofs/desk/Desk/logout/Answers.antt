@@ -1,6 +1,6 @@
 use Rattle.std.proofs.Common.{List, ℕ, [], ◌∷◌, ap}
 use Rattle.spread_report.specs.EntryMessages.{numbered_message, text, close_messages}
-use Rattle.spread_report.proofs.MoreMessages.{sends_same}
+use Rattle.spread_report.proofs.messages.MoreMessages.{sends_same}
 use Rattle.spread_report.proofs.desk.Desk.logout.Goals as goal
 
 pub returns-then-reason-eq2 : goal.returns-then-reason-eq2

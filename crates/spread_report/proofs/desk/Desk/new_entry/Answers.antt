@@ -3,7 +3,7 @@ use Rattle.std.proofs.lemmas.Result.{err_from_is_err_and}
 use Rattle.spread_report.specs.EntryMessages.{report, new_report, ended_report, fills_reports, reports_of, new_messages}
 use Rattle.spread_rules.specs.declared.outcome.Outcome.{Outcome}
 use Rattle.spread_rules.specs.declared.outcome.Outcome.TheVariants.{Ended}
-use Rattle.spread_report.proofs.MoreMessages.{sends_after, sends_no_more, sends_same}
+use Rattle.spread_report.proofs.messages.MoreMessages.{sends_after, sends_no_more, sends_same}
 use Rattle.spread_report.proofs.desk.Desk.new_entry.Goals as goal
 
 pub returns-in_ok-index-in-Ended : goal.returns-in_ok-index-in-Ended

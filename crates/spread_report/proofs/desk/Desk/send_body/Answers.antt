@@ -6,9 +6,9 @@ use Rattle.spread_report.specs.declared.outbound.OutboundSession.{OutboundSessio
 use Rattle.spread_report.specs.declared.outbound.CompIds.{CompIds}
 use Rattle.spread_report.specs.Sessions.{Sent}
 use Rattle.spread_report.specs.EntryMessages.{numbered}
-use Rattle.spread_report.proofs.OneMessage.{one, sent_off, sent_line, spent_line, appended_line, appended_none}
+use Rattle.spread_report.proofs.messages.OneMessage.{one, sent_off, sent_line, spent_line, appended_line, appended_none}
 use Rattle.spread_report.specs.Outgoing.{head_of}
-use Rattle.spread_report.proofs.FrameRows.{written_row}
+use Rattle.spread_report.proofs.frames.FrameRows.{written_row}
 use Rattle.spread_report.proofs.desk.Desk.send_body.Goals as goal
 
 pub returns-then-outbound-gt-MAX_MSG_SEQ_NUM : goal.returns-then-outbound-gt-MAX_MSG_SEQ_NUM

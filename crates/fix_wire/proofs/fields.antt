@@ -1,0 +1,3 @@
+pub mod RowOfFields
+pub mod TableOfFields
+pub mod SpelledRow

@@ -1,0 +1,58 @@
+-- What a framer knows of the frame at its front.
+use Rattle.std.proofs.Common.{◌≡◌, ◌≢◌, ℕ, ◌+◌, ◌-◌, ◌<◌, ◌≤◌, List, ◌++◌, length, drop, Option, Some, None, sym, ap, subst, ◌∙◌, arith, ◌⊎◌, inl, inr}
+use Rattle.std.specs.Prelude.{slice_range, unwrap_or}
+use Rattle.std.specs.List.{between}
+use Rattle.std.proofs.lemmas.List.{length-take-le, length-drop}
+use Rattle.fix_wire.specs.declared.framer.Framer.TheInside.{Inside}
+use Rattle.fix_wire.specs.FramerFields.{held_of, IsKept}
+use Rattle.fix_wire.specs.Frames.{frame_at}
+use Rattle.fix_wire.specs.declared.table.FieldTable.{FieldTable}
+use Rattle.fix_wire.specs.Tabled.{IsBlank, IsTableOf}
+use Rattle.fix_wire.proofs.framing.FrontStays.{frame_stays}
+use Rattle.fix_wire.proofs.fields.TableOfFields.{table_stays, table_blank}
+use Rattle.std.proofs.lemmas.Bool.{cases_lt}
+
+-- it still knows it when bytes were put
+pub knows_put : (text held : List ℕ) (found : ℕ) (now : List ℕ) → now ≡ held ++ text → (found ≢ 0 → frame_at held ≡ Some found) → found ≢ 0 → frame_at now ≡ Some found
+knows_put text held found now e known some = ap frame_at e ∙ frame_stays held text found (known some)
+
+-- it knows what it found
+pub knows_found : (o : Option ℕ) (found : ℕ) (text : List ℕ) → found ≡ unwrap_or o 0 → o ≡ frame_at text → found ≢ 0 → frame_at text ≡ Some found
+knows_found None found text e f some = absurd (some e)
+knows_found (Some n) found text e f some = sym f ∙ ap Some (sym e)
+
+-- and its table too
+table_put : (text held : List ℕ) (found : ℕ) (t : FieldTable) (now : List ℕ) → now ≡ held ++ text → (found ≢ 0 → frame_at held ≡ Some found) → (found ≢ 0 → IsTableOf held t) → found ≢ 0 → IsTableOf now t
+table_put text held found t now e known tabled some = subst (λ (x : List ℕ). IsTableOf x t) (sym e) (table_stays held text found t (known some) (tabled some))
+
+-- bytes are put behind those that are held, wherever these were moved to
+pub put_kept : (f i : Inside) (buffer text : List ℕ) (taken : ℕ) → IsKept f → i.start ≤ i.end → i.end + taken ≤ 8192 → i.found ≡ f.found → i.table ≡ f.table → held_of i ≡ held_of f → length text ≡ taken →
+    slice_range buffer i.start (i.end + length text) ≡ slice_range i.buffer i.start i.end ++ text → IsKept (record { buffer = buffer; start = i.start; end = i.end + taken; found = i.found; table = i.table })
+put_kept f i buffer text taken kept order room same table held len put =
+    let now = ap (λ n. slice_range buffer i.start (i.end + n)) (sym len) ∙ put ∙ ap (λ t. t ++ text) held in
+    let known : i.found ≢ 0 → frame_at (held_of f) ≡ Some i.found = λ some. kept.known (λ none. some (same ∙ none)) ∙ ap Some (sym same) in
+    record {
+      order = omega (arith, order);
+      room = room;
+      known = knows_put text (held_of f) i.found _ now known;
+      tabled = table_put text (held_of f) i.found i.table _ now known (λ some. subst (λ (t : FieldTable). IsTableOf (held_of f) t) (sym table) (kept.tabled (λ none. some (same ∙ none))));
+      blank = λ none. subst (λ (t : FieldTable). IsBlank t) (sym table) (kept.blank (sym same ∙ none));
+    }
+
+-- the table is that of the frame at the front, found or not
+pub knows_table : (f : Inside) → IsKept f → IsTableOf (held_of f) f.table
+knows_table f kept = by_found (cases_lt 0 f.found)
+  where
+    by_found : (0 < f.found) ⊎ (f.found ≤ 0) → IsTableOf (held_of f) f.table
+    by_found (inl some) = kept.tabled (λ none. absurd (omega (arith, some, none)))
+    by_found (inr none) = table_blank (held_of f) f.table (kept.blank (omega (arith, none)))
+
+range_length : (xs : List ℕ) (start end : ℕ) → end ≤ length xs → length (between start end xs) ≡ end - start
+range_length xs start end l = length-take-le (end - start) (drop start xs) (omega (arith, length-drop start xs))
+
+-- the places that were skipped lie within what is held
+pub skip_within : (f : Inside) (skip : ℕ) (held : List ℕ) → length f.buffer ≡ 8192 → IsKept f → held_of f ≡ held → skip ≤ length held → f.start + skip ≤ f.end
+skip_within f skip held full kept e l =
+    let len = range_length f.buffer f.start f.end (omega (arith, full, kept.room)) in
+    let same = ap length e in
+    omega (arith, len, same, kept.order, l)

@@ -1,0 +1,6 @@
+pub mod Digits
+pub mod LastTwoDigits
+pub mod PairsOfDigits
+pub mod FirstPlace
+pub mod Hundredths
+pub mod WordAtTheFront

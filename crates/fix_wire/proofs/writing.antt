@@ -1,0 +1,3 @@
+pub mod HeadFields
+pub mod PartsInRoom
+pub mod WrittenMessage

@@ -1,0 +1,3 @@
+pub mod StillOwed
+pub mod OneStep
+pub mod SentAndOwed

@@ -1,0 +1,3 @@
+pub mod AlongTwoLists
+pub mod Looked
+pub mod OneMore

@@ -1,0 +1,4 @@
+pub mod FrameRows
+pub mod BodyLengths
+pub mod ReadBack
+pub mod FieldsInTurn

@@ -1,0 +1,5 @@
+pub mod MoreMessages
+pub mod OneMessage
+pub mod OneFillMore
+pub mod SymbolIds
+pub mod InRange

@@ -1,0 +1,353 @@
+-- Every message of an entry in range is in range.
+use Rattle.std.proofs.Common.{◌≡◌, ◌≢◌, ℕ, ◌+◌, ◌*◌, ◌<◌, ◌≤◌, ◌^◌, ◌==◌, Bool, true, false, ◌&&◌, if◌then◌else◌, ◌||◌, List, [], ◌∷◌, ◌++◌, length, get_or, codes, refl, arith, length-append, Option, Some, None}
+use Rattle.std.specs.Prelude.{ℤ, unsigned_abs, nat_le}
+use Rattle.std.specs.List.{AllByRecursion}
+use Rattle.std.proofs.lemmas.Bool.{leb-true}
+use Rattle.std.proofs.lemmas.Bool.Decides.{nat_tests}
+use Rattle.fix_wire.specs.declared.writer.Field.{Field}
+use Rattle.host_base.specs.Ids.{is_id, is_plain}
+use Rattle.spread_rules.specs.Rulebook.{Rules, IsListed, month_count, names_of, symbol_of}
+use Rattle.spread_rules.specs.Journal.{FitsEvent, FitsTicket}
+use Rattle.spread_rules.specs.Legs.{other_side}
+use Rattle.spread_rules.specs.declared.order.Order.{Order}
+use Rattle.spread_rules.specs.declared.order.Side.{Side}
+use Rattle.spread_rules.specs.declared.order.Side.TheVariants.{Buy, Sell}
+use Rattle.spread_rules.specs.declared.order.Instrument.{Instrument}
+use Rattle.spread_rules.specs.declared.order.Instrument.TheVariants.{Outright, Spread}
+use Rattle.spread_rules.specs.declared.fill.Fill.{Fill}
+use Rattle.spread_rules.specs.declared.event.Ticket.{Ticket}
+use Rattle.spread_rules.specs.declared.event.Event.{Event}
+use Rattle.spread_rules.specs.declared.event.Event.TheVariants.{Logon, New, Cancel, TestReply, Gap, Resend, Reject, Close}
+use Rattle.spread_rules.specs.declared.outcome.Outcome.{Outcome}
+use Rattle.spread_rules.specs.declared.outcome.Outcome.TheVariants.{Rested, Filled, Ended, Cancelled, Refused, CancelRefused, Session}
+use Rattle.spread_report.specs.EntryMessages.{MessageContent, numbered, gap_fill, AddressedMessage, text, number, price, pair, side_code, Traded, ExecutionReport, original_field, reason_field, last_fields, legs_field, report_fields, numbered_message, report, new_report, rejected_report, ended_report, cancelled_report, fill_status, fill_report, report_count, reports_by, fill_reports, fills_reports, reports_of, new_messages, place_field, cancel_messages, close_messages, event_messages}
+use Rattle.spread_report.specs.Outgoing.{WorkedEntry, entry_messages}
+use Rattle.spread_report.specs.Ranges.{AreNames, FillInRange, OutcomeInRange, EntryInRange}
+use Rattle.spread_report.proofs.frames.BodyLengths.{FitsReport}
+use Rattle.spread_report.proofs.messages.SymbolIds.{joined_id}
+
+-- ---- ids
+
+and_first : (a b : Bool) → a && b ≡ true → a ≡ true
+and_first true b e = refl
+and_first false b e = e
+
+and_second : (a b : Bool) → a && b ≡ true → b ≡ true
+and_second true b e = e
+and_second false b e = cc
+
+pub id_plain : (t : List ℕ) → is_id t ≡ true → is_plain t ≡ true
+id_plain t e = and_second (nat_le 1 (length t) && nat_le (length t) 32) (is_plain t) e
+
+pub id_short : (t : List ℕ) → is_id t ≡ true → length t ≤ 32
+id_short t e = leb-true (length t) 32 (and_second (nat_le 1 (length t)) (nat_le (length t) 32) (and_first (nat_le 1 (length t) && nat_le (length t) 32) (is_plain t) e))
+
+-- ---- contents
+
+-- at most 18 fields in range, under a kind that isn't byte 1
+abbrev pub FitsContent : MessageContent → Type 0
+FitsContent (numbered kind fields) = (kind ≢ 1) × AllByRecursion FitsReport fields × (length fields ≤ 18)
+FitsContent (gap_fill first last) = Unit {0}
+
+abbrev pub FitsAddressed : AddressedMessage → Type 0
+FitsAddressed m = FitsContent m.content
+
+text_fits : (tag : ℕ) (id : List ℕ) → 1 ≤ tag → tag < 1000000000 → is_id id ≡ true → FitsReport (text tag id)
+text_fits tag id low high e = record { fits = (low, high, id_plain id e); short = id_short id e }
+
+number_fits : (tag n : ℕ) → 1 ≤ tag → tag < 1000000000 → n < 2 ^ 64 → FitsReport (number tag n)
+number_fits tag n low high h = record { fits = (low, high, h); short = tt }
+
+price_fits : (tag : ℕ) (z : ℤ) → 1 ≤ tag → tag < 1000000000 → unsigned_abs z < 2 ^ 64 → FitsReport (price tag z)
+price_fits tag z low high h = record { fits = (low, high, h); short = tt }
+
+pair_fits : (tag a b : ℕ) → 1 ≤ tag → tag < 1000000000 → a < 2 ^ 64 → b < 2 ^ 64 → FitsReport (pair tag a b)
+pair_fits tag a b low high h k = record { fits = (low, high, (h, k)); short = tt }
+
+fits_append : (fs gs : List Field) → AllByRecursion FitsReport fs → AllByRecursion FitsReport gs → AllByRecursion FitsReport (fs ++ gs)
+fits_append [] gs a b = b
+fits_append (f ∷ fs) gs a b = (a.0, fits_append fs gs a.1 b)
+
+pub all_append : (ms ns : List AddressedMessage) → AllByRecursion FitsAddressed ms → AllByRecursion FitsAddressed ns → AllByRecursion FitsAddressed (ms ++ ns)
+all_append [] ns a b = b
+all_append (m ∷ ms) ns a b = (a.0, all_append ms ns a.1 b)
+
+-- ---- execution reports
+
+abbrev OptionalId : Option (List ℕ) → Type 0
+OptionalId None = Unit {0}
+OptionalId (Some id) = is_id id ≡ true
+
+abbrev OptionalNumber : Option ℕ → Type 0
+OptionalNumber None = Unit {0}
+OptionalNumber (Some n) = n < 2 ^ 64
+
+abbrev TradedFits : Option Traded → Type 0
+TradedFits None = Unit {0}
+TradedFits (Some t) = (t.quantity < 2 ^ 64) × (unsigned_abs t.price < 2 ^ 64) × (t.legs < 2 ^ 64)
+
+record ReportFits (r : ExecutionReport) : Type 0 where
+  order : r.order < 2 ^ 64
+  id : is_id r.id ≡ true
+  original : OptionalId r.original
+  place : r.place < 2 ^ 64
+  index : r.index < 2 ^ 64
+  status : r.status < 2 ^ 64
+  reason : OptionalNumber r.reason
+  symbol : is_id r.symbol ≡ true
+  quantity : r.quantity < 2 ^ 64
+  traded : TradedFits r.traded
+  leaves : r.leaves < 2 ^ 64
+  filled : r.filled < 2 ^ 64
+
+original_fits : (o : Option (List ℕ)) → OptionalId o → AllByRecursion FitsReport (original_field o)
+original_fits None h = tt
+original_fits (Some id) h = (text_fits 41 id (omega arith) (omega arith) h, tt)
+
+reason_fits : (o : Option ℕ) → OptionalNumber o → AllByRecursion FitsReport (reason_field o)
+reason_fits None h = tt
+reason_fits (Some n) h = (number_fits 103 n (omega arith) (omega arith) h, tt)
+
+last_fit : (o : Option Traded) → TradedFits o → AllByRecursion FitsReport (last_fields o)
+last_fit None h = tt
+last_fit (Some t) h = (number_fits 32 t.quantity (omega arith) (omega arith) h.0, (price_fits 31 t.price (omega arith) (omega arith) h.1, tt))
+
+legs_fits : (o : Option Traded) → TradedFits o → AllByRecursion FitsReport (legs_field o)
+legs_fits None h = tt
+legs_fits (Some t) h = (number_fits 442 t.legs (omega arith) (omega arith) h.2, tt)
+
+original_length : (o : Option (List ℕ)) → length (original_field o) ≤ 1
+original_length None = omega arith
+original_length (Some id) = omega arith
+
+reason_length : (o : Option ℕ) → length (reason_field o) ≤ 1
+reason_length None = omega arith
+reason_length (Some n) = omega arith
+
+last_length : (o : Option Traded) → length (last_fields o) ≤ 2
+last_length None = omega arith
+last_length (Some t) = omega arith
+
+legs_length : (o : Option Traded) → length (legs_field o) ≤ 1
+legs_length None = omega arith
+legs_length (Some t) = omega arith
+
+side_small : (s : Side) → side_code s < 2 ^ 64
+side_small Buy = omega arith
+side_small Sell = omega arith
+
+module _ (r : ExecutionReport) where
+  abbrev tail : List Field
+  tail = number 151 r.leaves ∷ number 14 r.filled ∷ number 6 0 ∷ legs_field r.traded
+
+  abbrev order_part : List Field
+  order_part = text 55 r.symbol ∷ number 54 (side_code r.side) ∷ number 38 r.quantity ∷ (last_fields r.traded ++ tail)
+
+  abbrev status_part : List Field
+  status_part = pair 17 r.place r.index ∷ number 20 0 ∷ number 150 r.status ∷ number 39 r.status ∷ (reason_field r.reason ++ order_part)
+
+  report_fit : ReportFits r → AllByRecursion FitsReport (report_fields r)
+  report_fit h =
+      let tail_fits : AllByRecursion FitsReport tail = (number_fits 151 r.leaves (omega arith) (omega arith) h.leaves, (number_fits 14 r.filled (omega arith) (omega arith) h.filled, (number_fits 6 0 (omega arith) (omega arith) (omega arith), legs_fits r.traded h.traded))) in
+      let order_fits : AllByRecursion FitsReport order_part =
+      (text_fits 55 r.symbol (omega arith) (omega arith) h.symbol, (number_fits 54 (side_code r.side) (omega arith) (omega arith) (side_small r.side), (number_fits 38 r.quantity (omega arith) (omega arith) h.quantity, fits_append (last_fields r.traded) tail (last_fit r.traded h.traded) tail_fits))) in
+      let status_fits : AllByRecursion FitsReport status_part =
+      (pair_fits 17 r.place r.index (omega arith) (omega arith) h.place h.index, (number_fits 20 0 (omega arith) (omega arith) (omega arith), (number_fits 150 r.status (omega arith) (omega arith) h.status, (number_fits 39 r.status (omega arith) (omega arith) h.status, fits_append (reason_field r.reason) order_part (reason_fits r.reason h.reason) order_fits)))) in
+      (number_fits 37 r.order (omega arith) (omega arith) h.order, (text_fits 11 r.id (omega arith) (omega arith) h.id, fits_append (original_field r.original) status_part (original_fits r.original h.original) status_fits))
+
+  report_length : length (report_fields r) ≤ 18
+  report_length =
+      let a : length (original_field r.original ++ status_part) ≡ length (original_field r.original) + length status_part = length-append (original_field r.original) status_part in
+      let b : length (reason_field r.reason ++ order_part) ≡ length (reason_field r.reason) + length order_part = length-append (reason_field r.reason) order_part in
+      let d : length (last_fields r.traded ++ tail) ≡ length (last_fields r.traded) + length tail = length-append (last_fields r.traded) tail in
+      omega (arith, a, b, d, original_length r.original, reason_length r.reason, last_length r.traded, legs_length r.traded)
+
+  report_in_range : (to : ℕ) → ReportFits r → FitsAddressed (report to r)
+  report_in_range to h = (omega arith, report_fit h, report_length)
+
+-- ---- symbols
+
+module _ (rules : Rules) (names : AreNames rules) where
+  symbol_fits : (i : Instrument) → IsListed rules i → is_id (symbol_of rules i) ≡ true
+  symbol_fits (Outright m) h = names.ids m h
+  symbol_fits (Spread i j) h =
+      let near : i < month_count rules = omega (arith, h.0, h.1) in
+      joined_id (get_or (names_of rules) i []) (get_or (names_of rules) j []) (omega (arith, names.short i near, names.short j h.1))
+      (id_plain (get_or (names_of rules) i []) (names.ids i near)) (id_plain (get_or (names_of rules) j []) (names.ids j h.1))
+
+  near_listed : (i j : ℕ) → IsListed rules (Spread i j) → IsListed rules (Outright i)
+  near_listed i j h = omega (arith, h.0, h.1)
+
+  -- ---- fills
+
+  status_small : (leaves : ℕ) → fill_status leaves < 2 ^ 64
+  status_small leaves = elim (leaves == 0) as (λ b. (if b then 2 else 1) < 2 ^ 64) [ true ↦ omega arith | false ↦ omega arith ]
+
+  fill_fits : (place index : ℕ) (f : Fill) (symbol : List ℕ) (side : Side) (z : ℤ) (legs : ℕ) → FillInRange rules f → place < 2 ^ 64 → index < 2 ^ 64 → is_id symbol ≡ true → unsigned_abs z < 2 ^ 64 → legs < 2 ^ 64
+      → FitsAddressed (report f.session (fill_report place index f symbol side z legs))
+  fill_fits place index f symbol side z legs h p i s hz hl = report_in_range (fill_report place index f symbol side z legs) f.session (record {
+    order = h.order;
+    id = h.id;
+    original = tt;
+    place = p;
+    index = i;
+    status = status_small f.leaves;
+    reason = tt;
+    symbol = s;
+    quantity = h.total;
+    traded = (h.quantity, hz, hl);
+    leaves = h.leaves;
+    filled = omega (arith, h.total);
+  })
+
+  reports_fit : (k : Instrument) (place index : ℕ) (f : Fill) → IsListed rules k → FillInRange rules f → place < 2 ^ 64 → index + 3 < 2 ^ 64 → AllByRecursion FitsAddressed (reports_by k rules place index f)
+  reports_fit (Outright m) place index f listed h p i = (fill_fits place index f (symbol_of rules f.instrument) f.side f.price 1 h p (omega (arith, i)) (symbol_fits f.instrument h.listed) h.price (omega arith), tt)
+  reports_fit (Spread a b) place index f listed h p i = (
+    fill_fits place index f (symbol_of rules f.instrument) f.side f.price 3 h p (omega (arith, i)) (symbol_fits f.instrument h.listed) h.price (omega arith),
+    (
+      fill_fits place (index + 1) f (symbol_of rules (Outright a)) f.side f.near 2 h p (omega (arith, i)) (symbol_fits (Outright a) (near_listed a b listed)) h.near (omega arith),
+      (fill_fits place (index + 1 + 1) f (symbol_of rules (Outright b)) (other_side f.side) f.far 2 h p (omega (arith, i)) (symbol_fits (Outright b) listed.1) h.far (omega arith), tt),
+    ),
+  )
+
+  count_small : (k : Instrument) → report_count k ≤ 3
+  count_small (Outright m) = omega arith
+  count_small (Spread i j) = omega arith
+
+  fills_fit : (place index : ℕ) (fs : List Fill) → AllByRecursion (FillInRange rules) fs → place < 2 ^ 64 → index + 3 * length fs < 2 ^ 64 → AllByRecursion FitsAddressed (fills_reports rules place index fs)
+  fills_fit place index [] h p i = tt
+  fills_fit place index (f ∷ fs) h p i =
+      all_append (fill_reports rules place index f) (fills_reports rules place (index + report_count f.instrument) fs)
+      (reports_fit f.instrument place index f h.0.listed h.0 p (omega (arith, i)))
+      (fills_fit place (index + report_count f.instrument) fs h.1 p (omega (arith, i, count_small f.instrument)))
+
+  reports_small : (fs : List Fill) → reports_of fs ≤ 3 * length fs
+  reports_small [] = omega arith
+  reports_small (f ∷ fs) = omega (arith, count_small f.instrument, reports_small fs)
+
+  -- ---- entries
+
+  new_fits : (place session : ℕ) (t : Ticket) → place < 2 ^ 64 → FitsTicket t → FitsAddressed (report session (new_report place t))
+  new_fits place session t p h = report_in_range (new_report place t) session (record {
+    order = p;
+    id = h.id;
+    original = tt;
+    place = p;
+    index = omega arith;
+    status = omega arith;
+    reason = tt;
+    symbol = h.symbol;
+    quantity = omega (arith, h.quantity);
+    traded = tt;
+    leaves = omega (arith, h.quantity);
+    filled = omega arith;
+  })
+
+  rejected_fits : (place session : ℕ) (t : Ticket) (reason : ℕ) → place < 2 ^ 64 → FitsTicket t → reason < 2 ^ 64 → FitsAddressed (report session (rejected_report place t reason))
+  rejected_fits place session t reason p h n = report_in_range (rejected_report place t reason) session (record {
+    order = p;
+    id = h.id;
+    original = tt;
+    place = p;
+    index = omega arith;
+    status = omega arith;
+    reason = n;
+    symbol = h.symbol;
+    quantity = omega (arith, h.quantity);
+    traded = tt;
+    leaves = omega arith;
+    filled = omega arith;
+  })
+
+  ended_fits : (place index session : ℕ) (t : Ticket) (left : ℕ) → place < 2 ^ 64 → index < 2 ^ 64 → FitsTicket t → FitsAddressed (report session (ended_report place index t left))
+  ended_fits place index session t left p i h = report_in_range (ended_report place index t left) session (record {
+    order = p;
+    id = h.id;
+    original = tt;
+    place = p;
+    index = i;
+    status = omega arith;
+    reason = tt;
+    symbol = h.symbol;
+    quantity = omega (arith, h.quantity);
+    traded = tt;
+    leaves = omega arith;
+    filled = omega (arith, h.quantity);
+  })
+
+  cancelled_fits : (place session : ℕ) (id original : List ℕ) (o : Order) → place < 2 ^ 64 → is_id id ≡ true → is_id original ≡ true → IsListed rules o.instrument → o.place < 2 ^ 64 → o.quantity < 2 ^ 64
+      → FitsAddressed (report session (cancelled_report (symbol_of rules o.instrument) place id original o))
+  cancelled_fits place session id original o p e d listed op oq = report_in_range (cancelled_report (symbol_of rules o.instrument) place id original o) session (record {
+    order = op;
+    id = e;
+    original = d;
+    place = p;
+    index = omega arith;
+    status = omega arith;
+    reason = tt;
+    symbol = symbol_fits o.instrument listed;
+    quantity = oq;
+    traded = tt;
+    leaves = omega arith;
+    filled = omega (arith, oq);
+  })
+
+  traded_fits : (place session : ℕ) (t : Ticket) (fs : List Fill) → place < 2 ^ 64 → FitsTicket t → length fs ≤ 1000000000 → AllByRecursion (FillInRange rules) fs
+      → AllByRecursion FitsAddressed (report session (new_report place t) ∷ fills_reports rules place 2 fs)
+  traded_fits place session t fs p h few fits = (new_fits place session t p h, fills_fit place 2 fs fits p (omega (arith, few)))
+
+  news_fit : (place session : ℕ) (t : Ticket) (outcome : Outcome) (fs : List Fill) → place < 2 ^ 64 → FitsTicket t → OutcomeInRange rules outcome → length fs ≤ 1000000000 → AllByRecursion (FillInRange rules) fs
+      → AllByRecursion FitsAddressed (new_messages rules place session t outcome fs)
+  news_fit place session t (Refused reason) fs p h o few fits = (rejected_fits place session t reason p h o, tt)
+  news_fit place session t Rested fs p h o few fits = traded_fits place session t fs p h few fits
+  news_fit place session t Filled fs p h o few fits = traded_fits place session t fs p h few fits
+  news_fit place session t (Ended left) fs p h o few fits =
+      all_append (report session (new_report place t) ∷ fills_reports rules place 2 fs) (report session (ended_report place (2 + reports_of fs) t left) ∷ [])
+      (traded_fits place session t fs p h few fits) (ended_fits place (2 + reports_of fs) session t left p (omega (arith, few, reports_small fs)) h, tt)
+  news_fit place session t (Cancelled x) fs p h o few fits = tt
+  news_fit place session t (CancelRefused reason of status) fs p h o few fits = tt
+  news_fit place session t Session fs p h o few fits = tt
+
+  place_fits : (of : ℕ) → of < 2 ^ 64 → FitsReport (place_field of)
+  place_fits of h = elim (of == 0) as (λ b. FitsReport (if b then text 37 (codes "NONE") else number 37 of)) [ true ↦ text_fits 37 (codes "NONE") (omega arith) (omega arith) refl | false ↦ number_fits 37 of (omega arith) (omega arith) h ]
+
+  cancels_fit : (place session : ℕ) (id original : List ℕ) (outcome : Outcome) → place < 2 ^ 64 → is_id id ≡ true → is_id original ≡ true → OutcomeInRange rules outcome
+      → AllByRecursion FitsAddressed (cancel_messages rules place session id original outcome)
+  cancels_fit place session id original (Cancelled x) p e d o = (cancelled_fits place session id original x p e d o.0 o.1 o.2, tt)
+  cancels_fit place session id original (CancelRefused reason of status) p e d o =
+      ((omega arith, (place_fits of o.1, (text_fits 11 id (omega arith) (omega arith) e, (text_fits 41 original (omega arith) (omega arith) d, (number_fits 39 status (omega arith) (omega arith) o.2, (number_fits 434 1 (omega arith) (omega arith) (omega arith), (number_fits 102 reason (omega arith) (omega arith) o.0, tt)))))), omega arith), tt)
+  cancels_fit place session id original Rested p e d o = tt
+  cancels_fit place session id original Filled p e d o = tt
+  cancels_fit place session id original (Ended left) p e d o = tt
+  cancels_fit place session id original (Refused reason) p e d o = tt
+  cancels_fit place session id original Session p e d o = tt
+
+  close_fits : (session reason : ℕ) → AllByRecursion FitsAddressed (close_messages session reason)
+  close_fits session reason =
+      elim (reason == 1) as (λ a. AllByRecursion FitsAddressed (if a then numbered_message session 53 [] ∷ [] else if reason == 2 then numbered_message session 53 (text 58 (codes "MsgSeqNum too low") ∷ []) ∷ [] else if reason == 4 then numbered_message session 53 (text 58 (codes "CompID") ∷ []) ∷ [] else [])) [
+        | true ↦ ((omega arith, tt, omega arith), tt)
+        | false ↦ elim (reason == 2) as (λ b. AllByRecursion FitsAddressed (if b then numbered_message session 53 (text 58 (codes "MsgSeqNum too low") ∷ []) ∷ [] else if reason == 4 then numbered_message session 53 (text 58 (codes "CompID") ∷ []) ∷ [] else [])) [
+          | true ↦ ((omega arith, (text_fits 58 (codes "MsgSeqNum too low") (omega arith) (omega arith) refl, tt), omega arith), tt)
+          | false ↦ elim (reason == 4) as (λ d. AllByRecursion FitsAddressed (if d then numbered_message session 53 (text 58 (codes "CompID") ∷ []) ∷ [] else [])) [
+            | true ↦ ((omega arith, (text_fits 58 (codes "CompID") (omega arith) (omega arith) refl, tt), omega arith), tt)
+            | false ↦ tt
+          ]
+        ]
+      ]
+
+  small_reason : (r : ℕ) → (r == 1 || r == 4 || r == 5 || r == 6 || r == 11) ≡ true → r < 2 ^ 64
+  small_reason r e = grind (arith, nat_tests)
+
+  event_fits : (place session : ℕ) (v : Event) (outcome : Outcome) (fs : List Fill) → place < 2 ^ 64 → FitsEvent v → OutcomeInRange rules outcome → length fs ≤ 1000000000 → AllByRecursion (FillInRange rules) fs
+      → AllByRecursion FitsAddressed (event_messages rules place session v outcome fs)
+  event_fits place session (Logon client host beat) outcome fs p h o few fits = ((omega arith, (number_fits 98 0 (omega arith) (omega arith) (omega arith), (number_fits 108 beat (omega arith) (omega arith) (omega (arith, h.2)), tt)), omega arith), tt)
+  event_fits place session (New t) outcome fs p h o few fits = news_fit place session t outcome fs p h o few fits
+  event_fits place session (Cancel id original) outcome fs p h o few fits = cancels_fit place session id original outcome p h.0 h.1 o
+  event_fits place session (TestReply answer) outcome fs p h o few fits = ((omega arith, (text_fits 112 answer (omega arith) (omega arith) h, tt), omega arith), tt)
+  event_fits place session (Gap first) outcome fs p h o few fits = ((omega arith, (number_fits 7 first (omega arith) (omega arith) (omega (arith, h.1)), (number_fits 16 0 (omega arith) (omega arith) (omega arith), tt)), omega arith), tt)
+  event_fits place session (Resend first last) outcome fs p h o few fits = (tt, tt)
+  event_fits place session (Reject n reason) outcome fs p h o few fits = ((omega arith, (number_fits 45 n (omega arith) (omega arith) (omega (arith, h.0.1)), (number_fits 373 reason (omega arith) (omega arith) (small_reason reason h.1), tt)), omega arith), tt)
+  event_fits place session (Close reason) outcome fs p h o few fits = close_fits session reason
+
+  pub entry_fits : (w : WorkedEntry) → EntryInRange rules w → AllByRecursion FitsAddressed (entry_messages rules w)
+  entry_fits w h = event_fits w.place w.entry.session w.entry.event w.outcome w.fills h.place h.event h.outcome h.few h.fills
