@@ -2,6 +2,7 @@
 use Rattle.std.specs.Prelude.{ℕ, Bool, true, false, not, nat_lt, List, [], ◌∷◌, Option, Some, None, if◌then◌else◌}
 use Rattle.std.specs.List.{cons_option}
 use Rattle.spread_rules.specs.Journal.{is_close}
+use Rattle.spread_rules.specs.declared.codes.close_reason.TheConstants as close_reason
 use Rattle.spread_rules.specs.declared.event.Event.{Event}
 use Rattle.spread_rules.specs.declared.event.Event.TheVariants as events
 use Rattle.fix_session.specs.declared.session.Logon.{Logon}
@@ -31,12 +32,12 @@ closes reason = (verdicts.Event (events.Close reason), closed)
 
 -- the first message, where `next` is due after it
 abbrev pub opens : ℕ → Option Logon → Verdict × Session
-opens next None = closes 3
+opens next None = closes close_reason.NO_LOGON
 opens next (Some l) = (verdicts.Event (logon_event l), running (record { client = l.client; host = l.host; due = next; gap_asked = false }))
 
 -- a number below the due one: a duplicate is dropped, anything else closes the session
 abbrev pub step_below : Running → Bool → Verdict × Session
-step_below r duplicate = if duplicate then (verdicts.Nothing, running r) else closes 2
+step_below r duplicate = if duplicate then (verdicts.Nothing, running r) else closes close_reason.MSG_SEQ_NUM_TOO_LOW
 
 -- a number above the due one: the missing messages are asked for once
 abbrev pub step_above : Running → Verdict × Session
@@ -47,13 +48,13 @@ step_above r =
 -- the due number: a Logout closes the session, any other message is accepted
 abbrev pub step_due : Running → MessageView → Verdict × Session
 step_due r m =
-    if m.logout then closes 1
+    if m.logout then closes close_reason.LOGOUT
     else (verdict_of m.event, running (record r { due = m.next; gap_asked = false }))
 
 -- a message after the Logon
 abbrev pub step_running : Running → MessageView → Verdict × Session
 step_running r m =
-    if not (are_same m.comp_ids r.client r.host) then closes 4
+    if not (are_same m.comp_ids r.client r.host) then closes close_reason.COMP_ID
     else (if nat_lt m.number r.due then step_below r m.duplicate
     else (if nat_lt r.due m.number then step_above r
     else step_due r m))
@@ -77,8 +78,8 @@ abbrev pub judge : Session → List ℕ → Verdict × Session
 judge s frame = step_or_stay s (view frame)
 
 abbrev pub end_at : Session → State → Verdict × Session
-end_at s states.Before = closes 5
-end_at s (states.Running r) = closes 5
+end_at s states.Before = closes close_reason.STREAM_ENDED
+end_at s (states.Running r) = closes close_reason.STREAM_ENDED
 end_at s states.Closed = (verdicts.Nothing, s)
 
 -- what a session says where nothing more comes

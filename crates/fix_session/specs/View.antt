@@ -1,9 +1,11 @@
 -- What a session sees of a message.
-use Rattle.std.specs.Prelude.{ℕ, ◌+◌, Bool, false, ◌&&◌, ◌==◌, nat_lt, length, List, [], ◌∷◌, Option, Some, None, option_map, Result, Ok, Err, if◌then◌else◌}
+use Rattle.std.specs.Prelude.{ℕ, ◌+◌, Bool, false, ◌&&◌, ◌==◌, nat_lt, length, List, [], ◌∷◌, Option, Some, None, option_map, Result, Ok, Err, if◌then◌else◌, codes}
 use Rattle.std.specs.Str.{bytes_eq}
 use Rattle.host_base.specs.Ids.{id_of}
 use Rattle.spread_rules.specs.declared.event.Event.{Event}
 use Rattle.spread_rules.specs.declared.event.Event.TheVariants as events
+use Rattle.fix_wire.specs.declared.msg_types.TheConstants as msg_types
+use Rattle.fix_wire.specs.declared.tags.TheConstants as tags
 use Rattle.fix_wire.specs.declared.values.Unread.{Unread}
 use Rattle.fix_wire.specs.Values.{number_in}
 use Rattle.fix_wire.specs.Messages.{get, kind, number}
@@ -26,13 +28,13 @@ is_same_text (Some found) text = bytes_eq found text
 abbrev pub is_text : ℕ → List ℕ → List ℕ → Bool
 is_text tag m text = is_same_text (get tag m) text
 
--- 43=Y, a possible duplicate
+-- a possible duplicate
 abbrev pub is_duplicate : List ℕ → Bool
-is_duplicate m = is_text 43 m (89 ∷ [])
+is_duplicate m = is_text tags.POSS_DUP_FLAG m (codes "Y")
 
--- kind 5, a Logout
+-- a Logout
 abbrev pub is_logout : List ℕ → Bool
-is_logout m = bytes_eq (kind m) (53 ∷ [])
+is_logout m = bytes_eq (kind m) (msg_types.LOGOUT ∷ [])
 
 abbrev pub id_in : ℕ → List ℕ → Option (List ℕ)
 id_in tag m = get tag m >>= id_of
@@ -57,7 +59,7 @@ pub record CompIds : Type 0 where
 
 -- the CompIDs of a message, where it has both
 abbrev pub comp_ids : List ℕ → Option CompIds
-comp_ids m = get 49 m >>= λ client. get 56 m >>= λ host. Some (record { client = client; host = host })
+comp_ids m = get tags.SENDER_COMP_ID m >>= λ client. get tags.TARGET_COMP_ID m >>= λ host. Some (record { client = client; host = host })
 
 -- these are the CompIDs of that client and that host
 abbrev pub are_same : Option CompIds → List ℕ → List ℕ → Bool
@@ -66,13 +68,13 @@ are_same (Some ids) client host = bytes_eq ids.client client && bytes_eq ids.hos
 
 -- ---- the Logon
 
--- kind A, number 1, a sending time, no encryption
+-- a Logon with number 1, a sending time, and no encryption
 abbrev pub is_opening : List ℕ → ℕ → Bool
-is_opening m n = bytes_eq (kind m) (65 ∷ []) && (n == 1) && is_filled (get 52 m) && is_text 98 m (48 ∷ [])
+is_opening m n = bytes_eq (kind m) (msg_types.LOGON ∷ []) && (n == 1) && is_filled (get tags.SENDING_TIME m) && is_text tags.ENCRYPT_METHOD m (codes "0")
 
 -- what a lawful Logon says
 unfoldable pub logon_of : List ℕ → ℕ → Option Logon
-logon_of m n = if is_opening m n then (id_in 49 m >>= λ client. id_in 56 m >>= λ host. number_at 108 m >>= λ beat. Some (record { client = client; host = host; beat = beat })) else None
+logon_of m n = if is_opening m n then (id_in tags.SENDER_COMP_ID m >>= λ client. id_in tags.TARGET_COMP_ID m >>= λ host. number_at tags.HEART_BT_INT m >>= λ beat. Some (record { client = client; host = host; beat = beat })) else None
 
 abbrev pub logon_comp_ids : Logon → CompIds
 logon_comp_ids l = record { client = l.client; host = l.host }

@@ -6,9 +6,10 @@ ghost use Rattle.fix_session.specs.View.{id_in, number_at, is_opening, logon_of,
 ghost use Rattle.fix_session.specs.Steps.{new_session, running, closes, opens, step_below, step_above, step_due, step_running, verdict_of, judge, ended, is_closed};
 
 use crate::table::{Meaning, meaning_of};
-use fix_wire::{Message, read_number};
+use fix_wire::{Message, msg_types, read_number, tags};
 use host_base::Id;
 use spread_rules::Event;
+use spread_rules::codes::close_reason;
 
 /// What a session says to a message.
 #[derive(Clone, Copy, Debug, PartialEq, Eq)]
@@ -71,7 +72,7 @@ impl Session {
             State::Closed => (Verdict::Nothing, *self),
             State::Before => match logon_of(message, number) {
                 Some(logon) => opened(logon),
-                None => closed(3),
+                None => closed(close_reason::NO_LOGON),
             },
             State::Running(running) => judge_running(running, message, number),
         }
@@ -83,7 +84,7 @@ impl Session {
     {
         match self.state {
             State::Closed => (Verdict::Nothing, *self),
-            _ => closed(5),
+            _ => closed(close_reason::STREAM_ENDED),
         }
     }
 
@@ -125,15 +126,15 @@ fn number_at(message: &Message, tag: u32) -> Option<u32>
 fn is_opening(message: &Message, number: u32) -> bool
     ensures { result ≡ is_opening message.now.frame.now number }
 {
-    let stamped = match message.get(52) {
+    let stamped = match message.get(tags::SENDING_TIME) {
         Some(text) => !text.is_empty(),
         None => false,
     };
-    let plain = match message.get(98) {
+    let plain = match message.get(tags::ENCRYPT_METHOD) {
         Some(text) => text == b"0".as_slice(),
         None => false,
     };
-    message.kind() == b"A".as_slice() && number == 1 && stamped && plain
+    message.kind() == [msg_types::LOGON].as_slice() && number == 1 && stamped && plain
 }
 
 /// The Logon that opens a session, where the message is one.
@@ -144,13 +145,13 @@ fn logon_of(message: &Message, number: u32) -> Option<Logon>
     if !is_opening(message, number) {
         return None;
     }
-    let client = id_in(message, 49)?;
-    let host = id_in(message, 56)?;
-    let beat = number_at(message, 108)?;
+    let client = id_in(message, tags::SENDER_COMP_ID)?;
+    let host = id_in(message, tags::TARGET_COMP_ID)?;
+    let beat = number_at(message, tags::HEART_BT_INT)?;
     Some(Logon { client, host, beat })
 }
 
-/// The session is over: 1 Logout, 2 number too low, 3 no Logon, 4 CompID, 5 the end of its stream.
+/// The session is over.
 fn closed(reason: u8) -> (Verdict, Session)
     ensures { result ≡ closes reason }
 {
@@ -180,9 +181,9 @@ fn opened(logon: Logon) -> (Verdict, Session)
 fn has_comp_ids(running: &Running, message: &Message) -> bool
     ensures { result ≡ are_same (comp_ids message.now.frame.now) running.now.client running.now.host }
 {
-    match message.get(49) {
+    match message.get(tags::SENDER_COMP_ID) {
         None => false,
-        Some(client) => match message.get(56) {
+        Some(client) => match message.get(tags::TARGET_COMP_ID) {
             None => false,
             Some(host) => client == running.client.bytes() && host == running.host.bytes(),
         },
@@ -193,7 +194,7 @@ fn has_comp_ids(running: &Running, message: &Message) -> bool
 fn is_duplicate(message: &Message) -> bool
     ensures { result ≡ is_duplicate message.now.frame.now }
 {
-    match message.get(43) {
+    match message.get(tags::POSS_DUP_FLAG) {
         Some(text) => text == b"Y".as_slice(),
         None => false,
     }
@@ -202,7 +203,7 @@ fn is_duplicate(message: &Message) -> bool
 fn is_logout(message: &Message) -> bool
     ensures { result ≡ is_logout message.now.frame.now }
 {
-    message.kind() == b"5".as_slice()
+    message.kind() == [msg_types::LOGOUT].as_slice()
 }
 
 /// A message after the Logon.
@@ -211,7 +212,7 @@ fn judge_running(running: Running, message: &Message, number: u32) -> (Verdict, 
     ensures { result ≡ step_running running (view_with message.now.frame.now number) }
 {
     if !has_comp_ids(&running, message) {
-        return closed(4);
+        return closed(close_reason::COMP_ID);
     }
     if number < running.due {
         return judge_below(running, message);
@@ -229,7 +230,7 @@ fn judge_below(running: Running, message: &Message) -> (Verdict, Session)
     if is_duplicate(message) {
         (Verdict::Nothing, running.session())
     } else {
-        closed(2)
+        closed(close_reason::MSG_SEQ_NUM_TOO_LOW)
     }
 }
 
@@ -254,7 +255,7 @@ fn judge_due(running: Running, message: &Message, number: u32) -> (Verdict, Sess
     ensures { result ≡ step_due running (view_with message.now.frame.now number) }
 {
     if is_logout(message) {
-        return closed(1);
+        return closed(close_reason::LOGOUT);
     }
     let (verdict, due) = accepted(message, number);
     let next = Running {

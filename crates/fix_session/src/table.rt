@@ -1,16 +1,17 @@
 //! The kinds of messages with their tags, and what an accepted message of each kind means.
 //!
-//! The tags of a kind are read in their order. The first fault is the reason of the Reject (tag 373): 1 the tag is
-//! missing, 4 its value is empty, 5 its value is out of range or not allowed, 6 its form is wrong, 11 no such kind.
+//! The tags of a kind are read in their order. The first fault is the SessionRejectReason of the Reject.
 ghost use Rattle.std.specs.Prelude.{◌≡◌, ◌≤◌, ℕ, List, length, Result, ◌==◌};
 ghost use Rattle.std.specs.Option.{option_copied};
 ghost use Rattle.std.specs.List.{list_any};
 ghost use Rattle.fix_wire.specs.Messages.{get};
+ghost use Rattle.fix_wire.specs.declared.tags.TheConstants as tags;
 ghost use Rattle.fix_session.specs.Table.{text_at, id_at, number_at, quantity_at, price_at, choice_at, one_of, side_at, time_in_force_of, gap_fill_flag_of, passed_over, test_request, resend_request, sequence_reset, new_order, cancel_request, meaning_of_kind, meaning_of, reason_of};
 ghost use Rattle.fix_session.specs.Shown.{shown};
 
-use fix_wire::{Message, Unread, read_number, read_price, read_quantity};
+use fix_wire::{Message, Unread, msg_types, read_number, read_price, read_quantity, tags};
 use host_base::Id;
+use spread_rules::codes::session_reject_reason;
 use spread_rules::{Event, Side, Ticket};
 
 /// What an accepted message means.
@@ -29,8 +30,8 @@ fn text_at<'a>(message: &Message<'a>, tag: u32) -> Result<&'a [u8], u8>
     ensures { shown result ≡ text_at tag message.now.frame.now }
 {
     match message.get(tag) {
-        None => Err(1),
-        Some([]) => Err(4),
+        None => Err(session_reject_reason::REQUIRED_TAG_MISSING),
+        Some([]) => Err(session_reject_reason::TAG_WITHOUT_VALUE),
         Some(text) => Ok(text),
     }
 }
@@ -40,7 +41,7 @@ fn id_at(message: &Message, tag: u32) -> Result<Id, u8>
 {
     match Id::new(text_at(message, tag)?) {
         Some(id) => Ok(id),
-        None => Err(5),
+        None => Err(session_reject_reason::VALUE_OUT_OF_RANGE),
     }
 }
 
@@ -49,8 +50,8 @@ fn reason_of(fault: Unread) -> u8
     ensures { result ≡ reason_of fault }
 {
     match fault {
-        Unread::Format => 6,
-        Unread::Range => 5,
+        Unread::Format => session_reject_reason::INCORRECT_FORMAT,
+        Unread::Range => session_reject_reason::VALUE_OUT_OF_RANGE,
     }
 }
 
@@ -98,7 +99,7 @@ fn one_of(allowed: &[u8], text: &[u8]) -> Result<u8, u8>
 {
     match text {
         [byte] if is_among(*byte, allowed) => Ok(*byte),
-        _ => Err(5),
+        _ => Err(session_reject_reason::VALUE_OUT_OF_RANGE),
     }
 }
 
@@ -112,7 +113,7 @@ fn choice_at(message: &Message, tag: u32, allowed: &[u8]) -> Result<u8, u8>
 fn side_at(message: &Message) -> Result<Side, u8>
     ensures { result ≡ side_at message.now.frame.now }
 {
-    match choice_at(message, 54, b"12")? {
+    match choice_at(message, tags::SIDE, b"12")? {
         b'1' => Ok(Side::Buy),
         _ => Ok(Side::Sell),
     }
@@ -120,22 +121,22 @@ fn side_at(message: &Message) -> Result<Side, u8>
 
 /// TimeInForce, tag 59: whether an order is immediate. Without the tag it is a day order.
 fn is_immediate_at(message: &Message) -> Result<bool, u8>
-    ensures { result ≡ time_in_force_of (get 59 message.now.frame.now) }
+    ensures { result ≡ time_in_force_of (get tags.TIME_IN_FORCE message.now.frame.now) }
 {
-    match message.get(59) {
+    match message.get(tags::TIME_IN_FORCE) {
         None => Ok(false),
-        Some([]) => Err(4),
+        Some([]) => Err(session_reject_reason::TAG_WITHOUT_VALUE),
         Some(text) => Ok(one_of(b"03", text)? == b'3'),
     }
 }
 
 /// GapFillFlag, tag 123: a gap fill has to say that it is one.
 fn gap_fill_flag_at(message: &Message) -> Result<u8, u8>
-    ensures { result ≡ gap_fill_flag_of (get 123 message.now.frame.now) }
+    ensures { result ≡ gap_fill_flag_of (get tags.GAP_FILL_FLAG message.now.frame.now) }
 {
-    match message.get(123) {
-        None => Err(5),
-        Some([]) => Err(4),
+    match message.get(tags::GAP_FILL_FLAG) {
+        None => Err(session_reject_reason::VALUE_OUT_OF_RANGE),
+        Some([]) => Err(session_reject_reason::TAG_WITHOUT_VALUE),
         Some(text) => one_of(b"Y", text),
     }
 }
@@ -144,7 +145,7 @@ fn gap_fill_flag_at(message: &Message) -> Result<u8, u8>
 fn passed_over(message: &Message) -> Result<Meaning, u8>
     ensures { result ≡ passed_over message.now.frame.now }
 {
-    text_at(message, 52)?;
+    text_at(message, tags::SENDING_TIME)?;
     Ok(Meaning::Nothing)
 }
 
@@ -152,8 +153,8 @@ fn passed_over(message: &Message) -> Result<Meaning, u8>
 fn test_request(message: &Message) -> Result<Meaning, u8>
     ensures { result ≡ test_request message.now.frame.now }
 {
-    text_at(message, 52)?;
-    let text = id_at(message, 112)?;
+    text_at(message, tags::SENDING_TIME)?;
+    let text = id_at(message, tags::TEST_REQ_ID)?;
     Ok(Meaning::Gives(Event::TestReply { text }))
 }
 
@@ -161,17 +162,17 @@ fn test_request(message: &Message) -> Result<Meaning, u8>
 fn resend_request(message: &Message) -> Result<Meaning, u8>
     ensures { result ≡ resend_request message.now.frame.now }
 {
-    text_at(message, 52)?;
-    let first = number_at(message, 7)?;
+    text_at(message, tags::SENDING_TIME)?;
+    let first = number_at(message, tags::BEGIN_SEQ_NO)?;
     if first < 1 {
-        return Err(5);
+        return Err(session_reject_reason::VALUE_OUT_OF_RANGE);
     }
-    let last = number_at(message, 16)?;
+    let last = number_at(message, tags::END_SEQ_NO)?;
     if last == 0 {
         return Ok(Meaning::Gives(Event::Resend { first, last }));
     }
     if last < first {
-        return Err(5);
+        return Err(session_reject_reason::VALUE_OUT_OF_RANGE);
     }
     Ok(Meaning::Gives(Event::Resend { first, last }))
 }
@@ -181,10 +182,10 @@ fn resend_request(message: &Message) -> Result<Meaning, u8>
 fn sequence_reset(message: &Message, number: u32) -> Result<Meaning, u8>
     ensures { result ≡ sequence_reset message.now.frame.now number }
 {
-    text_at(message, 52)?;
-    let next = number_at(message, 36)?;
+    text_at(message, tags::SENDING_TIME)?;
+    let next = number_at(message, tags::NEW_SEQ_NO)?;
     if next <= number {
-        return Err(5);
+        return Err(session_reject_reason::VALUE_OUT_OF_RANGE);
     }
     gap_fill_flag_at(message)?;
     Ok(Meaning::Fills(next))
@@ -194,15 +195,15 @@ fn sequence_reset(message: &Message, number: u32) -> Result<Meaning, u8>
 fn new_order(message: &Message) -> Result<Ticket, u8>
     ensures { result ≡ new_order message.now.frame.now }
 {
-    text_at(message, 52)?;
-    let id = id_at(message, 11)?;
-    let _handling = choice_at(message, 21, b"123")?;
-    let symbol = id_at(message, 55)?;
+    text_at(message, tags::SENDING_TIME)?;
+    let id = id_at(message, tags::CL_ORD_ID)?;
+    let _handling = choice_at(message, tags::HANDL_INST, b"123")?;
+    let symbol = id_at(message, tags::SYMBOL)?;
     let side = side_at(message)?;
-    text_at(message, 60)?;
-    let quantity = quantity_at(message, 38)?;
-    let _limit_order = choice_at(message, 40, b"2")?;
-    let price = price_at(message, 44)?;
+    text_at(message, tags::TRANSACT_TIME)?;
+    let quantity = quantity_at(message, tags::ORDER_QTY)?;
+    let _limit_order = choice_at(message, tags::ORD_TYPE, b"2")?;
+    let price = price_at(message, tags::PRICE)?;
     let immediate = is_immediate_at(message)?;
     Ok(Ticket {
         id,
@@ -218,12 +219,12 @@ fn new_order(message: &Message) -> Result<Ticket, u8>
 fn cancel_request(message: &Message) -> Result<Meaning, u8>
     ensures { result ≡ cancel_request message.now.frame.now }
 {
-    text_at(message, 52)?;
-    let original = id_at(message, 41)?;
-    let id = id_at(message, 11)?;
-    let _symbol = id_at(message, 55)?;
+    text_at(message, tags::SENDING_TIME)?;
+    let original = id_at(message, tags::ORIG_CL_ORD_ID)?;
+    let id = id_at(message, tags::CL_ORD_ID)?;
+    let _symbol = id_at(message, tags::SYMBOL)?;
     let _side = side_at(message)?;
-    text_at(message, 60)?;
+    text_at(message, tags::TRANSACT_TIME)?;
     Ok(Meaning::Gives(Event::Cancel { id, original }))
 }
 
@@ -231,14 +232,14 @@ fn meaning_of_kind(kind: u8, message: &Message, number: u32) -> Result<Meaning, 
     ensures { result ≡ meaning_of_kind kind message.now.frame.now number }
 {
     match kind {
-        b'0' => passed_over(message),
-        b'1' => test_request(message),
-        b'2' => resend_request(message),
-        b'3' => passed_over(message),
-        b'4' => sequence_reset(message, number),
-        b'D' => Ok(Meaning::Gives(Event::New(new_order(message)?))),
-        b'F' => cancel_request(message),
-        _ => Err(11),
+        msg_types::HEARTBEAT => passed_over(message),
+        msg_types::TEST_REQUEST => test_request(message),
+        msg_types::RESEND_REQUEST => resend_request(message),
+        msg_types::REJECT => passed_over(message),
+        msg_types::SEQUENCE_RESET => sequence_reset(message, number),
+        msg_types::NEW_ORDER_SINGLE => Ok(Meaning::Gives(Event::New(new_order(message)?))),
+        msg_types::ORDER_CANCEL_REQUEST => cancel_request(message),
+        _ => Err(session_reject_reason::INVALID_MSG_TYPE),
     }
 }
 
@@ -248,8 +249,8 @@ pub fn meaning_of(message: &Message, number: u32) -> Result<Meaning, u8>
     ensures { result ≡ meaning_of message.now.frame.now number }
 {
     match message.kind() {
-        [] => Err(4),
+        [] => Err(session_reject_reason::TAG_WITHOUT_VALUE),
         [kind] => meaning_of_kind(*kind, message, number),
-        _ => Err(11),
+        _ => Err(session_reject_reason::INVALID_MSG_TYPE),
     }
 }

@@ -4,6 +4,7 @@
 mod id;
 mod id_key;
 pub mod laws;
+pub mod limits;
 mod memory;
 mod sink;
 mod source;

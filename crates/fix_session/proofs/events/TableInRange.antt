@@ -17,7 +17,7 @@ use Rattle.fix_wire.specs.Values.{is_number, within, number_in, quantity_in, hun
 use Rattle.fix_wire.specs.Messages.{get, kind}
 use Rattle.fix_session.specs.declared.table.Meaning.{Meaning}
 use Rattle.fix_session.specs.declared.table.Meaning.TheVariants.{Nothing, Gives, Fills}
-use Rattle.fix_session.specs.Table.{◌>>=◌, filled, text_at, or_five, id_at, or_reason, number_at, quantity_at, price_at, one_of, choice_at, allowed_if, side_at, side_of, time_in_force_of, gap_fill_flag_of, passed_over, test_request, resend_request, sequence_reset, new_order, cancel_request, meaning_of_kind, meaning_with, meaning_of}
+use Rattle.fix_session.specs.Table.{◌>>=◌, filled, text_at, or_out_of_range, id_at, or_reason, number_at, quantity_at, price_at, one_of, choice_at, allowed_if, side_at, side_of, time_in_force_of, gap_fill_flag_of, passed_over, test_request, resend_request, sequence_reset, new_order, cancel_request, meaning_of_kind, meaning_with, meaning_of}
 
 -- a result of that kind, or a reason to reject
 abbrev pub Holds : {A : Type 0} → (A → Type 0) → Result A ℕ → Type 0
@@ -58,15 +58,15 @@ text_holds tag m = filled_holds (get tag m)
 abbrev IsId : List ℕ → Type 0
 IsId text = is_id text ≡ true
 
-id_of_holds : (text : List ℕ) → Holds IsId (or_five (id_of text))
+id_of_holds : (text : List ℕ) → Holds IsId (or_out_of_range (id_of text))
 id_of_holds text = by_test (is_id text) refl
   where
-    by_test : (v : Bool) → is_id text ≡ v → Holds IsId (or_five (if v then Some text else None))
+    by_test : (v : Bool) → is_id text ≡ v → Holds IsId (or_out_of_range (if v then Some text else None))
     by_test true e = e
     by_test false e = refl
 
 id_holds : (tag : ℕ) (m : List ℕ) → Holds IsId (id_at tag m)
-id_holds tag m = chained Any IsId (text_at tag m) (λ text. or_five (id_of text)) (text_holds tag m) (λ text h. id_of_holds text)
+id_holds tag m = chained Any IsId (text_at tag m) (λ text. or_out_of_range (id_of text)) (text_holds tag m) (λ text h. id_of_holds text)
 
 within_holds : (most n : ℕ) → Holds (λ x. x ≤ most) (or_reason (within most n))
 within_holds most n = by_test (nat_le n most) refl
