@@ -6,7 +6,7 @@ use spread_rules::RuleFault;
 use std::fmt;
 
 /// Why the program ended without its text.
-#[derive(Debug, Drop)]
+#[derive(Drop)]
 pub enum Fault<'a> {
     /// The stamp is empty, too long, or has a byte 1.
     Stamp,
@@ -14,6 +14,13 @@ pub enum Fault<'a> {
     File(&'a str),
     /// The run ended without its text.
     Host(HostFault),
+}
+
+/// What a fault line ends with.
+enum Detail<'a> {
+    Nothing,
+    Number(u64),
+    Name(&'a str),
 }
 
 impl<'a> From<HostFault> for Fault<'a> {
@@ -29,6 +36,15 @@ impl<'a> Fault<'a> {
             Fault::Stamp => 2,
             Fault::File(_) => 3,
             Fault::Host(fault) => host_status(fault),
+        }
+    }
+
+    /// The fault line, and what follows it after a space.
+    fn line(&self) -> (&'static str, Detail<'a>) {
+        match self {
+            Fault::Stamp => ("stamp", Detail::Nothing),
+            Fault::File(path) => ("cannot read", Detail::Name(path)),
+            Fault::Host(fault) => host_line(fault),
         }
     }
 }
@@ -52,47 +68,48 @@ fn host_status(fault: &HostFault) -> u8 {
 
 impl<'a> fmt::Display for Fault<'a> {
     fn fmt<W: fmt::Write>(&self, f: &mut fmt::Formatter<W>) -> fmt::Result {
-        match self {
-            Fault::Stamp => write!(f, "stamp"),
-            Fault::File(path) => write!(f, "cannot read {}", path),
-            Fault::Host(fault) => host_line(f, fault),
+        let (text, detail) = self.line();
+        match detail {
+            Detail::Nothing => f.write_str(text),
+            Detail::Number(number) => write!(f, "{} {}", text, number),
+            Detail::Name(name) => write!(f, "{} {}", text, name),
         }
     }
 }
 
-fn host_line<W: fmt::Write>(f: &mut fmt::Formatter<W>, fault: &HostFault) -> fmt::Result {
+fn host_line<'a>(fault: &HostFault) -> (&'static str, Detail<'a>) {
     match fault {
-        HostFault::DayLine(line) => write!(f, "day line {}", line),
-        HostFault::Rule(fault) => rule_line(f, fault),
-        HostFault::Link(LinkFault::NoMemory) => write!(f, "no memory"),
-        HostFault::Link(fault) => write!(f, "link {}", fault.number()),
-        HostFault::Spawn(session) => write!(f, "thread {}", session),
-        HostFault::JournalFull => write!(f, "journal full"),
-        HostFault::NoMemory(_) => write!(f, "no memory"),
-        HostFault::Read => write!(f, "cannot read input"),
-        HostFault::Write => write!(f, "cannot write"),
-        HostFault::NumbersSpent(_) => write!(f, "numbers spent"),
-        HostFault::Journal(fault) => journal_line(f, fault),
+        HostFault::DayLine(line) => ("day line", Detail::Number(*line as u64)),
+        HostFault::Rule(fault) => rule_line(fault),
+        HostFault::Link(LinkFault::NoMemory) => ("no memory", Detail::Nothing),
+        HostFault::Link(fault) => ("link", Detail::Number(fault.number() as u64)),
+        HostFault::Spawn(session) => ("thread", Detail::Number(*session as u64)),
+        HostFault::JournalFull => ("journal full", Detail::Nothing),
+        HostFault::NoMemory(_) => ("no memory", Detail::Nothing),
+        HostFault::Read => ("cannot read input", Detail::Nothing),
+        HostFault::Write => ("cannot write", Detail::Nothing),
+        HostFault::NumbersSpent(_) => ("numbers spent", Detail::Nothing),
+        HostFault::Journal(fault) => journal_line(fault),
     }
 }
 
-fn rule_line<W: fmt::Write>(f: &mut fmt::Formatter<W>, fault: &RuleFault) -> fmt::Result {
+fn rule_line<'a>(fault: &RuleFault) -> (&'static str, Detail<'a>) {
     match fault {
-        RuleFault::BadLine(line) => write!(f, "rules: bad line {}", line),
-        RuleFault::NoMonth => write!(f, "rules: no month"),
-        RuleFault::TooManyMonths => write!(f, "rules: too many months"),
-        RuleFault::NamedTwice => write!(f, "rules: named twice"),
-        RuleFault::NoMemory => write!(f, "no memory"),
+        RuleFault::BadLine(line) => ("rules: bad line", Detail::Number(*line as u64)),
+        RuleFault::NoMonth => ("rules: no month", Detail::Nothing),
+        RuleFault::TooManyMonths => ("rules: too many months", Detail::Nothing),
+        RuleFault::NamedTwice => ("rules: named twice", Detail::Nothing),
+        RuleFault::NoMemory => ("no memory", Detail::Nothing),
     }
 }
 
-fn journal_line<W: fmt::Write>(f: &mut fmt::Formatter<W>, fault: &JournalFault) -> fmt::Result {
+fn journal_line<'a>(fault: &JournalFault) -> (&'static str, Detail<'a>) {
     match fault {
-        JournalFault::Version => write!(f, "journal version"),
-        JournalFault::Line(line) => write!(f, "journal line {}", line),
-        JournalFault::Order(line) => write!(f, "journal order {}", line),
-        JournalFault::Cut => write!(f, "journal cut"),
-        JournalFault::Write => write!(f, "cannot write"),
-        JournalFault::NoMemory => write!(f, "no memory"),
+        JournalFault::Version => ("journal version", Detail::Nothing),
+        JournalFault::Line(line) => ("journal line", Detail::Number(*line as u64)),
+        JournalFault::Order(line) => ("journal order", Detail::Number(*line as u64)),
+        JournalFault::Cut => ("journal cut", Detail::Nothing),
+        JournalFault::Write => ("cannot write", Detail::Nothing),
+        JournalFault::NoMemory => ("no memory", Detail::Nothing),
     }
 }

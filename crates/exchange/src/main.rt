@@ -1,4 +1,4 @@
-//! The program `exchange`: its words, its files, its fault lines and its statuses.
+//! The program `exchange`: its command line, its files, its fault lines and its statuses.
 #![tactic(auto)]
 
 mod fault;
@@ -8,16 +8,20 @@ use fault::Fault;
 use host_base::{FromReader, Id, ToWriter};
 use spread_host::{Caps, Gate, HostFault, check, replay, run_day, write_day};
 use spread_rules::Rulebook;
+use std::env::Env;
 use std::fs::Files;
 use std::process::ExitCode;
 use std::sync::Wait;
 use std::thread::Threads;
 use std::{fs, io};
-use words::{Refused, Request, read_words};
+use words::{Refused, Request, read_words, refusal_of};
 
 fn read_file<'a>(rt: &(impl Files + AllocGlobal), path: &'a str) -> Result<Vec<u8>, Fault<'a>> {
     match fs::read(rt, path) {
         Ok(bytes) => Ok(bytes),
+        Err(error) if error.kind() == io::ErrorKind::OutOfMemory => {
+            Err(Fault::Host(HostFault::NoMemory(0)))
+        }
         Err(_) => Err(Fault::File(path)),
     }
 }
@@ -153,13 +157,18 @@ fn refuse(rt: &(impl Print + Eprint), refused: Refused) -> ExitCode {
     }
 }
 
+/// The program's words, its own name first.
+fn words_of(rt: &(impl Env + AllocGlobal)) -> Result<Vec<String>, Refused> {
+    match std::env::args(rt) {
+        Ok(words) => Ok(words.collect(rt.alloc())?),
+        Err(error) => Err(refusal_of(rt.alloc(), &error)?),
+    }
+}
+
 fn main(rt: HostRuntime) -> ExitCode {
-    let Ok(words) = std::env::args(&rt) else {
-        return refuse(&rt, Refused::NoMemory);
-    };
-    let words: Vec<String> = match words.collect(rt.alloc()) {
+    let words = match words_of(&rt) {
         Ok(words) => words,
-        Err(_) => return refuse(&rt, Refused::NoMemory),
+        Err(refused) => return refuse(&rt, refused),
     };
     match read_words(rt.alloc(), words.as_slice()) {
         Ok(request) => match run(&rt, &request) {

@@ -1,11 +1,14 @@
-//! The program's words.
+//! The command line: its options, and what they ask for.
 use clap::builder::ValueParser;
 use clap::error::ErrorKind;
-use clap::{Arg, ArgAction, Command, Error};
+use clap::{Arg, ArgAction, ArgMatches, Command, Error};
 use std::alloc::{AllocError, Global};
+use std::io;
 
-/// What the words ask for. Each name of a file is as it was typed.
-#[derive(Debug, Drop)]
+const VERSION: &str = "0.1.0";
+
+/// What the command line asks for. Each name of a file is as it was typed.
+#[derive(Drop)]
 pub enum Request<'a> {
     /// Day lines from standard input.
     Replay {
@@ -28,7 +31,7 @@ pub enum Request<'a> {
     },
 }
 
-/// Why the words ask for nothing.
+/// Why the command line asks for nothing.
 #[derive(Drop)]
 pub enum Refused {
     NoMemory,
@@ -71,6 +74,16 @@ fn stamp_word<'a>(alloc: Global) -> Arg<'a> {
         .action(ArgAction::Set)
 }
 
+fn number_word<'a>(alloc: Global, name: &'a str, default: &'a str, help: &'a str) -> Arg<'a> {
+    Arg::new(alloc, name)
+        .long(name)
+        .value_name("N")
+        .help(help)
+        .default_value(default)
+        .value_parser(ValueParser::unsigned(0, 4_294_967_295))
+        .action(ArgAction::Set)
+}
+
 fn replay_command<'a>(alloc: Global) -> Result<Command<'a>, AllocError> {
     let journal_only = Arg::new(alloc, "journal-only")
         .long("journal-only")
@@ -85,22 +98,10 @@ fn replay_command<'a>(alloc: Global) -> Result<Command<'a>, AllocError> {
         .arg(journal_only)
 }
 
-fn number_word<'a>(
-    alloc: Global,
-    name: &'a str,
-    default: &'a str,
-    help: &'a str,
-) -> Result<Arg<'a>, AllocError> {
-    Ok(
-        Arg::new(alloc, name)
-            .long(name)
-            .value_name("N")
-            .help(help)
-            .default_value(default)
-            .value_parser(ValueParser::unsigned(0, 4_294_967_295))
-            .action(ArgAction::Set),
-    )
-}
+const RING_HELP: &str =
+    "How many events wait between a session's thread and the sequencer, 1 to 4096";
+
+const ENTRIES_HELP: &str = "How many entries the journal has room for, at most 1000000";
 
 fn live_command<'a>(alloc: Global) -> Result<Command<'a>, AllocError> {
     let sessions = Arg::new(alloc, "SESSION")
@@ -108,25 +109,13 @@ fn live_command<'a>(alloc: Global) -> Result<Command<'a>, AllocError> {
         .num_args(1..)
         .help("A file of raw bytes for each session, session 0 first")
         .action(ArgAction::Append);
-    let ring = number_word(
-        alloc,
-        "ring",
-        "256",
-        "How many events wait between a session's thread and the sequencer, 1 to 4096",
-    )?;
-    let entries = number_word(
-        alloc,
-        "entries",
-        "100000",
-        "How many entries the journal has room for, at most 1000000",
-    )?;
     Command::new(alloc, "live")
         .about("Runs a thread for each session's file, and writes what `replay` writes")
         .arg(rules_word(alloc))?
         .arg(sessions)?
         .arg(stamp_word(alloc))?
-        .arg(ring)?
-        .arg(entries)
+        .arg(number_word(alloc, "ring", "256", RING_HELP))?
+        .arg(number_word(alloc, "entries", "100000", ENTRIES_HELP))
 }
 
 fn check_command<'a>(alloc: Global) -> Result<Command<'a>, AllocError> {
@@ -145,37 +134,67 @@ fn exchange_command<'a>(alloc: Global) -> Result<Command<'a>, AllocError> {
         .about(
             "A matching host for futures months and calendar spreads, reached by FIX 4.2 messages",
         )
+        .version(VERSION)
         .subcommand_required(true)
         .subcommand(replay_command(alloc)?)?
         .subcommand(live_command(alloc)?)?
         .subcommand(check_command(alloc)?)
 }
 
+fn text_of<'a>(found: &ArgMatches<'a>, name: &str) -> &'a str {
+    found.get_str(name).unwrap_or("")
+}
+
+fn number_of(found: &ArgMatches, name: &str) -> u32 {
+    found.get_one(name).unwrap_or(0)
+}
+
+fn check_request<'a>(found: &ArgMatches<'a>) -> Request<'a> {
+    Request::Check {
+        rules: text_of(found, "RULES"),
+        journal: text_of(found, "JOURNAL"),
+    }
+}
+
+fn live_request<'a>(alloc: Global, found: &ArgMatches<'a>) -> Result<Request<'a>, AllocError> {
+    let sessions = found.get_strs("SESSION").unwrap_or(&[]).to_vec(alloc)?;
+    Ok(Request::Live {
+        rules: text_of(found, "RULES"),
+        sessions,
+        stamp: text_of(found, "stamp"),
+        ring: number_of(found, "ring"),
+        entries: number_of(found, "entries"),
+    })
+}
+
+fn replay_request<'a>(found: &ArgMatches<'a>) -> Request<'a> {
+    Request::Replay {
+        rules: text_of(found, "RULES"),
+        stamp: text_of(found, "stamp"),
+        journal_only: found.get_flag("journal-only"),
+    }
+}
+
 /// What these words ask for; the first is the program's name.
 pub fn read_words<'a>(alloc: Global, words: &'a [String]) -> Result<Request<'a>, Refused> {
-    let command = exchange_command(alloc)?;
-    let matches = command.try_get_matches_from(words)?;
-    if let Some(found) = matches.subcommand_matches("check") {
-        return Ok(Request::Check {
-            rules: found.get_str("RULES").unwrap_or(""),
-            journal: found.get_str("JOURNAL").unwrap_or(""),
-        });
+    let matches = exchange_command(alloc)?.try_get_matches_from(words)?;
+    match matches.subcommand() {
+        Some(("check", found)) => Ok(check_request(found)),
+        Some(("live", found)) => Ok(live_request(alloc, found)?),
+        Some((_, found)) => Ok(replay_request(found)),
+        // The parser has asked for a command by now.
+        None => Err(Refused::NoMemory),
     }
-    if let Some(found) = matches.subcommand_matches("live") {
-        return Ok(Request::Live {
-            rules: found.get_str("RULES").unwrap_or(""),
-            sessions: found.get_strs("SESSION").unwrap_or(&[]).to_vec(alloc)?,
-            stamp: found.get_str("stamp").unwrap_or(""),
-            ring: found.get_one("ring").unwrap_or(256),
-            entries: found.get_one("entries").unwrap_or(100_000),
-        });
+}
+
+/// Why the program's words could not be taken over from the system.
+pub fn refusal_of(alloc: Global, error: &io::Error) -> Result<Refused, AllocError> {
+    match error.kind() {
+        io::ErrorKind::InvalidData => {
+            let mut command = exchange_command(alloc)?;
+            let text = "invalid UTF-8 was detected in one or more arguments";
+            Ok(Refused::Words(command.error(ErrorKind::InvalidValue, text)?))
+        }
+        _ => Ok(Refused::NoMemory),
     }
-    let Some(found) = matches.subcommand_matches("replay") else {
-        return Err(Refused::NoMemory);
-    };
-    Ok(Request::Replay {
-        rules: found.get_str("RULES").unwrap_or(""),
-        stamp: found.get_str("stamp").unwrap_or(""),
-        journal_only: found.get_flag("journal-only"),
-    })
 }
