@@ -1,5 +1,6 @@
 -- A day: what a run hands out, and when.
-use Rattle.std.specs.Prelude.{◌≡◌, ℕ, zero, suc, Bool, ◌+◌, ◌≤◌, ◌⊎◌, List, [], ◌∷◌, ◌++◌, length, Option, IfSome, Err}
+use Rattle.std.specs.Prelude.{◌≡◌, ℕ, zero, suc, Bool, false, ◌+◌, ◌≤◌, ◌⊎◌, List, [], ◌∷◌, ◌++◌, length, Option, IfSome, Err}
+use Rattle.std.specs.Io.KnownBytes.{Appends, IsAtEnd}
 use Rattle.spread_rules.specs.declared.event.Entry.{Entry}
 use Rattle.spread_rules.specs.Meaning.{meaning_of_journal}
 use Rattle.spread_rules.specs.Rulebook.{Rules}
@@ -10,6 +11,16 @@ use Rattle.day_apply.specs.Applied.{outgoing_bytes, SpendsAt}
 use Rattle.day_text.specs.DayText.{day_text}
 use Rattle.spread_host.specs.declared.fault.HostFault.{HostFault}
 use Rattle.spread_host.specs.declared.fault.HostFault.TheVariants as faults
+
+-- a source that is read to its end, and did not fail
+pub record IsReadWhole (left : Option (List ℕ)) (failed : Bool) : Type 0 where
+  pub at_end : IsAtEnd left
+  pub sound : failed ≡ false
+
+-- this text, and nothing else, was written to a sink, which did not fail
+pub record IsWritten (old new : Option (List ℕ)) (failed : Bool) (text : List ℕ) : Type 0 where
+  pub appended : Appends old new text
+  pub sound : failed ≡ false
 
 -- what each of the sessions below n is sent over a journal
 abbrev pub texts_below : ℕ → Rules → List ℕ → List Entry → List (List ℕ)
@@ -44,7 +55,4 @@ IsReplayFault rules input (faults.NoMemory place) = IfSome input (λ i. IsPlace 
 IsReplayFault rules input (faults.NumbersSpent place) = IfSome input (λ i. IsSpent rules i place)
 IsReplayFault rules input faults.Read = Unit {0}
 IsReplayFault rules input faults.Write = Unit {0}
-IsReplayFault rules input (faults.Rule fault) = ⊥
-IsReplayFault rules input (faults.Link fault) = ⊥
-IsReplayFault rules input (faults.Spawn session) = ⊥
-IsReplayFault rules input (faults.Journal fault) = ⊥
+IsReplayFault rules input _ = ⊥

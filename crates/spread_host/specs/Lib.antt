@@ -1,4 +1,5 @@
 pub mod Faults
 pub mod Days
+pub mod Headline
 pub mod Checks
 pub mod LiveDays

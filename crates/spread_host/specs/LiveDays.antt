@@ -8,7 +8,7 @@ use Rattle.gate_link.specs.Opening.{IsRefusal}
 use Rattle.day_threads.specs.Streams.{whole_at, all_events}
 use Rattle.day_apply.specs.Applied.{SpendsAt}
 use Rattle.spread_host.specs.declared.fault.HostFault.{HostFault}
-use Rattle.spread_host.specs.declared.fault.HostFault.TheVariants.{DayLine, Rule, Link, Spawn, JournalFull, NoMemory, Read, Write, NumbersSpent, Journal}
+use Rattle.spread_host.specs.declared.fault.HostFault.TheVariants.{Link, Spawn, JournalFull, NoMemory, NumbersSpent}
 
 -- a place of a journal that has, of each session, the events of its stream
 pub record IsLivePlace {A : Type 0} (streams : List (Vec ℕ A)) (place : ℕ) : Type 0 where
@@ -29,8 +29,4 @@ IsRunDayFault rules streams ring journal (Spawn session) = session < length stre
 IsRunDayFault rules streams ring journal JournalFull = journal < all_events streams
 IsRunDayFault rules streams ring journal (NoMemory place) = (place ≡ 0) ⊎ IsLivePlace streams place
 IsRunDayFault rules streams ring journal (NumbersSpent place) = IsSpentLive rules streams place
-IsRunDayFault rules streams ring journal (DayLine line) = ⊥
-IsRunDayFault rules streams ring journal (Rule fault) = ⊥
-IsRunDayFault rules streams ring journal (Journal fault) = ⊥
-IsRunDayFault rules streams ring journal Read = ⊥
-IsRunDayFault rules streams ring journal Write = ⊥
+IsRunDayFault rules streams ring journal _ = ⊥

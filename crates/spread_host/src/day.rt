@@ -1,18 +1,16 @@
 //! The day of a journal, and the writing of its text.
-ghost use Rattle.std.specs.Prelude.{◌≡◌, ℕ, ◌<◌, ◌≤◌, ◌+◌, ◌⊎◌, IfOk, IfErr, OnOk, IsErrOf, ◌≢◌, All, length, true, false};
+ghost use Rattle.std.specs.Prelude.{◌≡◌, ◌≤◌, ◌+◌, ◌⊎◌, IfOk, IfErr, OnOk, IsErrOf, ◌≢◌, All, length, true, false};
 ghost use Rattle.std.specs.Io.KnownBytes.{Appends};
 ghost use Rattle.host_base.specs.Ends.{AppendsPrefix};
+ghost use Rattle.host_base.specs.declared.limits.TheConstants.{SESSIONS};
 ghost use Rattle.spread_rules.specs.Journal.{IsLawful};
-ghost use Rattle.spread_rules.specs.Meaning.{meaning_of_journal};
 ghost use Rattle.spread_rules.specs.Rulebook.{IsListed};
 ghost use Rattle.spread_journal.specs.JournalText.{HasByteIds};
 ghost use Rattle.fix_wire.specs.Frames.{IsFrameRow};
-ghost use Rattle.spread_report.specs.Messages.{IsRow, messages_to};
-ghost use Rattle.spread_report.specs.Sessions.{bytes_of};
-ghost use Rattle.day_apply.specs.Applied.{outgoing_bytes, worked_entries, IsApplyFault};
+ghost use Rattle.day_apply.specs.Applied.{IsApplyFault};
 ghost use Rattle.day_text.specs.DayText.{AreShown, day_text, fills_text, texts_of};
 ghost use Rattle.day_text.specs.Totals.{IsSummable};
-ghost use Rattle.spread_host.specs.Days.{texts_below};
+ghost use Rattle.spread_host.specs.Headline.{HasFills, HasOutgoing, BoughtIsSold, PaidIsReceived, IsAlwaysQuiet, IsDayOf};
 ghost use Rattle.spread_host.specs.declared.fault.HostFault.{HostFault};
 
 use crate::fault::HostFault;
@@ -32,13 +30,14 @@ pub fn day_of<A: Allocator + Copy>(
 ) -> Result<Day<A>, ApplyFault>
     requires { IsLawful journal.items }
     ensures journal { IfOk result (λ day. day.journal.items ≡ journal.items) }
-    ensures fills { IfOk result (λ day. day.fills.items ≡ (meaning_of_journal rulebook.now journal.items).fills) }
-    ensures lists { IfOk result (λ day. length day.out.items ≡ 16) }
-    ensures out { IfOk result (λ day. (s : ℕ) → s < 16 → bytes_of day.out.items s ≡ outgoing_bytes rulebook.now stamp journal.items s) }
-    ensures whole { IfOk result (λ day. (s : ℕ) → s < 16 → IsRow (messages_to rulebook.now stamp (worked_entries rulebook.now journal.items) s) (bytes_of day.out.items s)) }
-    ensures texts { IfOk result (λ day. texts_of day.out.items ≡ texts_below 16 rulebook.now stamp journal.items) }
-    ensures rows { IfOk result (λ day. All IsFrameRow (texts_of day.out.items)) }
-    ensures shown { IfOk result (λ day. AreShown rulebook.now day.fills.items) }
+    ensures fills { IfOk result (λ day. HasFills rulebook.now day.journal.items day.fills.items) }
+    ensures outgoing { IfOk result (λ day.
+        HasOutgoing rulebook.now stamp day.journal.items day.out.items) }
+    ensures bought_is_sold { IfOk result (λ day. BoughtIsSold day.fills.items) }
+    ensures paid_is_received { IfOk result (λ day. PaidIsReceived day.fills.items) }
+    ensures quiet { IfOk result (λ day. IsAlwaysQuiet rulebook.now day.journal.items) }
+    ensures day { IfOk result (λ day.
+        IsDayOf rulebook.now stamp day.journal.items day.fills.items day.out.items) }
     ensures fault { IfErr result (IsApplyFault rulebook.now journal.items) }
 {
     // Cites the ranges of a journal's fills, and that a rulebook is lawful.
@@ -63,14 +62,20 @@ pub fn write_day<K: Sink, A: Allocator + Copy>(
     sink: &mut K,
 ) -> Result<(), HostFault>
     requires works { K.has_failed sink.old ≡ false }
-    requires lists { length day.now.out.items ≤ 16 }
+    requires lists { length day.now.out.items ≤ SESSIONS }
     requires rows { All IsFrameRow (texts_of day.now.out.items) }
     requires shown { AreShown rulebook.now day.now.fills.items }
-    ensures ok { OnOk result (Appends (K.written sink.old) (K.written sink.new) (day_text journal_only rulebook.now day.now.journal.items day.now.fills.items (texts_of day.now.out.items))) }
+    ensures ok { OnOk result (Appends (K.written sink.old) (K.written sink.new)
+        (day_text journal_only rulebook.now day.now.journal.items day.now.fills.items
+        (texts_of day.now.out.items))) }
     ensures sound { OnOk result (K.has_failed sink.new ≡ false) }
     ensures bytes { OnOk result (All (λ e. HasByteIds e.event) day.now.journal.items) }
-    ensures memory { IfErr result (λ f. f ≢ HostFault.Write → (f ≡ HostFault.NoMemory (length day.now.journal.items + 1)) × (sink.new ≡ sink.old)) }
-    ensures write { IsErrOf result HostFault.Write → (K.has_failed sink.new ≡ true) × AppendsPrefix (K.written sink.old) (K.written sink.new) (day_text journal_only rulebook.now day.now.journal.items day.now.fills.items (texts_of day.now.out.items)) }
+    ensures memory { IfErr result (λ f. f ≢ HostFault.Write
+        → (f ≡ HostFault.NoMemory (length day.now.journal.items + 1)) × (sink.new ≡ sink.old)) }
+    ensures write { IsErrOf result HostFault.Write → (K.has_failed sink.new ≡ true)
+        × AppendsPrefix (K.written sink.old) (K.written sink.new)
+        (day_text journal_only rulebook.now day.now.journal.items day.now.fills.items
+        (texts_of day.now.out.items)) }
 {
     match day_text::write_day(alloc, rulebook, day, journal_only, sink) {
         Ok(()) => Ok(()),
@@ -91,10 +96,13 @@ pub fn write_fills<K: Sink, A: Allocator>(
     requires sound { K.has_failed sink.old ≡ false }
     requires listed { All (λ f. IsListed rulebook.now f.instrument) fills.now }
     requires summable { All IsSummable fills.now }
-    ensures ok { OnOk result (Appends (K.written sink.old) (K.written sink.new) (fills_text rulebook.now fills.now)) }
+    ensures ok { OnOk result
+        (Appends (K.written sink.old) (K.written sink.new) (fills_text rulebook.now fills.now)) }
     ensures sound { OnOk result (K.has_failed sink.new ≡ false) }
     ensures no_memory { IsErrOf result (HostFault.NoMemory 0) → sink.new ≡ sink.old }
-    ensures write { IsErrOf result HostFault.Write → (K.has_failed sink.new ≡ true) × AppendsPrefix (K.written sink.old) (K.written sink.new) (fills_text rulebook.now fills.now) }
+    ensures write { IsErrOf result HostFault.Write → (K.has_failed sink.new ≡ true)
+        × AppendsPrefix (K.written sink.old) (K.written sink.new)
+        (fills_text rulebook.now fills.now) }
     ensures only { IfErr result (λ f. (f ≡ HostFault.NoMemory 0) ⊎ (f ≡ HostFault.Write)) }
 {
     day_text::write_fills(alloc, rulebook, fills, sink)?;

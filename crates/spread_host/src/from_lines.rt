@@ -1,21 +1,10 @@
 //! A recorded day in one thread: day lines in, the day's text out.
-ghost use Rattle.std.specs.Prelude.{◌≡◌, ℕ, ◌<◌, ◌≤◌, ◌+◌, ◌⊎◌, ◌≢◌, Contains, IfOk, IfErr, IfSome, OnOk, IsErrOf, length, take, true, false, Ok};
-ghost use Rattle.std.specs.Io.KnownBytes.{Appends, IsAtEnd};
-ghost use Rattle.spread_rules.specs.declared.fill.Fill.{Fill};
-ghost use Rattle.host_base.specs.declared.whole.TheConstants.{LIMIT};
-ghost use Rattle.spread_rules.specs.Candidates.{all_on};
-ghost use Rattle.spread_rules.specs.Journal.{IsLawful};
-ghost use Rattle.spread_rules.specs.Legs.{bought, sold, paid, received};
-ghost use Rattle.spread_rules.specs.Meaning.{meaning_of_journal, filled};
-ghost use Rattle.spread_rules.specs.Quiet.{IsQuiet};
+ghost use Rattle.std.specs.Prelude.{◌≡◌, ◌<◌, ◌⊎◌, ◌≢◌, IfOk, IfErr, IfSome, OnOk, IsErrOf, length, true, false, Ok};
+ghost use Rattle.host_base.specs.declared.limits.TheConstants.{MAX_INPUT_BYTES};
 ghost use Rattle.spread_journal.specs.JournalReading.{ReadsJournal};
 ghost use Rattle.spread_journal.specs.JournalText.{journal_text};
-ghost use Rattle.spread_match.specs.Sound.{KeepsOrder};
-ghost use Rattle.spread_report.specs.Messages.{IsRow, messages_to};
-ghost use Rattle.spread_report.specs.Sessions.{bytes_of};
-ghost use Rattle.day_lines.specs.Reading.{IsJournalOf, HasParts};
-ghost use Rattle.spread_host.specs.Days.{IsReplayFault, IsPartOut, text_of_day};
-ghost use Rattle.day_apply.specs.Applied.{outgoing_bytes, worked_entries};
+ghost use Rattle.spread_host.specs.Headline.{IsJournalOfText, HasFills, HasOutgoing, BoughtIsSold, PaidIsReceived, IsAlwaysQuiet, IsDayOf};
+ghost use Rattle.spread_host.specs.Days.{IsReadWhole, IsWritten, IsReplayFault, IsPartOut, text_of_day};
 ghost use Rattle.spread_host.specs.declared.fault.HostFault.{HostFault};
 
 use crate::day::{day_of, write_day};
@@ -44,33 +33,34 @@ pub fn replay<S: Source, K: Sink, A: Allocator + Copy>(
     requires sink_works { K.has_failed sink.old ≡ false }
 
     // All was read, and the reader did not fail.
-    ensures read_whole { OnOk result (IsAtEnd (S.left source.new)) }
-    ensures read_sound { OnOk result (S.has_failed source.new ≡ false) }
+    ensures read_whole { OnOk result (IsReadWhole (S.left source.new) (S.has_failed source.new)) }
 
-    // The journal is that of the bytes read.
-    ensures journal { IfOk result (λ day. IfSome (S.left source.old) (λ input. IsJournalOf input day.journal.items)) }
-    ensures parts { IfOk result (λ day. IfSome (S.left source.old) (λ input. HasParts input day.journal.items)) }
-    ensures lawful { IfOk result (λ day. IsLawful day.journal.items) }
-    ensures read_again { IfOk result (λ day. ReadsJournal (journal_text day.journal.items) (Ok day.journal.items)) }
+    // The headline, over the journal of the bytes read.
+    ensures journal { IfOk result (λ day. IfSome (S.left source.old) (λ input.
+        IsJournalOfText input day.journal.items)) }
+    ensures fills { IfOk result (λ day. HasFills rulebook.now day.journal.items day.fills.items) }
+    ensures outgoing { IfOk result (λ day.
+        HasOutgoing rulebook.now stamp day.journal.items day.out.items) }
+    ensures bought_is_sold { IfOk result (λ day. BoughtIsSold day.fills.items) }
+    ensures paid_is_received { IfOk result (λ day. PaidIsReceived day.fills.items) }
+    ensures quiet { IfOk result (λ day. IsAlwaysQuiet rulebook.now day.journal.items) }
 
-    // What the journal's entries came to.
-    ensures fills { IfOk result (λ day. day.fills.items ≡ (meaning_of_journal rulebook.now day.journal.items).fills) }
-    ensures outgoing { IfOk result (λ day. (s : ℕ) → s < 16 → bytes_of day.out.items s ≡ outgoing_bytes rulebook.now stamp day.journal.items s) }
-    ensures whole_frames { IfOk result (λ day. (s : ℕ) → s < 16 → IsRow (messages_to rulebook.now stamp (worked_entries rulebook.now day.journal.items) s) (bytes_of day.out.items s)) }
-    ensures lists { IfOk result (λ day. length day.out.items ≡ 16) }
-    ensures bought_is_sold { IfOk result (λ day. (month : ℕ) → bought month day.fills.items ≡ sold month day.fills.items) }
-    ensures paid_is_received { IfOk result (λ day. (month : ℕ) → paid month day.fills.items ≡ received month day.fills.items) }
-    ensures quiet { IfOk result (λ day. (n : ℕ) → IsQuiet all_on (meaning_of_journal rulebook.now (take n day.journal.items)).orders) }
-    ensures limits { IfOk result (λ day. (f : Fill) → Contains day.fills.items f → KeepsOrder day.journal.items f) }
-    ensures totals { IfOk result (λ day. (f : Fill) → Contains day.fills.items f → filled f.order day.fills.items ≤ f.total) }
+    // What else is true of the day.
+    ensures day { IfOk result (λ day.
+        IsDayOf rulebook.now stamp day.journal.items day.fills.items day.out.items) }
+    ensures read_again { IfOk result (λ day.
+        ReadsJournal (journal_text day.journal.items) (Ok day.journal.items)) }
 
     // What was written, and nothing else.
-    ensures written { IfOk result (λ day. Appends (K.written sink.old) (K.written sink.new) (text_of_day journal_only rulebook.now stamp day.journal.items)) }
-    ensures write_sound { OnOk result (K.has_failed sink.new ≡ false) }
+    ensures written { IfOk result (λ day. IsWritten (K.written sink.old) (K.written sink.new)
+        (K.has_failed sink.new) (text_of_day journal_only rulebook.now stamp day.journal.items)) }
 
     // When each fault comes, and what is out then.
-    ensures read { IsErrOf result HostFault.Read → (S.has_failed source.new ≡ true) ⊎ IfSome (S.left source.old) (λ input. LIMIT < length input) }
-    ensures write { IsErrOf result HostFault.Write → (K.has_failed sink.new ≡ true) × IfSome (S.left source.old) (λ input. IsPartOut journal_only rulebook.now stamp input (K.written sink.old) (K.written sink.new)) }
+    ensures read { IsErrOf result HostFault.Read → (S.has_failed source.new ≡ true)
+        ⊎ IfSome (S.left source.old) (λ input. MAX_INPUT_BYTES < length input) }
+    ensures write { IsErrOf result HostFault.Write → (K.has_failed sink.new ≡ true)
+        × IfSome (S.left source.old) (λ input. IsPartOut journal_only rulebook.now stamp input
+        (K.written sink.old) (K.written sink.new)) }
     ensures nothing_written { IfErr result (λ f. f ≢ HostFault.Write → sink.new ≡ sink.old) }
     ensures fault { IfErr result (IsReplayFault rulebook.now (S.left source.old)) }
 {

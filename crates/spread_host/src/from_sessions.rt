@@ -1,21 +1,9 @@
 //! A day in threads: one for each session, and the sequencer in the caller's.
-ghost use Rattle.std.specs.Prelude.{◌≡◌, ◌<◌, ◌≤◌, ℕ, [], length, take, All, Contains, IsErrOf, IfOk, IfErr};
-ghost use Rattle.spread_rules.specs.declared.fill.Fill.{Fill};
-ghost use Rattle.spread_rules.specs.Candidates.{all_on};
-ghost use Rattle.spread_rules.specs.Journal.{restricted, IsLawful};
-ghost use Rattle.spread_rules.specs.Legs.{bought, sold, paid, received};
-ghost use Rattle.spread_rules.specs.Meaning.{meaning_of_journal, filled};
-ghost use Rattle.spread_rules.specs.Quiet.{IsQuiet};
-ghost use Rattle.spread_match.specs.Sound.{KeepsOrder};
-ghost use Rattle.fix_wire.specs.Frames.{IsFrameRow};
-ghost use Rattle.spread_report.specs.Messages.{IsRow, messages_to};
+ghost use Rattle.std.specs.Prelude.{◌≡◌, ◌<◌, ◌≤◌, ℕ, [], length, IfOk, IfErr};
+ghost use Rattle.host_base.specs.declared.limits.TheConstants.{SESSIONS};
 ghost use Rattle.spread_report.specs.Sessions.{bytes_of};
-ghost use Rattle.day_text.specs.DayText.{AreShown, texts_of};
-ghost use Rattle.spread_host.specs.Days.{texts_below};
+ghost use Rattle.spread_host.specs.Headline.{IsJournalOfStreams, HasFills, HasOutgoing, BoughtIsSold, PaidIsReceived, IsAlwaysQuiet, IsDayOf};
 ghost use Rattle.spread_host.specs.LiveDays.{IsRunDayFault};
-ghost use Rattle.day_threads.specs.Streams.{whole_at, all_events};
-ghost use Rattle.day_apply.specs.Applied.{outgoing_bytes, worked_entries};
-ghost use Rattle.spread_host.specs.declared.fault.HostFault.{HostFault};
 
 use crate::day::day_of;
 use crate::fault::HostFault;
@@ -42,29 +30,24 @@ pub fn run_day<R: Threads + Wait + Sync, G: Gate, A: Allocator + Copy + Send>(
     gate: &G,
     caps: Caps,
 ) -> Result<Day<A>, HostFault>
-    // Of each session the journal has exactly the events of its stream, each once, in their order, and of no other any.
-    ensures journal { IfOk result (λ day. (s : ℕ) → restricted s day.journal.items ≡ whole_at streams.items s) }
+    // The headline.
+    ensures journal { IfOk result (λ day. IsJournalOfStreams streams.items day.journal.items) }
+    ensures fills { IfOk result (λ day. HasFills rulebook.now day.journal.items day.fills.items) }
+    ensures outgoing { IfOk result (λ day.
+        HasOutgoing rulebook.now stamp day.journal.items day.out.items) }
+    ensures bought_is_sold { IfOk result (λ day. BoughtIsSold day.fills.items) }
+    ensures paid_is_received { IfOk result (λ day. PaidIsReceived day.fills.items) }
+    ensures quiet { IfOk result (λ day. IsAlwaysQuiet rulebook.now day.journal.items) }
+
+    // What else is true of the day.
+    ensures day { IfOk result (λ day.
+        IsDayOf rulebook.now stamp day.journal.items day.fills.items day.out.items) }
     ensures size { IfOk result (λ day. length day.journal.items ≤ caps.journal) }
-    ensures lawful { IfOk result (λ day. IsLawful day.journal.items) }
+    ensures no_stream { IfOk result (λ day. (s : ℕ) → s < SESSIONS → length streams.items ≤ s
+        → bytes_of day.out.items s ≡ []) }
 
-    // What the journal's entries came to.
-    ensures fills { IfOk result (λ day. day.fills.items ≡ (meaning_of_journal rulebook.now day.journal.items).fills) }
-    ensures outgoing { IfOk result (λ day. (s : ℕ) → s < 16 → bytes_of day.out.items s ≡ outgoing_bytes rulebook.now stamp day.journal.items s) }
-    ensures whole_frames { IfOk result (λ day. (s : ℕ) → s < 16 → IsRow (messages_to rulebook.now stamp (worked_entries rulebook.now day.journal.items) s) (bytes_of day.out.items s)) }
-    ensures no_stream { IfOk result (λ day. (s : ℕ) → s < 16 → length streams.items ≤ s → bytes_of day.out.items s ≡ []) }
-    ensures lists { IfOk result (λ day. length day.out.items ≡ 16) }
-    ensures texts { IfOk result (λ day. texts_of day.out.items ≡ texts_below 16 rulebook.now stamp day.journal.items) }
-    ensures rows { IfOk result (λ day. All IsFrameRow (texts_of day.out.items)) }
-    ensures shown { IfOk result (λ day. AreShown rulebook.now day.fills.items) }
-    ensures bought_is_sold { IfOk result (λ day. (month : ℕ) → bought month day.fills.items ≡ sold month day.fills.items) }
-    ensures paid_is_received { IfOk result (λ day. (month : ℕ) → paid month day.fills.items ≡ received month day.fills.items) }
-    ensures quiet { IfOk result (λ day. (n : ℕ) → IsQuiet all_on (meaning_of_journal rulebook.now (take n day.journal.items)).orders) }
-    ensures limits { IfOk result (λ day. (f : Fill) → Contains day.fills.items f → KeepsOrder day.journal.items f) }
-    ensures totals { IfOk result (λ day. (f : Fill) → Contains day.fills.items f → filled f.order day.fills.items ≤ f.total) }
-
-    // When each fault comes.
-    ensures journal_full { IsErrOf result HostFault.JournalFull → caps.journal < all_events streams.items }
-    ensures fault { IfErr result (λ f. IsRunDayFault rulebook.now streams.items caps.ring caps.journal f) }
+    // When each fault comes; JournalFull, where the streams have more events than the journal has room for.
+    ensures fault { IfErr result (IsRunDayFault rulebook.now streams.items caps.ring caps.journal) }
 {
     let journal = run_sessions(rt, alloc, streams, gate, caps)?;
     let day = day_of(alloc, rulebook, stamp, journal)?;
