@@ -13,6 +13,7 @@ use std::test::Fail;
 use test_support::{THREE_MONTHS, id};
 
 mod market;
+mod memory_refused;
 mod refusals;
 mod rows;
 mod sizes;

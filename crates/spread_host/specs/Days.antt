@@ -4,6 +4,7 @@ use Rattle.std.specs.Io.KnownBytes.{Appends, IsAtEnd}
 use Rattle.spread_rules.specs.declared.event.Entry.{Entry}
 use Rattle.spread_rules.specs.Meaning.{meaning_of_journal}
 use Rattle.spread_rules.specs.Rulebook.{Rules}
+use Rattle.host_base.specs.declared.limits.TheConstants.{SESSIONS}
 use Rattle.host_base.specs.Ends.{AppendsPrefix}
 use Rattle.day_lines.specs.LineText.{day_lines_of}
 use Rattle.day_lines.specs.Reading.{IsJournalOf, IsTooLong}
@@ -25,11 +26,14 @@ pub record IsWritten (old new : Option (List ℕ)) (failed : Bool) (text : List 
 -- what each of the sessions below n is sent over a journal
 abbrev pub texts_below : ℕ → Rules → List ℕ → List Entry → List (List ℕ)
 texts_below zero rules stamp journal = []
-texts_below (suc n) rules stamp journal = texts_below n rules stamp journal ++ outgoing_bytes rules stamp journal n ∷ []
+texts_below (suc n) rules stamp journal =
+    texts_below n rules stamp journal ++ outgoing_bytes rules stamp journal n ∷ []
 
 -- the text of a journal's day
 abbrev pub text_of_day : Bool → Rules → List ℕ → List Entry → List ℕ
-text_of_day journal_only rules stamp journal = day_text journal_only rules journal (meaning_of_journal rules journal).fills (texts_below 16 rules stamp journal)
+text_of_day journal_only rules stamp journal =
+    day_text journal_only rules journal (meaning_of_journal rules journal).fills
+        (texts_below SESSIONS rules stamp journal)
 
 -- a prefix of the text of this input's day was written, and nothing else
 pub record IsPartOut (journal_only : Bool) (rules : Rules) (stamp input : List ℕ) (old new : Option (List ℕ)) : Type 0 where
@@ -45,7 +49,8 @@ pub record IsSpent (rules : Rules) (input : List ℕ) (place : ℕ) : Type 0 whe
 
 -- want of memory: before the first entry, at an entry of the input's journal, or after the last
 abbrev pub IsPlace : List ℕ → ℕ → Type 0
-IsPlace input place = (place ≡ 0) ⊎ ((journal : List Entry) × IsJournalOf input journal × (place ≤ length journal + 1))
+IsPlace input place =
+    (place ≡ 0) ⊎ ((journal : List Entry) × IsJournalOf input journal × (place ≤ length journal + 1))
 
 -- why an input that is read whole has no day
 abbrev pub IsReplayFault : Rules → Option (List ℕ) → HostFault → Type 0

@@ -1,6 +1,7 @@
-//! Links that are refused.
+//! Links that are refused, and memory refused.
 use gate_link::{LinkFault, link};
 use std::test::Fail;
+use test_support::Refusing;
 
 #[test]
 fn refused_links(rt: HostRuntime) -> Result<(), Fail> {
@@ -20,4 +21,19 @@ fn refused_links(rt: HostRuntime) -> Result<(), Fail> {
     }
     assert!(rt; LinkFault::NoMemory.number() == 3);
     Ok(())
+}
+
+/// NoMemory comes where a request was refused, and only there.
+#[test]
+fn links_with_memory_refused(rt: HostRuntime) {
+    for number in 1..100u64 {
+        let heap = Refusing::new(rt.alloc(), number);
+        let fault = link(&heap, 3, 4, 10).err();
+        assert!(rt; fault == heap.has_refused().then_some(LinkFault::NoMemory));
+        if fault.is_none() {
+            assert!(rt; number > 3);
+            return;
+        }
+    }
+    assert!(rt; false);
 }

@@ -1,30 +1,67 @@
 //! Sources and sinks, over memory and over std.
+ghost use Rattle.std.specs.Prelude.{◌≡◌, false};
+
 use host_base::{
-    Failed, FromReader, NoMemory, ReadFault, TestSink, TestSource, ToWriter, read_all, write_all,
+    Failed, FromReader, ReadFault, Sink, TestSink, TestSource, ToWriter, read_all, write_all,
 };
 use std::test::Fail;
+use test_support::Refusing;
+
+/// What two writes into a sink with room for twelve bytes answer, and what is written then.
+fn written<K: Sink>(sink: &mut K) -> (Result<(), Failed>, Result<(), Failed>)
+    requires { K.has_failed sink.old ≡ false }
+{
+    match write_all(sink, b"8=FIX") {
+        Ok(()) => (Ok(()), write_all(sink, b"10=220||")),
+        Err(Failed) => (Err(Failed), Err(Failed)),
+    }
+}
 
 #[test]
-fn ends_in_memory(rt: HostRuntime) -> Result<(), Fail> {
+fn sources_in_memory(rt: HostRuntime) -> Result<(), Fail> {
     let text = b"8=FIX.4.2";
-    let mut source = TestSource::new(Vec::from_slice(rt.alloc(), text)?, 0);
-    match read_all(rt.alloc(), &mut source) {
-        Ok(bytes) => assert!(rt; bytes.as_slice() == text.as_slice()),
-        Err(_) => assert!(rt; false),
-    }
-    let mut failing = TestSource::new(Vec::from_slice(rt.alloc(), text)?, 2);
-    assert!(rt; read_all(rt.alloc(), &mut failing).err() == Some(ReadFault::Read));
-    for fail in 0..3 {
-        let mut sink = match TestSink::new(rt.alloc(), 12, fail) {
-            Ok(sink) => sink,
-            Err(NoMemory) => return Ok(()),
-        };
-        let first = write_all(&mut sink, b"8=FIX");
-        if fail == 1 {
-            assert!(rt; first == Err(Failed));
-            assert!(rt; sink.bytes() == b"".as_slice());
+    let rows = [(0, None), (1, Some(ReadFault::Read)), (2, Some(ReadFault::Read)), (3, None)];
+    for (fail, want) in rows {
+        let mut source = TestSource::new(Vec::from_slice(rt.alloc(), text)?, fail);
+        match read_all(rt.alloc(), &mut source) {
+            Ok(bytes) => assert!(rt; want.is_none() && bytes.as_slice() == text.as_slice()),
+            Err(fault) => assert!(rt; want == Some(fault)),
         }
     }
+    Ok(())
+}
+
+#[test]
+fn sinks_in_memory(rt: HostRuntime) -> Result<(), Fail> {
+    let rows = [
+        (0, Ok(()), b"8=FIX10=220|".as_slice()),
+        (1, Err(Failed), b"".as_slice()),
+        (2, Ok(()), b"8=FIX".as_slice()),
+        (3, Ok(()), b"8=FIX10=220|".as_slice()),
+    ];
+    for (fail, first, bytes) in rows {
+        let mut sink = TestSink::new(rt.alloc(), 12, fail)?;
+        assert!(rt; written(&mut sink) == (first, Err(Failed)));
+        assert!(rt; sink.bytes() == bytes);
+    }
+    Ok(())
+}
+
+/// NoMemory comes where a request was refused, and only there.
+#[test]
+fn reading_with_memory_refused(rt: HostRuntime) -> Result<(), Fail> {
+    for number in 1..20u64 {
+        let heap = Refusing::new(rt.alloc(), number);
+        let mut source = TestSource::new(Vec::from_slice(rt.alloc(), &[b'#'; 9000])?, 0);
+        match read_all(&heap, &mut source) {
+            Ok(bytes) => {
+                assert!(rt; !heap.has_refused() && bytes.len() == 9000 && number > 1);
+                return Ok(());
+            }
+            Err(fault) => assert!(rt; heap.has_refused() && fault == ReadFault::NoMemory),
+        }
+    }
+    assert!(rt; false);
     Ok(())
 }
 

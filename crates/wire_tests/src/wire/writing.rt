@@ -5,7 +5,7 @@ use fix_wire::{
 };
 use host_base::Id;
 use std::test::Fail;
-use test_support::id;
+use test_support::{Refusing, id};
 
 const HEARTBEAT: &[u8] =
     b"8=FIX.4.2\x019=51\x0135=0\x0134=2\x0149=HOST\x0152=20260105-14:30:00\x0156=C1\x01112=T\x0110=211\x01";
@@ -50,6 +50,30 @@ fn written_messages(rt: HostRuntime) -> Result<(), Fail> {
     write_message(&mut out, &head(b'4', 2, true), &fill)?;
     let both = joined(rt.alloc(), &[HEARTBEAT, GAP_FILL])?;
     assert!(rt; out == both);
+    Ok(())
+}
+
+/// NoMemory comes where a request was refused, and only there; the list is as it was, and the same call writes the message then.
+#[test]
+fn writing_with_memory_refused(rt: HostRuntime) -> Result<(), Fail> {
+    let reply = [Field {
+        tag: 112,
+        value: Value::Text(id(b"T")),
+    }];
+    for number in 1..20u64 {
+        let heap = Refusing::new(rt.alloc(), number);
+        let mut out = Vec::new(&heap);
+        let answer = write_message(&mut out, &head(b'0', 2, false), &reply);
+        assert!(rt; answer.is_err() == heap.has_refused());
+        if answer.is_ok() {
+            assert!(rt; number > 1 && out.as_slice() == HEARTBEAT);
+            return Ok(());
+        }
+        assert!(rt; out.is_empty());
+        write_message(&mut out, &head(b'0', 2, false), &reply)?;
+        assert!(rt; out.as_slice() == HEARTBEAT);
+    }
+    assert!(rt; false);
     Ok(())
 }
 
