@@ -1,3 +1,4 @@
+pub mod Ascii
 pub mod Ids
 pub mod IdFields
 pub mod IdKeys

@@ -2,7 +2,7 @@
 ghost use Rattle.std.specs.Prelude.{◌≡◌, ℕ, ◌<◌, ◌≤◌, ◌+◌, ◌⊎◌, ◌≢◌, Contains, IfOk, IfErr, IfSome, OnOk, IsErrOf, length, take, true, false, Ok};
 ghost use Rattle.std.specs.Io.KnownBytes.{Appends, IsAtEnd};
 ghost use Rattle.spread_rules.specs.declared.fill.Fill.{Fill};
-ghost use Rattle.host_base.specs.declared.whole.TheConstants.{LIMIT};
+ghost use Rattle.host_base.specs.declared.limits.TheConstants.{MAX_INPUT_BYTES};
 ghost use Rattle.spread_rules.specs.Candidates.{all_on};
 ghost use Rattle.spread_rules.specs.Journal.{IsLawful};
 ghost use Rattle.spread_rules.specs.Legs.{bought, sold, paid, received};
@@ -69,7 +69,9 @@ pub fn replay<S: Source, K: Sink, A: Allocator + Copy>(
     ensures write_sound { OnOk result (K.has_failed sink.new ≡ false) }
 
     // When each fault comes, and what is out then.
-    ensures read { IsErrOf result HostFault.Read → (S.has_failed source.new ≡ true) ⊎ IfSome (S.left source.old) (λ input. LIMIT < length input) }
+    ensures read { IsErrOf result HostFault.Read →
+        (S.has_failed source.new ≡ true)
+        ⊎ IfSome (S.left source.old) (λ input. MAX_INPUT_BYTES < length input) }
     ensures write { IsErrOf result HostFault.Write → (K.has_failed sink.new ≡ true) × IfSome (S.left source.old) (λ input. IsPartOut journal_only rulebook.now stamp input (K.written sink.old) (K.written sink.new)) }
     ensures nothing_written { IfErr result (λ f. f ≢ HostFault.Write → sink.new ≡ sink.old) }
     ensures fault { IfErr result (IsReplayFault rulebook.now (S.left source.old)) }
