@@ -12,7 +12,7 @@ use Rattle.fix_wire.specs.declared.frame.FrameHeader.{FrameHeader}
 use Rattle.fix_wire.specs.Frames.{header, body_at}
 use Rattle.fix_wire.specs.Messages.{fields, first_value}
 use Rattle.fix_wire.specs.Fields.{TagValue, field_texts, prepended, with_first, field_of_text, field_with, is_tag, fields_of_texts, fields_of_body}
-use Rattle.fix_wire.specs.Fronts.{first_field, field_up_to, value_of}
+use Rattle.fix_wire.specs.code.Scans.{first_field, field_up_to, value_of}
 
 prepended_first : (b : ℕ) (p : List ℕ) (o : Option (List (List ℕ))) → option_and_then (prepended b) (option_map (with_first p) o) ≡ option_map (with_first (b ∷ p)) o
 prepended_first b p None = refl

@@ -328,31 +328,31 @@ header_bound k rest c e =
     subst (λ x. frame_length x ≤ 4124) p.1 (omega (arith, few, size))
 
 -- what may still begin a frame is short
-pub begins_short : (text : List ℕ) → may_begin text ≡ true → length text ≤ 4123
+pub begins_short : (text : List ℕ) → may_begin text ≡ true → length text < 4124
 begins_short text e = by_cut (is_cut_short begin_text text) refl
   where
     shift : (x y z : Bool) → x ≡ false → ((x || y) || z) ≡ true → (y || z) ≡ true
     shift true y z f s = absurd (false≢true (sym f))
     shift false y z f s = s
 
-    by_claim : (o : Option FrameHeader) → o ≡ header text → is_unfinished text o ≡ true → length text ≤ 4123
+    by_claim : (o : Option FrameHeader) → o ≡ header text → is_unfinished text o ≡ true → length text < 4124
     by_claim None o s = cc
     by_claim (Some c) o s =
         option_and_then_some header_after (strip_prefix begin_text text) c (sym o) (λ rest stands says.
         let b = header_bound (position_or_len is_end rest) rest c says in
         let l : length text < frame_length c = ltb-true (length text) (frame_length c) s in omega (arith, b, l))
 
-    by_behind : (o : Option (List ℕ)) → o ≡ strip_prefix begin_text text → (is_length_open o || is_unfinished text (header text)) ≡ true → length text ≤ 4123
+    by_behind : (o : Option (List ℕ)) → o ≡ strip_prefix begin_text text → (is_length_open o || is_unfinished text (header text)) ≡ true → length text < 4124
     by_behind None o s = by_claim (header text) refl s
     by_behind (Some rest) o s = by_open (is_length_open (Some rest)) refl
       where
-        by_open : (v : Bool) → v ≡ is_length_open (Some rest) → length text ≤ 4123
+        by_open : (v : Bool) → v ≡ is_length_open (Some rest) → length text < 4124
         by_open true v =
             let t = leb-true (length rest) 8 (and_true (leb (length rest) 8) (list_all is_ascii_digit rest) (sym v)).0 in
             omega (arith, t, behind_len begin_text text rest (sym o))
         by_open false v = by_claim (header text) refl (sym (ap (λ x. x || is_unfinished text (header text)) (sym v)) ∙ s)
 
-    by_cut : (v : Bool) → v ≡ is_cut_short begin_text text → length text ≤ 4123
+    by_cut : (v : Bool) → v ≡ is_cut_short begin_text text → length text < 4124
     by_cut true v = let h = cut_short begin_text text (sym v) in omega (arith, h)
     by_cut false v = by_behind (strip_prefix begin_text text) refl (shift _ _ _ (sym v) e)
 

@@ -36,10 +36,10 @@ past_len held frame e = by_frame (frame_at (from_first_start held)) refl
         let start = start_len held in
         omega (arith, within.0, within.1, len, start)
 
-pub need_leaves : (old mid : List ℕ) → mid ≡ from_first_start old → first_frame (frames old) ≡ None → length (from_first_start old) ≤ 4123 → Leaves old [] mid × IsDrained mid
+pub need_leaves : (old mid : List ℕ) → mid ≡ from_first_start old → first_frame (frames old) ≡ None → length (from_first_start old) < 4124 → Leaves old [] mid × IsDrained mid
 need_leaves old mid e none room = (
   (λ more. sym (scan_start old more) ∙ ap (λ t. frames (t ++ more)) (sym e)),
-  (ap frames e ∙ start_frames old ∙ no_first (frames old) none, subst (λ t. length t ≤ 4123) (sym e) room),
+  (ap frames e ∙ start_frames old ∙ no_first (frames old) none, subst (λ t. length t < 4124) (sym e) room),
 )
 
 pub passed_leaves : (old mid new frame : List ℕ) (b : Bool) → mid ≡ from_first_start old → first_frame (frames old) ≡ Some frame → b ≡ is_some (first_frame (frames mid)) → OnTrue b (new ≡ after_first_frame mid) → Leaves old (frame ∷ []) new × (length new < length old)

@@ -1,7 +1,7 @@
 use Rattle.std.proofs.Common.{◌+◌, ◌<◌, Some, take, drop, length, ap, ◌∙◌, arith}
 use Rattle.std.proofs.lemmas.Slice.{between_is}
 use Rattle.fix_wire.specs.Texts.{is_end}
-use Rattle.fix_wire.specs.Fronts.{tag_view}
+use Rattle.fix_wire.specs.code.Scans.{tag_view}
 use Rattle.fix_wire.proofs.fields.RowOfFields.{first_field_found, place_within}
 use Rattle.fix_wire.proofs.frame.first_field.Goals as goal
 
