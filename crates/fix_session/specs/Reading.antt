@@ -43,7 +43,10 @@ skipped r = record { held = from_first_start r.held; session = r.session }
 
 -- the first message is gone too, and the session has judged it
 abbrev pub passed : ReaderState → ReaderState
-passed r = record { held = after_first_frame r.held; session = session_past r.session (first_message r) }
+passed r = record {
+  held = after_first_frame r.held;
+  session = session_past r.session (first_message r);
+}
 
 -- ---- over several messages
 

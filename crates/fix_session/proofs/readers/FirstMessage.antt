@@ -12,7 +12,7 @@ use Rattle.fix_session.specs.declared.session.Verdict.{Verdict}
 use Rattle.fix_session.specs.Steps.{judge}
 use Rattle.fix_session.specs.declared.reader.Reader.TheInside.{Inside}
 use Rattle.fix_session.specs.Reading.{ReaderState, first_message, judged, first_verdict, session_past, skipped, passed}
-use Rattle.fix_session.specs.ReaderFields.{IsKept}
+use Rattle.fix_session.specs.code.ReaderFields.{IsKept}
 
 -- the message that was judged
 pub judged_some : (s : Session) (o : Option (List ℕ)) (d : Verdict × Session) → option_map (judge s) o ≡ Some d → (m : List ℕ) × ((o ≡ Some m) × (judge s m ≡ d))

@@ -1,4 +1,5 @@
 -- How a reader keeps what its first message says.
+-- Words of the code alone.
 use Rattle.std.specs.Prelude.{◌≡◌, Some}
 use Rattle.fix_wire.specs.Held.{from_first_start}
 use Rattle.fix_session.specs.declared.session.Session.{Session}
