@@ -2,7 +2,7 @@
 ghost use Rattle.std.specs.Prelude.{◌≡◌, ◌≤◌, List, ℕ, [], ◌∷◌, ◌++◌, cond, length};
 ghost use Rattle.spread_rules.specs.declared.event.Event.TheVariants.{Close};
 ghost use Rattle.fix_wire.specs.Frames.{frames};
-ghost use Rattle.fix_wire.specs.Pieces.{Leaves};
+ghost use Rattle.fix_wire.specs.Pieces.{SplitsInto};
 ghost use Rattle.fix_session.specs.Reading.{ReaderState, new_reader, IsBehind};
 ghost use Rattle.fix_session.specs.Steps.{events_said, events_at_end};
 ghost use Rattle.fix_session.specs.Streams.{events, stays_open};
@@ -20,7 +20,7 @@ pub fn day_lines()
     ensures says { (stream : List ℕ) (r : ReaderState) (line : List ℕ) → IsBehind stream r →
         events_said r.session (frames (r.held ++ line)) ≡ new_events stream line }
     ensures goes_on { (stream : List ℕ) (r : ReaderState) (line left : List ℕ) → IsBehind stream r →
-        Leaves (r.held ++ line) (frames (r.held ++ line)) left → IsBehind (stream ++ line) (read_on r (frames (r.held ++ line)) left) }
+        SplitsInto (r.held ++ line) (frames (r.held ++ line)) left → IsBehind (stream ++ line) (read_on r (frames (r.held ++ line)) left) }
     ensures ends { (stream : List ℕ) (r : ReaderState) → IsBehind stream r →
         events_at_end r.session ≡ cond (stays_open stream) (Close 5 ∷ []) [] }
 {
