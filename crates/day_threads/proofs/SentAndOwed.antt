@@ -12,7 +12,7 @@ use Rattle.fix_session.specs.Streams.{whole}
 use Rattle.gate_link.specs.Gateways.{events_sent, pending_events, session_state, bytes_held, SameGateway}
 use Rattle.gate_link.specs.declared.gateway.Gateway.{Gateway}
 use Rattle.gate_link.proofs.gateways.SentAndOwed.{kept_of_put, sent_is_prefix, sent_is_whole}
-use Rattle.day_threads.specs.Workers.{HasSent, IsUnused, sent_and_pending}
+use Rattle.day_threads.specs.code.Workers.{HasSent, IsUnused, sent_and_pending}
 
 pub sent_of : {A : Type 0} (stream : List ℕ) (a b : Gateway A) (rest : List ℕ) → SameGateway a b → sent_and_pending b rest ≡ whole stream → HasSent stream a b
 sent_of stream a b rest same total = (same, sent_is_prefix b rest (whole stream) total, sent_is_whole b rest (whole stream) total)

@@ -5,7 +5,7 @@ ghost use Rattle.host_base.specs.declared.limits.TheConstants.{SESSIONS};
 ghost use Rattle.gate_link.specs.declared.gateway.Gateway.{Gateway};
 ghost use Rattle.gate_link.specs.Links.{IsLinkOf, room_of};
 ghost use Rattle.gate_link.specs.Opening.{AreFresh};
-ghost use Rattle.day_threads.specs.Handing.{AreStarted, AreKept};
+ghost use Rattle.day_threads.specs.code.Handing.{AreStarted, AreKept};
 ghost use Rattle.day_threads.specs.Streams.{whole_at, IsThreadsFault};
 
 use crate::fault::ThreadsFault;

@@ -3,7 +3,7 @@ ghost use Rattle.std.specs.Prelude.{◌≡◌, ◌≤◌, length, drop, true, If
 ghost use Rattle.gate_link.specs.declared.gateway.Gateway.{Gateway};
 ghost use Rattle.gate_link.specs.declared.gateway.Step.TheVariants.{Closed};
 ghost use Rattle.gate_link.specs.Gateways.{is_over};
-ghost use Rattle.day_threads.specs.Workers.{IsUnused, HasSent, SameEvents};
+ghost use Rattle.day_threads.specs.code.Workers.{IsUnused, HasSent, SameEvents};
 
 use gate_link::{Gateway, Step};
 use std::alloc::Allocator;

@@ -25,8 +25,8 @@ abbrev pub first_message : ReaderState → Option (List ℕ)
 first_message r = first_frame (frames r.held)
 
 -- what it says, and the session after it
-abbrev pub judged : ReaderState → Option (Verdict × Session)
-judged r = option_map (judge r.session) (first_message r)
+abbrev pub first_judgement : ReaderState → Option (Verdict × Session)
+first_judgement r = option_map (judge r.session) (first_message r)
 
 -- what it says
 abbrev pub first_verdict : ReaderState → Option Verdict
@@ -38,12 +38,12 @@ session_past s None = s
 session_past s (Some m) = (judge s m).1
 
 -- the bytes at the front at which no frame stands or may begin are gone
-abbrev pub skipped : ReaderState → ReaderState
-skipped r = record { held = from_first_start r.held; session = r.session }
+abbrev pub after_skipping : ReaderState → ReaderState
+after_skipping r = record { held = from_first_start r.held; session = r.session }
 
 -- the first message is gone too, and the session has judged it
-abbrev pub passed : ReaderState → ReaderState
-passed r = record {
+abbrev pub after_passing : ReaderState → ReaderState
+after_passing r = record {
   held = after_first_frame r.held;
   session = session_past r.session (first_message r);
 }

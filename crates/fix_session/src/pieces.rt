@@ -3,7 +3,7 @@ ghost use Rattle.std.specs.Prelude.{◌≡◌, ℕ, ◌<◌, ◌++◌, ◌∷◌
 ghost use Rattle.fix_wire.specs.Frames.{frames};
 ghost use Rattle.fix_wire.specs.Pieces.{joined, SplitsInto, IsDrained, SameSplit};
 ghost use Rattle.fix_session.specs.Steps.{session_after};
-ghost use Rattle.fix_session.specs.Reading.{first_message, passed, texts, IsBehind, HasJudged};
+ghost use Rattle.fix_session.specs.Reading.{first_message, after_passing, texts, IsBehind, HasJudged};
 
 use crate::reader::Reader;
 use host_base::NoMemory;
@@ -16,7 +16,7 @@ fn take_message<A: Allocator + Copy>(
 ) -> Result<Option<Vec<u8, A>>, NoMemory>
     ensures first { IfOk result
         (λ taken. option_map (λ v. v.items) taken ≡ first_message reader.old) }
-    ensures passed { OnOk result (reader.new ≡ passed reader.old) }
+    ensures passed { OnOk result (reader.new ≡ after_passing reader.old) }
     ensures drained { IfOk result (λ taken. taken ≡ None → IsDrained reader.new.held) }
 {
     let copy = reader.copy_first(alloc)?;

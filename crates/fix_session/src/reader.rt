@@ -6,7 +6,7 @@ ghost use Rattle.fix_wire.specs.Frames.{frames};
 ghost use Rattle.fix_wire.specs.Held.{first_frame, from_first_start};
 ghost use Rattle.fix_wire.specs.Pieces.{IsDrained};
 ghost use Rattle.fix_session.specs.Steps.{judge, ended, is_closed};
-ghost use Rattle.fix_session.specs.Reading.{ReaderState, new_reader, with_more, first_message, first_verdict, skipped, passed, Fed};
+ghost use Rattle.fix_session.specs.Reading.{ReaderState, new_reader, with_more, first_message, first_verdict, after_skipping, after_passing, Fed};
 ghost use Rattle.fix_session.specs.code.ReaderFields.{IsKept};
 
 use crate::session::{Session, Verdict};
@@ -97,7 +97,7 @@ impl Reader {
     /// What the first message says, if one stands. Bytes at which no frame stands are skipped, and nothing else changes.
     pub fn look(&mut self) -> Option<Verdict>
         ensures says { result ≡ first_verdict self.old }
-        ensures skipped { self.new ≡ skipped self.old }
+        ensures skipped { self.new ≡ after_skipping self.old }
     {
         find_due(&mut self.framer, &self.session, &mut self.due);
         match self.due {
@@ -109,7 +109,7 @@ impl Reader {
     /// Goes past the first message, which the session judges; false where none stands.
     pub fn pass(&mut self) -> bool
         ensures stands { result ≡ is_some (first_message self.old) }
-        ensures passed { self.new ≡ passed self.old }
+        ensures passed { self.new ≡ after_passing self.old }
     {
         find_due(&mut self.framer, &self.session, &mut self.due);
         let Some((_, after)) = self.due else {
@@ -147,7 +147,7 @@ impl Reader {
     ) -> Result<Option<Vec<u8, A>>, NoMemory>
         ensures copy { IfOk result
             (λ copy. option_map (λ v. v.items) copy ≡ first_message self.old) }
-        ensures skipped { self.new ≡ skipped self.old }
+        ensures skipped { self.new ≡ after_skipping self.old }
     {
         match self.framer.next() {
             Next::Message(message) => Ok(Some(message.bytes().to_vec(alloc)?)),

@@ -8,7 +8,7 @@ use Rattle.host_base.specs.declared.limits.TheConstants.{MIN_BODY_LENGTH, MAX_BO
 use Rattle.host_base.specs.Ascii.{digit_zero}
 use Rattle.fix_wire.specs.declared.frame.FrameHeader.{FrameHeader}
 use Rattle.fix_wire.specs.declared.frame.TheConstants.{BEGIN_BYTES, CHECKSUM_BYTES, MAX_LENGTH_DIGITS}
-use Rattle.fix_wire.specs.Texts.{is_end, number_of, strip_prefix, is_cut_short, with_soh, two_digits}
+use Rattle.fix_wire.specs.Texts.{is_soh, number_of, strip_prefix, is_cut_short, with_soh, two_digits}
 use Rattle.fix_wire.specs.Fields.{fields_of_body}
 
 -- ---- the header: BeginString and BodyLength
@@ -35,7 +35,7 @@ header_with digits rest =
 
 -- what follows the begin text: BodyLength, and SOH
 abbrev pub header_after : List ℕ → Option FrameHeader
-header_after rest = header_with (position_or_len is_end rest) rest
+header_after rest = header_with (position_or_len is_soh rest) rest
 
 -- where a frame's body starts, and how long BodyLength says it is
 abbrev pub header : List ℕ → Option FrameHeader

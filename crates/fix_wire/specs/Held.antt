@@ -1,4 +1,4 @@
--- What a framer holds, and which of it may go.
+-- Which bytes a framer keeps: those from the first place on at which a frame stands or may begin.
 use Rattle.std.specs.Prelude.{ℕ, List, [], ◌∷◌, Option, Some, None, drop, if◌then◌else◌}
 use Rattle.fix_wire.specs.Frames.{frame_at, may_begin}
 

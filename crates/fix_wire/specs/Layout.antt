@@ -1,4 +1,4 @@
--- The one spelling of a message.
+-- How a message is written, and that it is read back.
 use Rattle.std.specs.Prelude.{◌≡◌, ◌≢◌, ℕ, ◌+◌, ◌/◌, ◌%◌, ◌<◌, ◌≤◌, ◌^◌, ℤ, pos, Bool, true, false, if◌then◌else◌, List, [], ◌∷◌, ◌++◌, map, length, sum, decimal, int_lt, unsigned_abs, codes}
 use Rattle.std.specs.List.{flat_map, AllByRecursion}
 use Rattle.host_base.specs.declared.bytes.TheConstants.{SOH}

@@ -1,11 +1,11 @@
--- Words on bytes that the other definitions share.
+-- Bytes and digits of FIX, and texts that begin alike.
 use Rattle.std.specs.Prelude.{ℕ, ◌+◌, ◌-◌, ◌*◌, ◌/◌, ◌%◌, Bool, true, false, ◌&&◌, ◌==◌, if◌then◌else◌, List, [], ◌∷◌, map, Option, Some, None}
 use Rattle.host_base.specs.declared.bytes.TheConstants.{SOH}
 use Rattle.host_base.specs.Ascii.{point, digit_zero, equals, vertical_bar}
 
 -- SOH, which ends a field
-abbrev pub is_end : ℕ → Bool
-is_end b = b == SOH
+abbrev pub is_soh : ℕ → Bool
+is_soh b = b == SOH
 
 -- `=`, which ends a tag
 abbrev pub is_equals : ℕ → Bool

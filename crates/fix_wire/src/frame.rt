@@ -3,7 +3,7 @@ ghost use Rattle.std.specs.Prelude.{◌≡◌, ℕ, ◌+◌, ◌%◌, ◌≤◌,
 ghost use Rattle.std.specs.List.{position_or_len};
 ghost use Rattle.std.specs.Str.{bytes_eq};
 ghost use Rattle.memchr.specs.Find.{is_byte};
-ghost use Rattle.fix_wire.specs.Texts.{is_end, strip_prefix, is_cut_short};
+ghost use Rattle.fix_wire.specs.Texts.{is_soh, strip_prefix, is_cut_short};
 ghost use Rattle.fix_wire.specs.Frames.{begin_text, header, header_after, body_at, is_body, is_intact, is_length_open, checksum_field, frame_length};
 ghost use Rattle.fix_wire.specs.Fields.{field_of_text};
 ghost use Rattle.fix_wire.specs.Held.{from_first_start};
@@ -92,7 +92,7 @@ fn near_place_of(byte: u8, text: &[u8]) -> usize
 /// How many of the sixteen bytes at a place come before the first SOH among them.
 fn run_at(text: &[u8], at: usize) -> usize
     requires { at + 16 ≤ length text.now }
-    ensures { result ≡ position_or_len is_end (take 16 (drop at text.now)) }
+    ensures { result ≡ position_or_len is_soh (take 16 (drop at text.now)) }
 {
     let ends = u8x16::from_slice(&text[at..])
         .simd_eq(u8x16::splat(SOH))
@@ -106,7 +106,7 @@ fn run_at(text: &[u8], at: usize) -> usize
 
 /// The place of the first SOH, or the length: sixteen bytes at a time, since few fields are longer.
 fn field_end(text: &[u8]) -> usize
-    ensures { result ≡ position_or_len is_end text.now }
+    ensures { result ≡ position_or_len is_soh text.now }
 {
     let mut at = 0;
     while text.len() - at >= 16 {

@@ -142,7 +142,8 @@ impl Framer {
             (λ v. v ≡ from_first_start self.old)) }
         ensures first { frame_in result ≡ first_frame (frames self.old) }
         // Need leaves room for more.
-        ensures room { frame_in result ≡ None → length (from_first_start self.old) < MAX_FRAME_BYTES }
+        ensures room { frame_in result ≡ None →
+            length (from_first_start self.old) < MAX_FRAME_BYTES }
     {
         let front_length = self.skip_garbled();
         self.peek(front_length)

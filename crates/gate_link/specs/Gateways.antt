@@ -1,4 +1,4 @@
--- What a contract sees of a gateway, and what its calls do to it.
+-- A gateway holds the bytes of one session and sends its events; and what each of its calls does.
 use Rattle.std.specs.Prelude.{◌≡◌, ℕ, ◌+◌, ◌≤◌, Bool, true, false, List, [], ◌∷◌, ◌++◌, ◌⊎◌, Option, Some, None}
 use Rattle.rtrb.specs.Ring.{sent, known_free, SameProducer}
 use Rattle.spread_rules.specs.declared.event.Event.{Event}

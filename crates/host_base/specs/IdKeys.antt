@@ -1,4 +1,5 @@
--- A session and an id as six numbers.
+-- A session and an id as one key: six numbers.
+-- Words of the code alone.
 use Rattle.std.specs.Prelude.{ℕ, ◌-◌, ◌<◌, ◌≤◌, List, ◌++◌, length, take, drop, replicate, get_or}
 use Rattle.std.specs.Int.{w64, from_be_bytes}
 use Rattle.std.specs.declared.cmp.Ordering.{Ordering}

@@ -20,7 +20,7 @@ impl Model for Id {
 
     ghost Value = { List ℕ };
 
-    ghost use Rattle.host_base.specs.IdFields.{text_of, IsKept, kept_of, kept_again};
+    ghost use Rattle.host_base.specs.code.IdFields.{text_of, IsKept, kept_of, kept_again};
 
     ghost view = { text_of };
 

@@ -8,9 +8,11 @@ pub const MAX_MONTHS: u8 = 12;
 pub const MAX_ID_LENGTH: usize = 32;
 /// MsgSeqNum.
 pub const FIRST_MSG_SEQ_NUM: u32 = 1;
+
 pub const MAX_MSG_SEQ_NUM: u32 = 999_999_999;
 /// BodyLength.
 pub const MIN_BODY_LENGTH: usize = 5;
+
 pub const MAX_BODY_LENGTH: usize = 4_096;
 /// Lots of an order, from 1.
 pub const MAX_ORDER_QTY: u32 = 999_999;

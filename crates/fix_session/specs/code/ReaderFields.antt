@@ -5,7 +5,7 @@ use Rattle.fix_wire.specs.Held.{from_first_start}
 use Rattle.fix_session.specs.declared.session.Session.{Session}
 use Rattle.fix_session.specs.declared.session.Verdict.{Verdict}
 use Rattle.fix_session.specs.declared.reader.Reader.TheInside.{Inside}
-use Rattle.fix_session.specs.Reading.{ReaderState, judged}
+use Rattle.fix_session.specs.Reading.{ReaderState, first_judgement}
 
 abbrev pub state_of : Inside → ReaderState
 state_of r = record { held = r.framer; session = r.session }
@@ -13,4 +13,4 @@ state_of r = record { held = r.framer; session = r.session }
 -- What is due is what the session says to the message at the very front, and the session after it.
 pub record IsKept (r : Inside) : Type 0 where
   pub settled : (d : Verdict × Session) → r.due ≡ Some d → from_first_start r.framer ≡ r.framer
-  pub known : (d : Verdict × Session) → r.due ≡ Some d → judged (state_of r) ≡ Some d
+  pub known : (d : Verdict × Session) → r.due ≡ Some d → first_judgement (state_of r) ≡ Some d

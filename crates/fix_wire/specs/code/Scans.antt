@@ -8,7 +8,7 @@ use Rattle.fix_wire.specs.declared.frame.Scan.TheVariants.{Frame, Incomplete, Ga
 use Rattle.fix_wire.specs.declared.frame.LeadingField.{LeadingField}
 use Rattle.fix_wire.specs.declared.frame.Tag.{Tag}
 use Rattle.fix_wire.specs.declared.values.TheConstants.{MAX_HUNDREDTHS}
-use Rattle.fix_wire.specs.Texts.{is_end, number_of, strip_prefix, is_cut_short}
+use Rattle.fix_wire.specs.Texts.{is_soh, number_of, strip_prefix, is_cut_short}
 use Rattle.fix_wire.specs.Fields.{TagValue, fields_of_body, field_of_text}
 use Rattle.fix_wire.specs.Frames.{begin_text, frame_at, may_begin, is_length_open}
 
@@ -37,7 +37,7 @@ field_up_to end body =
 
 -- the first field of a body, and the fields after it
 abbrev pub first_field : List ℕ → Option (TagValue × List ℕ)
-first_field body = field_up_to (position_or_len is_end body) body
+first_field body = field_up_to (position_or_len is_soh body) body
 
 -- a field whose tag is spelled by so many digits
 abbrev pub tag_view : List ℕ → Tag → TagValue

@@ -1,5 +1,5 @@
 -- A gateway through one step.
-use Rattle.std.proofs.Common.{◌≡◌, ◌≢◌, ℕ, ◌+◌, ◌-◌, false, List, [], ◌∷◌, ◌++◌, length, drop, Some, None, Option, ◌||◌, refl, ap, ◌∙◌, inl, arith}
+use Rattle.std.proofs.Common.{◌≡◌, ◌≢◌, ℕ, ◌+◌, ◌-◌, false, List, [], ◌∷◌, ◌++◌, Some, Option, ◌||◌, refl, ap, ◌∙◌, inl}
 use Rattle.std.specs.List.{list_any}
 use Rattle.std.proofs.Math.Bool.{or-false}
 use Rattle.std.proofs.lemmas.List.Folds.{list_any-append}
@@ -7,9 +7,9 @@ use Rattle.spread_rules.specs.Journal.{is_close}
 use Rattle.spread_rules.specs.declared.event.Event.{Event}
 use Rattle.spread_rules.specs.declared.event.Entry.{Entry}
 use Rattle.fix_session.specs.Steps.{judge, event_in}
-use Rattle.fix_session.specs.Reading.{ReaderState, first_message, skipped, passed}
+use Rattle.fix_session.specs.Reading.{ReaderState, first_message, after_skipping, after_passing}
 use Rattle.fix_session.proofs.readers.FirstMessage.{passed_skipped}
-use Rattle.fix_session.proofs.readers.BytesFed.{leaves_skipped, leaves_passed, session_passed}
+use Rattle.fix_session.proofs.readers.BytesFed.{leaves_skipped, session_passed}
 use Rattle.gate_link.specs.Owed.{events_left}
 use Rattle.gate_link.proofs.gateways.StillOwed.{owed_same}
 use Rattle.gate_link.specs.Rows.{entry_events}
@@ -33,7 +33,7 @@ ended_of_step Closed a b is s = s
 
 -- ---- one look
 
-pub looked : {A : Type 0} (a b : Gateway A) → b.reader ≡ skipped a.reader → events_sent b ≡ events_sent a → OnlySkipped a b
+pub looked : {A : Type 0} (a b : Gateway A) → b.reader ≡ after_skipping a.reader → events_sent b ≡ events_sent a → OnlySkipped a b
 looked a b e sent =
     let same = leaves_skipped a.reader b.reader e in
     let state = ap (λ r. r.session) e in
@@ -45,10 +45,10 @@ looked a b e sent =
     }
 
 -- the first message was passed
-pub message_passed : {A : Type 0} (a b : Gateway A) (mid : ReaderState) (m : List ℕ) (says : Option Event) → mid ≡ skipped a.reader → first_message a.reader ≡ Some m → b.reader ≡ passed mid →
+pub message_passed : {A : Type 0} (a b : Gateway A) (mid : ReaderState) (m : List ℕ) (says : Option Event) → mid ≡ after_skipping a.reader → first_message a.reader ≡ Some m → b.reader ≡ after_passing mid →
     event_in (judge (session_state a) m).0 ≡ says → Passes says a b
 message_passed a b mid m says e here went says_so =
-    let all : b.reader ≡ passed a.reader = went ∙ ap passed e ∙ passed_skipped a.reader in
+    let all : b.reader ≡ after_passing a.reader = went ∙ ap after_passing e ∙ passed_skipped a.reader in
     record {
       message = m;
       stands = here;

@@ -2,7 +2,7 @@ use Rattle.std.proofs.Common.{rules, arith, ◌≡◌, ◌∙◌, sym, length, L
 use mathlib.Core.List.{IsPrefix}
 use Rattle.gate_link.specs.declared.gateway.Gateway.{Gateway}
 use Rattle.gate_link.specs.Links.{SameGateways, sent_at, session_count}
-use Rattle.day_threads.specs.Handing.{AreSent}
+use Rattle.day_threads.specs.code.Handing.{AreSent}
 use Rattle.day_threads.specs.Streams.{whole_at}
 use Rattle.day_threads.proofs.JoinedWorkers.{all_sent, joined_pairs, closed_whole}
 use Rattle.day_threads.proofs.FullJournal.{sent_prefix, open_is_full, left_is_full}

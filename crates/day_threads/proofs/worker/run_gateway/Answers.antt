@@ -2,7 +2,7 @@ use Rattle.std.proofs.Common.{rules, arith, ◌≡◌, drop}
 use Rattle.std.proofs.lemmas.Grind.{common_steps}
 use Rattle.fix_session.specs.Streams.{whole}
 use Rattle.gate_link.specs.Gateways.{SameGateway}
-use Rattle.day_threads.specs.Workers.{sent_and_pending}
+use Rattle.day_threads.specs.code.Workers.{sent_and_pending}
 use Rattle.day_threads.proofs.SentAndOwed.{sent_of, unused_owes}
 use Rattle.day_threads.proofs.worker.run_gateway.Goals as goal
 

@@ -3,7 +3,7 @@ use Rattle.std.specs.List.{list_all}
 use Rattle.std.proofs.lemmas.List.{drop-replicate, take_all}
 use Rattle.std.proofs.lemmas.Bool.Decides.{nat_tests}
 use Rattle.host_base.specs.declared.id.Id.TheInside.{Inside}
-use Rattle.host_base.specs.IdFields.{IsKept}
+use Rattle.host_base.specs.code.IdFields.{IsKept}
 use Rattle.host_base.proofs.IdKept.{kept_new}
 use Rattle.host_base.proofs.id.Id.new.Goals as goal
 

@@ -1,9 +1,10 @@
 -- What the handles of started workers promise, and what the joined workers gave back.
+-- Words of the code alone.
 use Rattle.std.specs.Prelude.{◌≡◌, ℕ, ◌<◌, List, length, slice_index_or, Vec}
 use Rattle.std.specs.declared.thread.PromisedHandle.{PromisedHandle}
 use Rattle.gate_link.specs.declared.gateway.Gateway.{Gateway}
 use Rattle.day_threads.specs.declared.worker.WorkerPromise.{WorkerPromise}
-use Rattle.day_threads.specs.Workers.{HasSent}
+use Rattle.day_threads.specs.code.Workers.{HasSent}
 
 -- handle s is of the thread that has gateway s and stream s
 abbrev pub AreStarted : {A : Type 0} → List (Vec ℕ A) → List (Gateway A)
@@ -27,4 +28,5 @@ abbrev pub AreSent : {A : Type 0} → List (Vec ℕ A) → List (Gateway A) → 
 AreSent streams before after =
     (length after ≡ length before)
     × ((s : ℕ) (v : Vec ℕ _) (g h : Gateway _) → s < length before
-    → HasSent (slice_index_or streams s v).items (slice_index_or before s g) (slice_index_or after s h))
+    → HasSent (slice_index_or streams s v).items (slice_index_or before s g)
+    (slice_index_or after s h))

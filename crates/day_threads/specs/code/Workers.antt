@@ -1,4 +1,5 @@
 -- What a worker does with its stream.
+-- Words of the code alone.
 use Rattle.std.specs.Prelude.{◌≡◌, ℕ, true, List, [], ◌++◌}
 use mathlib.Core.List.{IsPrefix}
 use Rattle.spread_rules.specs.declared.event.Event.{Event}
