@@ -1,5 +1,5 @@
 pub mod LineText
-pub mod LinesRead
+pub mod code
 pub mod DayLines
 pub mod JournalParts
 pub mod Reading

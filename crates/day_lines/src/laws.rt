@@ -1,8 +1,10 @@
 //! Laws over the definitions alone.
 ghost use Rattle.std.specs.Prelude.{◌≡◌, ◌≤◌, List, ℕ, [], ◌∷◌, ◌++◌, cond, length};
+ghost use Rattle.host_base.specs.declared.limits.TheConstants.{MAX_JOURNAL_ENTRIES};
+ghost use Rattle.spread_rules.specs.declared.codes.close_reason.TheConstants.{STREAM_ENDED};
 ghost use Rattle.spread_rules.specs.declared.event.Event.TheVariants.{Close};
 ghost use Rattle.fix_wire.specs.Frames.{frames};
-ghost use Rattle.fix_wire.specs.Pieces.{Leaves};
+ghost use Rattle.fix_wire.specs.Pieces.{SplitsInto};
 ghost use Rattle.fix_session.specs.Reading.{ReaderState, new_reader, IsBehind};
 ghost use Rattle.fix_session.specs.Steps.{events_said, events_at_end};
 ghost use Rattle.fix_session.specs.Streams.{events, stays_open};
@@ -20,9 +22,10 @@ pub fn day_lines()
     ensures says { (stream : List ℕ) (r : ReaderState) (line : List ℕ) → IsBehind stream r →
         events_said r.session (frames (r.held ++ line)) ≡ new_events stream line }
     ensures goes_on { (stream : List ℕ) (r : ReaderState) (line left : List ℕ) → IsBehind stream r →
-        Leaves (r.held ++ line) (frames (r.held ++ line)) left → IsBehind (stream ++ line) (read_on r (frames (r.held ++ line)) left) }
+        SplitsInto (r.held ++ line) (frames (r.held ++ line)) left →
+        IsBehind (stream ++ line) (read_on r (frames (r.held ++ line)) left) }
     ensures ends { (stream : List ℕ) (r : ReaderState) → IsBehind stream r →
-        events_at_end r.session ≡ cond (stays_open stream) (Close 5 ∷ []) [] }
+        events_at_end r.session ≡ cond (stays_open stream) (Close STREAM_ENDED ∷ []) [] }
 {
     judged();
     said_after();
@@ -33,7 +36,10 @@ pub fn day_lines()
 /// and a Close 5 where nothing closed it; nothing of a session without a line. More text only adds events behind those of
 /// a stream. A journal of at most 1,000,000 entries is lawful: every entry is in range, and each session's part in order.
 pub fn day_journal()
-    ensures part { (session : ℕ) (lines : List DayLine) → AreOfSessions lines → restricted session (journal_of lines) ≡ part_of session lines }
-    ensures grows { (stream text : List ℕ) → events (stream ++ text) ≡ events stream ++ new_events stream text }
-    ensures lawful { (lines : List DayLine) → AreOfSessions lines → length (journal_of lines) ≤ 1000000 → IsLawful (journal_of lines) }
+    ensures part { (session : ℕ) (lines : List DayLine) → AreOfSessions lines →
+        restricted session (journal_of lines) ≡ part_of session lines }
+    ensures grows { (stream text : List ℕ) →
+        events (stream ++ text) ≡ events stream ++ new_events stream text }
+    ensures lawful { (lines : List DayLine) → AreOfSessions lines →
+        length (journal_of lines) ≤ MAX_JOURNAL_ENTRIES → IsLawful (journal_of lines) }
 {}

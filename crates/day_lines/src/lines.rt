@@ -1,12 +1,15 @@
 //! Day lines: the text that `replay` reads.
 //!
-//! Each line is a session's number, a colon, and bytes of its stream, in which `|` stands for byte 1.
+//! Each line is a session's number, a colon, and bytes of its stream, in which `|` stands for SOH.
 //! Empty lines and lines that begin with `#` are passed over.
 ghost use Rattle.std.specs.Prelude.{◌≡◌, ℕ, ◌<◌, ◌+◌, [], ◌++◌, map, option_map, IfSome, Some, None, Ok, Err, OnOk, IfOk, IfErr, ◌≢◌};
-ghost use Rattle.day_lines.specs.LineText.{byte_of, is_passed_over, session_line, one_line, lines_said, day_line};
-ghost use Rattle.day_lines.specs.LinesRead.{said_by, HaveSessions};
+ghost use Rattle.host_base.specs.declared.limits.TheConstants.{SESSIONS};
+ghost use Rattle.fix_wire.specs.Texts.{soh_for_bar, with_soh};
+ghost use Rattle.day_lines.specs.LineText.{is_passed_over, session_line, one_line, lines_said, day_line};
+ghost use Rattle.day_lines.specs.code.LinesRead.{said_by, HaveSessions};
 ghost use Rattle.day_lines.specs.declared.lines.LinesFault.TheVariants.{NoMemory};
 
+use host_base::bytes::SOH;
 use host_base::cut_at;
 use std::alloc::{AllocError, AllocFailed, Allocator};
 use thiserror::Error;
@@ -19,9 +22,9 @@ pub struct Line<'a> {
     pub bytes: &'a [u8],
 }
 
-/// Puts byte 1 where a `|` stands.
+/// Puts SOH where a `|` stands.
 pub fn put_field_ends(text: &mut [u8])
-    ensures { text.new ≡ map byte_of text.old }
+    ensures { text.new ≡ with_soh text.old }
 {
     for byte in text.iter_mut() {
         *byte = shown_byte(*byte);
@@ -29,9 +32,9 @@ pub fn put_field_ends(text: &mut [u8])
 }
 
 fn shown_byte(byte: u8) -> u8
-    ensures { result ≡ byte_of byte }
+    ensures { result ≡ soh_for_bar byte }
 {
-    if byte == b'|' { 1 } else { byte }
+    if byte == b'|' { SOH } else { byte }
 }
 
 /// Whether the line is empty or a comment.
@@ -47,7 +50,7 @@ fn is_skipped(line: &[u8]) -> bool
 /// The session and the bytes of a line.
 fn read_line(line: &[u8]) -> Option<Line<'_>>
     ensures line { option_map (λ l. day_line l.session l.bytes.now) result ≡ session_line line.now }
-    ensures session { IfSome result (λ l. l.session < 16) }
+    ensures session { IfSome result (λ l. l.session < SESSIONS) }
 {
     if line.len() < 2 {
         return None;
@@ -104,9 +107,12 @@ fn take_line<'a, A: Allocator>(
     lines: &mut Vec<Line<'a>, A>,
 ) -> Result<(), LinesFault>
     requires { HaveSessions lines.old.items }
-    ensures took { OnOk result (option_map (λ says. said_by lines.old.items ++ says) (one_line line.now) ≡ Some (said_by lines.new.items)) }
+    ensures took { OnOk result
+        (option_map (λ says. said_by lines.old.items ++ says) (one_line line.now)
+        ≡ Some (said_by lines.new.items)) }
     ensures sessions { OnOk result (HaveSessions lines.new.items) }
-    ensures bad { (n : ℕ) → result ≡ Err (LinesFault.BadLine n) → (n ≡ number) × (one_line line.now ≡ None) }
+    ensures bad { (n : ℕ) → result ≡ Err (LinesFault.BadLine n) →
+        (n ≡ number) × (one_line line.now ≡ None) }
     ensures not_full { IfErr result (λ f. f ≢ LinesFault.JournalFull) }
 {
     if is_skipped(line) {
@@ -121,7 +127,7 @@ fn take_line<'a, A: Allocator>(
     }
 }
 
-/// The lines of sessions in a text in which byte 1 stands already for each `|`, in order.
+/// The lines of sessions in a text in which SOH stands already for each `|`, in order.
 pub fn read_lines<A: Allocator>(alloc: A, text: &[u8]) -> Result<Vec<Line<'_>, A>, LinesFault>
     ensures lines { IfOk result (λ v. lines_said text.now ≡ Ok (said_by v.items)) }
     ensures sessions { IfOk result (λ v. HaveSessions v.items) }

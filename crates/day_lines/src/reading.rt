@@ -6,13 +6,11 @@ ghost use Rattle.day_lines.specs.Reading.{IsJournalOf, HasParts, IsLinesFault};
 use crate::lanes::journal_of_lines;
 use crate::laws::day_journal;
 use crate::lines::{LinesFault, put_field_ends, read_lines};
+use host_base::limits::MAX_JOURNAL_ENTRIES;
 use spread_rules::Entry;
 use std::alloc::Allocator;
 
-/// No journal has more entries.
-const MAX_JOURNAL_ENTRIES: usize = 1_000_000;
-
-/// The journal of a text of day lines. The text is used up: byte 1 stands where a `|` stood. Answers BadLine, naming the
+/// The journal of a text of day lines. The text is used up: SOH stands where a `|` stood. Answers BadLine, naming the
 /// first bad line; or JournalFull, above 1,000,000 entries; NoMemory may stand anywhere between.
 pub fn read_day_lines<A: Allocator + Copy>(
     alloc: A,

@@ -5,7 +5,7 @@ use Rattle.std.specs.declared.thread.PromisedHandle.{PromisedHandle}
 use Rattle.gate_link.specs.declared.gateway.Gateway.{Gateway}
 use Rattle.gate_link.proofs.inboxes.OneMore.{snoc_cases}
 use Rattle.day_threads.specs.declared.worker.WorkerPromise.{WorkerPromise}
-use Rattle.day_threads.specs.Handing.{AreStarted}
+use Rattle.day_threads.specs.code.Handing.{AreStarted}
 
 pub started_snoc : {A : Type 0} (streams : List (Vec ℕ A)) (gs : List (Gateway A)) (hs : List (PromisedHandle (Gateway A) (WorkerPromise A))) (h : PromisedHandle (Gateway A) (WorkerPromise A))
     (gateway : Gateway A) (stream : Vec ℕ A) → length hs < length gs → length hs < length streams

@@ -1,4 +1,2 @@
-pub mod Workers
-pub mod Turning
-pub mod Handing
+pub mod code
 pub mod Streams

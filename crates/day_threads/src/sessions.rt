@@ -1,10 +1,11 @@
 //! A thread for each session, and the sequencer in the caller's.
 ghost use Rattle.std.specs.Prelude.{◌≡◌, ◌<◌, ◌≤◌, ℕ, length, IfOk, IfErr, IfNone, IfSome, vec_len, vec_capacity};
 ghost use Rattle.spread_rules.specs.Journal.{restricted, IsLawful};
+ghost use Rattle.host_base.specs.declared.limits.TheConstants.{SESSIONS};
 ghost use Rattle.gate_link.specs.declared.gateway.Gateway.{Gateway};
 ghost use Rattle.gate_link.specs.Links.{IsLinkOf, room_of};
 ghost use Rattle.gate_link.specs.Opening.{AreFresh};
-ghost use Rattle.day_threads.specs.Handing.{AreStarted, AreKept};
+ghost use Rattle.day_threads.specs.code.Handing.{AreStarted, AreKept};
 ghost use Rattle.day_threads.specs.Streams.{whole_at, IsThreadsFault};
 
 use crate::fault::ThreadsFault;
@@ -50,11 +51,12 @@ fn start_all<'r: 's, 's, E, R: Wait + Threads + Sync, G: Gate, A: Allocator + Se
 ) -> Started<'s, A>
     requires fresh { (ring : ℕ) × AreFresh ring gateways.items }
     requires streams { vec_len gateways ≡ length streams.now }
-    requires few { vec_len gateways ≤ 16 }
+    requires few { vec_len gateways ≤ SESSIONS }
     requires room { (vec_len handles ≡ 0) × (vec_len gateways ≤ vec_capacity handles) }
     ensures most { vec_len result.handles ≤ vec_len gateways }
     ensures all { IfNone result.refused (vec_len result.handles ≡ vec_len gateways) }
-    ensures refused { IfSome result.refused (λ session. (session ≡ vec_len result.handles) × (session < length streams.entry.now)) }
+    ensures refused { IfSome result.refused
+        (λ session. (session ≡ vec_len result.handles) × (session < length streams.entry.now)) }
     ensures started { AreStarted streams.entry.now gateways.items result.handles.items }
 {
     let mut handles = handles;
@@ -106,10 +108,12 @@ fn sessions_in<'r: 's, 's, E, R: Wait + Threads + Sync, G: Gate, A: Allocator + 
     requires fresh { (ring : ℕ) × AreFresh ring gateways.items }
     requires pairs { IsLinkOf sequencer gateways.items }
     requires streams { vec_len gateways ≡ length streams.now }
-    requires few { vec_len gateways ≤ 16 }
-    ensures journal { IfOk result (λ j. (s : ℕ) → restricted s j.items ≡ whole_at streams.entry.now s) }
+    requires few { vec_len gateways ≤ SESSIONS }
+    ensures journal { IfOk result
+        (λ j. (s : ℕ) → restricted s j.items ≡ whole_at streams.entry.now s) }
     ensures size { IfOk result (λ j. length j.items ≤ room_of sequencer) }
-    ensures fault { IfErr result (λ f. (ring : ℕ) → IsThreadsFault streams.entry.now ring (room_of sequencer) f) }
+    ensures fault { IfErr result
+        (λ f. (ring : ℕ) → IsThreadsFault streams.entry.now ring (room_of sequencer) f) }
 {
     let Ok(handles) = Vec::with_capacity(alloc, gateways.len()) else {
         return Err(ThreadsFault::NoMemory);
@@ -166,10 +170,14 @@ pub fn run_sessions<'r, R: Threads + Wait + Sync, G: Gate, A: Allocator + Copy +
         thread::scope_env(),
         rt,
         |scope| -> Result<Vec<Entry, A>, ThreadsFault>
-            requires { ((ring : ℕ) × AreFresh ring gateways.items) × IsLinkOf sequencer gateways.items × (vec_len gateways ≡ length all.now) × (vec_len gateways ≤ 16) }
-            ensures journal { IfOk result (λ j. (s : ℕ) → restricted s j.items ≡ whole_at all.entry.now s) }
+            requires { ((ring : ℕ) × AreFresh ring gateways.items)
+                × IsLinkOf sequencer gateways.items × (vec_len gateways ≡ length all.now)
+                × (vec_len gateways ≤ SESSIONS) }
+            ensures journal { IfOk result
+                (λ j. (s : ℕ) → restricted s j.items ≡ whole_at all.entry.now s) }
             ensures size { IfOk result (λ j. length j.items ≤ room_of sequencer) }
-            ensures fault { IfErr result (λ f. (ring : ℕ) → IsThreadsFault all.entry.now ring (room_of sequencer) f) }
+            ensures fault { IfErr result
+                (λ f. (ring : ℕ) → IsThreadsFault all.entry.now ring (room_of sequencer) f) }
         { sessions_in(scope, &shared, gateways, sequencer, all, alloc) },
     )
 }

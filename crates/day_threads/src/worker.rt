@@ -2,8 +2,8 @@
 ghost use Rattle.std.specs.Prelude.{◌≡◌, ◌≤◌, length, drop, true, IfSome};
 ghost use Rattle.gate_link.specs.declared.gateway.Gateway.{Gateway};
 ghost use Rattle.gate_link.specs.declared.gateway.Step.TheVariants.{Closed};
-ghost use Rattle.gate_link.specs.Gates.{gate_closed};
-ghost use Rattle.day_threads.specs.Workers.{IsUnused, HasSent, Keeps};
+ghost use Rattle.gate_link.specs.Gateways.{is_over};
+ghost use Rattle.day_threads.specs.code.Workers.{IsUnused, HasSent, SameEvents};
 
 use gate_link::{Gateway, Step};
 use std::alloc::Allocator;
@@ -69,7 +69,7 @@ pub(crate) fn run_gateway<R: Wait, G: Gate, A: Allocator>(
 fn put_bytes<A: Allocator>(gateway: &mut Gateway<A>, stream: &[u8], put: usize) -> usize
     requires { put ≤ length stream.now }
     ensures within { result ≤ length stream.now }
-    ensures kept { Keeps gateway.old (drop put stream.now) gateway.new (drop result stream.now) }
+    ensures kept { SameEvents gateway.old (drop put stream.now) gateway.new (drop result stream.now) }
 {
     put + gateway.put(&stream[put..])
 }
@@ -81,7 +81,7 @@ fn call_gate<G: Gate, A: Allocator>(
     rest: &[u8],
     message: u32,
 ) -> bool
-    ensures { Keeps gateway.old rest.now gateway.new rest.now }
+    ensures { SameEvents gateway.old rest.now gateway.new rest.now }
 {
     if !gateway.stands() {
         return false;
@@ -92,8 +92,8 @@ fn call_gate<G: Gate, A: Allocator>(
 
 /// Makes a step, which is the end where nothing is left of the stream.
 fn step_or_end<A: Allocator>(gateway: &mut Gateway<A>, rest: &[u8]) -> Step
-    ensures kept { Keeps gateway.old rest.now gateway.new rest.now }
-    ensures closed { result ≡ Closed → gate_closed gateway.new ≡ true }
+    ensures kept { SameEvents gateway.old rest.now gateway.new rest.now }
+    ensures closed { result ≡ Closed → is_over gateway.new ≡ true }
 {
     if rest.is_empty() {
         return gateway.end();
@@ -111,7 +111,8 @@ pub(crate) fn start<'s, E, R: Wait + Threads + Sync, G: Gate, A: Allocator + Sen
     stream: &'s [u8],
 ) -> Option<PromisedHandle<Gateway<A>, WorkerPromise<'s, A>>>
     requires { IsUnused gateway }
-    ensures { IfSome result (λ h. (h.promise.gateway.value ≡ gateway) × (h.promise.stream.now ≡ stream.entry.now)) }
+    ensures { IfSome result
+        (λ h. (h.promise.gateway.value ≡ gateway) × (h.promise.stream.now ≡ stream.entry.now)) }
 {
     let promise = WorkerPromise {
         gateway: Snapshot::of(&gateway),

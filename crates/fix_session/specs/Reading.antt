@@ -4,7 +4,7 @@ use Rattle.spread_rules.specs.declared.event.Event.{Event}
 use Rattle.spread_rules.specs.declared.event.Entry.{Entry}
 use Rattle.fix_wire.specs.Frames.{frames}
 use Rattle.fix_wire.specs.Held.{first_frame, from_first_start, after_first_frame}
-use Rattle.fix_wire.specs.Pieces.{Leaves}
+use Rattle.fix_wire.specs.Pieces.{SplitsInto}
 use Rattle.fix_session.specs.declared.session.Session.{Session}
 use Rattle.fix_session.specs.declared.session.Verdict.{Verdict}
 use Rattle.fix_session.specs.Steps.{new_session, judge, events_said, session_after}
@@ -25,8 +25,8 @@ abbrev pub first_message : ReaderState → Option (List ℕ)
 first_message r = first_frame (frames r.held)
 
 -- what it says, and the session after it
-abbrev pub judged : ReaderState → Option (Verdict × Session)
-judged r = option_map (judge r.session) (first_message r)
+abbrev pub first_judgement : ReaderState → Option (Verdict × Session)
+first_judgement r = option_map (judge r.session) (first_message r)
 
 -- what it says
 abbrev pub first_verdict : ReaderState → Option Verdict
@@ -38,12 +38,15 @@ session_past s None = s
 session_past s (Some m) = (judge s m).1
 
 -- the bytes at the front at which no frame stands or may begin are gone
-abbrev pub skipped : ReaderState → ReaderState
-skipped r = record { held = from_first_start r.held; session = r.session }
+abbrev pub after_skipping : ReaderState → ReaderState
+after_skipping r = record { held = from_first_start r.held; session = r.session }
 
 -- the first message is gone too, and the session has judged it
-abbrev pub passed : ReaderState → ReaderState
-passed r = record { held = after_first_frame r.held; session = session_past r.session (first_message r) }
+abbrev pub after_passing : ReaderState → ReaderState
+after_passing r = record {
+  held = after_first_frame r.held;
+  session = session_past r.session (first_message r);
+}
 
 -- ---- over several messages
 
@@ -60,7 +63,7 @@ entries_of n es = map (λ e. record { session = n; event = e }) es
 pub record Fed (n : ℕ) (out : List Entry) (r : ReaderState)
     (out_next : List Entry) (r_next : ReaderState) : Type 0 where
   pub frames_passed : List (List ℕ)
-  pub left : Leaves r.held frames_passed r_next.held
+  pub left : SplitsInto r.held frames_passed r_next.held
   pub says : out_next ≡ out ++ entries_of n (events_said r.session frames_passed)
   pub judged_all : r_next.session ≡ session_after r.session frames_passed
 
@@ -70,5 +73,5 @@ HasJudged fs r = r.session ≡ session_after new_session fs
 
 -- The reader has read this stream: it has passed the stream's frames and holds what may still begin one.
 pub record IsBehind (stream : List ℕ) (r : ReaderState) : Type 0 where
-  pub left : Leaves stream (frames stream) r.held
+  pub left : SplitsInto stream (frames stream) r.held
   pub judged_all : HasJudged (frames stream) r

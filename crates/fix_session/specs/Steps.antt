@@ -33,11 +33,16 @@ closes reason = (verdicts.Event (events.Close reason), closed)
 -- the first message, where `next` is due after it
 abbrev pub opens : ℕ → Option Logon → Verdict × Session
 opens next None = closes close_reason.NO_LOGON
-opens next (Some l) = (verdicts.Event (logon_event l), running (record { client = l.client; host = l.host; due = next; gap_asked = false }))
+opens next (Some l) = (
+  verdicts.Event (logon_event l),
+  running (record { client = l.client; host = l.host; due = next; gap_asked = false }),
+)
 
 -- a number below the due one: a duplicate is dropped, anything else closes the session
 abbrev pub step_below : Running → Bool → Verdict × Session
-step_below r duplicate = if duplicate then (verdicts.Nothing, running r) else closes close_reason.MSG_SEQ_NUM_TOO_LOW
+step_below r duplicate =
+    if duplicate then (verdicts.Nothing, running r)
+    else closes close_reason.MSG_SEQ_NUM_TOO_LOW
 
 -- a number above the due one: the missing messages are asked for once
 abbrev pub step_above : Running → Verdict × Session

@@ -10,13 +10,13 @@ abbrev pub messages_of : List (List ℕ) → List MessageView
 messages_of fs = filter_map view fs
 
 abbrev pub events_of : List (List ℕ) → List Event
-events_of fs = places.events (messages_of fs)
+events_of fs = places.message_events (messages_of fs)
 
 abbrev pub whole_of : List (List ℕ) → List Event
-whole_of fs = places.whole (messages_of fs)
+whole_of fs = places.message_events_and_close (messages_of fs)
 
 abbrev pub stays_open_of : List (List ℕ) → Bool
-stays_open_of fs = places.stays_open (messages_of fs)
+stays_open_of fs = places.none_closes (messages_of fs)
 
 -- the messages of a stream
 abbrev pub messages : List ℕ → List MessageView
@@ -26,7 +26,7 @@ messages stream = messages_of (frames stream)
 abbrev pub events : List ℕ → List Event
 events stream = events_of (frames stream)
 
--- the same, and Close 5 where no place closes
+-- the same, and a close at the end of the stream where no place closes
 abbrev pub whole : List ℕ → List Event
 whole stream = whole_of (frames stream)
 

@@ -2,11 +2,13 @@
 use Rattle.std.specs.Prelude.{ℕ, ℤ, Bool, false, ◌||◌, ◌==◌, nat_le, nat_lt, length, List, [], ◌∷◌, Option, Some, None, Result, Ok, Err, if◌then◌else◌, codes}
 use Rattle.std.specs.List.{list_any}
 use Rattle.host_base.specs.Ids.{id_of}
+use Rattle.host_base.specs.declared.limits.TheConstants.{FIRST_MSG_SEQ_NUM}
 use Rattle.spread_rules.specs.declared.order.Side.{Side}
 use Rattle.spread_rules.specs.declared.order.Side.TheVariants.{Buy, Sell}
 use Rattle.spread_rules.specs.declared.codes.session_reject_reason.TheConstants as reject
 use Rattle.spread_rules.specs.declared.event.Ticket.{Ticket}
 use Rattle.spread_rules.specs.declared.event.Event.TheVariants as events
+use Rattle.fix_wire.specs.declared.field_values.TheConstants as field_values
 use Rattle.fix_wire.specs.declared.msg_types.TheConstants as msg_types
 use Rattle.fix_wire.specs.declared.tags.TheConstants as tags
 use Rattle.fix_wire.specs.declared.values.Unread.{Unread}
@@ -24,12 +26,12 @@ abbrev pub ◌>>=◌ : {A B : Type 0} → Result A ℕ → (A → Result B ℕ) 
 -- ---- one field
 
 -- the value of a field, which has to stand and hold something
-abbrev pub filled : Option (List ℕ) → Result (List ℕ) ℕ
-filled None = Err reject.REQUIRED_TAG_MISSING
-filled (Some text) = if nat_lt 0 (length text) then Ok text else Err reject.TAG_WITHOUT_VALUE
+abbrev pub required_text : Option (List ℕ) → Result (List ℕ) ℕ
+required_text None = Err reject.REQUIRED_TAG_MISSING
+required_text (Some text) = if nat_lt 0 (length text) then Ok text else Err reject.TAG_WITHOUT_VALUE
 
 abbrev pub text_at : ℕ → List ℕ → Result (List ℕ) ℕ
-text_at tag message = filled (get tag message)
+text_at tag message = required_text (get tag message)
 
 -- a value that is not allowed is out of range
 abbrev pub or_out_of_range : Option (List ℕ) → Result (List ℕ) ℕ
@@ -60,7 +62,8 @@ price_at tag message = text_at tag message >>= λ text. or_reason (price_in text
 -- one of the bytes that are allowed, and nothing else
 abbrev pub one_of : List ℕ → List ℕ → Result ℕ ℕ
 one_of allowed [] = Err reject.VALUE_OUT_OF_RANGE
-one_of allowed (b ∷ []) = if list_any (λ a. a == b) allowed then Ok b else Err reject.VALUE_OUT_OF_RANGE
+one_of allowed (b ∷ []) =
+    if list_any (λ a. a == b) allowed then Ok b else Err reject.VALUE_OUT_OF_RANGE
 one_of allowed (b ∷ c ∷ cs) = Err reject.VALUE_OUT_OF_RANGE
 
 abbrev pub choice_at : List ℕ → ℕ → List ℕ → Result ℕ ℕ
@@ -70,22 +73,24 @@ choice_at allowed tag message = text_at tag message >>= λ text. one_of allowed 
 abbrev pub allowed_if : Bool → ℕ → Result ℕ ℕ
 allowed_if test n = if test then Ok n else Err reject.VALUE_OUT_OF_RANGE
 
--- Side, tag 54
+-- Side
 abbrev pub side_of : ℕ → Side
-side_of b = if b == 49 then Buy else Sell
+side_of b = if b == field_values.SIDE_BUY then Buy else Sell
 
 abbrev pub side_at : List ℕ → Result Side ℕ
 side_at message = choice_at (codes "12") tags.SIDE message >>= λ b. Ok (side_of b)
 
--- TimeInForce, tag 59: whether an order is immediate, a day order where the tag is missing
+-- TimeInForce: whether an order is immediate, a day order where the tag is missing
 abbrev pub time_in_force_of : Option (List ℕ) → Result Bool ℕ
 time_in_force_of None = Ok false
-time_in_force_of (Some text) = filled (Some text) >>= λ t. one_of (codes "03") t >>= λ b. Ok (b == 51)
+time_in_force_of (Some text) =
+    required_text (Some text) >>= λ t. one_of (codes "03") t >>= λ b.
+    Ok (b == field_values.IMMEDIATE_OR_CANCEL)
 
--- GapFillFlag, tag 123: a gap fill has to say so; a missing tag is a value that isn't allowed
+-- GapFillFlag: a gap fill has to say so; a missing tag is a value that isn't allowed
 abbrev pub gap_fill_flag_of : Option (List ℕ) → Result ℕ ℕ
 gap_fill_flag_of None = Err reject.VALUE_OUT_OF_RANGE
-gap_fill_flag_of (Some text) = filled (Some text) >>= λ t. one_of (codes "Y") t
+gap_fill_flag_of (Some text) = required_text (Some text) >>= λ t. one_of (codes "Y") t
 
 -- ---- one kind
 
@@ -103,8 +108,9 @@ unfoldable pub resend_request : List ℕ → Result Meaning ℕ
 resend_request m = do
   stamp ← text_at tags.SENDING_TIME m
   begin ← number_at tags.BEGIN_SEQ_NO m
-  first ← allowed_if (nat_le 1 begin) begin
+  first ← allowed_if (nat_le FIRST_MSG_SEQ_NUM begin) begin
   end ← number_at tags.END_SEQ_NO m
+  -- 0 asks for all that follow
   last ← allowed_if ((end == 0) || nat_le first end) end
   Ok (Gives (events.Resend first last))
 
@@ -129,7 +135,14 @@ new_order m = do
   type ← choice_at (codes "2") tags.ORD_TYPE m
   price ← price_at tags.PRICE m
   immediate ← time_in_force_of (get tags.TIME_IN_FORCE m)
-  Ok (record { id = id; symbol = symbol; side = side; quantity = quantity; price = price; immediate = immediate })
+  Ok (record {
+    id = id;
+    symbol = symbol;
+    side = side;
+    quantity = quantity;
+    price = price;
+    immediate = immediate;
+  })
 
 unfoldable pub cancel_request : List ℕ → Result Meaning ℕ
 cancel_request m = do
@@ -151,15 +164,16 @@ meaning_of_kind k m n =
     else (if k == msg_types.RESEND_REQUEST then resend_request m
     else (if k == msg_types.REJECT then passed_over m
     else (if k == msg_types.SEQUENCE_RESET then sequence_reset m n
-    else (if k == msg_types.NEW_ORDER_SINGLE then (new_order m >>= λ ticket. Ok (Gives (events.New ticket)))
+    else (if k == msg_types.NEW_ORDER_SINGLE
+    then (new_order m >>= λ ticket. Ok (Gives (events.New ticket)))
     else (if k == msg_types.ORDER_CANCEL_REQUEST then cancel_request m
     else Err reject.INVALID_MSG_TYPE))))))
 
-abbrev pub meaning_with : List ℕ → List ℕ → ℕ → Result Meaning ℕ
-meaning_with [] m n = Err reject.TAG_WITHOUT_VALUE
-meaning_with (k ∷ []) m n = meaning_of_kind k m n
-meaning_with (k ∷ l ∷ ks) m n = Err reject.INVALID_MSG_TYPE
+abbrev pub meaning_of_kind_text : List ℕ → List ℕ → ℕ → Result Meaning ℕ
+meaning_of_kind_text [] m n = Err reject.TAG_WITHOUT_VALUE
+meaning_of_kind_text (k ∷ []) m n = meaning_of_kind k m n
+meaning_of_kind_text (k ∷ l ∷ ks) m n = Err reject.INVALID_MSG_TYPE
 
 -- what an accepted message with number n means, where it is neither the Logon nor a Logout
-abbrev pub meaning_of : List ℕ → ℕ → Result Meaning ℕ
-meaning_of m n = meaning_with (kind m) m n
+abbrev pub meaning_of_message : List ℕ → ℕ → Result Meaning ℕ
+meaning_of_message m n = meaning_of_kind_text (kind m) m n

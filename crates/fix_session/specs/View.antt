@@ -2,6 +2,7 @@
 use Rattle.std.specs.Prelude.{ℕ, ◌+◌, Bool, false, ◌&&◌, ◌==◌, nat_lt, length, List, [], ◌∷◌, Option, Some, None, option_map, Result, Ok, Err, if◌then◌else◌, codes}
 use Rattle.std.specs.Str.{bytes_eq}
 use Rattle.host_base.specs.Ids.{id_of}
+use Rattle.host_base.specs.declared.limits.TheConstants.{FIRST_MSG_SEQ_NUM}
 use Rattle.spread_rules.specs.declared.event.Event.{Event}
 use Rattle.spread_rules.specs.declared.event.Event.TheVariants as events
 use Rattle.fix_wire.specs.declared.msg_types.TheConstants as msg_types
@@ -11,7 +12,7 @@ use Rattle.fix_wire.specs.Values.{number_in}
 use Rattle.fix_wire.specs.Messages.{get, kind, number}
 use Rattle.fix_session.specs.declared.table.Meaning.{Meaning}
 use Rattle.fix_session.specs.declared.table.Meaning.TheVariants.{Nothing, Gives, Fills}
-use Rattle.fix_session.specs.Table.{meaning_of}
+use Rattle.fix_session.specs.Table.{meaning_of_message}
 use Rattle.fix_session.specs.declared.session.Logon.{Logon}
 
 infixl 10 ◌>>=◌
@@ -36,15 +37,16 @@ is_duplicate m = is_text tags.POSS_DUP_FLAG m (codes "Y")
 abbrev pub is_logout : List ℕ → Bool
 is_logout m = bytes_eq (kind m) (msg_types.LOGOUT ∷ [])
 
-abbrev pub id_in : ℕ → List ℕ → Option (List ℕ)
-id_in tag m = get tag m >>= id_of
+-- the id that a tag has, and the number that it has
+abbrev pub given_id : ℕ → List ℕ → Option (List ℕ)
+given_id tag m = get tag m >>= id_of
 
 abbrev pub read_ok : Result ℕ Unread → Option ℕ
 read_ok (Ok n) = Some n
 read_ok (Err e) = None
 
-abbrev pub number_at : ℕ → List ℕ → Option ℕ
-number_at tag m = get tag m >>= λ text. read_ok (number_in text)
+abbrev pub given_number : ℕ → List ℕ → Option ℕ
+given_number tag m = get tag m >>= λ text. read_ok (number_in text)
 
 abbrev pub is_filled : Option (List ℕ) → Bool
 is_filled None = false
@@ -59,7 +61,9 @@ pub record CompIds : Type 0 where
 
 -- the CompIDs of a message, where it has both
 abbrev pub comp_ids : List ℕ → Option CompIds
-comp_ids m = get tags.SENDER_COMP_ID m >>= λ client. get tags.TARGET_COMP_ID m >>= λ host. Some (record { client = client; host = host })
+comp_ids m =
+    get tags.SENDER_COMP_ID m >>= λ client. get tags.TARGET_COMP_ID m >>= λ host.
+    Some (record { client = client; host = host })
 
 -- these are the CompIDs of that client and that host
 abbrev pub are_same : Option CompIds → List ℕ → List ℕ → Bool
@@ -68,13 +72,20 @@ are_same (Some ids) client host = bytes_eq ids.client client && bytes_eq ids.hos
 
 -- ---- the Logon
 
--- a Logon with number 1, a sending time, and no encryption
+-- a Logon with the first number, a sending time, and no encryption
 abbrev pub is_opening : List ℕ → ℕ → Bool
-is_opening m n = bytes_eq (kind m) (msg_types.LOGON ∷ []) && (n == 1) && is_filled (get tags.SENDING_TIME m) && is_text tags.ENCRYPT_METHOD m (codes "0")
+is_opening m n =
+    bytes_eq (kind m) (msg_types.LOGON ∷ []) && (n == FIRST_MSG_SEQ_NUM)
+    && is_filled (get tags.SENDING_TIME m) && is_text tags.ENCRYPT_METHOD m (codes "0")
 
 -- what a lawful Logon says
 unfoldable pub logon_of : List ℕ → ℕ → Option Logon
-logon_of m n = if is_opening m n then (id_in tags.SENDER_COMP_ID m >>= λ client. id_in tags.TARGET_COMP_ID m >>= λ host. number_at tags.HEART_BT_INT m >>= λ beat. Some (record { client = client; host = host; beat = beat })) else None
+logon_of m n =
+    if is_opening m n then
+    (given_id tags.SENDER_COMP_ID m >>= λ client. given_id tags.TARGET_COMP_ID m >>= λ host.
+    given_number tags.HEART_BT_INT m >>= λ beat.
+    Some (record { client = client; host = host; beat = beat }))
+    else None
 
 abbrev pub logon_comp_ids : Logon → CompIds
 logon_comp_ids l = record { client = l.client; host = l.host }
@@ -119,8 +130,8 @@ view_with m n = record {
   logon = logon_of m n;
   duplicate = is_duplicate m;
   logout = is_logout m;
-  next = due_after_accepted n (meaning_of m n);
-  event = event_of_accepted n (meaning_of m n);
+  next = due_after_accepted n (meaning_of_message m n);
+  event = event_of_accepted n (meaning_of_message m n);
 }
 
 -- the view of a frame: None where its number can't be read

@@ -1,9 +1,9 @@
 //! The messages of a stream that comes in pieces.
 ghost use Rattle.std.specs.Prelude.{◌≡◌, ℕ, ◌<◌, ◌++◌, ◌∷◌, [], length, map, IfOk, OnOk, option_map, IfSome, None};
 ghost use Rattle.fix_wire.specs.Frames.{frames};
-ghost use Rattle.fix_wire.specs.Pieces.{joined, Leaves, IsDrained, GoesOn};
+ghost use Rattle.fix_wire.specs.Pieces.{joined, SplitsInto, IsDrained, SameSplit};
 ghost use Rattle.fix_session.specs.Steps.{session_after};
-ghost use Rattle.fix_session.specs.Reading.{first_message, passed, texts, IsBehind, HasJudged};
+ghost use Rattle.fix_session.specs.Reading.{first_message, after_passing, texts, IsBehind, HasJudged};
 
 use crate::reader::Reader;
 use host_base::NoMemory;
@@ -16,7 +16,7 @@ fn take_message<A: Allocator + Copy>(
 ) -> Result<Option<Vec<u8, A>>, NoMemory>
     ensures first { IfOk result
         (λ taken. option_map (λ v. v.items) taken ≡ first_message reader.old) }
-    ensures passed { OnOk result (reader.new ≡ passed reader.old) }
+    ensures passed { OnOk result (reader.new ≡ after_passing reader.old) }
     ensures drained { IfOk result (λ taken. taken ≡ None → IsDrained reader.new.held) }
 {
     let copy = reader.copy_first(alloc)?;
@@ -31,7 +31,7 @@ fn pass_messages<A: Allocator + Copy>(
     out: &mut Vec<Vec<u8, A>, A>,
 ) -> Result<(), NoMemory>
     ensures passed { OnOk result
-        (GoesOn (texts out.old.items) reader.old.held (texts out.new.items) reader.new.held) }
+        (SameSplit (texts out.old.items) reader.old.held (texts out.new.items) reader.new.held) }
     ensures judged { OnOk result
         (HasJudged (texts out.old.items) reader.old → HasJudged (texts out.new.items) reader.new) }
     ensures drained { OnOk result (IsDrained reader.new.held) }
@@ -51,7 +51,7 @@ fn put_piece<A: Allocator + Copy>(
 ) -> Result<(), NoMemory>
     requires { IsDrained reader.old.held }
     ensures passed { OnOk result
-        (GoesOn (texts out.old.items) (reader.old.held ++ piece.now)
+        (SameSplit (texts out.old.items) (reader.old.held ++ piece.now)
         (texts out.new.items) reader.new.held) }
     ensures judged { OnOk result
         (HasJudged (texts out.old.items) reader.old → HasJudged (texts out.new.items) reader.new) }

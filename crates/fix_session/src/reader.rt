@@ -1,12 +1,13 @@
 //! Reads one session's stream: it looks at a message, judges it and passes it.
 ghost use Rattle.std.specs.Prelude.{◌≡◌, ◌-◌, ◌<◌, ◌≤◌, ◌++◌, length, take, drop, min, is_some, option_map, IfOk, OnOk};
 ghost use Rattle.std.specs.Bool.{OnTrue, OnFalse};
+ghost use Rattle.fix_wire.specs.declared.framer.TheConstants.{BUFFER_BYTES};
 ghost use Rattle.fix_wire.specs.Frames.{frames};
 ghost use Rattle.fix_wire.specs.Held.{first_frame, from_first_start};
 ghost use Rattle.fix_wire.specs.Pieces.{IsDrained};
 ghost use Rattle.fix_session.specs.Steps.{judge, ended, is_closed};
-ghost use Rattle.fix_session.specs.Reading.{ReaderState, new_reader, with_more, first_message, first_verdict, skipped, passed, Fed};
-ghost use Rattle.fix_session.specs.ReaderFields.{IsKept};
+ghost use Rattle.fix_session.specs.Reading.{ReaderState, new_reader, with_more, first_message, first_verdict, after_skipping, after_passing, Fed};
+ghost use Rattle.fix_session.specs.code.ReaderFields.{IsKept};
 
 use crate::session::{Session, Verdict};
 use fix_wire::{Framer, Next};
@@ -26,7 +27,7 @@ pub struct Reader {
 
 impl Model for Reader {
     ghost use Rattle.fix_session.specs.Reading.{ReaderState};
-    ghost use Rattle.fix_session.specs.ReaderFields.{state_of, IsKept};
+    ghost use Rattle.fix_session.specs.code.ReaderFields.{state_of, IsKept};
 
     ghost Value = { ReaderState };
 
@@ -80,7 +81,7 @@ impl Reader {
 
     /// Takes as much of the piece as there is room for, and says how many bytes.
     pub fn put(&mut self, piece: &[u8]) -> usize
-        ensures count { result ≡ min (length piece.now) (8192 - length self.old.held) }
+        ensures count { result ≡ min (length piece.now) (BUFFER_BYTES - length self.old.held) }
         ensures appended { self.new ≡ with_more self.old (take result piece.now) }
     {
         self.framer.put(piece)
@@ -96,7 +97,7 @@ impl Reader {
     /// What the first message says, if one stands. Bytes at which no frame stands are skipped, and nothing else changes.
     pub fn look(&mut self) -> Option<Verdict>
         ensures says { result ≡ first_verdict self.old }
-        ensures skipped { self.new ≡ skipped self.old }
+        ensures skipped { self.new ≡ after_skipping self.old }
     {
         find_due(&mut self.framer, &self.session, &mut self.due);
         match self.due {
@@ -108,7 +109,7 @@ impl Reader {
     /// Goes past the first message, which the session judges; false where none stands.
     pub fn pass(&mut self) -> bool
         ensures stands { result ≡ is_some (first_message self.old) }
-        ensures passed { self.new ≡ passed self.old }
+        ensures passed { self.new ≡ after_passing self.old }
     {
         find_due(&mut self.framer, &self.session, &mut self.due);
         let Some((_, after)) = self.due else {
@@ -144,8 +145,9 @@ impl Reader {
         &mut self,
         alloc: A,
     ) -> Result<Option<Vec<u8, A>>, NoMemory>
-        ensures copy { IfOk result (λ copy. option_map (λ v. v.items) copy ≡ first_message self.old) }
-        ensures skipped { self.new ≡ skipped self.old }
+        ensures copy { IfOk result
+            (λ copy. option_map (λ v. v.items) copy ≡ first_message self.old) }
+        ensures skipped { self.new ≡ after_skipping self.old }
     {
         match self.framer.next() {
             Next::Message(message) => Ok(Some(message.bytes().to_vec(alloc)?)),

@@ -1,13 +1,14 @@
 //! A session, message by message: which number is due, and what each message says.
-ghost use Rattle.std.specs.Prelude.{◌≡◌, ◌≤◌, ℕ, List, Option, Some};
+ghost use Rattle.std.specs.Prelude.{◌≡◌, ◌≤◌, ◌+◌, ℕ, List, Option, Some};
 ghost use Rattle.fix_wire.specs.Messages.{kind, number};
-ghost use Rattle.fix_session.specs.Table.{meaning_of};
-ghost use Rattle.fix_session.specs.View.{id_in, number_at, is_opening, logon_of, is_duplicate, is_logout, comp_ids, are_same, view_with, event_of_accepted, due_after_accepted};
+ghost use Rattle.fix_session.specs.Table.{meaning_of_message};
+ghost use Rattle.fix_session.specs.View.{given_id, given_number, is_opening, logon_of, is_duplicate, is_logout, comp_ids, are_same, view_with, event_of_accepted, due_after_accepted};
 ghost use Rattle.fix_session.specs.Steps.{new_session, running, closes, opens, step_below, step_above, step_due, step_running, verdict_of, judge, ended, is_closed};
 
-use crate::table::{Meaning, meaning_of};
+use crate::table::{Meaning, meaning_of_message};
 use fix_wire::{Message, msg_types, read_number, tags};
 use host_base::Id;
+use host_base::limits::{FIRST_MSG_SEQ_NUM, MAX_MSG_SEQ_NUM};
 use spread_rules::Event;
 use spread_rules::codes::close_reason;
 
@@ -32,7 +33,7 @@ struct Logon {
 pub struct Running {
     client: Id,
     host: Id,
-    /// The number of the next message that is accepted, 1 to 1,000,000,000.
+    /// The number of the next message that is accepted: one more than the greatest number at most.
     due: u32,
     /// Whether the missing messages from `due` on were asked for.
     gap_asked: bool,
@@ -107,14 +108,14 @@ impl Running {
     }
 }
 
-fn id_in(message: &Message, tag: u32) -> Option<Id>
-    ensures { result ≡ id_in tag message.now.frame.now }
+fn given_id(message: &Message, tag: u32) -> Option<Id>
+    ensures { result ≡ given_id tag message.now.frame.now }
 {
     Id::new(message.get(tag)?)
 }
 
-fn number_at(message: &Message, tag: u32) -> Option<u32>
-    ensures { result ≡ number_at tag message.now.frame.now }
+fn given_number(message: &Message, tag: u32) -> Option<u32>
+    ensures { result ≡ given_number tag message.now.frame.now }
 {
     match read_number(message.get(tag)?) {
         Ok(number) => Some(number),
@@ -122,7 +123,7 @@ fn number_at(message: &Message, tag: u32) -> Option<u32>
     }
 }
 
-/// Whether the message is a Logon with number 1 and a SendingTime, and asks for no encryption.
+/// Whether the message is a Logon with the first number and a SendingTime, and asks for no encryption.
 fn is_opening(message: &Message, number: u32) -> bool
     ensures { result ≡ is_opening message.now.frame.now number }
 {
@@ -134,7 +135,10 @@ fn is_opening(message: &Message, number: u32) -> bool
         Some(text) => text == b"0".as_slice(),
         None => false,
     };
-    message.kind() == [msg_types::LOGON].as_slice() && number == 1 && stamped && plain
+    message.kind() == [msg_types::LOGON].as_slice()
+        && number == FIRST_MSG_SEQ_NUM
+        && stamped
+        && plain
 }
 
 /// The Logon that opens a session, where the message is one.
@@ -145,9 +149,9 @@ fn logon_of(message: &Message, number: u32) -> Option<Logon>
     if !is_opening(message, number) {
         return None;
     }
-    let client = id_in(message, tags::SENDER_COMP_ID)?;
-    let host = id_in(message, tags::TARGET_COMP_ID)?;
-    let beat = number_at(message, tags::HEART_BT_INT)?;
+    let client = given_id(message, tags::SENDER_COMP_ID)?;
+    let host = given_id(message, tags::TARGET_COMP_ID)?;
+    let beat = given_number(message, tags::HEART_BT_INT)?;
     Some(Logon { client, host, beat })
 }
 
@@ -162,13 +166,13 @@ fn closed(reason: u8) -> (Verdict, Session)
 }
 
 fn opened(logon: Logon) -> (Verdict, Session)
-    ensures { result ≡ opens 2 (Some logon) }
+    ensures { result ≡ opens (FIRST_MSG_SEQ_NUM + 1) (Some logon) }
 {
     let Logon { client, host, beat } = logon;
     let running = Running {
         client,
         host,
-        due: 2,
+        due: FIRST_MSG_SEQ_NUM + 1,
         gap_asked: false,
     };
     (
@@ -179,7 +183,8 @@ fn opened(logon: Logon) -> (Verdict, Session)
 
 /// Whether a message has the CompIDs of the Logon.
 fn has_comp_ids(running: &Running, message: &Message) -> bool
-    ensures { result ≡ are_same (comp_ids message.now.frame.now) running.now.client running.now.host }
+    ensures { result
+        ≡ are_same (comp_ids message.now.frame.now) running.now.client running.now.host }
 {
     match message.get(tags::SENDER_COMP_ID) {
         None => false,
@@ -208,7 +213,7 @@ fn is_logout(message: &Message) -> bool
 
 /// A message after the Logon.
 fn judge_running(running: Running, message: &Message, number: u32) -> (Verdict, Session)
-    requires { number ≤ 999999999 }
+    requires { number ≤ MAX_MSG_SEQ_NUM }
     ensures { result ≡ step_running running (view_with message.now.frame.now number) }
 {
     if !has_comp_ids(&running, message) {
@@ -251,7 +256,7 @@ fn judge_above(running: Running) -> (Verdict, Session)
 
 /// The due number: the message is accepted.
 fn judge_due(running: Running, message: &Message, number: u32) -> (Verdict, Session)
-    requires { number ≤ 999999999 }
+    requires { number ≤ MAX_MSG_SEQ_NUM }
     ensures { result ≡ step_due running (view_with message.now.frame.now number) }
 {
     if is_logout(message) {
@@ -268,11 +273,13 @@ fn judge_due(running: Running, message: &Message, number: u32) -> (Verdict, Sess
 
 /// What an accepted message gives, and the number due after it. A message that is rejected uses up its number.
 fn accepted(message: &Message, number: u32) -> (Verdict, u32)
-    requires { number ≤ 999999999 }
-    ensures verdict { result.0 ≡ verdict_of (event_of_accepted number (meaning_of message.now.frame.now number)) }
-    ensures due { result.1 ≡ due_after_accepted number (meaning_of message.now.frame.now number) }
+    requires { number ≤ MAX_MSG_SEQ_NUM }
+    ensures verdict { result.0
+        ≡ verdict_of (event_of_accepted number (meaning_of_message message.now.frame.now number)) }
+    ensures due { result.1
+        ≡ due_after_accepted number (meaning_of_message message.now.frame.now number) }
 {
-    match meaning_of(message, number) {
+    match meaning_of_message(message, number) {
         Ok(Meaning::Nothing) => (Verdict::Nothing, number + 1),
         Ok(Meaning::Gives(event)) => (Verdict::Event(event), number + 1),
         Ok(Meaning::Fills(next)) => (Verdict::Nothing, next),

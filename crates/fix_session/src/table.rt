@@ -6,11 +6,14 @@ ghost use Rattle.std.specs.Option.{option_copied};
 ghost use Rattle.std.specs.List.{list_any};
 ghost use Rattle.fix_wire.specs.Messages.{get};
 ghost use Rattle.fix_wire.specs.declared.tags.TheConstants as tags;
-ghost use Rattle.fix_session.specs.Table.{text_at, id_at, number_at, quantity_at, price_at, choice_at, one_of, side_at, time_in_force_of, gap_fill_flag_of, passed_over, test_request, resend_request, sequence_reset, new_order, cancel_request, meaning_of_kind, meaning_of, reason_of};
-ghost use Rattle.fix_session.specs.Shown.{shown};
+ghost use Rattle.fix_session.specs.Table.{text_at, id_at, number_at, quantity_at, price_at, choice_at, one_of, side_at, time_in_force_of, gap_fill_flag_of, passed_over, test_request, resend_request, sequence_reset, new_order, cancel_request, meaning_of_kind, meaning_of_message, reason_of};
+ghost use Rattle.fix_session.specs.code.Shown.{bytes_behind};
 
-use fix_wire::{Message, Unread, msg_types, read_number, read_price, read_quantity, tags};
+use fix_wire::{
+    Message, Unread, field_values, msg_types, read_number, read_price, read_quantity, tags,
+};
 use host_base::Id;
+use host_base::limits::FIRST_MSG_SEQ_NUM;
 use spread_rules::codes::session_reject_reason;
 use spread_rules::{Event, Side, Ticket};
 
@@ -27,7 +30,7 @@ pub enum Meaning {
 
 /// The text of a tag that has to stand and hold something.
 fn text_at<'a>(message: &Message<'a>, tag: u32) -> Result<&'a [u8], u8>
-    ensures { shown result ≡ text_at tag message.now.frame.now }
+    ensures { bytes_behind result ≡ text_at tag message.now.frame.now }
 {
     match message.get(tag) {
         None => Err(session_reject_reason::REQUIRED_TAG_MISSING),
@@ -109,28 +112,28 @@ fn choice_at(message: &Message, tag: u32, allowed: &[u8]) -> Result<u8, u8>
     one_of(allowed, text_at(message, tag)?)
 }
 
-/// Side, tag 54.
+/// Side.
 fn side_at(message: &Message) -> Result<Side, u8>
     ensures { result ≡ side_at message.now.frame.now }
 {
     match choice_at(message, tags::SIDE, b"12")? {
-        b'1' => Ok(Side::Buy),
+        field_values::SIDE_BUY => Ok(Side::Buy),
         _ => Ok(Side::Sell),
     }
 }
 
-/// TimeInForce, tag 59: whether an order is immediate. Without the tag it is a day order.
+/// TimeInForce: whether an order is immediate. Without the tag it is a day order.
 fn is_immediate_at(message: &Message) -> Result<bool, u8>
     ensures { result ≡ time_in_force_of (get tags.TIME_IN_FORCE message.now.frame.now) }
 {
     match message.get(tags::TIME_IN_FORCE) {
         None => Ok(false),
         Some([]) => Err(session_reject_reason::TAG_WITHOUT_VALUE),
-        Some(text) => Ok(one_of(b"03", text)? == b'3'),
+        Some(text) => Ok(one_of(b"03", text)? == field_values::IMMEDIATE_OR_CANCEL),
     }
 }
 
-/// GapFillFlag, tag 123: a gap fill has to say that it is one.
+/// GapFillFlag: a gap fill has to say that it is one.
 fn gap_fill_flag_at(message: &Message) -> Result<u8, u8>
     ensures { result ≡ gap_fill_flag_of (get tags.GAP_FILL_FLAG message.now.frame.now) }
 {
@@ -164,7 +167,7 @@ fn resend_request(message: &Message) -> Result<Meaning, u8>
 {
     text_at(message, tags::SENDING_TIME)?;
     let first = number_at(message, tags::BEGIN_SEQ_NO)?;
-    if first < 1 {
+    if first < FIRST_MSG_SEQ_NUM {
         return Err(session_reject_reason::VALUE_OUT_OF_RANGE);
     }
     let last = number_at(message, tags::END_SEQ_NO)?;
@@ -245,8 +248,8 @@ fn meaning_of_kind(kind: u8, message: &Message, number: u32) -> Result<Meaning, 
 
 /// What an accepted message with this number means, where it is neither the session's Logon nor a Logout; or the reason
 /// to reject it.
-pub fn meaning_of(message: &Message, number: u32) -> Result<Meaning, u8>
-    ensures { result ≡ meaning_of message.now.frame.now number }
+pub fn meaning_of_message(message: &Message, number: u32) -> Result<Meaning, u8>
+    ensures { result ≡ meaning_of_message message.now.frame.now number }
 {
     match message.kind() {
         [] => Err(session_reject_reason::TAG_WITHOUT_VALUE),

@@ -1,50 +1,63 @@
 -- Lawful frames, what may still begin one, and the frames of an input (FIX 4.2: BeginString, BodyLength, body, CheckSum).
-use Rattle.std.specs.Prelude.{◌≡◌, ℕ, zero, suc, ◌+◌, ◌-◌, ◌/◌, ◌%◌, Bool, false, ◌&&◌, ◌||◌, nat_le, nat_lt, if◌then◌else◌, List, [], ◌∷◌, Option, Some, None, option_and_then, is_some, length, take, drop, sum}
+use Rattle.std.specs.Prelude.{◌≡◌, ℕ, zero, suc, ◌+◌, ◌-◌, ◌/◌, ◌%◌, Bool, false, ◌&&◌, ◌||◌, nat_le, nat_lt, if◌then◌else◌, List, [], ◌∷◌, ◌++◌, Option, Some, None, option_and_then, is_some, length, take, drop, sum, codes}
 use Rattle.std.specs.Char.{is_ascii_digit}
 use Rattle.std.specs.List.{list_all, position_or_len, AllByRecursion, concat}
 use Rattle.std.specs.Str.{bytes_eq}
+use Rattle.host_base.specs.declared.bytes.TheConstants.{SOH}
+use Rattle.host_base.specs.declared.limits.TheConstants.{MIN_BODY_LENGTH, MAX_BODY_LENGTH}
+use Rattle.host_base.specs.Ascii.{digit_zero}
 use Rattle.fix_wire.specs.declared.frame.FrameHeader.{FrameHeader}
-use Rattle.fix_wire.specs.Texts.{is_end, number_of, strip_prefix, is_cut_short}
+use Rattle.fix_wire.specs.declared.frame.TheConstants.{BEGIN_BYTES, CHECKSUM_BYTES, MAX_LENGTH_DIGITS}
+use Rattle.fix_wire.specs.Texts.{is_soh, number_of, strip_prefix, is_cut_short, with_soh, two_digits}
 use Rattle.fix_wire.specs.Fields.{fields_of_body}
 
 -- ---- the header: BeginString and BodyLength
 
--- `8=FIX.4.2|9=`, which each frame begins with
+-- what each frame begins with: BeginString, and the tag of BodyLength
 abbrev pub begin_text : List ℕ
-begin_text = 56 ∷ 61 ∷ 70 ∷ 73 ∷ 88 ∷ 46 ∷ 52 ∷ 46 ∷ 50 ∷ 1 ∷ 57 ∷ 61 ∷ []
+begin_text = with_soh (codes "8=FIX.4.2|9=")
 
 -- 1 to 8 digits of a number from 5 to 4096; leading zeros are allowed
 abbrev pub is_body_length : List ℕ → Bool
 is_body_length digits =
-    nat_le 1 (length digits) && nat_le (length digits) 8 && list_all is_ascii_digit digits
-    && nat_le 5 (number_of digits) && nat_le (number_of digits) 4096
+    nat_le 1 (length digits) && nat_le (length digits) MAX_LENGTH_DIGITS
+    && list_all is_ascii_digit digits
+    && nat_le MIN_BODY_LENGTH (number_of digits) && nat_le (number_of digits) MAX_BODY_LENGTH
 
 abbrev pub header_with : ℕ → List ℕ → Option FrameHeader
 header_with digits rest =
     if nat_lt digits (length rest) && is_body_length (take digits rest)
-    then Some (record { body_start = digits + 13; body_length = number_of (take digits rest) }) else None
+    then Some (record {
+      body_start = digits + (BEGIN_BYTES + 1);
+      body_length = number_of (take digits rest);
+    })
+    else None
 
--- what follows the begin text: BodyLength, and byte 1
+-- what follows the begin text: BodyLength, and SOH
 abbrev pub header_after : List ℕ → Option FrameHeader
-header_after rest = header_with (position_or_len is_end rest) rest
+header_after rest = header_with (position_or_len is_soh rest) rest
 
 -- where a frame's body starts, and how long BodyLength says it is
 abbrev pub header : List ℕ → Option FrameHeader
 header text = option_and_then header_after (strip_prefix begin_text text)
 
--- the length of a frame: its header, its body, and the 7 bytes of CheckSum
+-- how many bytes stand before CheckSum: the header and the body
+abbrev pub summed_length : FrameHeader → ℕ
+summed_length h = h.body_start + h.body_length
+
+-- the length of a frame: its header, its body, and CheckSum
 abbrev pub frame_length : FrameHeader → ℕ
-frame_length h = h.body_start + h.body_length + 7
+frame_length h = summed_length h + CHECKSUM_BYTES
 
 -- ---- a lawful frame
 
--- a row of fields whose first has the tag 35
+-- a row of fields whose first is MsgType
 abbrev pub is_body : List ℕ → Bool
-is_body body = is_some (strip_prefix (51 ∷ 53 ∷ 61 ∷ []) body) && is_some (fields_of_body body)
+is_body body = is_some (strip_prefix (codes "35=") body) && is_some (fields_of_body body)
 
--- `10=`, the number in three digits, and byte 1
+-- CheckSum: its tag, a number in three digits, and SOH
 abbrev pub checksum_field : ℕ → List ℕ
-checksum_field n = 49 ∷ 48 ∷ 61 ∷ (48 + n / 100) ∷ (48 + n / 10 % 10) ∷ (48 + n % 10) ∷ 1 ∷ []
+checksum_field n = codes "10=" ++ ((digit_zero + n / 100) ∷ two_digits n ++ (SOH ∷ []))
 
 abbrev pub body_at : List ℕ → FrameHeader → List ℕ
 body_at text h = take h.body_length (drop h.body_start text)
@@ -53,7 +66,8 @@ body_at text h = take h.body_length (drop h.body_start text)
 abbrev pub is_intact : List ℕ → FrameHeader → Bool
 is_intact text h =
     nat_le (frame_length h) (length text) && is_body (body_at text h)
-    && bytes_eq (take 7 (drop (h.body_start + h.body_length) text)) (checksum_field (sum (take (h.body_start + h.body_length) text) % 256))
+    && bytes_eq (take CHECKSUM_BYTES (drop (summed_length h) text))
+    (checksum_field (sum (take (summed_length h) text) % 256))
 
 abbrev pub intact_length : List ℕ → FrameHeader → Option ℕ
 intact_length text h = if is_intact text h then Some (frame_length h) else None
@@ -74,10 +88,10 @@ pub record IsFrameRow (text : List ℕ) : Type 0 where
 
 -- ---- what may still begin one
 
--- 0 to 8 digits, and nothing more, follow the begin text
+-- digits of BodyLength, and nothing more, follow the begin text
 abbrev pub is_length_open : Option (List ℕ) → Bool
 is_length_open None = false
-is_length_open (Some rest) = nat_le (length rest) 8 && list_all is_ascii_digit rest
+is_length_open (Some rest) = nat_le (length rest) MAX_LENGTH_DIGITS && list_all is_ascii_digit rest
 
 -- bytes of the frame that the header announces are still to come
 abbrev pub is_unfinished : List ℕ → Option FrameHeader → Bool
@@ -86,7 +100,9 @@ is_unfinished text (Some h) = nat_lt (length text) (frame_length h)
 
 -- the text may still begin a frame
 abbrev pub may_begin : List ℕ → Bool
-may_begin text = is_cut_short begin_text text || is_length_open (strip_prefix begin_text text) || is_unfinished text (header text)
+may_begin text =
+    is_cut_short begin_text text || is_length_open (strip_prefix begin_text text)
+    || is_unfinished text (header text)
 
 -- ---- the frames of an input
 

@@ -1,4 +1,4 @@
--- What a framer holds, and which of it may go.
+-- Which bytes a framer keeps: those from the first place on at which a frame stands or may begin.
 use Rattle.std.specs.Prelude.{ℕ, List, [], ◌∷◌, Option, Some, None, drop, if◌then◌else◌}
 use Rattle.fix_wire.specs.Frames.{frame_at, may_begin}
 
@@ -10,7 +10,10 @@ first_frame (x ∷ xs) = Some x
 -- the bytes from the first place on at which a frame stands or may still begin
 abbrev pub from_first_start : List ℕ → List ℕ
 from_first_start [] = []
-from_first_start (b ∷ bs) = elim (frame_at (b ∷ bs)) [ Some n ↦ b ∷ bs | None ↦ if may_begin (b ∷ bs) then b ∷ bs else from_first_start bs ]
+from_first_start (b ∷ bs) = elim (frame_at (b ∷ bs)) [
+  | Some n ↦ b ∷ bs
+  | None ↦ if may_begin (b ∷ bs) then b ∷ bs else from_first_start bs
+]
 
 abbrev pub past_frame : Option ℕ → List ℕ → List ℕ
 past_frame None text = text

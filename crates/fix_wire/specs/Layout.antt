@@ -1,33 +1,37 @@
--- The one spelling of a message.
-use Rattle.std.specs.Prelude.{◌≡◌, ◌≢◌, ℕ, ◌+◌, ◌/◌, ◌%◌, ◌<◌, ◌≤◌, ◌^◌, ℤ, pos, Bool, true, false, if◌then◌else◌, List, [], ◌∷◌, ◌++◌, map, length, sum, decimal, int_lt, unsigned_abs}
+-- How a message is written, and that it is read back.
+use Rattle.std.specs.Prelude.{◌≡◌, ◌≢◌, ℕ, ◌+◌, ◌/◌, ◌%◌, ◌<◌, ◌≤◌, ◌^◌, ℤ, pos, Bool, true, false, if◌then◌else◌, List, [], ◌∷◌, ◌++◌, map, length, sum, decimal, int_lt, unsigned_abs, codes}
 use Rattle.std.specs.List.{flat_map, AllByRecursion}
+use Rattle.host_base.specs.declared.bytes.TheConstants.{SOH}
+use Rattle.host_base.specs.declared.limits.TheConstants.{MAX_BODY_LENGTH}
+use Rattle.host_base.specs.Ascii.{equals, minus, point}
 use Rattle.host_base.specs.Ids.{is_plain}
+use Rattle.fix_wire.specs.declared.frame.TheConstants.{MAX_TAG_DIGITS}
+use Rattle.fix_wire.specs.declared.tags.TheConstants as tags
 use Rattle.fix_wire.specs.declared.writer.Value.{Value}
 use Rattle.fix_wire.specs.declared.writer.Value.TheVariants.{Text, Number, Price, Pair}
 use Rattle.fix_wire.specs.declared.writer.Field as given
 use Rattle.fix_wire.specs.declared.writer.Head.{Head}
+use Rattle.fix_wire.specs.Texts.{two_digits}
 use Rattle.fix_wire.specs.Fields.{TagValue}
 use Rattle.fix_wire.specs.Frames.{begin_text, checksum_field, IsFrame, frames}
 use Rattle.fix_wire.specs.Messages.{fields}
 
--- two digits
-abbrev pub two_digits : ℕ → List ℕ
-two_digits n = (48 + n / 10 % 10) ∷ (48 + n % 10) ∷ []
-
 -- a price: an optional `-`, the whole part, a point and two digits; 10000 is `100.00`, -5 is `-0.05`
 abbrev pub price_text : ℤ → List ℕ
-price_text z = (if int_lt z (pos 0) then 45 ∷ [] else []) ++ (decimal (unsigned_abs z / 100) ++ (46 ∷ two_digits (unsigned_abs z % 100)))
+price_text z =
+    (if int_lt z (pos 0) then minus ∷ [] else [])
+    ++ (decimal (unsigned_abs z / 100) ++ (point ∷ two_digits (unsigned_abs z % 100)))
 
 -- what a field's value is written as; a pair is `a-b`
 abbrev pub value_text : Value → List ℕ
 value_text (Text id) = id
 value_text (Number n) = decimal n
 value_text (Price z) = price_text z
-value_text (Pair a b) = decimal a ++ (45 ∷ decimal b)
+value_text (Pair a b) = decimal a ++ (minus ∷ decimal b)
 
--- a tag, `=`, a value and byte 1
+-- a tag, `=`, a value and SOH
 abbrev pub field_text : TagValue → List ℕ
-field_text f = (decimal f.tag ++ (61 ∷ f.value)) ++ (1 ∷ [])
+field_text f = (decimal f.tag ++ (equals ∷ f.value)) ++ (SOH ∷ [])
 
 abbrev pub field : ℕ → List ℕ → TagValue
 field tag value = record { tag = tag; value = value }
@@ -41,10 +45,11 @@ only_if false f = []
 -- OrigSendingTime in a duplicate
 abbrev pub head_fields : Head → List TagValue
 head_fields h =
-    (field 35 (h.kind ∷ []) ∷ field 34 (decimal h.number) ∷ [])
-    ++ (only_if h.duplicate (field 43 (89 ∷ []))
-    ++ ((field 49 h.sender ∷ field 52 h.stamp ∷ field 56 h.target ∷ [])
-    ++ only_if h.duplicate (field 122 h.stamp)))
+    (field tags.MSG_TYPE (h.kind ∷ []) ∷ field tags.MSG_SEQ_NUM (decimal h.number) ∷ [])
+    ++ (only_if h.duplicate (field tags.POSS_DUP_FLAG (codes "Y"))
+    ++ ((field tags.SENDER_COMP_ID h.sender ∷ field tags.SENDING_TIME h.stamp
+    ∷ field tags.TARGET_COMP_ID h.target ∷ [])
+    ++ only_if h.duplicate (field tags.ORIG_SENDING_TIME h.stamp)))
 
 -- a field as it is written
 abbrev pub field_of_given : given.Field → TagValue
@@ -60,7 +65,7 @@ body_text h fs = flat_map field_text (all_fields h fs)
 
 -- what CheckSum sums: BeginString, BodyLength without leading zeros, and the body
 abbrev pub summed_text : List ℕ → List ℕ
-summed_text body = begin_text ++ (decimal (length body) ++ (1 ∷ body))
+summed_text body = begin_text ++ (decimal (length body) ++ (SOH ∷ body))
 
 -- a body within its frame
 abbrev pub frame_text : List ℕ → List ℕ
@@ -84,20 +89,22 @@ FitsValueOf f = FitsValue f.value
 
 -- a tag of one to nine digits
 abbrev pub FitsTag : given.Field → Type 0
-FitsTag f = (1 ≤ f.tag) × (f.tag < 1000000000)
+FitsTag f = (1 ≤ f.tag) × (f.tag < 10 ^ MAX_TAG_DIGITS)
 
 abbrev pub FitsField : given.Field → Type 0
-FitsField f = (1 ≤ f.tag) × (f.tag < 1000000000) × FitsValue f.value
+FitsField f = (1 ≤ f.tag) × (f.tag < 10 ^ MAX_TAG_DIGITS) × FitsValue f.value
 
 -- the number and the ids keep to the ranges of their types
 abbrev pub FitsTypes : Head → Type 0
-FitsTypes h = (h.number < 2 ^ 64) × (is_plain h.sender ≡ true) × (is_plain h.target ≡ true) × (is_plain h.stamp ≡ true)
+FitsTypes h =
+    (h.number < 2 ^ 64) × (is_plain h.sender ≡ true) × (is_plain h.target ≡ true)
+    × (is_plain h.stamp ≡ true)
 
--- the kind isn't byte 1
+-- the kind isn't SOH
 abbrev pub FitsKind : Head → Type 0
-FitsKind h = h.kind ≢ 1
+FitsKind h = h.kind ≢ SOH
 
--- both
+-- the head keeps to both
 abbrev pub FitsHead : Head → Type 0
 FitsHead h = FitsKind h × FitsTypes h
 
@@ -106,7 +113,7 @@ FitsTags fs = AllByRecursion FitsTag fs
 
 -- a body that BodyLength allows
 abbrev pub FitsBody : Head → List given.Field → Type 0
-FitsBody h fs = length (body_text h fs) ≤ 4096
+FitsBody h fs = length (body_text h fs) ≤ MAX_BODY_LENGTH
 
 -- in range, and a body that BodyLength allows
 abbrev pub FitsMessage : Head → List given.Field → Type 0

@@ -1,14 +1,11 @@
+pub mod code
 pub mod Texts
 pub mod Values
 pub mod Fields
 pub mod Frames
 pub mod Messages
-pub mod Fronts
 pub mod Held
-pub mod FramerFields
-pub mod Lent
-pub mod Tabled
+pub mod Next
 pub mod Layout
-pub mod Spelling
 pub mod Pieces
 pub mod Examples

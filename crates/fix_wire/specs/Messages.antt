@@ -1,5 +1,6 @@
 -- What a message says: a message is a lawful frame, and its fields are those of its body.
 use Rattle.std.specs.Prelude.{ℕ, ◌==◌, nat_le, if◌then◌else◌, List, [], ◌∷◌, Option, Some, None, Result, Ok, Err, option_map, option_and_then, unwrap_or, find}
+use Rattle.fix_wire.specs.declared.tags.TheConstants as tags
 use Rattle.fix_wire.specs.declared.values.Unread.{Unread}
 use Rattle.fix_wire.specs.Fields.{TagValue, fields_of_body}
 use Rattle.fix_wire.specs.Frames.{header, body_at}
@@ -7,7 +8,8 @@ use Rattle.fix_wire.specs.Values.{number_in}
 
 -- the fields of a message
 abbrev pub fields : List ℕ → List TagValue
-fields message = unwrap_or (option_and_then (λ h. fields_of_body (body_at message h)) (header message)) []
+fields message =
+    unwrap_or (option_and_then (λ h. fields_of_body (body_at message h)) (header message)) []
 
 abbrev pub first_value : List TagValue → List ℕ
 first_value [] = []
@@ -25,6 +27,6 @@ abbrev pub at_least_one : Result ℕ Unread → Option ℕ
 at_least_one (Ok n) = if nat_le 1 n then Some n else None
 at_least_one (Err e) = None
 
--- MsgSeqNum: the value of tag 34, where it can be read and is at least 1
+-- MsgSeqNum, where it can be read and is at least 1
 abbrev pub number : List ℕ → Option ℕ
-number message = option_and_then (λ v. at_least_one (number_in v)) (get 34 message)
+number message = option_and_then (λ v. at_least_one (number_in v)) (get tags.MSG_SEQ_NUM message)

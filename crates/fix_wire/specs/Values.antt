@@ -2,6 +2,8 @@
 use Rattle.std.specs.Prelude.{ℕ, ℤ, pos, neg_ℤ, ◌+◌, ◌*◌, Bool, true, false, ◌&&◌, ◌==◌, nat_le, nat_lt, if◌then◌else◌, List, [], ◌∷◌, ◌++◌, Result, Ok, Err, length, take, drop}
 use Rattle.std.specs.Char.{is_ascii_digit}
 use Rattle.std.specs.List.{list_all, before_first, after_first}
+use Rattle.host_base.specs.Ascii.{digit_zero, minus}
+use Rattle.fix_wire.specs.declared.values.TheConstants.{MAX_NUMBER, MAX_HUNDREDTHS}
 use Rattle.fix_wire.specs.declared.values.Unread.{Unread}
 use Rattle.fix_wire.specs.declared.values.Unread.TheVariants.{Format, Range}
 use Rattle.fix_wire.specs.Texts.{is_point, is_zero, number_of}
@@ -14,21 +16,29 @@ is_number text = nat_lt 0 (length text) && list_all is_ascii_digit text
 abbrev pub within : ℕ → ℕ → Result ℕ Unread
 within most n = if nat_le n most then Ok n else Err Range
 
--- one or more digits, up to 999,999,999
+-- one or more digits, up to a limit
 abbrev pub number_in : List ℕ → Result ℕ Unread
-number_in text = if is_number text then within 999999999 (number_of text) else Err Format
+number_in text = if is_number text then within MAX_NUMBER (number_of text) else Err Format
 
 -- one or more digits, then nothing, or a point and any number of zeros
 abbrev pub quantity_in : List ℕ → Result ℕ Unread
 quantity_in text =
     let whole = before_first is_point text in
-    if is_number whole && list_all is_zero (after_first is_point text) then within 999999999 (number_of whole) else Err Format
+    if is_number whole && list_all is_zero (after_first is_point text)
+    then within MAX_NUMBER (number_of whole)
+    else Err Format
+
+-- the hundredths that the digits after the point spell
+abbrev pub cents : List ℕ → ℕ
+cents part = number_of (take 2 (part ++ digit_zero ∷ digit_zero ∷ []))
 
 -- what stands before and after the point: at least one digit, and no digit but 0 past the second place after the point
 abbrev pub hundredths : List ℕ → List ℕ → Result ℕ Unread
 hundredths whole part =
     if is_number (whole ++ part) then
-    (if list_all is_zero (drop 2 part) then within 1000000000 (100 * number_of whole + number_of (take 2 (part ++ 48 ∷ 48 ∷ []))) else Err Range)
+    (if list_all is_zero (drop 2 part)
+    then within MAX_HUNDREDTHS (100 * number_of whole + cents part)
+    else Err Range)
     else Err Format
 
 -- hundredths without a sign: digits with at most one point among, before or after them
@@ -42,4 +52,5 @@ signed negative (Err e) = Err e
 -- an optional `-`, then hundredths
 abbrev pub price_in : List ℕ → Result ℤ Unread
 price_in [] = Err Format
-price_in (b ∷ bs) = if b == 45 then signed true (hundredths_in bs) else signed false (hundredths_in (b ∷ bs))
+price_in (b ∷ bs) =
+    if b == minus then signed true (hundredths_in bs) else signed false (hundredths_in (b ∷ bs))

@@ -18,7 +18,8 @@ pub trait Body {
     /// Writes them into the room from that place on, and tells where they end.
     fn put(&self, room: &mut [u8], at: usize) -> usize
         requires within { at + 64 * length (fields self.now) ≤ length room.old }
-        ensures text { take result room.new ≡ take at room.old ++ flat_map (λ f. field_text (field_of_given f)) (fields self.now) }
+        ensures text { take result room.new
+            ≡ take at room.old ++ flat_map (λ f. field_text (field_of_given f)) (fields self.now) }
         ensures most { result ≤ at + 64 * length (fields self.now) }
         ensures values { AllByRecursion FitsValueOf (fields self.now) }
         ensures size { length room.new ≡ length room.old };

@@ -1,24 +1,38 @@
 //! What stands at the front of a text.
-ghost use Rattle.std.specs.Prelude.{◌≡◌, ℕ, ◌+◌, ◌%◌, ◌≤◌, ◌<◌, ◌^◌, length, take, drop, sum, option_map, option_and_then, is_some, true, IfSome};
+ghost use Rattle.std.specs.Prelude.{◌≡◌, ℕ, ◌+◌, ◌%◌, ◌≤◌, ◌<◌, ◌^◌, length, take, drop, sum, option_map, option_and_then, is_some, true, IfSome, nat_le, ◌&&◌};
 ghost use Rattle.std.specs.List.{position_or_len};
 ghost use Rattle.std.specs.Str.{bytes_eq};
 ghost use Rattle.memchr.specs.Find.{is_byte};
-ghost use Rattle.fix_wire.specs.Texts.{is_end, strip_prefix, is_cut_short};
+ghost use Rattle.fix_wire.specs.Texts.{is_soh, strip_prefix, is_cut_short};
 ghost use Rattle.fix_wire.specs.Frames.{begin_text, header, header_after, body_at, is_body, is_intact, is_length_open, checksum_field, frame_length};
 ghost use Rattle.fix_wire.specs.Fields.{field_of_text};
 ghost use Rattle.fix_wire.specs.Held.{from_first_start};
-ghost use Rattle.fix_wire.specs.Tabled.{IsTable, IsTableOf};
-ghost use Rattle.fix_wire.specs.declared.frame.Front.TheVariants.{Frame};
+ghost use Rattle.fix_wire.specs.code.Tabled.{IsTable, IsTableOf};
+ghost use Rattle.fix_wire.specs.declared.frame.Scan.TheVariants.{Frame};
 ghost use Rattle.std.specs.Bool.{OnTrue};
-ghost use Rattle.fix_wire.specs.Fronts.{front_of, first_field, leading_field_view, tag_view, is_header_open};
+ghost use Rattle.fix_wire.specs.code.Scans.{scan_front, first_field, leading_field_view, tag_view, is_header_open};
 
 use crate::table::{FieldTable, are_fields};
 use crate::values::limited_digits;
+use host_base::bytes::SOH;
+use host_base::limits::{MAX_BODY_LENGTH, MIN_BODY_LENGTH};
 use memchr::memchr;
 use std::simd::prelude::*;
 
-/// `8=FIX.4.2|9=`
-pub(crate) const BEGIN_TEXT: [u8; 12] = *b"8=FIX.4.2\x019=";
+/// How many bytes BeginString and the tag of BodyLength have.
+pub const BEGIN_BYTES: usize = 12;
+
+/// How many bytes CheckSum has: its tag, three digits and SOH.
+pub const CHECKSUM_BYTES: usize = 7;
+
+/// BodyLength has 1 to so many digits.
+pub const MAX_LENGTH_DIGITS: usize = 8;
+
+/// A tag has 1 to so many digits.
+pub const MAX_TAG_DIGITS: usize = 9;
+
+/// BeginString and the tag of BodyLength, which each frame begins with.
+pub(crate) const BEGIN_TEXT: [u8; BEGIN_BYTES] = *b"8=FIX.4.2\x019=";
 
 /// The header of a frame: where its body starts, and how long it is.
 #[derive(Clone, Copy)]
@@ -29,11 +43,11 @@ pub struct FrameHeader {
 
 /// What stands at the front of a text.
 #[derive(Clone, Copy)]
-pub enum Front {
+pub enum Scan {
     /// a lawful frame of that length
     Frame(usize),
     /// no frame, but what may still begin one
-    Partial,
+    Incomplete,
     /// neither
     Garbled,
 }
@@ -45,7 +59,7 @@ struct Tag {
     digits: usize,
 }
 
-/// Where the first field of a text stands: its value is from start to end, where its byte 1 is.
+/// Where the first field of a text stands: its value is from start to end, where its SOH is.
 #[derive(Clone, Copy)]
 pub struct LeadingField {
     pub tag: u32,
@@ -75,13 +89,13 @@ fn near_place_of(byte: u8, text: &[u8]) -> usize
     text.len()
 }
 
-/// How many of the sixteen bytes at a place come before the first byte 1 among them.
+/// How many of the sixteen bytes at a place come before the first SOH among them.
 fn run_at(text: &[u8], at: usize) -> usize
     requires { at + 16 ≤ length text.now }
-    ensures { result ≡ position_or_len is_end (take 16 (drop at text.now)) }
+    ensures { result ≡ position_or_len is_soh (take 16 (drop at text.now)) }
 {
     let ends = u8x16::from_slice(&text[at..])
-        .simd_eq(u8x16::splat(1))
+        .simd_eq(u8x16::splat(SOH))
         .to_bitmask();
     if ends == 0 {
         16
@@ -90,9 +104,9 @@ fn run_at(text: &[u8], at: usize) -> usize
     }
 }
 
-/// The place of the first byte 1, or the length: sixteen bytes at a time, since few fields are longer.
+/// The place of the first SOH, or the length: sixteen bytes at a time, since few fields are longer.
 fn field_end(text: &[u8]) -> usize
-    ensures { result ≡ position_or_len is_end text.now }
+    ensures { result ≡ position_or_len is_soh text.now }
 {
     let mut at = 0;
     while text.len() - at >= 16 {
@@ -102,20 +116,27 @@ fn field_end(text: &[u8]) -> usize
         }
         at += 16;
     }
-    at + near_place_of(1, &text[at..])
+    at + near_place_of(SOH, &text[at..])
+}
+
+/// Whether a body may have this length.
+fn is_body_length(length: usize) -> bool
+    ensures { result ≡ nat_le MIN_BODY_LENGTH length && nat_le length MAX_BODY_LENGTH }
+{
+    MIN_BODY_LENGTH <= length && length <= MAX_BODY_LENGTH
 }
 
 fn header_after(rest: &[u8]) -> Option<FrameHeader>
     requires { length rest.now < 2 ^ 32 }
     ensures { result ≡ header_after rest.now }
 {
-    let digits = near_place_of(1, rest);
-    if digits == rest.len() || digits == 0 || digits > 8 {
+    let digits = near_place_of(SOH, rest);
+    if digits == rest.len() || digits == 0 || digits > MAX_LENGTH_DIGITS {
         return None;
     }
     match limited_digits(&rest[..digits]) {
-        Some(length) if 5 <= length && length <= 4096 => Some(FrameHeader {
-            body_start: digits + 13,
+        Some(length) if is_body_length(length as usize) => Some(FrameHeader {
+            body_start: digits + BEGIN_BYTES + 1,
             body_length: length as usize,
         }),
         _ => None,
@@ -128,7 +149,7 @@ pub(crate) fn header_of(text: &[u8]) -> Option<FrameHeader>
     ensures { result ≡ header text.now }
 {
     if text.starts_with(&BEGIN_TEXT) {
-        header_after(&text[12..])
+        header_after(&text[BEGIN_BYTES..])
     } else {
         None
     }
@@ -139,9 +160,10 @@ fn is_header_open(text: &[u8]) -> bool
     ensures { result ≡ is_header_open text.now }
 {
     if text.starts_with(&BEGIN_TEXT) {
-        text.len() <= 20 && limited_digits(&text[12..]).is_some()
+        text.len() <= BEGIN_BYTES + MAX_LENGTH_DIGITS
+            && limited_digits(&text[BEGIN_BYTES..]).is_some()
     } else {
-        text.len() < 12 && BEGIN_TEXT.starts_with(text)
+        text.len() < BEGIN_BYTES && BEGIN_TEXT.starts_with(text)
     }
 }
 
@@ -172,7 +194,7 @@ fn leading_tag(text: &[u8]) -> Option<Tag>
                 digits: i,
             });
         }
-        if i == 9 || !text[i].is_ascii_digit() {
+        if i == MAX_TAG_DIGITS || !text[i].is_ascii_digit() {
             return None;
         }
         number = number * 10 + u64::from(text[i] - b'0');
@@ -202,7 +224,7 @@ pub(crate) fn first_field(body: &[u8]) -> Option<LeadingField>
 
 /// Whether a text is a body, and if so, its table.
 fn is_body(body: &[u8], table: &mut FieldTable) -> bool
-    requires { length body.now ≤ 4096 }
+    requires { length body.now ≤ MAX_BODY_LENGTH }
     ensures body { result ≡ is_body body.now }
     ensures table { OnTrue result (IsTable body.now table.new) }
 {
@@ -221,7 +243,7 @@ pub(crate) fn checksum(text: &[u8]) -> u8
 }
 
 /// The CheckSum field of that sum.
-pub(crate) fn checksum_digits(sum: u8) -> [u8; 7]
+pub(crate) fn checksum_digits(sum: u8) -> [u8; CHECKSUM_BYTES]
     ensures { result ≡ checksum_field sum }
 {
     [
@@ -231,11 +253,11 @@ pub(crate) fn checksum_digits(sum: u8) -> [u8; 7]
         b'0' + sum / 100,
         b'0' + sum / 10 % 10,
         b'0' + sum % 10,
-        1,
+        SOH,
     ]
 }
 
-/// Whether the last 7 bytes are the CheckSum field.
+/// Whether the last bytes are the CheckSum field.
 fn is_trailer(tail: &[u8], sum: u8) -> bool
     ensures { result ≡ bytes_eq tail.now (checksum_field sum) }
 {
@@ -244,35 +266,35 @@ fn is_trailer(tail: &[u8], sum: u8) -> bool
 
 /// Whether the text has what its header announces, and if so, the table of its body.
 fn is_intact(text: &[u8], header: FrameHeader, table: &mut FieldTable) -> bool
-    requires start { header.body_start ≤ 21 }
-    requires size { header.body_length ≤ 4096 }
+    requires start { header.body_start ≤ BEGIN_BYTES + MAX_LENGTH_DIGITS + 1 }
+    requires size { header.body_length ≤ MAX_BODY_LENGTH }
     requires whole { frame_length header ≤ length text.now }
     ensures intact { result ≡ is_intact text.now header }
     ensures table { OnTrue result (IsTable (body_at text.now header) table.new) }
 {
     let end = header.body_start + header.body_length;
-    is_trailer(&text[end..end + 7], checksum(&text[..end]))
+    is_trailer(&text[end..end + CHECKSUM_BYTES], checksum(&text[..end]))
         && is_body(&text[header.body_start..end], table)
 }
 
 /// What stands at the front of a text, and the table of a frame that does.
-pub(crate) fn front_of(text: &[u8], table: &mut FieldTable) -> Front
+pub(crate) fn scan_front(text: &[u8], table: &mut FieldTable) -> Scan
     requires { length text.now < 2 ^ 32 }
-    ensures front { result ≡ front_of text.now }
+    ensures front { result ≡ scan_front text.now }
     ensures table { (n : ℕ) → result ≡ Frame n → IsTableOf text.now table.new }
 {
     match header_of(text) {
         Some(header) => {
-            let whole = header.body_start + header.body_length + 7;
+            let whole = header.body_start + header.body_length + CHECKSUM_BYTES;
             if text.len() < whole {
-                Front::Partial
+                Scan::Incomplete
             } else if is_intact(text, header, table) {
-                Front::Frame(whole)
+                Scan::Frame(whole)
             } else {
-                Front::Garbled
+                Scan::Garbled
             }
         }
-        None if is_header_open(text) => Front::Partial,
-        None => Front::Garbled,
+        None if is_header_open(text) => Scan::Incomplete,
+        None => Scan::Garbled,
     }
 }

@@ -4,35 +4,35 @@ ghost use Rattle.std.specs.Bool.{OnTrue, OnFalse};
 ghost use Rattle.std.specs.Borrow.{sem};
 ghost use Rattle.fix_wire.specs.Frames.{frames, frame_at};
 ghost use Rattle.fix_wire.specs.Held.{first_frame, from_first_start, after_first_frame};
-ghost use Rattle.fix_wire.specs.Lent.{lent};
-ghost use Rattle.fix_wire.specs.Tabled.{IsTableOf};
+ghost use Rattle.fix_wire.specs.Next.{frame_in};
+ghost use Rattle.fix_wire.specs.code.Tabled.{IsTableOf};
 ghost use denote.Follow.{follows_so};
 ghost use mathlib.Core.Option.{none};
 ghost use Rattle.fix_wire.specs.contracts.framer.Framer.{the_row};
 
-use crate::frame::{Front, front_of, next_begin};
-use crate::message::Message;
+use crate::frame::{Scan, next_begin, scan_front};
+use crate::message::{MAX_FRAME_BYTES, Message};
 use crate::table::FieldTable;
 use std::marker::Model;
 
 /// How many bytes a framer holds at most.
-pub const ROOM: usize = 8192;
+pub const BUFFER_BYTES: usize = 8_192;
 
 /// The bytes of a stream that are put and not passed.
 #[derive(Drop)]
 pub struct Framer {
-    buffer: [u8; 8192],
+    buffer: [u8; BUFFER_BYTES],
     start: usize,
     end: usize,
     // The length of the frame at the front, once it is found; else 0.
-    found: usize,
+    front_length: usize,
     // Its table, of no field where no frame is found.
     table: FieldTable,
 }
 
 impl Model for Framer {
     ghost use Rattle.std.specs.Prelude.{ℕ, List};
-    ghost use Rattle.fix_wire.specs.FramerFields.{held_of, IsKept};
+    ghost use Rattle.fix_wire.specs.code.FramerFields.{held_of, IsKept};
 
     ghost Value = { List ℕ };
 
@@ -54,10 +54,10 @@ impl Framer {
         ensures { result ≡ [] }
     {
         Framer {
-            buffer: [0; 8192],
+            buffer: [0; BUFFER_BYTES],
             start: 0,
             end: 0,
-            found: 0,
+            front_length: 0,
             table: FieldTable::empty(),
         }
     }
@@ -65,19 +65,19 @@ impl Framer {
     /// How many bytes are held.
     pub fn held(&self) -> usize
         ensures count { result ≡ length self.now }
-        ensures bound { result ≤ 8192 }
+        ensures bound { result ≤ BUFFER_BYTES }
     {
         self.end - self.start
     }
 
     /// Takes as much of the piece as there is room for, and says how many bytes.
     pub fn put(&mut self, piece: &[u8]) -> usize
-        ensures count { result ≡ min (length piece.now) (8192 - length self.old) }
+        ensures count { result ≡ min (length piece.now) (BUFFER_BYTES - length self.old) }
         ensures appended { self.new ≡ self.old ++ take result piece.now }
     {
         let held = self.end - self.start;
-        let taken = piece.len().min(ROOM - held);
-        if taken > ROOM - self.end {
+        let taken = piece.len().min(BUFFER_BYTES - held);
+        if taken > BUFFER_BYTES - self.end {
             slide(&mut self.buffer, self.start, self.end);
             self.start = 0;
             self.end = held;
@@ -89,14 +89,14 @@ impl Framer {
 
     /// How many bytes stand before the first place at which a frame stands or may still begin, and the length of the
     /// frame that stands there.
-    fn first(&self) -> (usize, Option<usize>)
+    fn find_front(&self) -> (usize, Option<usize>)
         ensures within { result.0 ≤ length self.now }
         ensures kept { drop result.0 self.now ≡ from_first_start self.now }
         ensures found { result.1 ≡ frame_at (from_first_start self.now) }
         ensures fits { IfSome result.1 (λ n. result.0 + n ≤ length self.now) }
     {
-        if self.found > 0 {
-            (0, Some(self.found))
+        if self.front_length > 0 {
+            (0, Some(self.front_length))
         } else {
             first_start(&self.buffer[self.start..self.end], &mut FieldTable::empty())
         }
@@ -104,30 +104,30 @@ impl Framer {
 
     /// Lets the bytes at the front go at which no frame stands or may still begin, and finds the frame that stands there,
     /// unless it was found before.
-    fn seek(&mut self) -> Option<usize>
+    fn skip_garbled(&mut self) -> Option<usize>
         ensures kept { self.new ≡ from_first_start self.old }
         ensures found { result ≡ frame_at (from_first_start self.old) }
     {
-        if self.found > 0 {
-            return Some(self.found);
+        if self.front_length > 0 {
+            return Some(self.front_length);
         }
         let mut table = FieldTable::empty();
-        let (skip, found) = first_start(&self.buffer[self.start..self.end], &mut table);
+        let (skip, front_length) = first_start(&self.buffer[self.start..self.end], &mut table);
         self.start += skip;
-        if let Some(length) = found {
-            self.found = length;
+        if let Some(length) = front_length {
+            self.front_length = length;
             self.table = table;
         }
-        found
+        front_length
     }
 
-    /// Lends the message at the front, whose length is known where there is one.
-    fn lend(&self, found: Option<usize>) -> Next<'_>
+    /// The message at the front, of that length where there is one.
+    fn peek(&self, front_length: Option<usize>) -> Next<'_>
         requires settled { from_first_start self.now ≡ self.now }
-        requires found { found ≡ frame_at self.now }
-        ensures { lent result ≡ first_frame (frames self.now) }
+        requires front { front_length ≡ frame_at self.now }
+        ensures { frame_in result ≡ first_frame (frames self.now) }
     {
-        match found {
+        match front_length {
             Some(length) => {
                 let frame = &self.buffer[self.start..self.start + length];
                 Next::Message(Message::of_frame(frame, &self.table))
@@ -136,28 +136,30 @@ impl Framer {
         }
     }
 
-    /// Lends the first message.
+    /// The first message, which is still held.
     pub fn next(&mut self) -> Next<'_>
-        ensures* after { sem 𝓛 (follows_so the_row the_row self.entry.ghost_name none (λ _ _. ⊤) (λ v. v ≡ from_first_start self.old)) }
-        ensures lends { lent result ≡ first_frame (frames self.old) }
-        // What is held after Need leaves room for more.
-        ensures room { lent result ≡ None → length (from_first_start self.old) ≤ 4123 }
+        ensures* after { sem 𝓛 (follows_so the_row the_row self.entry.ghost_name none (λ _ _. ⊤)
+            (λ v. v ≡ from_first_start self.old)) }
+        ensures first { frame_in result ≡ first_frame (frames self.old) }
+        // Need leaves room for more.
+        ensures room { frame_in result ≡ None →
+            length (from_first_start self.old) < MAX_FRAME_BYTES }
     {
-        let found = self.seek();
-        self.lend(found)
+        let front_length = self.skip_garbled();
+        self.peek(front_length)
     }
 
-    /// Goes past the message that `next` would lend.
+    /// Goes past the message that `next` would answer.
     pub fn pass(&mut self) -> bool
         ensures stands { result ≡ is_some (first_frame (frames self.old)) }
         ensures passed { OnTrue result (self.new ≡ after_first_frame self.old) }
         ensures same { OnFalse result (self.new ≡ self.old) }
     {
-        let (skip, found) = self.first();
-        match found {
+        let (skip, front_length) = self.find_front();
+        match front_length {
             Some(length) => {
                 self.start += skip + length;
-                self.found = 0;
+                self.front_length = 0;
                 self.table.clear();
                 true
             }
@@ -179,14 +181,15 @@ fn slide(buffer: &mut [u8], start: usize, end: usize)
 fn append(buffer: &mut [u8], start: usize, end: usize, piece: &[u8])
     requires order { start ≤ end }
     requires fits { end + length piece.now ≤ length buffer.old }
-    ensures { slice_range buffer.new start (end + length piece.now) ≡ slice_range buffer.old start end ++ piece.now }
+    ensures { slice_range buffer.new start (end + length piece.now)
+        ≡ slice_range buffer.old start end ++ piece.now }
 {
     buffer[end..end + piece.len()].copy_from_slice(piece);
 }
 
 /// The first place at which a frame stands or may still begin, and the length and the table of the frame that stands there.
 fn first_start(held: &[u8], table: &mut FieldTable) -> (usize, Option<usize>)
-    requires { length held.now ≤ 8192 }
+    requires { length held.now ≤ BUFFER_BYTES }
     ensures within { result.0 ≤ length held.now }
     ensures kept { drop result.0 held.now ≡ from_first_start held.now }
     ensures found { result.1 ≡ frame_at (from_first_start held.now) }
@@ -195,10 +198,10 @@ fn first_start(held: &[u8], table: &mut FieldTable) -> (usize, Option<usize>)
 {
     let mut at = 0;
     while at < held.len() {
-        match front_of(&held[at..], table) {
-            Front::Frame(len) => return (at, Some(len)),
-            Front::Partial => return (at, None),
-            Front::Garbled => at += next_begin(&held[at..]),
+        match scan_front(&held[at..], table) {
+            Scan::Frame(len) => return (at, Some(len)),
+            Scan::Incomplete => return (at, None),
+            Scan::Garbled => at += next_begin(&held[at..]),
         }
     }
     (at, None)

@@ -3,15 +3,16 @@ ghost use Rattle.std.specs.Prelude.{◌≡◌, ℕ, ◌+◌, ◌<◌, ◌≤◌,
 ghost use Rattle.std.specs.Option.{option_copied};
 ghost use Rattle.fix_wire.specs.Frames.{IsFrame, header, body_at};
 ghost use Rattle.fix_wire.specs.Fields.{fields_of_body};
-ghost use Rattle.fix_wire.specs.Tabled.{IsTable, IsTableOf};
+ghost use Rattle.fix_wire.specs.code.Tabled.{IsTable, IsTableOf};
 ghost use Rattle.fix_wire.specs.Messages.{kind, get, number};
 
-use crate::frame::{FrameHeader, Front, front_of, header_of};
+use crate::frame::{FrameHeader, Scan, header_of, scan_front};
 use crate::table::{FieldTable, first_value, value_of};
+use crate::tags;
 use crate::values::read_number;
 
-/// The length of the longest frame: `8=FIX.4.2|9=`, eight digits, byte 1, 4,096 bytes of body and seven of CheckSum.
-pub const LONGEST: usize = 4124;
+/// The length of the longest frame: `8=FIX.4.2|9=`, eight digits, SOH, 4,096 bytes of body and seven of CheckSum.
+pub const MAX_FRAME_BYTES: usize = 4_124;
 
 /// A message borrows its whole frame.
 #[derive(Clone, Copy)]
@@ -30,12 +31,12 @@ impl<'a> Message<'a> {
         ensures only { IsSome result ↔ IsFrame bytes.now }
         ensures same { IfSome result (λ m. m.frame.now ≡ bytes.now) }
     {
-        if bytes.len() > LONGEST {
+        if bytes.len() > MAX_FRAME_BYTES {
             return None;
         }
         let mut table = FieldTable::empty();
-        match front_of(bytes, &mut table) {
-            Front::Frame(n) if n == bytes.len() => Some(Message::of_frame(bytes, &table)),
+        match scan_front(bytes, &mut table) {
+            Scan::Frame(n) if n == bytes.len() => Some(Message::of_frame(bytes, &table)),
             _ => None,
         }
     }
@@ -73,7 +74,7 @@ impl<'a> Message<'a> {
     pub fn number(&self) -> Option<u32>
         ensures { result ≡ number self.now.frame.now }
     {
-        match read_number(self.get(34)?) {
+        match read_number(self.get(tags::MSG_SEQ_NUM)?) {
             Ok(number) if 1 <= number => Some(number),
             _ => None,
         }

@@ -3,12 +3,15 @@
 ghost use Rattle.std.specs.Prelude.{◌≡◌, ◌++◌, ◌∷◌, [], ◌<◌, ◌≤◌, ◌*◌, ◌+◌, ◌%◌, sum, set, take, drop, length, decimal, ◌/◌, ◌^◌};
 ghost use Rattle.std.specs.List.{flat_map, AllByRecursion};
 ghost use Rattle.fix_wire.specs.Frames.{begin_text, checksum_field};
-ghost use Rattle.fix_wire.specs.Layout.{two_digits, price_text, value_text, field_text, head_fields, field_of_given, body_text, summed_text, FitsTypes, FitsValueOf, FitsValue};
-ghost use Rattle.fix_wire.specs.Spelling.{kind_text, orig_text};
+ghost use Rattle.host_base.specs.Ascii.{digit_zero};
+ghost use Rattle.fix_wire.specs.Texts.{two_digits};
+ghost use Rattle.fix_wire.specs.Layout.{price_text, value_text, field_text, head_fields, field_of_given, body_text, summed_text, FitsTypes, FitsValueOf, FitsValue};
+ghost use Rattle.fix_wire.specs.code.Spelling.{kind_text, orig_text};
 
 use crate::body::Body;
-use crate::frame::{BEGIN_TEXT, checksum, checksum_digits};
+use crate::frame::{BEGIN_BYTES, BEGIN_TEXT, CHECKSUM_BYTES, checksum, checksum_digits};
 use crate::writer::{Field, Head, Value};
+use host_base::bytes::SOH;
 use itoa::Buffer;
 
 #[inline(always)]
@@ -146,7 +149,8 @@ fn put_value(room: &mut [u8], at: usize, value: &Value) -> usize
 #[inline(always)]
 pub fn put_field(room: &mut [u8], at: usize, field: &Field) -> usize
     requires within { at + 63 ≤ length room.old }
-    ensures text { take result room.new ≡ take at room.old ++ field_text (field_of_given field.now) }
+    ensures text { take result room.new
+        ≡ take at room.old ++ field_text (field_of_given field.now) }
     ensures most { result ≤ at + 63 }
     ensures fits { FitsValueOf field.now }
     ensures size { length room.new ≡ length room.old }
@@ -154,12 +158,13 @@ pub fn put_field(room: &mut [u8], at: usize, field: &Field) -> usize
     let equals = put_number(room, at, u64::from(field.tag));
     let value = put_byte(room, equals, b'=');
     let end = put_value(room, value, &field.value);
-    put_byte(room, end, 1)
+    put_byte(room, end, SOH)
 }
 
 pub(crate) fn put_fields(room: &mut [u8], at: usize, fields: &[Field]) -> usize
     requires within { at + 64 * length fields.now ≤ length room.old }
-    ensures text { take result room.new ≡ take at room.old ++ flat_map (λ f. field_text (field_of_given f)) fields.now }
+    ensures text { take result room.new
+        ≡ take at room.old ++ flat_map (λ f. field_text (field_of_given f)) fields.now }
     ensures most { result ≤ at + 64 * length fields.now }
     ensures values { AllByRecursion FitsValueOf fields.now }
     ensures size { length room.new ≡ length room.old }
@@ -179,7 +184,7 @@ fn put_kind(room: &mut [u8], at: usize, head: &Head) -> usize
     ensures range { head.now.number < 2 ^ 64 }
     ensures size { length room.new ≡ length room.old }
 {
-    let kind = [b'3', b'5', b'=', head.kind, 1, b'3', b'4', b'='];
+    let kind = [b'3', b'5', b'=', head.kind, SOH, b'3', b'4', b'='];
     let number = put(room, at, &kind);
     let end = put_number(room, number, head.number);
     if head.duplicate {
@@ -189,7 +194,7 @@ fn put_kind(room: &mut [u8], at: usize, head: &Head) -> usize
     }
 }
 
-/// OrigSendingTime in a duplicate, up to its byte 1.
+/// OrigSendingTime in a duplicate, up to its SOH.
 fn put_orig_time(room: &mut [u8], at: usize, head: &Head) -> usize
     requires within { at + 37 ≤ length room.old }
     ensures text { take result room.new ≡ take at room.old ++ orig_text head.now }
@@ -206,7 +211,8 @@ fn put_orig_time(room: &mut [u8], at: usize, head: &Head) -> usize
 
 fn put_head(room: &mut [u8], at: usize, head: &Head) -> usize
     requires within { at + 180 ≤ length room.old }
-    ensures text { take result room.new ≡ take at room.old ++ flat_map field_text (head_fields head.now) }
+    ensures text { take result room.new
+        ≡ take at room.old ++ flat_map field_text (head_fields head.now) }
     ensures most { result ≤ at + 180 }
     ensures types { FitsTypes head.now }
     ensures size { length room.new ≡ length room.old }
@@ -218,13 +224,14 @@ fn put_head(room: &mut [u8], at: usize, head: &Head) -> usize
     let target = put(room, to, b"\x0156=");
     let rest = put(room, target, head.target.bytes());
     let end = put_orig_time(room, rest, head);
-    put_byte(room, end, 1)
+    put_byte(room, end, SOH)
 }
 
 /// MsgType to the last field.
 fn put_body<B: Body>(room: &mut [u8], at: usize, head: &Head, body: &B) -> usize
     requires within { at + 64 * length (B.fields body.now) + 180 ≤ length room.old }
-    ensures text { take result room.new ≡ take at room.old ++ body_text head.now (B.fields body.now) }
+    ensures text { take result room.new
+        ≡ take at room.old ++ body_text head.now (B.fields body.now) }
     ensures end { result ≡ at + length (body_text head.now (B.fields body.now)) }
     ensures most { result ≤ at + 64 * length (B.fields body.now) + 180 }
     ensures size { length room.new ≡ length room.old }
@@ -238,20 +245,23 @@ fn put_body<B: Body>(room: &mut [u8], at: usize, head: &Head, body: &B) -> usize
 /// BeginString, and the BodyLength of a body of that length.
 fn put_begin(room: &mut [u8], at: usize, body_length: usize) -> usize
     requires within { at + 33 ≤ length room.old }
-    ensures text { take result room.new ≡ take at room.old ++ (begin_text ++ (decimal body_length ++ 1 ∷ [])) }
+    ensures text { take result room.new
+        ≡ take at room.old ++ (begin_text ++ (decimal body_length ++ SOH ∷ [])) }
     ensures most { result ≤ at + 33 }
     ensures size { length room.new ≡ length room.old }
 {
     let length = put(room, at, &BEGIN_TEXT);
     let end = put_number(room, length, body_length as u64);
-    put_byte(room, end, 1)
+    put_byte(room, end, SOH)
 }
 
 /// Three digits of a number, in place of the three bytes that stand there.
 fn set_three(room: &mut [u8], at: usize, number: usize)
     requires three { number < 1000 }
     requires within { at + 3 ≤ length room.old }
-    ensures { room.new ≡ set (set (set room.old at (48 + number / 100)) (at + 1) (48 + number / 10 % 10)) (at + 2) (48 + number % 10) }
+    ensures { room.new ≡
+        set (set (set room.old at (digit_zero + number / 100)) (at + 1) (digit_zero + number / 10 % 10))
+        (at + 2) (digit_zero + number % 10) }
 {
     room[at] = b'0' + (number / 100) as u8;
     room[at + 1] = b'0' + (number / 10 % 10) as u8;
@@ -262,11 +272,13 @@ fn set_three(room: &mut [u8], at: usize, number: usize)
 /// written. A body of another length is written again, behind its length.
 pub(crate) fn put_summed<B: Body>(room: &mut [u8], start: usize, head: &Head, body: &B) -> usize
     requires within { start + 64 * length (B.fields body.now) + 220 ≤ length room.old }
-    ensures text { take result room.new ≡ take start room.old ++ summed_text (body_text head.now (B.fields body.now)) }
+    ensures text { take result room.new
+        ≡ take start room.old ++ summed_text (body_text head.now (B.fields body.now)) }
     ensures least { start ≤ result }
     ensures most { result ≤ start + 64 * length (B.fields body.now) + 220 }
     ensures size { length room.new ≡ length room.old }
-    ensures short { length (body_text head.now (B.fields body.now)) ≤ 64 * length (B.fields body.now) + 180 }
+    ensures short { length (body_text head.now (B.fields body.now))
+        ≤ 64 * length (B.fields body.now) + 180 }
     ensures types { FitsTypes head.now }
     ensures values { AllByRecursion FitsValueOf (B.fields body.now) }
 {
@@ -274,7 +286,7 @@ pub(crate) fn put_summed<B: Body>(room: &mut [u8], start: usize, head: &Head, bo
     let end = put_body(room, first, head, body);
     let count = end - first;
     if 100 <= count && count < 1_000 {
-        set_three(room, start + 12, count);
+        set_three(room, start + BEGIN_BYTES, count);
         return end;
     }
     let second = put_begin(room, start, count);
@@ -284,9 +296,10 @@ pub(crate) fn put_summed<B: Body>(room: &mut [u8], start: usize, head: &Head, bo
 /// The CheckSum of all bytes from one place to the other.
 pub(crate) fn put_checksum(room: &mut [u8], start: usize, end: usize) -> usize
     requires start { start ≤ end }
-    requires within { end + 7 ≤ length room.old }
-    ensures text { take result room.new ≡ take end room.old ++ checksum_field (sum (drop start (take end room.old)) % 256) }
-    ensures end { result ≡ end + 7 }
+    requires within { end + CHECKSUM_BYTES ≤ length room.old }
+    ensures text { take result room.new
+        ≡ take end room.old ++ checksum_field (sum (drop start (take end room.old)) % 256) }
+    ensures end { result ≡ end + CHECKSUM_BYTES }
     ensures size { length room.new ≡ length room.old }
 {
     let sum = checksum(&room[start..end]);

@@ -5,13 +5,14 @@ ghost use Rattle.std.specs.List.{position_or_len};
 ghost use Rattle.std.specs.Option.{option_copied};
 ghost use Rattle.fix_wire.specs.Fields.{fields_of_body};
 ghost use Rattle.fix_wire.specs.Messages.{first_value};
-ghost use Rattle.fix_wire.specs.Fronts.{value_of};
-ghost use Rattle.fix_wire.specs.Tabled.{IsTable, IsBlank, is_same};
+ghost use Rattle.fix_wire.specs.code.Scans.{value_of};
+ghost use Rattle.fix_wire.specs.code.Tabled.{IsTable, IsBlank, is_same};
 
 use crate::frame::first_field;
+use host_base::limits::MAX_BODY_LENGTH;
 use std::simd::prelude::*;
 
-/// Where the value of a field of a body stands: from start to end, where its byte 1 is.
+/// Where the value of a field of a body stands: from start to end, where its SOH is.
 #[derive(Clone, Copy)]
 pub struct FieldPlace {
     pub start: u16,
@@ -19,13 +20,13 @@ pub struct FieldPlace {
 }
 
 /// How many fields a table has at most. The messages of this protocol have fewer.
-const MOST: usize = 24;
+pub const MAX_TABLED_FIELDS: usize = 24;
 
 /// The tags of the first fields of a body, the places of their values, and where the fields after them start.
 #[derive(Clone, Copy)]
 pub struct FieldTable {
-    pub tags: [u32; 24],
-    pub places: [FieldPlace; 24],
+    pub tags: [u32; MAX_TABLED_FIELDS],
+    pub places: [FieldPlace; MAX_TABLED_FIELDS],
     pub count: usize,
     pub rest: usize,
 }
@@ -37,8 +38,8 @@ impl FieldTable {
     {
         let nowhere = FieldPlace { start: 0, end: 0 };
         FieldTable {
-            tags: [0; 24],
-            places: [nowhere; 24],
+            tags: [0; MAX_TABLED_FIELDS],
+            places: [nowhere; MAX_TABLED_FIELDS],
             count: 0,
             rest: 0,
         }
@@ -55,13 +56,13 @@ impl FieldTable {
 
 /// Whether a text is a row of fields, and if so, their table.
 pub(crate) fn are_fields(text: &[u8], table: &mut FieldTable) -> bool
-    requires { length text.now ≤ 4096 }
+    requires { length text.now ≤ MAX_BODY_LENGTH }
     ensures row { result ≡ is_some (fields_of_body text.now) }
     ensures table { OnTrue result (IsTable text.now table.new) }
 {
     let mut count = 0;
     let mut rest = 0;
-    while count < MOST && rest < text.len() {
+    while count < MAX_TABLED_FIELDS && rest < text.len() {
         let Some(field) = first_field(&text[rest..]) else {
             return false;
         };
@@ -124,9 +125,9 @@ fn tags_before(tag: u32, tags: &[u32], at: usize) -> usize
     }
 }
 
-/// The index of the first of the tags that is this one, or 24: eight at a time.
+/// The index of the first of the tags that is this one, or their number: eight at a time.
 fn index_of(tag: u32, tags: &[u32]) -> usize
-    requires { length tags.now ≡ 24 }
+    requires { length tags.now ≡ MAX_TABLED_FIELDS }
     ensures { result ≡ position_or_len (is_same tag) tags.now }
 {
     let first = tags_before(tag, tags, 0);

@@ -3,10 +3,16 @@ ghost use Rattle.std.specs.Prelude.{◌≡◌, ◌≤◌, ◌<◌, if◌then◌e
 ghost use Rattle.std.specs.Char.{is_ascii_digit};
 ghost use Rattle.std.specs.List.{list_all, before_first, after_first};
 ghost use Rattle.fix_wire.specs.Texts.{number_of, is_point, is_zero};
-ghost use Rattle.fix_wire.specs.Values.{number_in, quantity_in, price_in, within, hundredths_in};
-ghost use Rattle.fix_wire.specs.Fronts.{limited_digits};
+ghost use Rattle.fix_wire.specs.Values.{number_in, quantity_in, price_in, within, hundredths_in, cents};
+ghost use Rattle.fix_wire.specs.code.Scans.{limited_digits};
 
 use memchr::memchr;
+
+/// The greatest number or quantity that is read.
+pub const MAX_NUMBER: u64 = 999_999_999;
+
+/// The greatest price that is read, either way from 0, in hundredths.
+pub const MAX_HUNDREDTHS: u64 = 1_000_000_000;
 
 /// Why a value isn't read: it has another form, or it is out of range.
 #[derive(Clone, Copy, Debug, PartialEq, Eq)]
@@ -15,7 +21,7 @@ pub enum Unread {
     Range,
 }
 
-/// The number that digits spell, or a thousand million where it is more.
+/// The number that digits spell, or the greatest price where it is more.
 pub(crate) fn limited_digits(text: &[u8]) -> Option<u64>
     ensures { result ≡ limited_digits text.now }
 {
@@ -24,13 +30,13 @@ pub(crate) fn limited_digits(text: &[u8]) -> Option<u64>
         if !b.is_ascii_digit() {
             return None;
         }
-        value = (value * 10 + u64::from(*b - b'0')).min(1_000_000_000);
+        value = (value * 10 + u64::from(*b - b'0')).min(MAX_HUNDREDTHS);
     }
     Some(value)
 }
 
 fn within(most: u64, value: u64) -> Result<u32, Unread>
-    requires { most ≤ 1000000000 }
+    requires { most ≤ MAX_HUNDREDTHS }
     ensures { result ≡ within most value }
 {
     if value <= most {
@@ -48,7 +54,7 @@ pub fn read_number(text: &[u8]) -> Result<u32, Unread>
         return Err(Unread::Format);
     }
     match limited_digits(text) {
-        Some(value) => within(999_999_999, value),
+        Some(value) => within(MAX_NUMBER, value),
         None => Err(Unread::Format),
     }
 }
@@ -84,7 +90,7 @@ pub fn read_quantity(text: &[u8]) -> Result<u32, Unread>
         return Err(Unread::Format);
     }
     match limited_digits(whole) {
-        Some(value) => within(999_999_999, value),
+        Some(value) => within(MAX_NUMBER, value),
         None => Err(Unread::Format),
     }
 }
@@ -92,7 +98,7 @@ pub fn read_quantity(text: &[u8]) -> Result<u32, Unread>
 /// The hundredths that up to two digits after the point spell.
 fn cents(part: &[u8]) -> u64
     requires { list_all is_ascii_digit part.now ≡ true }
-    ensures value { result ≡ number_of (take 2 (part.now ++ 48 ∷ 48 ∷ [])) }
+    ensures value { result ≡ cents part.now }
     ensures bound { result < 100 }
 {
     match part {
@@ -119,7 +125,7 @@ fn read_hundredths(text: &[u8]) -> Result<u32, Unread>
     if part.len() > 2 && !all_zeros(&part[2..]) {
         return Err(Unread::Range);
     }
-    within(1_000_000_000, units * 100 + cents(part))
+    within(MAX_HUNDREDTHS, units * 100 + cents(part))
 }
 
 /// A price in hundredths.

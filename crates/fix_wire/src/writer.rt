@@ -51,9 +51,11 @@ pub fn write_message<A: Allocator>(
 ) -> Result<(), NoMemory>
     ensures ok { OnOk result (out.new.items ≡ out.old.items ++ message_text head.now fields.now) }
     ensures err { OnErr result (out.new.items ≡ out.old.items) }
-    ensures short { OnOk result (length (body_text head.now fields.now) ≤ 64 * length fields.now + 180) }
+    ensures short { OnOk result
+        (length (body_text head.now fields.now) ≤ 64 * length fields.now + 180) }
     // Where the kind isn't byte 1, tags have 1 to 9 digits and the body fits, it is a lawful frame with exactly its fields.
-    ensures lawful { OnOk result (FitsKind head.now → FitsTags fields.now → FitsBody head.now fields.now → IsReadBack head.now fields.now) }
+    ensures lawful { OnOk result (FitsKind head.now → FitsTags fields.now →
+        FitsBody head.now fields.now → IsReadBack head.now fields.now) }
 {
     write_body(out, head, &FieldList { fields })
 }
@@ -64,10 +66,13 @@ pub fn write_body<A: Allocator, B: Body>(
     head: &Head,
     body: &B,
 ) -> Result<(), NoMemory>
-    ensures ok { OnOk result (out.new.items ≡ out.old.items ++ message_text head.now (B.fields body.now)) }
+    ensures ok { OnOk result
+        (out.new.items ≡ out.old.items ++ message_text head.now (B.fields body.now)) }
     ensures err { OnErr result (out.new.items ≡ out.old.items) }
-    ensures short { OnOk result (length (body_text head.now (B.fields body.now)) ≤ 64 * length (B.fields body.now) + 180) }
-    ensures lawful { OnOk result (FitsKind head.now → FitsTags (B.fields body.now) → FitsBody head.now (B.fields body.now) → IsReadBack head.now (B.fields body.now)) }
+    ensures short { OnOk result
+        (length (body_text head.now (B.fields body.now)) ≤ 64 * length (B.fields body.now) + 180) }
+    ensures lawful { OnOk result (FitsKind head.now → FitsTags (B.fields body.now) →
+        FitsBody head.now (B.fields body.now) → IsReadBack head.now (B.fields body.now)) }
 {
     let most = room_for(body.count());
     out.reserve(most)?;
@@ -81,9 +86,11 @@ pub fn write_body<A: Allocator, B: Body>(
 /// Writes a message at that place, and tells where it ends.
 fn put_message<B: Body>(room: &mut [u8], start: usize, head: &Head, body: &B) -> usize
     requires within { start + 64 * length (B.fields body.now) + 240 ≤ length room.old }
-    ensures text { take result room.new ≡ take start room.old ++ message_text head.now (B.fields body.now) }
+    ensures text { take result room.new
+        ≡ take start room.old ++ message_text head.now (B.fields body.now) }
     ensures size { length room.new ≡ length room.old }
-    ensures short { length (body_text head.now (B.fields body.now)) ≤ 64 * length (B.fields body.now) + 180 }
+    ensures short { length (body_text head.now (B.fields body.now))
+        ≤ 64 * length (B.fields body.now) + 180 }
     ensures types { FitsTypes head.now }
     ensures values { AllByRecursion FitsValueOf (B.fields body.now) }
 {

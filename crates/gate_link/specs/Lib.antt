@@ -1,6 +1,6 @@
 pub mod Rows
 pub mod Owed
-pub mod Gates
+pub mod Gateways
 pub mod Inboxes
 pub mod Links
 pub mod Turns

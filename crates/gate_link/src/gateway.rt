@@ -3,8 +3,9 @@ ghost use Rattle.std.specs.List.{list_any};
 ghost use Rattle.rtrb.specs.Ring.{sent};
 ghost use Rattle.spread_rules.specs.Journal.{is_close};
 ghost use Rattle.fix_session.specs.Steps.{is_closed};
+ghost use Rattle.fix_wire.specs.declared.framer.TheConstants.{BUFFER_BYTES};
 ghost use Rattle.fix_wire.specs.Frames.{frames};
-ghost use Rattle.gate_link.specs.Rows.{events};
+ghost use Rattle.gate_link.specs.Rows.{entry_events};
 ghost use Rattle.std.specs.Prelude.{◌≡◌, ◌-◌, ◌↔◌, ℕ, List, ◌++◌, length, take, min, true, if◌then◌else◌, option_map, is_some};
 
 use fix_session::{Reader, Verdict};
@@ -19,7 +20,7 @@ pub struct Gateway<A: Allocator> {
     pub(crate) producer: Producer<Entry, A>,
     reader: Reader,
     // It is closed exactly where its close was sent.
-    ghost close_sent: { is_closed reader.session ≡ list_any is_close (events (sent producer)) },
+    ghost close_sent: { is_closed reader.session ≡ list_any is_close (entry_events (sent producer)) },
 }
 
 /// What one step of a gateway did.
@@ -39,14 +40,14 @@ pub enum Step {
 
 impl<A: Allocator> Gateway<A> {
     ghost use Rattle.fix_session.specs.Steps.{new_session};
-    ghost use Rattle.gate_link.specs.Gates.{gate_session, gate_sent, gate_room, gate_state, gate_held, gate_owed, gate_closed, SameGate, Rests, Stepped, Ended};
+    ghost use Rattle.gate_link.specs.Gateways.{session_number, events_sent, free_slots, session_state, bytes_held, pending_events, is_over, SameGateway, OnlySkipped, Stepped, Ended};
     ghost use Rattle.gate_link.specs.Owed.{Stands};
     ghost use Rattle.std.specs.Prelude.{[], ◌⊎◌, false, MatchBool};
 
     pub(crate) fn new(session: u8, producer: Producer<Entry, A>) -> Gateway<A>
         requires { sent producer ≡ [] }
-        ensures parts { (gate_session result ≡ session) × (result.producer ≡ producer) }
-        ensures state { (gate_state result ≡ new_session) × (gate_held result ≡ []) }
+        ensures parts { (session_number result ≡ session) × (result.producer ≡ producer) }
+        ensures state { (session_state result ≡ new_session) × (bytes_held result ≡ []) }
     {
         Gateway {
             session,
@@ -57,14 +58,14 @@ impl<A: Allocator> Gateway<A> {
 
     /// The number of its session, from 0.
     pub fn session(&self) -> u8
-        ensures { result ≡ gate_session self.now }
+        ensures { result ≡ session_number self.now }
     {
         self.session
     }
 
     /// Whether its session is over: its close was sent.
     pub fn is_closed(&self) -> bool
-        ensures { result ≡ gate_closed self.now }
+        ensures { result ≡ is_over self.now }
     {
         self.reader.is_closed()
     }
@@ -72,13 +73,16 @@ impl<A: Allocator> Gateway<A> {
     /// Takes as much of the piece as there is room for, and says how many bytes. Once closed it takes the whole piece and
     /// keeps nothing of it.
     pub fn put(&mut self, piece: &[u8]) -> usize
-        ensures count { result ≡ (if gate_closed self.old then length piece.now else min (length piece.now) (8192 - length (gate_held self.old))) }
-        ensures gate { SameGate self.old self.new }
-        ensures sent { gate_sent self.new ≡ gate_sent self.old }
-        ensures room { gate_room self.new ≡ gate_room self.old }
-        ensures state { gate_state self.new ≡ gate_state self.old }
-        ensures held { gate_held self.new ≡ (if gate_closed self.old then gate_held self.old else gate_held self.old ++ take result piece.now) }
-        ensures owed { (more : List ℕ) → gate_owed self.new more ≡ gate_owed self.old (take result piece.now ++ more) }
+        ensures count { result ≡ (if is_over self.old then length piece.now
+            else min (length piece.now) (BUFFER_BYTES - length (bytes_held self.old))) }
+        ensures gate { SameGateway self.old self.new }
+        ensures sent { events_sent self.new ≡ events_sent self.old }
+        ensures room { free_slots self.new ≡ free_slots self.old }
+        ensures state { session_state self.new ≡ session_state self.old }
+        ensures held { bytes_held self.new ≡ (if is_over self.old then bytes_held self.old
+            else bytes_held self.old ++ take result piece.now) }
+        ensures pending { (more : List ℕ) →
+            pending_events self.new more ≡ pending_events self.old (take result piece.now ++ more) }
     {
         if self.reader.is_closed() {
             return piece.len();
@@ -88,10 +92,13 @@ impl<A: Allocator> Gateway<A> {
 
     /// Whether a message stands that `step` would judge.
     pub fn stands(&mut self) -> bool
-        ensures gate { SameGate self.old self.new }
-        ensures rests { Rests self.old self.new }
-        ensures room { gate_room self.new ≡ gate_room self.old }
-        ensures stands { MatchBool result ((gate_closed self.old ≡ false) × ((m : List ℕ) × Stands m (gate_held self.old))) ((gate_closed self.old ≡ true) ⊎ (frames (gate_held self.old) ≡ [])) }
+        ensures gate { SameGateway self.old self.new }
+        ensures skipped { is_over self.old ≡ false → OnlySkipped self.old self.new }
+        ensures same { is_over self.old ≡ true → self.new ≡ self.old }
+        ensures room { free_slots self.new ≡ free_slots self.old }
+        ensures stands { MatchBool result
+            ((is_over self.old ≡ false) × ((m : List ℕ) × Stands m (bytes_held self.old)))
+            ((is_over self.old ≡ true) ⊎ (frames (bytes_held self.old) ≡ [])) }
     {
         if self.reader.is_closed() {
             return false;
@@ -101,7 +108,7 @@ impl<A: Allocator> Gateway<A> {
 
     /// Judges the first message that is held, and sends its event.
     pub fn step(&mut self) -> Step
-        ensures gate { SameGate self.old self.new }
+        ensures gate { SameGateway self.old self.new }
         ensures step { Stepped result self.old self.new }
     {
         if self.reader.is_closed() {
@@ -125,9 +132,9 @@ impl<A: Allocator> Gateway<A> {
         Step::Sent
     }
 
-    /// After the last byte was put: steps, and where no message stands sends Close 5.
+    /// After the last byte was put: steps, and where no message stands sends the close at the end of a stream.
     pub fn end(&mut self) -> Step
-        ensures gate { SameGate self.old self.new }
+        ensures gate { SameGateway self.old self.new }
         ensures step { Ended result self.old self.new }
     {
         match self.step() {

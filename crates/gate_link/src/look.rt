@@ -1,5 +1,6 @@
 //! Over all gateways of a link: what they have sent, and the first that is open.
 ghost use Rattle.std.specs.Prelude.{◌≡◌, ◌≤◌, length, IfSome, IfNone};
+ghost use Rattle.host_base.specs.declared.limits.TheConstants.{SESSIONS};
 ghost use Rattle.gate_link.specs.Inboxes.{AllLooked, ArePairs};
 ghost use Rattle.gate_link.specs.Links.{AllClosed, IsFirstOpen};
 
@@ -20,7 +21,7 @@ pub(crate) fn look_all<A: Allocator>(inboxes: &mut [Inbox<A>], gateways: &mut [G
 
 /// The first gateway that is not closed.
 pub(crate) fn first_open<A: Allocator>(gateways: &[Gateway<A>]) -> Option<u8>
-    requires { length gateways.now ≤ 16 }
+    requires { length gateways.now ≤ SESSIONS }
     ensures some { IfSome result (λ s. IsFirstOpen s gateways.now) }
     ensures none { IfNone result (AllClosed gateways.now) }
 {

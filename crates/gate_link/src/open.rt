@@ -8,6 +8,7 @@ ghost use Rattle.gate_link.specs.Opening.{AreFresh, Between, IsRefusal, fault_nu
 use crate::gateway::Gateway;
 use crate::inbox::Inbox;
 use crate::sequencer::Sequencer;
+use host_base::limits::{MAX_JOURNAL_ENTRIES, MAX_RING, SESSIONS};
 use rtrb::RingBuffer;
 use spread_rules::Entry;
 use std::alloc::{AllocError, Allocator};
@@ -48,19 +49,21 @@ pub fn link<A: Allocator + Copy>(
     ring: usize,
     journal: usize,
 ) -> Result<(Vec<Gateway<A>, A>, Sequencer<A>), LinkFault>
-    ensures ranges { IfOk result (λ r. Between 1 16 sessions × Between 1 4096 ring × (journal ≤ 1000000)) }
+    ensures ranges { IfOk result (λ r. Between 1 SESSIONS sessions × Between 1 MAX_RING ring
+        × (journal ≤ MAX_JOURNAL_ENTRIES)) }
     ensures pairs { IfOk result (λ r. IsLinkOf r.1 r.0.items) }
     ensures gateways { IfOk result (λ r. (vec_len r.0 ≡ sessions) × AreFresh ring r.0.items) }
-    ensures sequencer { IfOk result (λ r. (journal_of r.1 ≡ []) × (room_of r.1 ≡ journal) × (session_count r.1 ≡ sessions)) }
+    ensures sequencer { IfOk result
+        (λ r. (journal_of r.1 ≡ []) × (room_of r.1 ≡ journal) × (session_count r.1 ≡ sessions)) }
     ensures refusal { IfErr result (λ f. IsRefusal f sessions ring journal) }
 {
-    if sessions < 1 || sessions > 16 {
+    if sessions < 1 || sessions > SESSIONS {
         return Err(LinkFault::Sessions);
     }
-    if ring < 1 || ring > 4096 {
+    if ring < 1 || ring > MAX_RING {
         return Err(LinkFault::Ring);
     }
-    if journal > 1_000_000 {
+    if journal > MAX_JOURNAL_ENTRIES {
         return Err(LinkFault::Journal);
     }
     let Ok((gateways, inboxes)) = rings(alloc, sessions, ring) else {
@@ -77,7 +80,7 @@ fn rings<A: Allocator + Copy>(
     sessions: usize,
     ring: usize,
 ) -> Result<(Vec<Gateway<A>, A>, Vec<Inbox<A>, A>), AllocError>
-    requires { sessions ≤ 16 }
+    requires { sessions ≤ SESSIONS }
     ensures len { IfOk result (λ r. (vec_len r.0 ≡ sessions) × (vec_len r.1 ≡ sessions)) }
     ensures pairs { IfOk result (λ r. ArePairs r.1.items r.0.items) }
     ensures fresh { IfOk result (λ r. AreFresh ring r.0.items) }

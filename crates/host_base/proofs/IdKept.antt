@@ -2,7 +2,7 @@
 use Rattle.std.proofs.Common.{◌≡◌, ℕ, ◌-◌, ◌<◌, ◌≤◌, true, not, eqb, List, length, replicate, refl, ap, ◌∙◌, arith, length-append}
 use Rattle.std.specs.List.{list_all}
 use Rattle.std.proofs.lemmas.List.{take_at, drop_at, length-replicate}
-use Rattle.host_base.specs.IdFields.{IsKept, kept_of}
+use Rattle.host_base.specs.code.IdFields.{IsKept, kept_of}
 
 pub kept_new : (text : List ℕ) → 0 < length text → length text ≤ 32 → list_all (λ b. not (eqb b 1)) text ≡ true → IsKept (kept_of text)
 kept_new text some most plain = record {

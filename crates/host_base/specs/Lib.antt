@@ -1,5 +1,6 @@
+pub mod code
+pub mod Ascii
 pub mod Ids
-pub mod IdFields
 pub mod IdKeys
 pub mod Cut
 pub mod Ends

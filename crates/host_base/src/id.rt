@@ -3,13 +3,15 @@ ghost use Rattle.std.specs.Prelude.{◌≡◌, ◌≤◌, ◌<◌, ◌+◌, ◌-
 ghost use Rattle.std.specs.Str.{bytes_eq};
 ghost use Rattle.host_base.specs.Ids.{id_of, is_plain};
 
+use crate::bytes::SOH;
+use crate::limits::MAX_ID_LENGTH;
 use std::marker::Model;
 
 /// 1 to 32 bytes, none of them byte 1. Contracts see the list of the bytes.
 #[derive(Clone, Copy, Debug, PartialEq, Eq)]
 pub struct Id {
     // Zeros stand behind the id.
-    bytes: [u8; 32],
+    bytes: [u8; MAX_ID_LENGTH],
     len: u8,
 }
 
@@ -18,7 +20,7 @@ impl Model for Id {
 
     ghost Value = { List ℕ };
 
-    ghost use Rattle.host_base.specs.IdFields.{text_of, IsKept, kept_of, kept_again};
+    ghost use Rattle.host_base.specs.code.IdFields.{text_of, IsKept, kept_of, kept_again};
 
     ghost view = { text_of };
 
@@ -34,15 +36,15 @@ impl Id {
     pub fn new(text: &[u8]) -> Option<Id>
         ensures { result ≡ id_of text.now }
     {
-        if text.is_empty() || text.len() > 32 {
+        if text.is_empty() || text.len() > MAX_ID_LENGTH {
             return None;
         }
         for b in text {
-            if *b == 1 {
+            if *b == SOH {
                 return None;
             }
         }
-        let mut bytes = [0; 32];
+        let mut bytes = [0; MAX_ID_LENGTH];
         bytes[..text.len()].copy_from_slice(text);
         Some(Id {
             bytes,
@@ -54,15 +56,15 @@ impl Id {
     pub fn bytes(&self) -> &[u8]
         ensures value { result.now ≡ self.now }
         ensures some { 0 < length self.now }
-        ensures most { length self.now ≤ 32 }
+        ensures most { length self.now ≤ MAX_ID_LENGTH }
         ensures plain { is_plain self.now ≡ true }
     {
         &self.bytes[..usize::from(self.len)]
     }
 
     /// Its bytes with zeros behind them.
-    pub(crate) fn padded(&self) -> &[u8; 32]
-        ensures { result.now ≡ self.now ++ replicate (32 - length self.now) 0 }
+    pub(crate) fn padded(&self) -> &[u8; MAX_ID_LENGTH]
+        ensures { result.now ≡ self.now ++ replicate (MAX_ID_LENGTH - length self.now) 0 }
     {
         &self.bytes
     }
@@ -79,7 +81,7 @@ impl Id {
 impl Default for Id {
     fn default() -> Self {
         Id {
-            bytes: [0; 32],
+            bytes: [0; MAX_ID_LENGTH],
             len: 1,
         }
     }

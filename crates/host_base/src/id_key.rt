@@ -4,6 +4,7 @@ ghost use Rattle.std.specs.Int.{w64, from_be_bytes};
 ghost use Rattle.host_base.specs.IdKeys.{key_of, IsIdBytes};
 
 use crate::id::Id;
+use crate::limits::MAX_ID_LENGTH;
 
 /// Two keys are equal exactly where session and id are. In their order the ids of a session that are counted up follow one
 /// another, so that what is looked up next is near.
@@ -20,8 +21,8 @@ pub struct IdKey {
 }
 
 /// Eight bytes from there on as one number, the first of most worth.
-fn word(bytes: &[u8; 32], at: usize) -> u64
-    requires { at + 8 ≤ 32 }
+fn word(bytes: &[u8; MAX_ID_LENGTH], at: usize) -> u64
+    requires { at + 8 ≤ MAX_ID_LENGTH }
     ensures { result ≡ from_be_bytes w64 (take 8 (drop at bytes.now)) }
 {
     u64::from_be_bytes([

@@ -1,6 +1,7 @@
 //! What every crate above stands on: ids, want of memory, texts, and byte ends. Nothing here knows of orders.
 #![tactic(auto)]
 
+pub mod bytes;
 mod id;
 mod id_key;
 pub mod laws;
@@ -19,4 +20,4 @@ pub use sink::{Sink, ToWriter};
 pub use source::{Failed, FromReader, Source};
 pub use test_ends::{TestSink, TestSource};
 pub use text::{after, cut_at, read_decimal, read_plain};
-pub use whole::{LIMIT, ReadFault, read_all, write_all};
+pub use whole::{ReadFault, read_all, write_all};

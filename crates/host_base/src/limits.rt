@@ -6,9 +6,13 @@ pub const SESSIONS: usize = 16;
 pub const MAX_MONTHS: u8 = 12;
 /// Bytes of an id, a CompID, a symbol or a sending time, at least 1.
 pub const MAX_ID_LENGTH: usize = 32;
-/// MsgSeqNum, from 1.
+/// MsgSeqNum.
+pub const FIRST_MSG_SEQ_NUM: u32 = 1;
+
 pub const MAX_MSG_SEQ_NUM: u32 = 999_999_999;
-/// BodyLength, from 5.
+/// BodyLength.
+pub const MIN_BODY_LENGTH: usize = 5;
+
 pub const MAX_BODY_LENGTH: usize = 4_096;
 /// Lots of an order, from 1.
 pub const MAX_ORDER_QTY: u32 = 999_999;

@@ -5,17 +5,18 @@ ghost use Rattle.std.specs.Io.KnownBytes.{Appends, IsAtEnd};
 ghost use Rattle.host_base.specs.Ends.{AppendsPrefix};
 ghost use Rattle.host_base.specs.declared.whole.ReadFault.TheVariants.{NoMemory};
 
+use crate::limits::MAX_INPUT_BYTES;
 use crate::sink::Sink;
 use crate::source::{Failed, Source};
 use std::alloc::{AllocError, Allocator};
 
-/// No run reads more bytes than these.
-pub const LIMIT: usize = 16_777_216;
+/// How many bytes one read takes at most.
+const CHUNK_BYTES: usize = 4_096;
 
 /// Why a source could not be read whole.
 #[derive(Clone, Copy, Debug, PartialEq, Eq)]
 pub enum ReadFault {
-    /// The source failed, or gave more than the limit.
+    /// The source failed, or gave more than 16,777,216 bytes.
     Read,
     /// Memory ran out.
     NoMemory,
@@ -33,14 +34,15 @@ impl From<AllocError> for ReadFault {
 pub fn read_all<S: Source, A: Allocator>(alloc: A, source: &mut S) -> Result<Vec<u8, A>, ReadFault>
     requires { S.has_failed source.old ≡ false }
     ensures whole { IfOk result (λ v. IfSome (S.left source.old) (λ xs. v.items ≡ xs)) }
-    ensures small { IfOk result (λ v. vec_len v ≤ LIMIT) }
+    ensures small { IfOk result (λ v. vec_len v ≤ MAX_INPUT_BYTES) }
     ensures end { OnOk result (IsAtEnd (S.left source.new)) }
     ensures sound { OnOk result (S.has_failed source.new ≡ false) }
     ensures read { IsErrOf result ReadFault.Read →
-        (S.has_failed source.new ≡ true) ⊎ IfSome (S.left source.old) (λ xs. LIMIT < length xs) }
+        (S.has_failed source.new ≡ true)
+        ⊎ IfSome (S.left source.old) (λ xs. MAX_INPUT_BYTES < length xs) }
 {
     let mut bytes = Vec::new(alloc);
-    let mut piece = [0u8; 4096];
+    let mut piece = [0u8; CHUNK_BYTES];
     loop {
         let count = match source.read(&mut piece) {
             Ok(count) => count,
@@ -49,7 +51,7 @@ pub fn read_all<S: Source, A: Allocator>(alloc: A, source: &mut S) -> Result<Vec
         if count == 0 {
             return Ok(bytes);
         }
-        if count > LIMIT - bytes.len() {
+        if count > MAX_INPUT_BYTES - bytes.len() {
             return Err(ReadFault::Read);
         }
         bytes.extend_from_slice(&piece[..count])?;
@@ -62,7 +64,8 @@ pub fn write_all<K: Sink>(sink: &mut K, bytes: &[u8]) -> Result<(), Failed>
     ensures ok { OnOk result (Appends (K.written sink.old) (K.written sink.new) bytes.now) }
     ensures sound { OnOk result (K.has_failed sink.new ≡ false) }
     ensures err { OnErr result (K.has_failed sink.new ≡ true) }
-    ensures front { OnErr result (AppendsPrefix (K.written sink.old) (K.written sink.new) bytes.now) }
+    ensures front { OnErr result
+        (AppendsPrefix (K.written sink.old) (K.written sink.new) bytes.now) }
 {
     let mut at = 0;
     while at < bytes.len() {

@@ -21,8 +21,8 @@ use Rattle.fix_session.specs.declared.session.State.{State}
 use Rattle.fix_session.specs.declared.session.State.TheVariants as states
 use Rattle.fix_session.specs.declared.session.Session.{Session}
 use Rattle.fix_session.specs.declared.session.Verdict.{Verdict}
-use Rattle.fix_session.specs.Table.{meaning_of}
-use Rattle.fix_session.specs.View.{◌>>=◌, MessageView, are_same, is_opening, id_in, read_ok, number_at, logon_of, logon_event, event_of_accepted, due_after_accepted, view_with, view}
+use Rattle.fix_session.specs.Table.{meaning_of_message}
+use Rattle.fix_session.specs.View.{◌>>=◌, MessageView, are_same, is_opening, given_id, read_ok, given_number, logon_of, logon_event, event_of_accepted, due_after_accepted, view_with, view}
 use Rattle.fix_session.specs.Steps.{new_session, running, closed, verdict_of, closes, opens, step_below, step_above, step_due, step_running, step_at, step_or_stay, judge, event_in, events_said, session_after, events_at_end}
 use Rattle.fix_session.proofs.events.TableInRange.{Holds, IsGiven, FitsMeaning, meaning_holds}
 use Rattle.fix_session.proofs.events.StateOfPlaces.{cons_two}
@@ -58,7 +58,7 @@ any_text : (o : Option (List ℕ)) → May (λ t. Unit {0}) o
 any_text None = tt
 any_text (Some t) = tt
 
-id_in_holds : (tag : ℕ) (m : List ℕ) → May (λ id. is_id id ≡ true) (id_in tag m)
+id_in_holds : (tag : ℕ) (m : List ℕ) → May (λ id. is_id id ≡ true) (given_id tag m)
 id_in_holds tag m = chained (λ t. Unit {0}) (λ id. is_id id ≡ true) (get tag m) id_of (any_text (get tag m)) (λ t h. id_holds t)
 
 within_holds : (n : ℕ) → May (λ x. x ≤ 999999999) (read_ok (within 999999999 n))
@@ -75,19 +75,19 @@ read_holds text = by_test (is_number text)
     by_test true = within_holds (number_of text)
     by_test false = tt
 
-beat_holds : (m : List ℕ) → May (λ x. x ≤ 999999999) (number_at 108 m)
+beat_holds : (m : List ℕ) → May (λ x. x ≤ 999999999) (given_number 108 m)
 beat_holds m = chained (λ t. Unit {0}) (λ x. x ≤ 999999999) (get 108 m) _ (any_text (get 108 m)) (λ t h. read_holds t)
 
 logon_holds : (m : List ℕ) (n : ℕ) → May FitsLogon (logon_of m n)
 unfolding logon_of
 logon_holds m n = by_test (is_opening m n)
   where
-    by_test : (v : Bool) → May FitsLogon (if v then (id_in 49 m >>= λ client. id_in 56 m >>= λ host. number_at 108 m >>= λ beat. Some (record { client = client; host = host; beat = beat })) else None)
+    by_test : (v : Bool) → May FitsLogon (if v then (given_id 49 m >>= λ client. given_id 56 m >>= λ host. given_number 108 m >>= λ beat. Some (record { client = client; host = host; beat = beat })) else None)
     by_test false = tt
     by_test true =
-        chained (λ id. is_id id ≡ true) FitsLogon (id_in 49 m) _ (id_in_holds 49 m) (λ client is_client.
-        chained (λ id. is_id id ≡ true) FitsLogon (id_in 56 m) _ (id_in_holds 56 m) (λ host is_host.
-        chained (λ x. x ≤ 999999999) FitsLogon (number_at 108 m) _ (beat_holds m) (λ beat short. (is_client, is_host, short))))
+        chained (λ id. is_id id ≡ true) FitsLogon (given_id 49 m) _ (id_in_holds 49 m) (λ client is_client.
+        chained (λ id. is_id id ≡ true) FitsLogon (given_id 56 m) _ (id_in_holds 56 m) (λ host is_host.
+        chained (λ x. x ≤ 999999999) FitsLogon (given_number 108 m) _ (beat_holds m) (λ beat short. (is_client, is_host, short))))
 
 event_holds : (n : ℕ) (r : Result Meaning ℕ) → IsNumber n → Holds (FitsMeaning n) r → May IsGiven (event_of_accepted n r)
 event_holds n (Ok Nothing) num h = tt
@@ -104,8 +104,8 @@ next_holds n (Err reason) num h = omega arith
 view_with_fair : (m : List ℕ) (n : ℕ) → IsNumber n → IsFair (view_with m n)
 view_with_fair m n num = record {
   number = num;
-  next = next_holds n (meaning_of m n) num (meaning_holds m n);
-  event = event_holds n (meaning_of m n) num (meaning_holds m n);
+  next = next_holds n (meaning_of_message m n) num (meaning_holds m n);
+  event = event_holds n (meaning_of_message m n) num (meaning_holds m n);
   logon = logon_holds m n;
 }
 

@@ -5,7 +5,7 @@ use Rattle.std.proofs.lemmas.Bool.{false≢true}
 use Rattle.std.proofs.lemmas.Bool.Decides.{nat_tests}
 use Rattle.std.proofs.lemmas.Slice.Eq.{bytes_eq-Decides}
 use Rattle.fix_wire.specs.Messages.{kind, number}
-use Rattle.fix_session.specs.Table.{meaning_of, meaning_with}
+use Rattle.fix_session.specs.Table.{meaning_of_message, meaning_of_kind_text}
 use Rattle.fix_session.specs.declared.session.Logon.{Logon}
 use Rattle.fix_session.specs.declared.session.State.TheVariants as states
 use Rattle.fix_session.specs.declared.session.Session.{Session}
@@ -27,16 +27,16 @@ and_true false b h = absurd (false≢true h)
 same_bytes : (xs ys : List ℕ) → bytes_eq xs ys ≡ true → xs ≡ ys
 same_bytes xs ys e = (bytes_eq-Decides xs ys).0 e
 
-pub due_two : (m : List ℕ) (n : ℕ) (l : Logon) → logon_of m n ≡ Some l → due_after_accepted n (meaning_of m n) ≡ 2
+pub due_two : (m : List ℕ) (n : ℕ) (l : Logon) → logon_of m n ≡ Some l → due_after_accepted n (meaning_of_message m n) ≡ 2
 due_two m n l e =
     let parts = and_true _ _ (and_true _ _ (and_true _ _ (opening_of m n l e)).0).0 in
     let kind_is = same_bytes (kind m) (65 ∷ []) parts.0 in
     let one : n ≡ 1 = grind (arith, nat_tests) in
-    ap (λ k. due_after_accepted n (meaning_with k m n)) kind_is ∙ (let h : n + 1 ≡ 2 = omega (arith, one) in h)
+    ap (λ k. due_after_accepted n (meaning_of_kind_text k m n)) kind_is ∙ (let h : n + 1 ≡ 2 = omega (arith, one) in h)
 
 pub judge_opens : (s : Session) (m : List ℕ) (n : ℕ) (l : Logon) → s.state ≡ states.Before → number m ≡ Some n → logon_of m n ≡ Some l → judge s m ≡ opens 2 (Some l)
 judge_opens s m n l state numbered logon =
     ap (λ o. step_or_stay s (option_map (view_with m) o)) numbered
     ∙ ap (λ t. step_at t (view_with m n)) state
-    ∙ ap (λ o. opens (due_after_accepted n (meaning_of m n)) o) logon
+    ∙ ap (λ o. opens (due_after_accepted n (meaning_of_message m n)) o) logon
     ∙ ap (λ k. opens k (Some l)) (due_two m n l logon)

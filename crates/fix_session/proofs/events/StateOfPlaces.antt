@@ -13,7 +13,7 @@ use Rattle.spread_rules.specs.declared.event.Event.TheVariants as variant
 use Rattle.fix_session.specs.declared.session.Logon.{Logon}
 use Rattle.fix_session.specs.declared.session.Session.{Session}
 use Rattle.fix_session.specs.View.{CompIds, MessageView, are_same, view, logon_comp_ids}
-use Rattle.fix_session.specs.Places.{next_at, session_comp_ids, due_after, closing_later, is_next, closes_at, accepts_at, live, last, due, first_after, has_open_gap, closed_or, event, events_from, events, whole}
+use Rattle.fix_session.specs.Places.{next_after, session_comp_ids, due_after, closing_later, is_next, closes_at, accepts_at, live, last_accepted_before, due, place_after, has_open_gap, closed_or, event, events_from, message_events, message_events_and_close}
 use Rattle.fix_session.specs.Steps as steps
 use Rattle.fix_session.specs.Steps.{step, judge, event_in, events_said, session_after, events_at_end, ended, new_session, closed}
 
@@ -112,11 +112,11 @@ opened_some m ms zero e = by_opens m.logon refl
     by_opens None h = absurd (false≢true (simp h at e))
 opened_some m ms (suc p) e = opened_some m ms p (and_true _ _ e).0
 
-last_below : (ms : List MessageView) (p : ℕ) → first_after (last ms p) ≤ p
+last_below : (ms : List MessageView) (p : ℕ) → place_after (last_accepted_before ms p) ≤ p
 last_below ms zero = omega arith
 last_below ms (suc p) = by_test (last_below ms p) (live ms p && accepts_at ms p (due ms p) (slice_get ms p))
   where
-    by_test : first_after (last ms p) ≤ p → (v : Bool) → first_after (cond v (Some p) (last ms p)) ≤ suc p
+    by_test : place_after (last_accepted_before ms p) ≤ p → (v : Bool) → place_after (cond v (Some p) (last_accepted_before ms p)) ≤ suc p
     by_test ih true = omega arith
     by_test ih false = omega arith
 
@@ -155,20 +155,20 @@ later_step x xs p m get = by_live (live (x ∷ xs) (suc p)) refl
         let then : state_at ms (suc q) ≡ cond l (runs parties d2 a2) closed = ap (λ h. cond l (runs_or h d2 a2) closed) op in
         let lives : l ≡ not (is_some (closing_later (Some parties) d m)) =
         ap (λ v. v && not (closes_at ms q d (slice_get ms q))) e ∙ ap (λ g. not (closes_at ms q d g)) get ∙ ap (λ h. not (is_some (closing_later h d m))) op in
-        let last_is : last ms (suc q) ≡ cond (is_next (Some parties) d m) (Some q) (last ms q) =
-        ap (λ v. cond (v && accepts_at ms q d (slice_get ms q)) (Some q) (last ms q)) e
-        ∙ ap (λ g. cond (accepts_at ms q d g) (Some q) (last ms q)) get ∙ ap (λ h. cond (is_next h d m) (Some q) (last ms q)) op in
+        let last_is : last_accepted_before ms (suc q) ≡ cond (is_next (Some parties) d m) (Some q) (last_accepted_before ms q) =
+        ap (λ v. cond (v && accepts_at ms q d (slice_get ms q)) (Some q) (last_accepted_before ms q)) e
+        ∙ ap (λ g. cond (accepts_at ms q d g) (Some q) (last_accepted_before ms q)) get ∙ ap (λ h. cond (is_next h d m) (Some q) (last_accepted_before ms q)) op in
         let taken : is_next (Some parties) d m ≡ true → (d2 ≡ m.next) × (a2 ≡ false) = λ t.
-        let la : last ms (suc q) ≡ Some q = last_is ∙ ap (λ v. cond v (Some q) (last ms q)) t in
+        let la : last_accepted_before ms (suc q) ≡ Some q = last_is ∙ ap (λ v. cond v (Some q) (last_accepted_before ms q)) t in
         let none : drop (suc q) (take (suc q) ms) ≡ [] = drop_all (suc q) (take (suc q) ms) (omega (arith, length-take (suc q) ms)) in (
-          ap (λ t. due_after ms t) la ∙ ap (λ g. next_at g) get,
-          ap (λ t. list_any (λ y. ltb d2 y.number) (drop (first_after t) (take (suc q) ms))) la ∙ ap (λ t. list_any (λ y. ltb d2 y.number) t) none,
+          ap (λ t. due_after ms t) la ∙ ap (λ g. next_after g) get,
+          ap (λ t. list_any (λ y. ltb d2 y.number) (drop (place_after t) (take (suc q) ms))) la ∙ ap (λ t. list_any (λ y. ltb d2 y.number) t) none,
         ) in
         let passed : is_next (Some parties) d m ≡ false → (d2 ≡ d) × (a2 ≡ (a || ltb d m.number)) = λ f.
-        let la : last ms (suc q) ≡ last ms q = last_is ∙ ap (λ v. cond v (Some q) (last ms q)) f in (
+        let la : last_accepted_before ms (suc q) ≡ last_accepted_before ms q = last_is ∙ ap (λ v. cond v (Some q) (last_accepted_before ms q)) f in (
           ap (λ t. due_after ms t) la,
-          ap (λ t. list_any (λ y. ltb (due_after ms t) y.number) (drop (first_after t) (take (suc q) ms))) la
-              ∙ asked_more ms q d (first_after (last ms q)) m get (last_below ms q),
+          ap (λ t. list_any (λ y. ltb (due_after ms t) y.number) (drop (place_after t) (take (suc q) ms))) la
+              ∙ asked_more ms q d (place_after (last_accepted_before ms q)) m get (last_below ms q),
         ) in
         ap (λ s. says s m) state ∙ step_is parties d a m l d2 a2 lives taken passed
         ∙ ap (λ v. (v, cond l (runs parties d2 a2) closed)) (sym placed_is) ∙ ap (λ s. (event ms q m, s)) (sym then)
@@ -238,15 +238,15 @@ after_messages s (f ∷ fs) = by_view (view f) (λ t. after_messages t fs)
     by_view None ih = ih s
     by_view (Some m) ih = ih (step s m).1
 
-pub events_law : (fs : List (List ℕ)) → events_said new_session fs ≡ events (filter_map view fs)
+pub events_law : (fs : List (List ℕ)) → events_said new_session fs ≡ message_events (filter_map view fs)
 events_law fs = events_said_messages new_session fs ∙ says_is (filter_map view fs) (filter_map view fs) 0 refl
 
-pub whole_law : (fs : List (List ℕ)) → events_said new_session fs ++ events_at_end (session_after new_session fs) ≡ whole (filter_map view fs)
+pub whole_law : (fs : List (List ℕ)) → events_said new_session fs ++ events_at_end (session_after new_session fs) ≡ message_events_and_close (filter_map view fs)
 whole_law fs =
     let ms = filter_map view fs in
     ap (λ t. t ++ events_at_end (session_after new_session fs)) (events_law fs)
-    ∙ ap (λ t. events ms ++ events_at_end t) (after_messages new_session fs ∙ after_is ms ms 0 (length ms) refl (omega arith))
-    ∙ ap (λ t. events ms ++ t) (end_is ms)
+    ∙ ap (λ t. message_events ms ++ events_at_end t) (after_messages new_session fs ∙ after_is ms ms 0 (length ms) refl (omega arith))
+    ∙ ap (λ t. message_events ms ++ t) (end_is ms)
 
 pub closed_law : (fs : List (List ℕ)) → events_at_end (session_after new_session fs) ≡ cond (live (filter_map view fs) (length (filter_map view fs))) (variant.Close 5 ∷ []) []
 closed_law fs = let ms = filter_map view fs in ap events_at_end (after_messages new_session fs ∙ after_is ms ms 0 (length ms) refl (omega arith)) ∙ end_is ms

@@ -17,7 +17,7 @@ use Rattle.fix_wire.specs.Values.{is_number, within, number_in, quantity_in, hun
 use Rattle.fix_wire.specs.Messages.{get, kind}
 use Rattle.fix_session.specs.declared.table.Meaning.{Meaning}
 use Rattle.fix_session.specs.declared.table.Meaning.TheVariants.{Nothing, Gives, Fills}
-use Rattle.fix_session.specs.Table.{◌>>=◌, filled, text_at, or_out_of_range, id_at, or_reason, number_at, quantity_at, price_at, one_of, choice_at, allowed_if, side_at, side_of, time_in_force_of, gap_fill_flag_of, passed_over, test_request, resend_request, sequence_reset, new_order, cancel_request, meaning_of_kind, meaning_with, meaning_of}
+use Rattle.fix_session.specs.Table.{◌>>=◌, required_text, text_at, or_out_of_range, id_at, or_reason, number_at, quantity_at, price_at, one_of, choice_at, allowed_if, side_at, side_of, time_in_force_of, gap_fill_flag_of, passed_over, test_request, resend_request, sequence_reset, new_order, cancel_request, meaning_of_kind, meaning_of_kind_text, meaning_of_message}
 
 -- a result of that kind, or a reason to reject
 abbrev pub Holds : {A : Type 0} → (A → Type 0) → Result A ℕ → Type 0
@@ -48,12 +48,12 @@ either P false r s h g = g
 
 -- ---- one field
 
-filled_holds : (o : Option (List ℕ)) → Holds Any (filled o)
-filled_holds None = refl
-filled_holds (Some text) = either Any (nat_lt 0 (length text)) (Ok text) (Err 4) tt refl
+required_text_holds : (o : Option (List ℕ)) → Holds Any (required_text o)
+required_text_holds None = refl
+required_text_holds (Some text) = either Any (nat_lt 0 (length text)) (Ok text) (Err 4) tt refl
 
 text_holds : (tag : ℕ) (m : List ℕ) → Holds Any (text_at tag m)
-text_holds tag m = filled_holds (get tag m)
+text_holds tag m = required_text_holds (get tag m)
 
 abbrev IsId : List ℕ → Type 0
 IsId text = is_id text ≡ true
@@ -146,12 +146,12 @@ side_holds m = chained Any Any (choice_at (49 ∷ 50 ∷ []) 54 m) (λ b. Ok (si
 time_in_force_holds : (o : Option (List ℕ)) → Holds Any (time_in_force_of o)
 time_in_force_holds None = tt
 time_in_force_holds (Some text) =
-    chained Any Any (filled (Some text)) _ (filled_holds (Some text)) (λ t h.
+    chained Any Any (required_text (Some text)) _ (required_text_holds (Some text)) (λ t h.
     chained Any Any (one_of (48 ∷ 51 ∷ []) t) _ (one_of_holds (48 ∷ 51 ∷ []) t) (λ b k. tt))
 
 gap_fill_flag_holds : (o : Option (List ℕ)) → Holds Any (gap_fill_flag_of o)
 gap_fill_flag_holds None = refl
-gap_fill_flag_holds (Some text) = chained Any Any (filled (Some text)) _ (filled_holds (Some text)) (λ t h. one_of_holds (89 ∷ []) t)
+gap_fill_flag_holds (Some text) = chained Any Any (required_text (Some text)) _ (required_text_holds (Some text)) (λ t h. one_of_holds (89 ∷ []) t)
 
 -- ---- one kind
 
@@ -237,10 +237,10 @@ kind_holds k m n =
     either (FitsMeaning n) (k == 68) _ _ (new_holds m n) (
     either (FitsMeaning n) (k == 70) _ _ (cancel_request_holds m n) refl))))))
 
-with_holds : (kind m : List ℕ) (n : ℕ) → Holds (FitsMeaning n) (meaning_with kind m n)
+with_holds : (kind m : List ℕ) (n : ℕ) → Holds (FitsMeaning n) (meaning_of_kind_text kind m n)
 with_holds [] m n = refl
 with_holds (k ∷ []) m n = kind_holds k m n
 with_holds (k ∷ l ∷ ks) m n = refl
 
-pub meaning_holds : (m : List ℕ) (n : ℕ) → Holds (FitsMeaning n) (meaning_of m n)
+pub meaning_holds : (m : List ℕ) (n : ℕ) → Holds (FitsMeaning n) (meaning_of_message m n)
 meaning_holds m n = with_holds (kind m) m n

@@ -5,20 +5,20 @@ use Rattle.std.proofs.lemmas.List.{append-nil, append_assoc, take-append-drop, m
 use Rattle.spread_rules.specs.declared.event.Entry.{Entry}
 use Rattle.fix_wire.specs.Frames.{frames}
 use Rattle.fix_wire.specs.Held.{first_frame, from_first_start}
-use Rattle.fix_wire.specs.Pieces.{Leaves, IsDrained}
+use Rattle.fix_wire.specs.Pieces.{SplitsInto, IsDrained}
 use Rattle.fix_wire.proofs.framing.FramesHeld.{scan_start, start_frames, room_left}
 use Rattle.fix_wire.proofs.framing.OneTurn.{need_leaves, passed_leaves}
 use Rattle.fix_session.specs.Steps.{judge, event_in, events_said, session_after}
-use Rattle.fix_session.specs.Reading.{ReaderState, first_message, session_past, skipped, passed, with_more, entries_of, Fed}
+use Rattle.fix_session.specs.Reading.{ReaderState, first_message, session_past, after_skipping, after_passing, with_more, entries_of, Fed}
 use Rattle.fix_session.proofs.events.StateOfPlaces.{said_two, after_two}
 
 -- skipped bytes
-pub fed_none : (n : ℕ) (out : List Entry) (a b : ReaderState) → Leaves a.held [] b.held → b.session ≡ a.session → Fed n out a out b
+pub fed_none : (n : ℕ) (out : List Entry) (a b : ReaderState) → SplitsInto a.held [] b.held → b.session ≡ a.session → Fed n out a out b
 fed_none n out a b l s = record { frames_passed = []; left = l; says = sym (append-nil out); judged_all = s }
 
 -- one message
 pub fed_message : (n : ℕ) (out : List Entry) (a : ReaderState) (frame : List ℕ) (out2 : List Entry) (b : ReaderState) →
-    Leaves a.held (frame ∷ []) b.held → out2 ≡ out ++ entries_of n (events_said a.session (frame ∷ [])) → b.session ≡ session_after a.session (frame ∷ []) → Fed n out a out2 b
+    SplitsInto a.held (frame ∷ []) b.held → out2 ≡ out ++ entries_of n (events_said a.session (frame ∷ [])) → b.session ≡ session_after a.session (frame ∷ []) → Fed n out a out2 b
 fed_message n out a frame out2 b l e j = record { frames_passed = frame ∷ []; left = l; says = e; judged_all = j }
 
 -- one after another
@@ -54,32 +54,32 @@ fed_put n out a out1 b rest k put out2 c rest2 f e g same =
     (subst (λ t. Fed n out1 t out2 (with_more c (drop k rest))) (ap (λ t. with_more t (drop k rest)) e ∙ whole) (fed_more n out1 put out2 c (drop k rest) g)))
 
 -- no message stands
-pub leaves_skipped : (a b : ReaderState) → b ≡ skipped a → Leaves a.held [] b.held
+pub leaves_skipped : (a b : ReaderState) → b ≡ after_skipping a → SplitsInto a.held [] b.held
 leaves_skipped a b e more = sym (scan_start a.held more) ∙ ap (λ r. frames (r.held ++ more)) (sym e)
 
-pub fed_skipped : (n : ℕ) (out : List Entry) (a b : ReaderState) → b ≡ skipped a → Fed n out a out b
+pub fed_skipped : (n : ℕ) (out : List Entry) (a b : ReaderState) → b ≡ after_skipping a → Fed n out a out b
 fed_skipped n out a b e = fed_none n out a b (leaves_skipped a b e) (ap (λ r. r.session) e)
 
-pub drained_where_none : (a b : ReaderState) → b ≡ skipped a → first_message a ≡ None → IsDrained b.held
+pub drained_where_none : (a b : ReaderState) → b ≡ after_skipping a → first_message a ≡ None → IsDrained b.held
 drained_where_none a b e none =
     subst (λ r. IsDrained r.held) (sym e) (need_leaves a.held (from_first_start a.held) refl none (room_left a.held none)).1
 
-first_again : (a b : ReaderState) (m : List ℕ) → b ≡ skipped a → first_message a ≡ Some m → first_message b ≡ Some m
+first_again : (a b : ReaderState) (m : List ℕ) → b ≡ after_skipping a → first_message a ≡ Some m → first_message b ≡ Some m
 first_again a b m e here = ap first_message e ∙ ap first_frame (start_frames a.held) ∙ here
 
-pub leaves_passed : (a b c : ReaderState) (m : List ℕ) → b ≡ skipped a → first_message a ≡ Some m → c ≡ passed b → Leaves a.held (m ∷ []) c.held × (length c.held < length a.held)
+pub leaves_passed : (a b c : ReaderState) (m : List ℕ) → b ≡ after_skipping a → first_message a ≡ Some m → c ≡ after_passing b → SplitsInto a.held (m ∷ []) c.held × (length c.held < length a.held)
 leaves_passed a b c m e here went =
     passed_leaves a.held b.held c.held m true (ap (λ r. r.held) e) here (sym (ap is_some (first_again a b m e here))) (ap (λ r. r.held) went)
 
 -- the first message is passed
-pub passed_less : (a b c : ReaderState) (m : List ℕ) → b ≡ skipped a → first_message a ≡ Some m → c ≡ passed b → length c.held < length a.held
+pub passed_less : (a b c : ReaderState) (m : List ℕ) → b ≡ after_skipping a → first_message a ≡ Some m → c ≡ after_passing b → length c.held < length a.held
 passed_less a b c m e here went = (leaves_passed a b c m e here went).1
 
-pub session_passed : (a b c : ReaderState) (m : List ℕ) → b ≡ skipped a → first_message a ≡ Some m → c ≡ passed b → c.session ≡ (judge a.session m).1
+pub session_passed : (a b c : ReaderState) (m : List ℕ) → b ≡ after_skipping a → first_message a ≡ Some m → c ≡ after_passing b → c.session ≡ (judge a.session m).1
 session_passed a b c m e here went = ap (λ r. r.session) went ∙ ap (session_past b.session) (first_again a b m e here) ∙ ap (λ r. (judge r.session m).1) e
 
 -- and its event joins
-pub fed_passed : (n : ℕ) (out : List Entry) (a b c : ReaderState) (m : List ℕ) (out2 : List Entry) → b ≡ skipped a → first_message a ≡ Some m → c ≡ passed b →
+pub fed_passed : (n : ℕ) (out : List Entry) (a b c : ReaderState) (m : List ℕ) (out2 : List Entry) → b ≡ after_skipping a → first_message a ≡ Some m → c ≡ after_passing b →
     out2 ≡ out ++ entries_of n (cons_option (event_in (judge a.session m).0) []) → Fed n out a out2 c
 fed_passed n out a b c m out2 e here went says =
     fed_message n out a m out2 c (leaves_passed a b c m e here went).0 says (session_passed a b c m e here went)

@@ -11,8 +11,8 @@ use Rattle.fix_session.specs.declared.session.Session.{Session}
 use Rattle.fix_session.specs.declared.session.Verdict.{Verdict}
 use Rattle.fix_session.specs.Steps.{judge}
 use Rattle.fix_session.specs.declared.reader.Reader.TheInside.{Inside}
-use Rattle.fix_session.specs.Reading.{ReaderState, first_message, judged, first_verdict, session_past, skipped, passed}
-use Rattle.fix_session.specs.ReaderFields.{IsKept}
+use Rattle.fix_session.specs.Reading.{ReaderState, first_message, first_judgement, first_verdict, session_past, after_skipping, after_passing}
+use Rattle.fix_session.specs.code.ReaderFields.{IsKept}
 
 -- the message that was judged
 pub judged_some : (s : Session) (o : Option (List ℕ)) (d : Verdict × Session) → option_map (judge s) o ≡ Some d → (m : List ℕ) × ((o ≡ Some m) × (judge s m ≡ d))
@@ -82,17 +82,17 @@ same_state : (held held2 : List ℕ) (s s2 : Session) → held ≡ held2 → s �
 same_state held held2 s s2 e f = rw (e, f) refl
 
 -- no message stands
-pub none_goes : (r : ReaderState) → first_message r ≡ None → skipped r ≡ passed r
+pub none_goes : (r : ReaderState) → first_message r ≡ None → after_skipping r ≡ after_passing r
 none_goes r first =
     same_state (from_first_start r.held) (after_first_frame r.held) r.session (session_past r.session (first_message r))
     (sym (ap (λ o. past_frame o (from_first_start r.held)) (none_stands r.held first))) (sym (ap (session_past r.session) first))
 
-pub none_passed : (r : ReaderState) → judged r ≡ None → skipped r ≡ passed r
+pub none_passed : (r : ReaderState) → first_judgement r ≡ None → after_skipping r ≡ after_passing r
 none_passed r none = none_goes r (judged_none r.session (first_message r) none)
 
 -- the first message is passed, and the session after it is kept
-pub one_passed : (r : ReaderState) (mid new : List ℕ) (d : Verdict × Session) (b : Bool) → mid ≡ from_first_start r.held → judged r ≡ Some d → b ≡ is_some (first_frame (frames mid)) → OnTrue b (new ≡ after_first_frame mid) →
-    record { held = new; session = d.1 } ≡ passed r
+pub one_passed : (r : ReaderState) (mid new : List ℕ) (d : Verdict × Session) (b : Bool) → mid ≡ from_first_start r.held → first_judgement r ≡ Some d → b ≡ is_some (first_frame (frames mid)) → OnTrue b (new ≡ after_first_frame mid) →
+    record { held = new; session = d.1 } ≡ after_passing r
 one_passed r mid new d b e due stands went =
     let m = judged_some r.session (first_message r) d due in
     let here : b ≡ true = stands ∙ ap (λ t. is_some (first_frame (frames t))) e ∙ ap (λ fs. is_some (first_frame fs)) (start_frames r.held) ∙ ap is_some m.1.0 in
@@ -101,7 +101,7 @@ one_passed r mid new d b e due stands went =
     (sym (ap (session_past r.session) m.1.0 ∙ ap (λ v. v.1) m.1.1))
 
 -- what was skipped before makes no difference
-pub passed_skipped : (r : ReaderState) → passed (skipped r) ≡ passed r
+pub passed_skipped : (r : ReaderState) → after_passing (after_skipping r) ≡ after_passing r
 passed_skipped r =
-    same_state (after_first_frame (from_first_start r.held)) (after_first_frame r.held) (session_past r.session (first_message (skipped r))) (session_past r.session (first_message r))
+    same_state (after_first_frame (from_first_start r.held)) (after_first_frame r.held) (session_past r.session (first_message (after_skipping r))) (session_past r.session (first_message r))
     (passed_again r.held) (ap (λ fs. session_past r.session (first_frame fs)) (start_frames r.held))

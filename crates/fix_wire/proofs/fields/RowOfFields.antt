@@ -4,7 +4,7 @@ use Rattle.std.specs.List.{position_or_len, list_all}
 use Rattle.std.proofs.lemmas.List.Sums.{fails_before_first, passes_at_first}
 use Rattle.std.proofs.lemmas.Bool.{cases_lt, false≢true}
 use Rattle.std.proofs.lemmas.Bool.Decides.{nat_tests}
-use Rattle.fix_wire.specs.Texts.{is_end, is_equals, number_of}
+use Rattle.fix_wire.specs.Texts.{is_soh, is_equals, number_of}
 use Rattle.std.proofs.lemmas.List.Folds.{list_all_at}
 use Rattle.std.specs.Char.{is_ascii_digit}
 use Rattle.std.proofs.lemmas.List.{length-take-le, get_or-take}
@@ -12,7 +12,7 @@ use Rattle.fix_wire.specs.declared.frame.FrameHeader.{FrameHeader}
 use Rattle.fix_wire.specs.Frames.{header, body_at}
 use Rattle.fix_wire.specs.Messages.{fields, first_value}
 use Rattle.fix_wire.specs.Fields.{TagValue, field_texts, prepended, with_first, field_of_text, field_with, is_tag, fields_of_texts, fields_of_body}
-use Rattle.fix_wire.specs.Fronts.{first_field, field_up_to, value_of}
+use Rattle.fix_wire.specs.code.Scans.{first_field, field_up_to, value_of}
 
 prepended_first : (b : ℕ) (p : List ℕ) (o : Option (List (List ℕ))) → option_and_then (prepended b) (option_map (with_first p) o) ≡ option_map (with_first (b ∷ p)) o
 prepended_first b p None = refl
@@ -48,11 +48,11 @@ with_field piece rest (Some f) (Some qs) e g =
     ap (λ x. option_and_then (λ f. option_map (λ fs. f ∷ fs) (fields_of_texts qs)) x) (sym g)
     ∙ ap (λ x. option_map (λ fs. f ∷ fs) (option_and_then fields_of_texts x)) e
 
-row_at : (xs : List ℕ) (end : ℕ) → end ≡ position_or_len is_end xs → 0 < length xs → (end < length xs) ⊎ (length xs ≤ end) → fields_of_body xs ≡ option_and_then onto_row (field_up_to end xs)
+row_at : (xs : List ℕ) (end : ℕ) → end ≡ position_or_len is_soh xs → 0 < length xs → (end < length xs) ⊎ (length xs ≤ end) → fields_of_body xs ≡ option_and_then onto_row (field_up_to end xs)
 row_at xs end e some (inl l) =
     let here : ltb end (length xs) ≡ true = grind (arith, nat_tests) in
-    let at : eqb (get_or xs end 0) 1 ≡ true = rw e (passes_at_first is_end xs 0 (rw (← e) l)) in
-    let before : (j : ℕ) → j < end → eqb (get_or xs j 0) 1 ≡ false = λ j below. fails_before_first is_end xs j 0 (rw (← e) below) in
+    let at : eqb (get_or xs end 0) 1 ≡ true = rw e (passes_at_first is_soh xs 0 (rw (← e) l)) in
+    let before : (j : ℕ) → j < end → eqb (get_or xs j 0) 1 ≡ false = λ j below. fails_before_first is_soh xs j 0 (rw (← e) below) in
     let cut = field_texts_cut xs end l at before in
     ap (option_and_then fields_of_texts) cut
     ∙ with_field (take end xs) (drop (suc end) xs) (field_of_text (take end xs)) (field_texts (drop (suc end) xs)) refl refl
@@ -60,13 +60,13 @@ row_at xs end e some (inl l) =
     ∙ ap (λ x. option_and_then onto_row (cond x (option_map (λ f. (f, drop (end + 1) xs)) (field_of_text (take end xs))) None)) (sym here)
 row_at xs end e some (inr l) =
     let past_frame : ltb end (length xs) ≡ false = grind (arith, nat_tests) in
-    let before : (j : ℕ) → j < length xs → eqb (get_or xs j 0) 1 ≡ false = λ j below. fails_before_first is_end xs j 0 (rw (← e) (omega arith)) in
+    let before : (j : ℕ) → j < length xs → eqb (get_or xs j 0) 1 ≡ false = λ j below. fails_before_first is_soh xs j 0 (rw (← e) (omega arith)) in
     ap (option_and_then fields_of_texts) (field_texts_open xs some before)
     ∙ ap (λ x. option_and_then onto_row (cond x (option_map (λ f. (f, drop (end + 1) xs)) (field_of_text (take end xs))) None)) (sym past_frame)
 
 -- a row is its first field and the row behind it
 pub row_is : (xs : List ℕ) → 0 < length xs → fields_of_body xs ≡ option_and_then onto_row (first_field xs)
-row_is xs some = row_at xs (position_or_len is_end xs) refl some (cases_lt (position_or_len is_end xs) (length xs))
+row_is xs some = row_at xs (position_or_len is_soh xs) refl some (cases_lt (position_or_len is_soh xs) (length xs))
 
 -- the row behind a field is a row exactly where the row is one
 pub row_some : (xs : List ℕ) (p : TagValue × List ℕ) → 0 < length xs → Some p ≡ first_field xs → is_some (fields_of_body p.1) ≡ is_some (fields_of_body xs)
@@ -150,7 +150,7 @@ too_long text p l m =
     second_false (leb 1 (length t)) (leb (length t) 9) (list_all is_ascii_digit t) (not (eqb (get_or t 0 0) 48)) more
 
 -- a field of what stands before the first byte 1 is the first field of a body
-pub first_field_found : (body : List ℕ) (end : ℕ) (f : TagValue) → end ≡ position_or_len is_end body → end < length body → Some f ≡ field_of_text (take end body) →
+pub first_field_found : (body : List ℕ) (end : ℕ) (f : TagValue) → end ≡ position_or_len is_soh body → end < length body → Some f ≡ field_of_text (take end body) →
     ◌≡◌ {A = Option (TagValue × List ℕ)} (Some (f, drop (end + 1) body)) (first_field body)
 first_field_found body end f e l field =
     let here : ltb end (length body) ≡ true = grind (arith, nat_tests) in

@@ -8,8 +8,8 @@ use Rattle.fix_wire.specs.declared.table.FieldPlace.{FieldPlace}
 use Rattle.fix_wire.specs.declared.table.FieldTable.{FieldTable}
 use Rattle.fix_wire.specs.Fields.{fields_of_body}
 use Rattle.fix_wire.proofs.fields.RowOfFields.{row_some, value_behind, first_some}
-use Rattle.fix_wire.specs.Fronts.{value_of, first_field, leading_field_view}
-use Rattle.fix_wire.specs.Tabled.{nowhere, place_at, start_of, field_at, leading_at, IsPlaced, IsTable, IsBlank, IsTableOf}
+use Rattle.fix_wire.specs.code.Scans.{value_of, first_field, leading_field_view}
+use Rattle.fix_wire.specs.code.Tabled.{nowhere, place_at, start_of, field_at, leading_at, IsPlaced, IsTable, IsBlank, IsTableOf}
 use Rattle.fix_wire.specs.Frames.{frame_at, header, frame_length}
 use Rattle.fix_wire.proofs.framing.FrontStays.{frame_parts, header_stays}
 

@@ -3,9 +3,9 @@ use Rattle.std.proofs.Common.{◌≡◌, ℕ, zero, suc, ◌+◌, ◌-◌, ◌<�
 use Rattle.std.proofs.lemmas.List.{take-append-le, drop-append-le, append-nil, drop_more}
 use Rattle.std.proofs.lemmas.Option.{none-some, same_Some}
 use Rattle.fix_wire.proofs.framing.FrontStays.{frame_stays, frame_within, nothing_stays, begins_short}
-use Rattle.fix_wire.specs.declared.frame.Front.TheVariants.{Frame, Partial, Garbled}
+use Rattle.fix_wire.specs.declared.frame.Scan.TheVariants.{Frame, Incomplete, Garbled}
 use Rattle.fix_wire.specs.Frames.{frame_at, may_begin, frames, frames_after}
-use Rattle.fix_wire.specs.Fronts.{front_or}
+use Rattle.fix_wire.specs.code.Scans.{scan_with}
 use Rattle.fix_wire.specs.Held.{first_frame, from_first_start, past_frame, after_first_frame}
 
 pub frames_after_drop : (skip : ℕ) (bs : List ℕ) → frames_after skip bs ≡ frames (drop skip bs)
@@ -14,17 +14,17 @@ frames_after_drop (suc skip) [] = refl
 frames_after_drop (suc skip) (b ∷ bs) = frames_after_drop skip bs
 
 -- what frame_at and may_begin give for each look
-pub front_frame : (o : Option ℕ) (m : Bool) (n : ℕ) → front_or m o ≡ Frame n → o ≡ Some n
+pub front_frame : (o : Option ℕ) (m : Bool) (n : ℕ) → scan_with m o ≡ Frame n → o ≡ Some n
 front_frame None true n e = cc
 front_frame None false n e = cc
 front_frame (Some k) m n e = cc
 
-pub front_partial : (o : Option ℕ) (m : Bool) → front_or m o ≡ Partial → (o ≡ None) × (m ≡ true)
-front_partial None true e = (refl, refl)
-front_partial None false e = cc
-front_partial (Some k) m e = cc
+pub front_incomplete : (o : Option ℕ) (m : Bool) → scan_with m o ≡ Incomplete → (o ≡ None) × (m ≡ true)
+front_incomplete None true e = (refl, refl)
+front_incomplete None false e = cc
+front_incomplete (Some k) m e = cc
 
-pub front_garbled : (o : Option ℕ) (m : Bool) → front_or m o ≡ Garbled → (o ≡ None) × (m ≡ false)
+pub front_garbled : (o : Option ℕ) (m : Bool) → scan_with m o ≡ Garbled → (o ≡ None) × (m ≡ false)
 front_garbled None true e = cc
 front_garbled None false e = (refl, refl)
 front_garbled (Some k) m e = cc
@@ -187,7 +187,7 @@ start_next held at l f m =
     let e = drop_more held at 0 l in
     ap from_first_start e ∙ start_nothing (get_or held at 0) (drop (at + 1) held) (sym (ap frame_at e) ∙ f) (sym (ap may_begin e) ∙ m)
 
-pub front_other : (o : Option ℕ) (m : Bool) → ((x : ℕ) → front_or m o ≡ Frame x → ⊥) → o ≡ None
+pub front_other : (o : Option ℕ) (m : Bool) → ((x : ℕ) → scan_with m o ≡ Frame x → ⊥) → o ≡ None
 front_other None m h = refl
 front_other (Some n) m h = absurd (h n refl)
 
@@ -199,7 +199,7 @@ none_stands held e = by_frame (frame_at (from_first_start held)) refl
     by_frame (Some n) o = absurd (none-some _ (sym e ∙ ap first_frame (held_frames held n (sym o))))
 
 -- after Need there is room
-pub room_left : (held : List ℕ) → first_frame (frames held) ≡ None → length (from_first_start held) ≤ 4123
+pub room_left : (held : List ℕ) → first_frame (frames held) ≡ None → length (from_first_start held) < 4124
 room_left held e = let n = none_stands held e in begins_short (from_first_start held) (start_settled held n)
 
 -- the same, by the first of the frames

@@ -4,10 +4,10 @@ use Rattle.std.specs.Prelude.{slice_range, unwrap_or}
 use Rattle.std.specs.List.{between}
 use Rattle.std.proofs.lemmas.List.{length-take-le, length-drop}
 use Rattle.fix_wire.specs.declared.framer.Framer.TheInside.{Inside}
-use Rattle.fix_wire.specs.FramerFields.{held_of, IsKept}
+use Rattle.fix_wire.specs.code.FramerFields.{held_of, IsKept}
 use Rattle.fix_wire.specs.Frames.{frame_at}
 use Rattle.fix_wire.specs.declared.table.FieldTable.{FieldTable}
-use Rattle.fix_wire.specs.Tabled.{IsBlank, IsTableOf}
+use Rattle.fix_wire.specs.code.Tabled.{IsBlank, IsTableOf}
 use Rattle.fix_wire.proofs.framing.FrontStays.{frame_stays}
 use Rattle.fix_wire.proofs.fields.TableOfFields.{table_stays, table_blank}
 use Rattle.std.proofs.lemmas.Bool.{cases_lt}
@@ -26,24 +26,24 @@ table_put : (text held : List ℕ) (found : ℕ) (t : FieldTable) (now : List �
 table_put text held found t now e known tabled some = subst (λ (x : List ℕ). IsTableOf x t) (sym e) (table_stays held text found t (known some) (tabled some))
 
 -- bytes are put behind those that are held, wherever these were moved to
-pub put_kept : (f i : Inside) (buffer text : List ℕ) (taken : ℕ) → IsKept f → i.start ≤ i.end → i.end + taken ≤ 8192 → i.found ≡ f.found → i.table ≡ f.table → held_of i ≡ held_of f → length text ≡ taken →
-    slice_range buffer i.start (i.end + length text) ≡ slice_range i.buffer i.start i.end ++ text → IsKept (record { buffer = buffer; start = i.start; end = i.end + taken; found = i.found; table = i.table })
+pub put_kept : (f i : Inside) (buffer text : List ℕ) (taken : ℕ) → IsKept f → i.start ≤ i.end → i.end + taken ≤ 8192 → i.front_length ≡ f.front_length → i.table ≡ f.table → held_of i ≡ held_of f → length text ≡ taken →
+    slice_range buffer i.start (i.end + length text) ≡ slice_range i.buffer i.start i.end ++ text → IsKept (record { buffer = buffer; start = i.start; end = i.end + taken; front_length = i.front_length; table = i.table })
 put_kept f i buffer text taken kept order room same table held len put =
     let now = ap (λ n. slice_range buffer i.start (i.end + n)) (sym len) ∙ put ∙ ap (λ t. t ++ text) held in
-    let known : i.found ≢ 0 → frame_at (held_of f) ≡ Some i.found = λ some. kept.known (λ none. some (same ∙ none)) ∙ ap Some (sym same) in
+    let known : i.front_length ≢ 0 → frame_at (held_of f) ≡ Some i.front_length = λ some. kept.known (λ none. some (same ∙ none)) ∙ ap Some (sym same) in
     record {
       order = omega (arith, order);
       room = room;
-      known = knows_put text (held_of f) i.found _ now known;
-      tabled = table_put text (held_of f) i.found i.table _ now known (λ some. subst (λ (t : FieldTable). IsTableOf (held_of f) t) (sym table) (kept.tabled (λ none. some (same ∙ none))));
+      known = knows_put text (held_of f) i.front_length _ now known;
+      tabled = table_put text (held_of f) i.front_length i.table _ now known (λ some. subst (λ (t : FieldTable). IsTableOf (held_of f) t) (sym table) (kept.tabled (λ none. some (same ∙ none))));
       blank = λ none. subst (λ (t : FieldTable). IsBlank t) (sym table) (kept.blank (sym same ∙ none));
     }
 
 -- the table is that of the frame at the front, found or not
 pub knows_table : (f : Inside) → IsKept f → IsTableOf (held_of f) f.table
-knows_table f kept = by_found (cases_lt 0 f.found)
+knows_table f kept = by_found (cases_lt 0 f.front_length)
   where
-    by_found : (0 < f.found) ⊎ (f.found ≤ 0) → IsTableOf (held_of f) f.table
+    by_found : (0 < f.front_length) ⊎ (f.front_length ≤ 0) → IsTableOf (held_of f) f.table
     by_found (inl some) = kept.tabled (λ none. absurd (omega (arith, some, none)))
     by_found (inr none) = table_blank (held_of f) f.table (kept.blank (omega (arith, none)))
 

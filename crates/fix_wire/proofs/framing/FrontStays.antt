@@ -9,7 +9,7 @@ use Rattle.std.proofs.lemmas.Option.{none-some, option_and_then_some, cond_some,
 use Rattle.std.proofs.lemmas.Bool.{false≢true, cases_lt, eqb-true, leb-true, ltb-true, or_from, or_parts}
 use Rattle.std.proofs.lemmas.Bool.Decides.{nat_tests}
 use Rattle.fix_wire.specs.declared.frame.FrameHeader.{FrameHeader}
-use Rattle.fix_wire.specs.Texts.{strip_prefix, is_cut_short, is_end, number_of}
+use Rattle.fix_wire.specs.Texts.{strip_prefix, is_cut_short, is_soh, number_of}
 use Rattle.fix_wire.specs.Frames.{begin_text, header, header_after, header_with, is_body_length, is_length_open, is_unfinished, is_intact, is_body, body_at, intact_length, frame_length, frame_at, may_begin}
 use Rattle.fix_wire.proofs.fields.RowOfFields.{place_within}
 use Rattle.fix_wire.proofs.texts.Digits.{and_true}
@@ -132,13 +132,13 @@ no_length_later rest more k l fits (inr bad) =
     no_header k (rest ++ more) (not_a_length (take k (rest ++ more)) (inr (ap (λ t. list_all is_ascii_digit t) (take_over k rest more l) ∙ all_not rest (take (k - length rest) more) bad)))
 
 header_none_stays : (rest more : List ℕ) → header_after rest ≡ None → (8 < length rest) ⊎ (list_all is_ascii_digit rest ≡ false) → header_after (rest ++ more) ≡ None
-header_none_stays rest more e dead = by_place (cases_lt (position_or_len is_end rest) (length rest))
+header_none_stays rest more e dead = by_place (cases_lt (position_or_len is_soh rest) (length rest))
   where
-    by_place : (position_or_len is_end rest < length rest) ⊎ (length rest ≤ position_or_len is_end rest) → header_after (rest ++ more) ≡ None
+    by_place : (position_or_len is_soh rest < length rest) ⊎ (length rest ≤ position_or_len is_soh rest) → header_after (rest ++ more) ≡ None
     by_place (inl l) =
-        ap (λ k. header_with k (rest ++ more)) (place_stays is_end rest more l) ∙ header_at_stays (position_or_len is_end rest) rest more l ∙ e
+        ap (λ k. header_with k (rest ++ more)) (place_stays is_soh rest more l) ∙ header_at_stays (position_or_len is_soh rest) rest more l ∙ e
     by_place (inr l) =
-        no_length_later rest more (position_or_len is_end (rest ++ more)) (place_behind is_end rest more l) (place_within is_end (rest ++ more)) dead
+        no_length_later rest more (position_or_len is_soh (rest ++ more)) (place_behind is_soh rest more l) (place_within is_soh (rest ++ more)) dead
 
 header_within : (k : ℕ) (rest : List ℕ) (c : FrameHeader) → header_with k rest ≡ Some c → k < length rest
 header_within k rest c e = by_test (cases_lt k (length rest))
@@ -152,16 +152,16 @@ header_within k rest c e = by_test (cases_lt k (length rest))
 
 header_some_stays : (rest more : List ℕ) (c : FrameHeader) → header_after rest ≡ Some c → header_after (rest ++ more) ≡ Some c
 header_some_stays rest more c e =
-    let l = header_within (position_or_len is_end rest) rest c e in
-    ap (λ k. header_with k (rest ++ more)) (place_stays is_end rest more l) ∙ header_at_stays (position_or_len is_end rest) rest more l ∙ e
+    let l = header_within (position_or_len is_soh rest) rest c e in
+    ap (λ k. header_with k (rest ++ more)) (place_stays is_soh rest more l) ∙ header_at_stays (position_or_len is_soh rest) rest more l ∙ e
 
 -- behind a claim stands byte 1, which is no digit
 header_not_open : (rest : List ℕ) (c : FrameHeader) → header_after rest ≡ Some c → list_all is_ascii_digit rest ≡ false
 header_not_open rest c e =
-    let k = position_or_len is_end rest in
-    let l = header_within (position_or_len is_end rest) rest c e in
-    let at = eqb-true _ _ (passes_at_first is_end rest 0 l) in
-    list_all_at is_ascii_digit rest (position_or_len is_end rest) 0 l (ap is_ascii_digit at)
+    let k = position_or_len is_soh rest in
+    let l = header_within (position_or_len is_soh rest) rest c e in
+    let at = eqb-true _ _ (passes_at_first is_soh rest 0 l) in
+    list_all_at is_ascii_digit rest (position_or_len is_soh rest) 0 l (ap is_ascii_digit at)
 
 pub header_stays : (text more : List ℕ) (c : FrameHeader) → header text ≡ Some c → header (text ++ more) ≡ Some c
 header_stays text more c e =
@@ -272,14 +272,14 @@ header_start : (k : ℕ) (rest : List ℕ) (c : FrameHeader) → header_with k r
 header_start k rest c e = let p = cond_some (ltb k (length rest) && is_body_length (take k rest)) (record { body_start = k + 13; body_length = number_of (take k rest) }) c e in sym (ap (λ x. x.body_start) p.1)
 
 header_after_front : (rest more : List ℕ) (c : FrameHeader) → header_after (rest ++ more) ≡ Some c → c.body_start ≤ length rest + 12 → header_after rest ≡ Some c
-header_after_front rest more c e l = by_place (cases_lt (position_or_len is_end rest) (length rest))
+header_after_front rest more c e l = by_place (cases_lt (position_or_len is_soh rest) (length rest))
   where
-    by_place : (position_or_len is_end rest < length rest) ⊎ (length rest ≤ position_or_len is_end rest) → header_after rest ≡ Some c
+    by_place : (position_or_len is_soh rest < length rest) ⊎ (length rest ≤ position_or_len is_soh rest) → header_after rest ≡ Some c
     by_place (inl h) =
-        sym (header_at_stays (position_or_len is_end rest) rest more h) ∙ ap (λ k. header_with k (rest ++ more)) (sym (place_stays is_end rest more h)) ∙ e
+        sym (header_at_stays (position_or_len is_soh rest) rest more h) ∙ ap (λ k. header_with k (rest ++ more)) (sym (place_stays is_soh rest more h)) ∙ e
     by_place (inr h) =
-        let far = place_behind is_end rest more h in
-        let s = header_start (position_or_len is_end (rest ++ more)) (rest ++ more) c e in
+        let far = place_behind is_soh rest more h in
+        let s = header_start (position_or_len is_soh (rest ++ more)) (rest ++ more) c e in
         absurd (omega (arith, far, s))
 
 -- a claim within a front is the front's own
@@ -297,7 +297,7 @@ frame_alone text n e =
     let front = take n text in
     let size = length-take-le n text (omega arith) in
     let whole = take-append-drop n text in
-    let begins : 13 ≤ c.body_start = option_and_then_some header_after (strip_prefix begin_text text) c claims (λ rest stands says. let s = header_start (position_or_len is_end rest) rest c says in omega (arith, s)) in
+    let begins : 13 ≤ c.body_start = option_and_then_some header_after (strip_prefix begin_text text) c claims (λ rest stands says. let s = header_start (position_or_len is_soh rest) rest c says in omega (arith, s)) in
     let claims2 = header_front (take n text) (drop n text) c (ap header whole ∙ claims) (omega (arith, size)) (omega (arith, size)) in
     let keeps2 = sym (intact_stays (take n text) (drop n text) c (omega (arith, size))) ∙ ap (λ t. is_intact t c) whole ∙ keeps in
     ap (option_and_then (intact_length (take n text))) claims2 ∙ ap (λ x. cond x (Some (frame_length c)) None) keeps2 ∙ ap Some (len ∙ sym size))
@@ -328,31 +328,31 @@ header_bound k rest c e =
     subst (λ x. frame_length x ≤ 4124) p.1 (omega (arith, few, size))
 
 -- what may still begin a frame is short
-pub begins_short : (text : List ℕ) → may_begin text ≡ true → length text ≤ 4123
+pub begins_short : (text : List ℕ) → may_begin text ≡ true → length text < 4124
 begins_short text e = by_cut (is_cut_short begin_text text) refl
   where
     shift : (x y z : Bool) → x ≡ false → ((x || y) || z) ≡ true → (y || z) ≡ true
     shift true y z f s = absurd (false≢true (sym f))
     shift false y z f s = s
 
-    by_claim : (o : Option FrameHeader) → o ≡ header text → is_unfinished text o ≡ true → length text ≤ 4123
+    by_claim : (o : Option FrameHeader) → o ≡ header text → is_unfinished text o ≡ true → length text < 4124
     by_claim None o s = cc
     by_claim (Some c) o s =
         option_and_then_some header_after (strip_prefix begin_text text) c (sym o) (λ rest stands says.
-        let b = header_bound (position_or_len is_end rest) rest c says in
+        let b = header_bound (position_or_len is_soh rest) rest c says in
         let l : length text < frame_length c = ltb-true (length text) (frame_length c) s in omega (arith, b, l))
 
-    by_behind : (o : Option (List ℕ)) → o ≡ strip_prefix begin_text text → (is_length_open o || is_unfinished text (header text)) ≡ true → length text ≤ 4123
+    by_behind : (o : Option (List ℕ)) → o ≡ strip_prefix begin_text text → (is_length_open o || is_unfinished text (header text)) ≡ true → length text < 4124
     by_behind None o s = by_claim (header text) refl s
     by_behind (Some rest) o s = by_open (is_length_open (Some rest)) refl
       where
-        by_open : (v : Bool) → v ≡ is_length_open (Some rest) → length text ≤ 4123
+        by_open : (v : Bool) → v ≡ is_length_open (Some rest) → length text < 4124
         by_open true v =
             let t = leb-true (length rest) 8 (and_true (leb (length rest) 8) (list_all is_ascii_digit rest) (sym v)).0 in
             omega (arith, t, behind_len begin_text text rest (sym o))
         by_open false v = by_claim (header text) refl (sym (ap (λ x. x || is_unfinished text (header text)) (sym v)) ∙ s)
 
-    by_cut : (v : Bool) → v ≡ is_cut_short begin_text text → length text ≤ 4123
+    by_cut : (v : Bool) → v ≡ is_cut_short begin_text text → length text < 4124
     by_cut true v = let h = cut_short begin_text text (sym v) in omega (arith, h)
     by_cut false v = by_behind (strip_prefix begin_text text) refl (shift _ _ _ (sym v) e)
 
@@ -361,5 +361,5 @@ pub frame_short : (text : List ℕ) (n : ℕ) → frame_at text ≡ Some n → n
 frame_short text n e =
     frame_parts text n e (λ h claims keeps len fits.
     option_and_then_some header_after (strip_prefix begin_text text) h claims (λ rest stands says.
-    let b = header_bound (position_or_len is_end rest) rest h says in
+    let b = header_bound (position_or_len is_soh rest) rest h says in
     omega (arith, b, len)))

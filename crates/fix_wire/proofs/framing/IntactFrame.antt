@@ -5,7 +5,7 @@ use Rattle.std.specs.Str.{bytes_eq}
 use Rattle.std.proofs.lemmas.Bool.Decides.{nat_tests}
 use Rattle.fix_wire.specs.declared.frame.FrameHeader.{FrameHeader}
 use Rattle.fix_wire.specs.declared.table.FieldTable.{FieldTable}
-use Rattle.fix_wire.specs.Tabled.{IsTable}
+use Rattle.fix_wire.specs.code.Tabled.{IsTable}
 use Rattle.fix_wire.specs.Frames.{is_intact, body_at, is_body, checksum_field, frame_length}
 
 and_of : (x y z : Bool) (b : Bool) → x ≡ true → z ≡ true → b ≡ y → b ≡ (x && y && z)

@@ -4,7 +4,7 @@ use Rattle.std.specs.List.{starts_with}
 use Rattle.std.proofs.lemmas.Bool.Decides.{nat_tests}
 use Rattle.fix_wire.specs.Texts.{strip_prefix, is_cut_short}
 use Rattle.fix_wire.specs.Frames.{begin_text, header, header_after, is_length_open}
-use Rattle.fix_wire.specs.Fronts.{is_header_open}
+use Rattle.fix_wire.specs.code.Scans.{is_header_open}
 
 pub behind_is : (word text : List ℕ) → strip_prefix word text ≡ cond (starts_with nat_eq text word) (Some (drop (length word) text)) None
 behind_is [] text = refl

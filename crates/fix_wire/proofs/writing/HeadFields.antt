@@ -7,7 +7,7 @@ use Rattle.std.proofs.lemmas.Fmt.{decimal_step, decimal_digit}
 use Rattle.fix_wire.specs.declared.writer.Head.{Head}
 use Rattle.fix_wire.specs.Fields.{TagValue}
 use Rattle.fix_wire.specs.Layout.{field, field_text, only_if, head_fields}
-use Rattle.fix_wire.specs.Spelling.{kind_text, orig_text}
+use Rattle.fix_wire.specs.code.Spelling.{kind_text, orig_text}
 
 -- ---- the tags in digits
 

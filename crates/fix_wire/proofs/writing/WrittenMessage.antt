@@ -16,12 +16,12 @@ use Rattle.fix_wire.specs.declared.writer.Value.{Value}
 use Rattle.fix_wire.specs.declared.writer.Value.TheVariants.{Text, Number, Price, Pair}
 use Rattle.fix_wire.specs.declared.writer.Field as given
 use Rattle.fix_wire.specs.declared.writer.Head.{Head}
-use Rattle.fix_wire.specs.Texts.{number_after, number_of, is_end, strip_prefix}
+use Rattle.fix_wire.specs.Texts.{number_after, number_of, is_soh, strip_prefix, two_digits}
 use Rattle.fix_wire.specs.Fields.{TagValue, is_tag, fields_of_body}
 use Rattle.fix_wire.specs.Frames.{begin_text, header, header_after, header_with, is_body_length, is_body, is_intact, body_at, frame_length, intact_length, frame_at, frames, checksum_field}
 use Rattle.fix_wire.specs.Messages.{fields}
 use Rattle.host_base.specs.Ids.{is_plain}
-use Rattle.fix_wire.specs.Layout.{field, field_text, only_if, head_fields, field_of_given, all_fields, body_text, summed_text, message_text, value_text, two_digits, FitsValue, FitsValueOf, FitsTags, FitsField, FitsHead, FitsMessage, IsReadBack}
+use Rattle.fix_wire.specs.Layout.{field, field_text, only_if, head_fields, field_of_given, all_fields, body_text, summed_text, message_text, value_text, FitsValue, FitsValueOf, FitsTags, FitsField, FitsHead, FitsMessage, IsReadBack}
 use Rattle.fix_wire.proofs.texts.Digits.{and_true}
 use Rattle.fix_wire.proofs.fields.SpelledRow as spelled
 use Rattle.fix_wire.proofs.framing.FramesHeld.{scan_frame}
@@ -234,11 +234,11 @@ body_long h fs = let e = ap length (body_front h fs) in omega (arith, e)
 
 -- ---- the frame
 
-place_one : (ds rest : List ℕ) → is_plain ds ≡ true → position_or_len is_end (ds ++ 1 ∷ rest) ≡ length ds
+place_one : (ds rest : List ℕ) → is_plain ds ≡ true → position_or_len is_soh (ds ++ 1 ∷ rest) ≡ length ds
 place_one [] rest e = refl
 place_one (d ∷ ds) rest e =
     let parts = and_true (not (eqb d 1)) (is_plain ds) e in
-    ap (λ x. cond x (1 + position_or_len is_end (ds ++ 1 ∷ rest)) 0) parts.0 ∙ (let h = place_one ds rest parts.1 in omega (arith, h))
+    ap (λ x. cond x (1 + position_or_len is_soh (ds ++ 1 ∷ rest)) 0) parts.0 ∙ (let h = place_one ds rest parts.1 in omega (arith, h))
 
 size_tests : (ds : List ℕ) (n : ℕ) → 0 < length ds → length ds ≤ 8 → list_all is_ascii_digit ds ≡ true → number_of ds ≡ n → 5 ≤ n → n ≤ 4096 → is_body_length ds ≡ true
 size_tests ds n some few digits number low high =

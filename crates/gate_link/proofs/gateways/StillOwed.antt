@@ -1,4 +1,4 @@
--- What a session still owes, through one step.
+-- What a session still has left to say, through one step.
 use Rattle.std.proofs.Common.{◌≡◌, ℕ, Bool, true, false, ◌||◌, List, [], ◌∷◌, ◌++◌, Option, Some, None, refl, sym, ap, ◌∙◌, append_assoc, append-nil}
 use Rattle.std.specs.List.{list_any, cons_option}
 use Rattle.std.proofs.lemmas.Bool.{false≢true}
@@ -14,7 +14,8 @@ use Rattle.fix_session.specs.declared.session.Verdict.TheVariants.{Event as Says
 use Rattle.fix_session.specs.Steps.{judge, event_in, is_closed, is_closing, events_said, session_after, events_at_end}
 use Rattle.fix_session.proofs.events.StateOfPlaces.{cons_two}
 use Rattle.fix_session.proofs.events.ClosesOnce.{closed_silent, closes_with}
-use Rattle.gate_link.specs.Owed.{whole_from, owes, SameFrames, Heads}
+use Rattle.fix_wire.specs.Pieces.{SplitsInto}
+use Rattle.gate_link.specs.Owed.{whole_from, events_left}
 
 -- what a session says to one message and then to others
 pub whole_step : (s : Session) (f : List ℕ) (fs : List (List ℕ)) → whole_from s (f ∷ fs) ≡ cons_option (event_in (judge s f).0) (whole_from (judge s f).1 fs)
@@ -28,7 +29,7 @@ end_silent s = by_state s.state
     by_state (Running r) e = absurd (false≢true e)
     by_state Closed e = refl
 
--- a closed session owes nothing
+-- a closed session has left to say nothing
 pub owes_nothing : (s : Session) (fs : List (List ℕ)) → is_closed s ≡ true → whole_from s fs ≡ []
 owes_nothing s [] shut = end_silent s shut
 owes_nothing s (f ∷ fs) shut =
@@ -36,31 +37,31 @@ owes_nothing s (f ∷ fs) shut =
     ∙ (ap (λ r. cons_option (event_in r.0) (whole_from r.1 fs)) (closed_silent s f shut) ∙ owes_nothing s fs shut)
 
 -- skipped bytes change nothing
-pub owed_same : (s : Session) (a b : List ℕ) → SameFrames a b → (more : List ℕ) → owes s b more ≡ owes s a more
+pub owed_same : (s : Session) (a b : List ℕ) → SplitsInto a [] b → (more : List ℕ) → events_left s b more ≡ events_left s a more
 owed_same s a b same more = ap (whole_from s) (sym (same more))
 
 -- a message is passed that says this
-pub owed_passed : (s : Session) (m a d : List ℕ) → Heads m a d → (more : List ℕ) → cons_option (event_in (judge s m).0) (owes (judge s m).1 d more) ≡ owes s a more
+pub owed_passed : (s : Session) (m a d : List ℕ) → SplitsInto a (m ∷ []) d → (more : List ℕ) → cons_option (event_in (judge s m).0) (events_left (judge s m).1 d more) ≡ events_left s a more
 owed_passed s m a d heads more = sym (whole_step s m (frames (d ++ more))) ∙ ap (whole_from s) (sym (heads more))
 
 -- a message that says nothing
-pub owed_nothing : (s s' : Session) (m a d : List ℕ) → Heads m a d → s' ≡ (judge s m).1 → event_in (judge s m).0 ≡ None
-    → (more : List ℕ) → owes s' d more ≡ owes s a more
+pub owed_nothing : (s s' : Session) (m a d : List ℕ) → SplitsInto a (m ∷ []) d → s' ≡ (judge s m).1 → event_in (judge s m).0 ≡ None
+    → (more : List ℕ) → events_left s' d more ≡ events_left s a more
 owed_nothing s s' m a d heads goes none more =
-    ap (λ t. owes t d more) goes ∙ (ap (λ o. cons_option o (owes (judge s m).1 d more)) (sym none) ∙ owed_passed s m a d heads more)
+    ap (λ t. events_left t d more) goes ∙ (ap (λ o. cons_option o (events_left (judge s m).1 d more)) (sym none) ∙ owed_passed s m a d heads more)
 
 -- a message that says this event
-pub owed_event : (s s' : Session) (m a d : List ℕ) (e : Event) → Heads m a d → s' ≡ (judge s m).1 → event_in (judge s m).0 ≡ Some e
-    → (more : List ℕ) → e ∷ owes s' d more ≡ owes s a more
+pub owed_event : (s s' : Session) (m a d : List ℕ) (e : Event) → SplitsInto a (m ∷ []) d → s' ≡ (judge s m).1 → event_in (judge s m).0 ≡ Some e
+    → (more : List ℕ) → e ∷ events_left s' d more ≡ events_left s a more
 owed_event s s' m a d e heads goes some more =
-    ap (λ t. e ∷ owes t d more) goes ∙ (ap (λ o. cons_option o (owes (judge s m).1 d more)) (sym some) ∙ owed_passed s m a d heads more)
+    ap (λ t. e ∷ events_left t d more) goes ∙ (ap (λ o. cons_option o (events_left (judge s m).1 d more)) (sym some) ∙ owed_passed s m a d heads more)
 
 -- bytes put behind the held ones come before those that follow
-pub owed_put : (s : Session) (held piece more : List ℕ) → owes s (held ++ piece) more ≡ owes s held (piece ++ more)
+pub owed_put : (s : Session) (held piece more : List ℕ) → events_left s (held ++ piece) more ≡ events_left s held (piece ++ more)
 owed_put s held piece more = ap (λ (bs : List ℕ). whole_from s (frames bs)) (append_assoc held piece more)
 
 -- where no message stands behind skipped bytes, none stood before
-pub none_before : (a b : List ℕ) → SameFrames a b → frames b ≡ [] → frames a ≡ []
+pub none_before : (a b : List ℕ) → SplitsInto a [] b → frames b ≡ [] → frames a ≡ []
 none_before a b same none = ap frames (sym (append-nil a)) ∙ (same [] ∙ (ap frames (append-nil b) ∙ none))
 
 -- an open session's end
@@ -98,5 +99,5 @@ whole_has_close s (f ∷ fs) opens = ap (list_any is_close) (whole_step s f fs) 
     by_closed false h ih = with_rest (event_in (judge s f).0) (whole_from (judge s f).1 fs) (ih h)
 
 -- where no message stands at the end of a stream, Close 5 is left
-pub end_owed : (s : Session) (held : List ℕ) → is_closed s ≡ false → frames held ≡ [] → owes s held [] ≡ Close 5 ∷ []
+pub end_owed : (s : Session) (held : List ℕ) → is_closed s ≡ false → frames held ≡ [] → events_left s held [] ≡ Close 5 ∷ []
 end_owed s held opens none = ap (whole_from s) (ap frames (append-nil held) ∙ none) ∙ end_says s opens

@@ -1,6 +1,6 @@
 //! Gateways in threads of their own.
 ghost use Rattle.std.specs.Prelude.{ℕ, ◌<◌, length, slice_index_or};
-ghost use Rattle.gate_link.specs.Gates.{SameGate};
+ghost use Rattle.gate_link.specs.Gateways.{SameGateway};
 ghost use Rattle.gate_link.specs.Links.{IsLinkOf, SameLink};
 ghost use Rattle.gate_link.specs.declared.gateway.Gateway.{Gateway};
 ghost use Rattle.std.specs.declared.alloc.Global.{Global};
@@ -16,7 +16,7 @@ use test_support::FIRST_TRADE;
 
 /// Puts the day into a gateway, and sends its events as the ring gives room.
 fn drive<A: Allocator>(gateway: &mut Gateway<A>)
-    ensures { SameGate gateway.old gateway.new }
+    ensures { SameGateway gateway.old gateway.new }
 {
     gateway.put(FIRST_TRADE);
     for _ in 0..10_000_000 {
@@ -59,7 +59,7 @@ fn take_turns<A: Allocator>(sequencer: &mut Sequencer<A>)
 
 /// Two threads drive the gateways.
 fn drive_all<R: Threads + Sync>(rt: &R, gateways: &mut [Gateway<Global>])
-    ensures { (s : ℕ) (g : Gateway Global) → s < length gateways.old → SameGate (slice_index_or gateways.old s g) (slice_index_or gateways.new s g) }
+    ensures { (s : ℕ) (g : Gateway Global) → s < length gateways.old → SameGateway (slice_index_or gateways.old s g) (slice_index_or gateways.new s g) }
 {
     thread::for_each_mut(rt, gateways, 2, &|_, gateway| drive(gateway));
 }
@@ -77,7 +77,7 @@ fn run<R: Threads + Sync>(
         rt,
         &mut ||
             requires { IsSync R.row }
-            ensures { (s : ℕ) (g : Gateway Global) → s < length gateways.entry.now → SameGate (slice_index_or gateways.entry.now s g) (slice_index_or gateways.exit.now s g) }
+            ensures { (s : ℕ) (g : Gateway Global) → s < length gateways.entry.now → SameGateway (slice_index_or gateways.entry.now s g) (slice_index_or gateways.exit.now s g) }
         { drive_all(rt, gateways) },
         &mut ||
             ensures { SameLink sequencer.entry.now sequencer.exit.now }

@@ -9,7 +9,8 @@ use Rattle.fix_wire.specs.declared.writer.Value.TheVariants.{Text, Number, Price
 use Rattle.fix_wire.specs.declared.writer.Field as given
 use Rattle.fix_wire.specs.declared.writer.Head.{Head}
 use Rattle.fix_wire.specs.Fields.{TagValue}
-use Rattle.fix_wire.specs.Layout.{value_text, field_text, field, only_if, head_fields, field_of_given, all_fields, body_text, price_text, two_digits, FitsValue, FitsField}
+use Rattle.fix_wire.specs.Texts.{two_digits}
+use Rattle.fix_wire.specs.Layout.{value_text, field_text, field, only_if, head_fields, field_of_given, all_fields, body_text, price_text, FitsValue, FitsField}
 
 -- a value of at most 41 bytes
 pub record IsShort (f : TagValue) : Type 0 where

@@ -1,6 +1,6 @@
 use Rattle.std.proofs.Common.{◌≡◌, ◌++◌, map, take, drop}
-use Rattle.day_lines.specs.LineText.{byte_of}
+use Rattle.fix_wire.specs.Texts.{soh_for_bar}
 use Rattle.day_lines.proofs.lines.put_field_ends.Given as goal
 
 abbrev pub invariant-loop-byte : goal.invariant-loop-byte
-invariant-loop-byte l = l.text ≡ map byte_of (take l.byte-index l.fn.text) ++ drop l.byte-index l.fn.text
+invariant-loop-byte l = l.text ≡ map soh_for_bar (take l.byte-index l.fn.text) ++ drop l.byte-index l.fn.text

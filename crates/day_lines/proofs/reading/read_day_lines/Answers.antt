@@ -2,7 +2,7 @@ use Rattle.std.proofs.Common.{◌≡◌, ℕ, List, ap, sym, ◌∙◌, refl, ar
 use Rattle.spread_rules.specs.declared.event.Entry.{Entry}
 use Rattle.spread_rules.specs.Journal.{IsLawful, restricted}
 use Rattle.day_lines.specs.LineText.{lines_said}
-use Rattle.day_lines.specs.LinesRead.{said_by}
+use Rattle.day_lines.specs.code.LinesRead.{said_by}
 use Rattle.day_lines.specs.declared.lines.Line.{Line}
 use Rattle.day_lines.specs.DayLines.{journal_of}
 use Rattle.day_lines.proofs.PartsOfTheJournal.{said_of_sessions}

@@ -1,6 +1,6 @@
 use Rattle.std.proofs.Common.{◌≡◌, ◌≤◌, ◌+◌, drop, vec_len, vec_capacity}
 use Rattle.std.specs.Vec.Iter.{into_iter_items, into_iter_len}
-use Rattle.day_threads.specs.Handing.{AreKept}
+use Rattle.day_threads.specs.code.Handing.{AreKept}
 use Rattle.day_threads.proofs.sessions.join_all.Given as goal
 
 abbrev pub invariant-loop-handle : goal.invariant-loop-handle

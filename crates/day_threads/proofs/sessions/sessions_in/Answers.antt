@@ -1,8 +1,8 @@
 use Rattle.std.proofs.Common.{rules, arith, ◌≡◌, ◌∙◌, sym, length, List, vec_len, ℕ}
 use mathlib.Core.List.{IsPrefix}
 use Rattle.gate_link.specs.declared.gateway.Gateway.{Gateway}
-use Rattle.gate_link.specs.Links.{SameGates, sent_at, session_count}
-use Rattle.day_threads.specs.Handing.{AreSent}
+use Rattle.gate_link.specs.Links.{SameGateways, sent_at, session_count}
+use Rattle.day_threads.specs.code.Handing.{AreSent}
 use Rattle.day_threads.specs.Streams.{whole_at}
 use Rattle.day_threads.proofs.JoinedWorkers.{all_sent, joined_pairs, closed_whole}
 use Rattle.day_threads.proofs.FullJournal.{sent_prefix, open_is_full, left_is_full}
@@ -33,12 +33,12 @@ pub returns-in-Settled-clause-journal : goal.returns-in-Settled-clause-journal
 returns-in-Settled-clause-journal g c s =
     let at = (goal.at.returns-in-Settled-clause-journal g c).After-as_mut_slice in
     let settled = c.in-Settled.ensures.settle in
-    let gates : SameGates at.join_all-gateways.result.items c.settle.new.gateways = rw (← c.as_mut_slice.ensures.value) c.settle.ensures.gates in
+    let gates : SameGateways at.join_all-gateways.result.items c.settle.new.gateways = rw (← c.as_mut_slice.ensures.value) c.settle.ensures.gates in
     let all = closed_whole at.args.streams.now at.args.gateways.items at.join_all-gateways.result.items c.settle.new.gateways (streams_same g at) (sent g at) gates settled.0 s in
     rw c.into_journal.ensures (settled.1 s ∙ all)
 
 -- what was sent is a beginning of all events, session by session
-wholes : (g : _) (c : After-as_mut_slice g) (ts : List (Gateway _)) → SameGates c.join_all-gateways.result.items ts → (s : ℕ) → IsPrefix (sent_at ts s) (whole_at c.args.streams.now s)
+wholes : (g : _) (c : After-as_mut_slice g) (ts : List (Gateway _)) → SameGateways c.join_all-gateways.result.items ts → (s : ℕ) → IsPrefix (sent_at ts s) (whole_at c.args.streams.now s)
 wholes g c ts gates = sent_prefix c.args.streams.now c.args.gateways.items c.join_all-gateways.result.items ts (streams_same g c) (sent g c) gates
 
 -- how many sessions, gateways and streams there are
@@ -52,7 +52,7 @@ returns-in-JournalFull-clause-fault g c ring =
     let ts = c.settle.new.gateways in
     let after = c.settle.ensures in
     let settled = c.in-JournalFull.ensures.settle in
-    let gates : SameGates at.join_all-gateways.result.items ts = rw (← c.as_mut_slice.ensures.value) after.gates in
+    let gates : SameGateways at.join_all-gateways.result.items ts = rw (← c.as_mut_slice.ensures.value) after.gates in
     let n : length ts ≡ length at.args.streams.now = gates.0 ∙ ((sent g at).0 ∙ streams_same g at) in
     let room = after.link.1 ∙ c.take_turns-done.ensures.link.1 in
     rw (← room) (left_is_full c.settle.new.self at.args.streams.now ts settled.2.0 (after.link.0 ∙ counts g at) n settled.1 settled.2.1 after.part (wholes g at ts gates))
@@ -64,7 +64,7 @@ returns-in-NotClosed-clause-fault g c ring =
     let ts = c.settle.new.gateways in
     let after = c.settle.ensures in
     let settled = c.in-NotClosed.ensures.settle in
-    let gates : SameGates at.join_all-gateways.result.items ts = rw (← c.as_mut_slice.ensures.value) after.gates in
+    let gates : SameGateways at.join_all-gateways.result.items ts = rw (← c.as_mut_slice.ensures.value) after.gates in
     let n : length ts ≡ length at.args.streams.now = gates.0 ∙ ((sent g at).0 ∙ streams_same g at) in
     let room = after.link.1 ∙ c.take_turns-done.ensures.link.1 in
     rw (← room)

@@ -1,6 +1,6 @@
 use Rattle.std.proofs.Common.{◌≡◌, ◌≤◌, ◌+◌, drop, vec_len, vec_capacity}
 use Rattle.std.specs.Vec.Iter.{into_iter_items, into_iter_len}
-use Rattle.day_threads.specs.Handing.{AreStarted}
+use Rattle.day_threads.specs.code.Handing.{AreStarted}
 use Rattle.day_threads.proofs.sessions.start_all.Given as goal
 
 abbrev pub invariant-loop-gateway : goal.invariant-loop-gateway

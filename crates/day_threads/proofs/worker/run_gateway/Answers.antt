@@ -1,8 +1,8 @@
 use Rattle.std.proofs.Common.{rules, arith, ◌≡◌, drop}
 use Rattle.std.proofs.lemmas.Grind.{common_steps}
 use Rattle.fix_session.specs.Streams.{whole}
-use Rattle.gate_link.specs.Gates.{SameGate}
-use Rattle.day_threads.specs.Workers.{sent_and_owed}
+use Rattle.gate_link.specs.Gateways.{SameGateway}
+use Rattle.day_threads.specs.code.Workers.{sent_and_pending}
 use Rattle.day_threads.proofs.SentAndOwed.{sent_of, unused_owes}
 use Rattle.day_threads.proofs.worker.run_gateway.Goals as goal
 
@@ -16,8 +16,8 @@ returns-in-Closed g c =
     let stream = c.args.stream.now in
     let after = c.step_or_end.new.gateway in
     let rest = drop c.loop.put stream in
-    let same : SameGate c.args.gateway after = grind (arith, common_steps) in
-    let total : sent_and_owed after rest ≡ whole stream = grind (arith, common_steps) in
+    let same : SameGateway c.args.gateway after = grind (arith, common_steps) in
+    let total : sent_and_pending after rest ≡ whole stream = grind (arith, common_steps) in
     sent_of stream c.args.gateway after rest same total
 
 pub loop-init : goal.loop-init

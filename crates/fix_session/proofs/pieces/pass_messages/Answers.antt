@@ -1,6 +1,6 @@
 use Rattle.std.proofs.Common.{◌≡◌, [], ◌∷◌, ◌++◌, map, sym, ap, ◌∙◌, subst}
 use Rattle.std.proofs.lemmas.List.{map-append}
-use Rattle.fix_wire.specs.Pieces.{GoesOn}
+use Rattle.fix_wire.specs.Pieces.{SameSplit}
 use Rattle.fix_wire.proofs.framing.OneTurn.{goes_on_message, goes_on_need}
 use Rattle.fix_session.specs.Reading.{HasJudged}
 use Rattle.fix_session.proofs.readers.MessagesCopied.{copied_some, copied_none, leaves_one, leaves_none, judged_one}
@@ -22,7 +22,7 @@ loop-message-preserved g c =
     let here = copied_some (λ v. v.items) c.in_ok-message.field-0 _ c.in-Some.message c.in_ok-message.ensures.first c.in-Some.is in
     let more : map (λ v. v.items) c.push.new.self.items ≡ out ++ m ∷ [] =
     ap (map (λ v. v.items)) c.in_ok-push.ensures.items ∙ map-append (λ v. v.items) c.loop-message.out.items (c.in-Some.message ∷ []) in (
-      subst (λ t. GoesOn before c.args.reader.now.held t b.held) (sym more)
+      subst (λ t. SameSplit before c.args.reader.now.held t b.held) (sym more)
           (goes_on_message before c.args.reader.now.held out a.held m b.held c.loop-message.invariant.0 (leaves_one a b m here c.in_ok-message.ensures.passed).0),
       λ judged. subst (λ t. HasJudged t b) (sym more) (judged_one out a b m here c.in_ok-message.ensures.passed (c.loop-message.invariant.1 judged)),
     )

@@ -1,11 +1,11 @@
 use Rattle.std.proofs.Common.{length, map}
-use Rattle.fix_wire.specs.Pieces.{GoesOn}
+use Rattle.fix_wire.specs.Pieces.{SameSplit}
 use Rattle.fix_session.specs.Reading.{HasJudged}
 use Rattle.fix_session.proofs.pieces.pass_messages.Given as goal
 
 abbrev pub invariant-loop-message : goal.invariant-loop-message
 invariant-loop-message g l =
-    GoesOn (map (λ v. v.items) l.initial.out.items) l.initial.reader.held (map (λ v. v.items) l.out.items) l.reader.held
+    SameSplit (map (λ v. v.items) l.initial.out.items) l.initial.reader.held (map (λ v. v.items) l.out.items) l.reader.held
     × (HasJudged (map (λ v. v.items) l.initial.out.items) l.initial.reader → HasJudged (map (λ v. v.items) l.out.items) l.reader)
 
 abbrev pub decreases-loop-message : goal.decreases-loop-message

@@ -5,7 +5,7 @@ use Rattle.fix_wire.proofs.texts.Digits.{number_of_more, nine_digits}
 use Rattle.fix_wire.proofs.texts.FirstPlace.{before_more, first_here}
 use Rattle.fix_wire.proofs.fields.RowOfFields.{field_found, no_field, not_digits, too_long}
 use Rattle.fix_wire.proofs.frame.leading_tag.Goals as goal
-use Rattle.fix_wire.proofs.frame.leading_tag.Goals.{then-i-eq9-via-then-i-eq9, then-i-eq9-via-else-i-eq9+then-not-is_ascii_digit}
+use Rattle.fix_wire.proofs.frame.leading_tag.Goals.{then-i-eq-MAX_TAG_DIGITS-via-then-i-eq-MAX_TAG_DIGITS, then-i-eq-MAX_TAG_DIGITS-via-else-i-eq-MAX_TAG_DIGITS+then-not-is_ascii_digit}
 
 pub overflow_cast-result : goal.overflow_cast-result
 overflow_cast-result c =
@@ -19,14 +19,14 @@ returns-then-text-i-eq61-clause-field c =
     let i = c.loop-i.i in
     field_found text i c.loop-i.number (first_here text i 61 c.loop-i-test.true c.loop-i.invariant.1 c.if-text-i-eq61.true) c.loop-i-test.true c.if-i-eq0.false c.loop-i.invariant.0 c.if-text-eq48.false c.loop-i.invariant.2 c.loop-i.invariant.3
 
-pub returns-then-i-eq9-clause-field : goal.returns-then-i-eq9-clause-field
-returns-then-i-eq9-clause-field c =
+pub returns-then-i-eq-MAX_TAG_DIGITS-clause-field : goal.returns-then-i-eq-MAX_TAG_DIGITS-clause-field
+returns-then-i-eq-MAX_TAG_DIGITS-clause-field c =
     let text = c.args.text.now in
     let i = c.loop-i.i in
     let before = before_more text i 61 c.loop-i.invariant.1 c.if-text-i-eq61.false in
-    no_field text (i + 1) before (elim c.then-i-eq9.branch [
-      | then-i-eq9-via-then-i-eq9 w ↦ λ p l m. too_long text p (omega (arith, w.if-i-eq9)) m
-      | then-i-eq9-via-else-i-eq9+then-not-is_ascii_digit w ↦ λ p l m. not_digits text i p (sym w.is_ascii_digit.ensures.value ∙ w.if-not-is_ascii_digit.true) (omega arith) m
+    no_field text (i + 1) before (elim c.then-i-eq-MAX_TAG_DIGITS.branch [
+      | then-i-eq-MAX_TAG_DIGITS-via-then-i-eq-MAX_TAG_DIGITS w ↦ λ p l m. too_long text p (omega (arith, w.if-i-eq-MAX_TAG_DIGITS)) m
+      | then-i-eq-MAX_TAG_DIGITS-via-else-i-eq-MAX_TAG_DIGITS+then-not-is_ascii_digit w ↦ λ p l m. not_digits text i p (sym w.is_ascii_digit.ensures.value ∙ w.if-not-is_ascii_digit.true) (omega arith) m
     ])
 
 pub overflow_mul-number : goal.overflow_mul-number

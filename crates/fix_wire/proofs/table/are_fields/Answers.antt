@@ -1,7 +1,7 @@
 use Rattle.std.proofs.Common.{◌≡◌, ℕ, ◌+◌, ◌<◌, List, Some, length, drop, is_some, sym, ap, subst, ◌∙◌, arith}
 use Rattle.std.proofs.lemmas.List.{take_rest, length-drop, drop-drop}
 use Rattle.fix_wire.specs.Fields.{fields_of_body}
-use Rattle.fix_wire.specs.Fronts.{first_field, leading_field_view}
+use Rattle.fix_wire.specs.code.Scans.{first_field, leading_field_view}
 use Rattle.fix_wire.proofs.fields.RowOfFields.{row_none, row_some, first_some}
 use Rattle.fix_wire.proofs.fields.TableOfFields.{table_more}
 use Rattle.fix_wire.proofs.table.are_fields.Goals as goal

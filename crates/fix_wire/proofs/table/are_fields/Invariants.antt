@@ -1,6 +1,6 @@
 use Rattle.std.proofs.Common.{◌≡◌, ◌-◌, length, drop, is_some}
 use Rattle.fix_wire.specs.Fields.{fields_of_body}
-use Rattle.fix_wire.specs.Tabled.{IsTable}
+use Rattle.fix_wire.specs.code.Tabled.{IsTable}
 use Rattle.fix_wire.proofs.table.are_fields.Given as goal
 
 abbrev pub invariant-loop-count : goal.invariant-loop-count

@@ -2,7 +2,7 @@ use Rattle.std.proofs.Common.{◌+◌, ◌<◌, length, sym, ap, ◌∙◌, arit
 use Rattle.std.proofs.lemmas.Bool.Decides.{nat_tests}
 use Rattle.std.proofs.lemmas.List.{take_rest}
 use Rattle.fix_wire.specs.Fields.{fields_of_body}
-use Rattle.fix_wire.specs.Fronts.{leading_field_view}
+use Rattle.fix_wire.specs.code.Scans.{leading_field_view}
 use Rattle.fix_wire.proofs.fields.RowOfFields.{row_some, row_none}
 use Rattle.fix_wire.proofs.table.are_further_fields.Goals as goal
 

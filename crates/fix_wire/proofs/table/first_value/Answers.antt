@@ -1,6 +1,6 @@
 use Rattle.std.proofs.Common.{get_or, sym}
-use Rattle.fix_wire.specs.Fronts.{leading_field_view}
-use Rattle.fix_wire.specs.Tabled.{place_at, leading_at}
+use Rattle.fix_wire.specs.code.Scans.{leading_field_view}
+use Rattle.fix_wire.specs.code.Tabled.{place_at, leading_at}
 use Rattle.fix_wire.proofs.fields.RowOfFields.{kind_some, kind_nothing}
 use Rattle.fix_wire.proofs.table.first_value.Goals as goal
 

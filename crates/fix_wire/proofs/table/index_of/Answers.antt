@@ -1,7 +1,7 @@
 use Rattle.std.proofs.Common.{◌+◌, drop, ap, ◌∙◌, arith}
 use Rattle.std.specs.List.{position_or_len}
 use Rattle.std.proofs.lemmas.List.{length-drop, drop-drop, take_all}
-use Rattle.fix_wire.specs.Tabled.{is_same}
+use Rattle.fix_wire.specs.code.Tabled.{is_same}
 use Rattle.fix_wire.proofs.texts.FirstPlace.{front_found, front_none}
 use Rattle.fix_wire.proofs.table.index_of.Goals as goal
 

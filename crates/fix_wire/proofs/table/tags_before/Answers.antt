@@ -2,7 +2,7 @@ use Rattle.std.proofs.Common.{eqb, sym, ap, ◌∙◌, arith, w32}
 use lib.Count.{count_trailing_zeros}
 use lib.Lanes.{chunk}
 use Rattle.std.proofs.lemmas.Simd.{length-chunk, bitmask_splat, leading_from_mask_l, trailing_mask_l}
-use Rattle.fix_wire.specs.Tabled.{is_same}
+use Rattle.fix_wire.specs.code.Tabled.{is_same}
 use Rattle.fix_wire.proofs.table.tags_before.Goals as goal
 
 pub returns-then-same-eq0 : goal.returns-then-same-eq0

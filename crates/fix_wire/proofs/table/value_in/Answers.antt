@@ -2,7 +2,7 @@ use Rattle.std.proofs.Common.{◌+◌, ◌<◌, length, is_some, sym, ap, ◌∙
 use Rattle.std.proofs.lemmas.Bool.Decides.{nat_tests}
 use Rattle.std.proofs.lemmas.List.{take_rest}
 use Rattle.fix_wire.specs.Fields.{fields_of_body}
-use Rattle.fix_wire.specs.Fronts.{leading_field_view, value_of}
+use Rattle.fix_wire.specs.code.Scans.{leading_field_view, value_of}
 use Rattle.fix_wire.proofs.fields.RowOfFields.{row_some, value_here, value_behind, value_none, first_some}
 use Rattle.fix_wire.proofs.table.value_in.Goals as goal
 

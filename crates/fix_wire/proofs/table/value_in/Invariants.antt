@@ -1,6 +1,6 @@
 use Rattle.std.proofs.Common.{◌≡◌, true, length, is_some}
 use Rattle.fix_wire.specs.Fields.{fields_of_body}
-use Rattle.fix_wire.specs.Fronts.{value_of}
+use Rattle.fix_wire.specs.code.Scans.{value_of}
 use Rattle.fix_wire.proofs.table.value_in.Given as goal
 
 abbrev pub invariant-loop-rest : goal.invariant-loop-rest

@@ -4,8 +4,8 @@ use Rattle.std.proofs.lemmas.List.{take_rest}
 use Rattle.std.proofs.lemmas.List.Sums.{fails_before_first, passes_at_first}
 use Rattle.std.proofs.lemmas.Bool.{eqb-true}
 use Rattle.fix_wire.specs.Fields.{fields_of_body}
-use Rattle.fix_wire.specs.Fronts.{value_of}
-use Rattle.fix_wire.specs.Tabled.{is_same, place_at, start_of, leading_at}
+use Rattle.fix_wire.specs.code.Scans.{value_of}
+use Rattle.fix_wire.specs.code.Tabled.{is_same, place_at, start_of, leading_at}
 use Rattle.fix_wire.proofs.fields.RowOfFields.{value_here, first_some}
 use Rattle.fix_wire.proofs.fields.TableOfFields.{value_from}
 use Rattle.fix_wire.proofs.table.value_of.Goals as goal

@@ -1,14 +1,14 @@
 use Rattle.std.proofs.Common.{arith, ◌≡◌, ℕ, ◌<◌, ◌∙◌, List, length, map, get_or, true, below_more, ap, sym, inl, inr}
 use Rattle.std.proofs.lemmas.Bool.{cases_lt}
 use Rattle.std.proofs.lemmas.List.{get_or-map, get_or_past, length-map}
-use Rattle.gate_link.specs.Gates.{gate_closed}
+use Rattle.gate_link.specs.Gateways.{is_over}
 use Rattle.gate_link.specs.Links.{closed_at}
 use Rattle.gate_link.specs.declared.gateway.Gateway.{Gateway}
 use Rattle.gate_link.proofs.look.first_open.Goals as goal
 
 -- whether the gateway at a place is closed
-closed_at_is : {A : Type 0} (gs : List (Gateway A)) (i : ℕ) (gateway : Gateway A) → i < length gs → gateway ≡ get_or gs i gateway → closed_at gs i ≡ gate_closed gateway
-closed_at_is gs i gateway here is = get_or-map gate_closed gs i gateway true here ∙ ap gate_closed (sym is)
+closed_at_is : {A : Type 0} (gs : List (Gateway A)) (i : ℕ) (gateway : Gateway A) → i < length gs → gateway ≡ get_or gs i gateway → closed_at gs i ≡ is_over gateway
+closed_at_is gs i gateway here is = get_or-map is_over gs i gateway true here ∙ ap is_over (sym is)
 
 pub loop-s-preserved : goal.loop-s-preserved
 loop-s-preserved g c =
@@ -31,5 +31,5 @@ returns-clause-none g c s =
     let gs = c.args.gateways.now in
     elim (cases_lt s (length gs)) [
       | inl here ↦ c.loop-s.invariant s (omega arith)
-      | inr past ↦ get_or_past (map gate_closed gs) s true (rw length-map past)
+      | inr past ↦ get_or_past (map is_over gs) s true (rw length-map past)
     ]

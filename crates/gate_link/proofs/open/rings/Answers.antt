@@ -1,5 +1,5 @@
 use Rattle.std.proofs.Common.{rules, arith, refl, ◌≡◌, ◌∙◌, [], length, sym}
-use Rattle.gate_link.specs.Gates.{gate_sent, gate_room}
+use Rattle.gate_link.specs.Gateways.{events_sent, free_slots}
 use Rattle.gate_link.specs.Inboxes.{taken, IsInboxOf}
 use Rattle.gate_link.specs.Opening.{IsFresh}
 use Rattle.gate_link.proofs.inboxes.OneMore.{no_pairs, none_fresh, pairs_snoc, fresh_snoc, idle_snoc}
@@ -15,8 +15,8 @@ loop-s-preserved g c =
     let pair : IsInboxOf l g = rw (made.parts.1, c.new-in-loop-s-2.ensures) ring.pair in
     let none : taken l ≡ [] = rw (c.new-in-loop-s-2.ensures, ring.consumer.0) in
     let at : length c.loop-s.gateways.items ≡ c.loop-s.s = sym c.loop-s.gateways.ok.0 ∙ was.gateways.0 in
-    let sent_none : gate_sent g ≡ [] = rw (made.parts.1, ring.producer.0) in
-    let room : gate_room g ≡ c.args.ring = rw (made.parts.1, ring.producer.1) in
+    let sent_none : events_sent g ≡ [] = rw (made.parts.1, ring.producer.0) in
+    let room : free_slots g ≡ c.args.ring = rw (made.parts.1, ring.producer.1) in
     let fresh : IsFresh c.args.ring (length c.loop-s.gateways.items) g = record { session = made.parts.0 ∙ sym at; sent = sent_none; room = room; state = made.state.0; held = made.state.1 } in
     record {
       gateways = search rules;

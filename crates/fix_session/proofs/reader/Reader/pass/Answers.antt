@@ -1,5 +1,5 @@
 use Rattle.std.proofs.Common.{sym, ◌∙◌}
-use Rattle.fix_session.specs.ReaderFields.{state_of}
+use Rattle.fix_session.specs.code.ReaderFields.{state_of}
 use Rattle.fix_session.proofs.readers.FirstMessage.{found_kept, none_passed, one_passed}
 use Rattle.fix_session.proofs.reader.Reader.pass.Goals as goal
 

@@ -3,9 +3,9 @@ use Rattle.fix_wire.specs.Frames.{frames}
 use Rattle.gate_link.proofs.gateways.StillOwed.{owes_nothing}
 use Rattle.gate_link.proofs.gateway.Gateway.put.Goals as goal
 
--- once closed it owes nothing, whatever follows
-pub returns-then-is_closed-clause-owed : goal.returns-then-is_closed-clause-owed
-returns-then-is_closed-clause-owed g c more =
+-- once closed it has left to say nothing, whatever follows
+pub returns-then-is_closed-clause-pending : goal.returns-then-is_closed-clause-pending
+returns-then-is_closed-clause-pending g c more =
     let a = c.args.self.now in
     let shut = sym c.is_closed.ensures ∙ c.if-is_closed.true in
     owes_nothing a.reader.session (frames (a.reader.held ++ more)) shut

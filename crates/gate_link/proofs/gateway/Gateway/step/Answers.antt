@@ -9,7 +9,7 @@ use Rattle.fix_session.specs.Reading.{first_verdict}
 use Rattle.fix_session.proofs.events.ClosesOnce.{closes_with}
 use Rattle.fix_session.proofs.readers.FirstMessage.{verdict_some, verdict_none}
 use Rattle.fix_session.proofs.readers.BytesFed.{leaves_passed, session_passed, drained_where_none}
-use Rattle.gate_link.specs.Rows.{events, entry}
+use Rattle.gate_link.specs.Rows.{entry_events, entry}
 use Rattle.gate_link.proofs.gateways.StillOwed.{owed_nothing, owed_event}
 use Rattle.gate_link.proofs.gateways.OneStep.{events_later, looked, message_passed, close_later}
 use Rattle.gate_link.proofs.gateway.Gateway.step.Goals as goal
@@ -22,7 +22,7 @@ returns-in_default-clause-step g c =
     let first = verdict_none a.reader none in record {
       open_before = sym c.is_closed.ensures ∙ c.if-is_closed.false;
       none = no_first (frames a.reader.held) first;
-      rests = looked a _ c.look.ensures.skipped refl;
+      skipped = looked a _ c.look.ensures.skipped refl;
       room = refl;
       drained = drained_where_none a.reader c.look.new.self c.look.ensures.skipped first;
     }
@@ -39,7 +39,7 @@ returns-in_default-verdict-clause-step g c =
       passes = message_passed a _ mid m.0 None c.look.ensures.skipped m.1.0 c.pass.ensures.passed says;
       sent = refl;
       room = refl;
-      owed = owed_nothing a.reader.session new.session m.0 a.reader.held new.held (leaves_passed a.reader mid new m.0 c.look.ensures.skipped m.1.0 c.pass.ensures.passed).0
+      pending = owed_nothing a.reader.session new.session m.0 a.reader.held new.held (leaves_passed a.reader mid new m.0 c.look.ensures.skipped m.1.0 c.pass.ensures.passed).0
           (session_passed a.reader mid new m.0 c.look.ensures.skipped m.1.0 c.pass.ensures.passed) says;
     }
 
@@ -66,7 +66,7 @@ returns-in_default-push-clause-step g c =
       event = c.in-Event.event;
       stands = m.1.0;
       says_so = ap event_in (m.1.1 ∙ c.in-Event.is);
-      rests = looked a _ c.look.ensures.skipped (ap events full.1);
+      skipped = looked a _ c.look.ensures.skipped (ap entry_events full.1);
       full = full.2;
     }
 
@@ -82,9 +82,9 @@ returns-clause-step g c =
       event = e;
       open_before = sym c.is_closed.ensures ∙ c.if-is_closed.false;
       passes = message_passed a _ mid m.0 (Some e) c.look.ensures.skipped m.1.0 c.pass-2.ensures.passed says;
-      sent = ap events c.in-Ok.ensures.ok.0 ∙ events_later (sent a.producer) (entry a.session e);
+      sent = ap entry_events c.in-Ok.ensures.ok.0 ∙ events_later (sent a.producer) (entry a.session e);
       room = c.in-Ok.ensures.ok.1;
-      owed = owed_event a.reader.session new.session m.0 a.reader.held new.held e (leaves_passed a.reader mid new m.0 c.look.ensures.skipped m.1.0 c.pass-2.ensures.passed).0
+      pending = owed_event a.reader.session new.session m.0 a.reader.held new.held e (leaves_passed a.reader mid new m.0 c.look.ensures.skipped m.1.0 c.pass-2.ensures.passed).0
           (session_passed a.reader mid new m.0 c.look.ensures.skipped m.1.0 c.pass-2.ensures.passed) says;
     }
 
@@ -95,11 +95,11 @@ invariant_of-self-2 g c =
     let e = c.in-Event.event in
     let m = verdict_some a.reader c.in-Some.verdict (sym c.in-Some.ensures.says) in
     let opens : is_closed a.reader.session ≡ false = sym c.is_closed.ensures ∙ c.if-is_closed.false in
-    let sent_is = ap events c.in-Ok.ensures.ok.0 ∙ events_later (sent a.producer) (entry a.session e) in record {
+    let sent_is = ap entry_events c.in-Ok.ensures.ok.0 ∙ events_later (sent a.producer) (entry a.session e) in record {
       close_sent =
           ap is_closed (session_passed a.reader c.look.new.self c.pass-2.new.self m.0 c.look.ensures.skipped m.1.0 c.pass-2.ensures.passed)
           ∙ (closes_with a.reader.session m.0 opens
           ∙ (ap is_closing (m.1.1 ∙ c.in-Event.is)
-          ∙ (sym (close_later (events (sent a.producer)) e (sym a.close_sent ∙ opens))
+          ∙ (sym (close_later (entry_events (sent a.producer)) e (sym a.close_sent ∙ opens))
           ∙ sym (ap (list_any is_close) sent_is))));
     }

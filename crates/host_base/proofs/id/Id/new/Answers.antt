@@ -3,7 +3,7 @@ use Rattle.std.specs.List.{list_all}
 use Rattle.std.proofs.lemmas.List.{drop-replicate, take_all}
 use Rattle.std.proofs.lemmas.Bool.Decides.{nat_tests}
 use Rattle.host_base.specs.declared.id.Id.TheInside.{Inside}
-use Rattle.host_base.specs.IdFields.{IsKept}
+use Rattle.host_base.specs.code.IdFields.{IsKept}
 use Rattle.host_base.proofs.IdKept.{kept_new}
 use Rattle.host_base.proofs.id.Id.new.Goals as goal
 
@@ -15,4 +15,4 @@ invariant_of-result c =
     let same : text ++ replicate (32 - length text) 0 ≡ c.copy_from_slice.new.self ++ drop (length text) (replicate 32 0) =
     ap (λ t. t ++ replicate (32 - length text) 0) (sym c.copy_from_slice.ensures.after) ∙ ap (λ t. c.copy_from_slice.new.self ++ t) (sym (drop-replicate (length text) 32 0)) in
     let P : List ℕ → Type 0 = λ bs. let i : Inside = record { bytes = bs; len = length text } in IsKept i in
-    subst P same (kept_new text some c.if-text-gt32.false clean)
+    subst P same (kept_new text some c.if-text-gt-MAX_ID_LENGTH.false clean)

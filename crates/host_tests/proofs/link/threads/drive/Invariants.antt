@@ -1,5 +1,5 @@
-use Rattle.gate_link.specs.Gates.{SameGate}
+use Rattle.gate_link.specs.Gateways.{SameGateway}
 use Rattle.host_tests.proofs.link.threads.drive.Given as goal
 
 abbrev pub invariant-loop : goal.invariant-loop
-invariant-loop g l = SameGate l.initial.gateway l.gateway
+invariant-loop g l = SameGateway l.initial.gateway l.gateway

@@ -1,37 +1,43 @@
--- Words of the code alone: what it finds at the front of a text, and digits up to a limit.
+-- What the code finds at the front of a text, and digits up to a limit.
+-- Words of the code alone.
 use Rattle.std.specs.Prelude.{ℕ, ◌+◌, Bool, ◌||◌, nat_lt, if◌then◌else◌, List, Option, Some, None, option_map, length, take, drop, find, unwrap_or, ◌==◌, [], min, slice_range}
 use Rattle.std.specs.Char.{is_ascii_digit}
 use Rattle.std.specs.List.{position_or_len, list_all}
-use Rattle.fix_wire.specs.declared.frame.Front.{Front}
-use Rattle.fix_wire.specs.declared.frame.Front.TheVariants.{Frame, Partial, Garbled}
+use Rattle.fix_wire.specs.declared.frame.Scan.{Scan}
+use Rattle.fix_wire.specs.declared.frame.Scan.TheVariants.{Frame, Incomplete, Garbled}
 use Rattle.fix_wire.specs.declared.frame.LeadingField.{LeadingField}
 use Rattle.fix_wire.specs.declared.frame.Tag.{Tag}
-use Rattle.fix_wire.specs.Texts.{is_end, number_of, strip_prefix, is_cut_short}
+use Rattle.fix_wire.specs.declared.values.TheConstants.{MAX_HUNDREDTHS}
+use Rattle.fix_wire.specs.Texts.{is_soh, number_of, strip_prefix, is_cut_short}
 use Rattle.fix_wire.specs.Fields.{TagValue, fields_of_body, field_of_text}
 use Rattle.fix_wire.specs.Frames.{begin_text, frame_at, may_begin, is_length_open}
 
-abbrev pub front_or : Bool → Option ℕ → Front
-front_or may (Some n) = Frame n
-front_or may None = if may then Partial else Garbled
+abbrev pub scan_with : Bool → Option ℕ → Scan
+scan_with may (Some n) = Frame n
+scan_with may None = if may then Incomplete else Garbled
 
 -- a lawful frame, what may still begin one, or neither
-abbrev pub front_of : List ℕ → Front
-front_of text = front_or (may_begin text) (frame_at text)
+abbrev pub scan_front : List ℕ → Scan
+scan_front text = scan_with (may_begin text) (frame_at text)
 
 -- a text without a header may still begin a frame
 abbrev pub is_header_open : List ℕ → Bool
 is_header_open text = is_cut_short begin_text text || is_length_open (strip_prefix begin_text text)
 
--- the number that digits spell, or a thousand million where it is more
+-- the number that digits spell, or the greatest price where it is more
 abbrev pub limited_digits : List ℕ → Option ℕ
-limited_digits text = if list_all is_ascii_digit text then Some (min (number_of text) 1000000000) else None
+limited_digits text =
+    if list_all is_ascii_digit text then Some (min (number_of text) MAX_HUNDREDTHS) else None
 
 abbrev pub field_up_to : ℕ → List ℕ → Option (TagValue × List ℕ)
-field_up_to end body = if nat_lt end (length body) then option_map (λ f. (f, drop (end + 1) body)) (field_of_text (take end body)) else None
+field_up_to end body =
+    if nat_lt end (length body)
+    then option_map (λ f. (f, drop (end + 1) body)) (field_of_text (take end body))
+    else None
 
 -- the first field of a body, and the fields after it
 abbrev pub first_field : List ℕ → Option (TagValue × List ℕ)
-first_field body = field_up_to (position_or_len is_end body) body
+first_field body = field_up_to (position_or_len is_soh body) body
 
 -- a field whose tag is spelled by so many digits
 abbrev pub tag_view : List ℕ → Tag → TagValue
@@ -39,8 +45,10 @@ tag_view text t = record { tag = t.number; value = drop (t.digits + 1) text }
 
 -- a field that stands in front of a body, and the fields after it
 abbrev pub leading_field_view : List ℕ → LeadingField → TagValue × List ℕ
-leading_field_view body p = (record { tag = p.tag; value = slice_range body p.start p.end }, drop (p.end + 1) body)
+leading_field_view body p =
+    (record { tag = p.tag; value = slice_range body p.start p.end }, drop (p.end + 1) body)
 
 -- the value of the first field of a body with that tag
 abbrev pub value_of : ℕ → List ℕ → Option (List ℕ)
-value_of tag text = option_map (λ f. f.value) (find (λ f. f.tag == tag) (unwrap_or (fields_of_body text) []))
+value_of tag text =
+    option_map (λ f. f.value) (find (λ f. f.tag == tag) (unwrap_or (fields_of_body text) []))

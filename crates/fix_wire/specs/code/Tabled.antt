@@ -1,11 +1,13 @@
 -- A table of the fields of a body.
+-- Words of the code alone.
 use Rattle.std.specs.Prelude.{Bool, ◌==◌, ◌≡◌, ℕ, zero, suc, ◌+◌, ◌<◌, ◌≤◌, List, Some, get_or, length, drop, slice_range}
 use Rattle.fix_wire.specs.declared.frame.FrameHeader.{FrameHeader}
+use Rattle.fix_wire.specs.declared.table.TheConstants.{MAX_TABLED_FIELDS}
 use Rattle.fix_wire.specs.declared.table.FieldPlace.{FieldPlace}
 use Rattle.fix_wire.specs.declared.table.FieldTable.{FieldTable}
 use Rattle.fix_wire.specs.Frames.{header, body_at}
 use Rattle.fix_wire.specs.Fields.{TagValue}
-use Rattle.fix_wire.specs.Fronts.{first_field}
+use Rattle.fix_wire.specs.code.Scans.{first_field}
 
 abbrev pub nowhere : FieldPlace
 nowhere = record { start = 0; end = 0 }
@@ -14,7 +16,7 @@ nowhere = record { start = 0; end = 0 }
 abbrev pub place_at : List FieldPlace → ℕ → FieldPlace
 place_at places i = get_or places i nowhere
 
--- where the field with this index starts: after the byte 1 of the one before it
+-- where the field with this index starts: after the SOH of the one before it
 abbrev pub start_of : List FieldPlace → ℕ → ℕ
 start_of places zero = 0
 start_of places (suc i) = (place_at places i).end + 1
@@ -38,15 +40,16 @@ is_same tag t = t == tag
 
 -- The tags and places are those of the first fields of the body, and the fields after them start at the rest.
 pub record IsTable (body : List ℕ) (t : FieldTable) : Type 0 where
-  pub size : (length t.tags ≡ 24) × (length t.places ≡ 24)
-  pub few : t.count ≤ 24
+  pub size : (length t.tags ≡ MAX_TABLED_FIELDS) × (length t.places ≡ MAX_TABLED_FIELDS)
+  pub few : t.count ≤ MAX_TABLED_FIELDS
   pub within : t.rest ≤ length body
   pub rest : t.rest ≡ start_of t.places t.count
-  pub placed : (i : ℕ) → i < t.count → IsPlaced body (start_of t.places i) (get_or t.tags i 0) (place_at t.places i)
+  pub placed : (i : ℕ) → i < t.count
+      → IsPlaced body (start_of t.places i) (get_or t.tags i 0) (place_at t.places i)
 
 -- A table of no field, which is a table of every body.
 pub record IsBlank (t : FieldTable) : Type 0 where
-  pub size : (length t.tags ≡ 24) × (length t.places ≡ 24)
+  pub size : (length t.tags ≡ MAX_TABLED_FIELDS) × (length t.places ≡ MAX_TABLED_FIELDS)
   pub none : t.count ≡ 0
   pub start : t.rest ≡ 0
 
