@@ -4,8 +4,14 @@
 pub const SESSIONS: usize = 16;
 /// Months of a rulebook, at least 1.
 pub const MAX_MONTHS: u8 = 12;
+/// Letters and digits of a month's name, at least 1.
+pub const MAX_NAME_LENGTH: usize = 15;
+/// The tick, in hundredths, at least 1.
+pub const MAX_TICK: i64 = 1_000_000;
 /// Bytes of an id, a CompID, a symbol or a sending time, at least 1.
 pub const MAX_ID_LENGTH: usize = 32;
+/// Quantities and heartbeat intervals as messages and journals may have them, from 0.
+pub const MAX_NUMBER: u32 = 999_999_999;
 /// MsgSeqNum, from 1.
 pub const MAX_MSG_SEQ_NUM: u32 = 999_999_999;
 /// BodyLength, from 5.

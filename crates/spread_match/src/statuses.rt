@@ -1,5 +1,6 @@
 //! How each New entry so far stands, found by its session and id, and by its place.
 ghost use Rattle.std.specs.Prelude.{◌≡◌, ◌≢◌, ◌<◌, ◌≤◌, length, take, slice_get, slice_index_or, List, All, [], ◌++◌, ◌∷◌, map, OnOk, OnErr, IfSome, IfNone};
+ghost use Rattle.spread_rules.specs.declared.codes.ord_status.TheConstants.{REJECTED};
 ghost use Rattle.spread_rules.specs.declared.outcome.OrderStatus.{OrderStatus};
 ghost use Rattle.std.specs.Prelude.{ℕ, cond, is_some, Some, None, IfOk};
 ghost use Rattle.std.specs.List.{find};
@@ -12,6 +13,7 @@ ghost use Rattle.spread_rules.specs.Meaning.{has_id};
 ghost use Rattle.spread_match.specs.Kept.{renewed_by, renewed, AreInOrder};
 
 use host_base::{Id, IdKey, NoMemory};
+use spread_rules::codes::ord_status;
 use spread_rules::{Fill, OrderStatus};
 use std::alloc::Allocator;
 use std::collections::BTreeMap;
@@ -60,10 +62,14 @@ fn note_first<A: Allocator + Copy>(
 
 /// The status of an entry that is refused where its id was used.
 fn if_refused(status: OrderStatus, used: bool) -> OrderStatus
-    ensures { result ≡ record status { status = cond used 8 status.status } }
+    ensures { result ≡ record status { status = cond used REJECTED status.status } }
 {
     OrderStatus {
-        status: if used { 8 } else { status.status },
+        status: if used {
+            ord_status::REJECTED
+        } else {
+            status.status
+        },
         ..status
     }
 }
@@ -112,7 +118,7 @@ fn renew<A: Allocator + Copy>(statuses: &mut Vec<OrderStatus, A>, fill: &Fill)
         return;
     }
     if let Some(at) = place_in(statuses, fill.order) {
-        statuses[at].status = 2;
+        statuses[at].status = ord_status::FILLED;
     }
 }
 
@@ -139,7 +145,7 @@ impl<A: Allocator + Copy> Statuses<A> {
     pub fn add(&mut self, status: OrderStatus) -> Result<bool, NoMemory>
         requires { All (λ s. s.place < status.place) self.old }
         ensures used { IfOk result (λ used. used ≡ is_some (find (has_id status.session status.id) self.old)) }
-        ensures ok { IfOk result (λ used. self.new ≡ self.old ++ record status { status = cond used 8 status.status } ∷ []) }
+        ensures ok { IfOk result (λ used. self.new ≡ self.old ++ record status { status = cond used REJECTED status.status } ∷ []) }
         ensures err { OnErr result (self.new ≡ self.old) }
     {
         self.rows.reserve(1)?;
