@@ -55,8 +55,8 @@ fn apply_again(
     fills: &mut Vec<Fill>,
 ) -> Result<Outcome, Fail>
     requires entry { IsPriced entry.now.event }
-    requires place { market.old.standing.last < place }
-    ensures last { OnOk result (market.new.standing.last ≡ place) }
+    requires place { market.old.state.last < place }
+    ensures last { OnOk result (market.new.state.last ≡ place) }
 {
     let resting = market.book().len();
     let before = fills.len();

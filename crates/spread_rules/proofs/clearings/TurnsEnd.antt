@@ -5,8 +5,8 @@ use Rattle.spread_rules.specs.declared.order.Order.{Order}
 use Rattle.spread_rules.specs.declared.candidate.Candidate.{Candidate}
 use Rattle.spread_rules.specs.declared.candidate.Counterparty.{Counterparty}
 use Rattle.spread_rules.specs.declared.candidate.Counterparty.TheVariants.{Direct, Implied}
-use Rattle.spread_rules.specs.Candidates.{IsLeast, least_candidate, counterparties, least_left, IsOf, price_of}
-use Rattle.spread_rules.specs.Clearing.{Trading, next, turn, turns, traded, after_fill, removed, reduced, with_less_left, members}
+use Rattle.spread_rules.specs.Candidates.{IsLeast, least_candidate, counterparties, least_left, AllStandIn, price_of}
+use Rattle.spread_rules.specs.Clearing.{Trading, next, turn, turns, after_match, after_fill, removed, reduced, with_less_left, members}
 use Rattle.spread_rules.specs.Quiet.{IsQuiet}
 use Rattle.spread_rules.proofs.lists.Membership.{not_in_nil, in_head, in_tail, in_cons_cases, from_map, in_map}
 use Rattle.spread_rules.proofs.ranks.PlainIsLeast.{first_is_least}
@@ -25,7 +25,7 @@ module _ (on : Pairs) where
   in_filter p (x ∷ xs) o c = kept_in x (filter p xs) xs o (p x) (in_filter p xs o) c
 
   pub come_removed : (place : ℕ) (xs : List Order) → ComeFrom on xs (removed place xs)
-  come_removed place xs = record { each = λ of side o r. (o, record { stands = in_filter (λ (p : Order). not (p.place == place)) xs o r.stands; of = r.of; on = r.on }, refl) }
+  come_removed place xs = record { each = λ of side o r. (o, record { stands = in_filter (λ (p : Order). not (p.place == place)) xs o r.stands; instrument_is = r.instrument_is; side_is = r.side_is }, refl) }
 
   -- what loses some keeps the rest
   less_instrument : (place by : ℕ) (o : Order) (b : Bool) → (cond b (record o { leaves = o.leaves - by }) o).instrument ≡ o.instrument
@@ -45,7 +45,7 @@ module _ (on : Pairs) where
     each = λ of side o r.
         let m = from_map (with_less_left place by) xs o r.stands in (
           m.0,
-          record { stands = m.1; of = sym (less_instrument place by m.0 (m.0.place == place)) ∙ (ap (λ (w : Order). w.instrument) m.2 ∙ r.of); on = sym (less_side place by m.0 (m.0.place == place)) ∙ (ap (λ (w : Order). w.side) m.2 ∙ r.on) },
+          record { stands = m.1; instrument_is = sym (less_instrument place by m.0 (m.0.place == place)) ∙ (ap (λ (w : Order). w.instrument) m.2 ∙ r.instrument_is); side_is = sym (less_side place by m.0 (m.0.place == place)) ∙ (ap (λ (w : Order). w.side) m.2 ∙ r.side_is) },
           sym (less_price place by m.0 (m.0.place == place)) ∙ ap (λ (w : Order). w.price) m.2,
         );
   }
@@ -65,7 +65,7 @@ module _ (on : Pairs) where
     pub orders : ComeFrom on s.orders t.orders
     pub new : t.new ≡ record s.new { leaves = t.new.leaves }
 
-  keeps_traded : (references : List ℤ) (s : Trading) (o : Option Candidate) → Keeps s (traded references s o)
+  keeps_traded : (references : List ℤ) (s : Trading) (o : Option Candidate) → Keeps s (after_match references s o)
   keeps_traded references s None = record { orders = come_itself on s.orders; new = refl }
   keeps_traded references s (Some o) = record { orders = come_members (least_left s.new o.counterparty) s.orders o.counterparty; new = refl }
 
@@ -103,7 +103,7 @@ module _ (on : Pairs) where
   pub stays : (references : List ℤ) (k : ℕ) (s : Trading) → next on s ≡ None → turns on references k s ≡ s
   stays references zero s h = refl
   stays references (suc k) s h =
-      let same : turn on references s ≡ s = ap (traded references s) h in
+      let same : turn on references s ≡ s = ap (after_match references s) h in
       ap (turns on references k) same ∙ stays references k s h
 
   -- two ends of one run are one
@@ -175,7 +175,7 @@ module _ (on : Pairs) where
   which k x y true e h = inl e
   which k x y false e h = inr (grind (arith, nat_tests))
 
-  pub turn_shorter : (n : Order) (xs : List Order) (p : Counterparty) → IsOf xs p → least_left n p < n.leaves → length (fold (after_fill (least_left n p)) xs (members p)) < length xs
+  pub turn_shorter : (n : Order) (xs : List Order) (p : Counterparty) → AllStandIn xs p → least_left n p < n.leaves → length (fold (after_fill (least_left n p)) xs (members p)) < length xs
   turn_shorter n xs (Direct a) c h =
       let e : (a.leaves == min n.leaves a.leaves) ≡ true = grind (arith, nat_tests) in
       spent_shorter (min n.leaves a.leaves) xs a (a.leaves == min n.leaves a.leaves) e (record { order = a; stands = c; at = refl })
@@ -199,7 +199,7 @@ module _ (on : Pairs) where
   some_next s o true h = cc
   some_next s o false h = h
 
-  pub members_rest : (s : Trading) (o : Candidate) → next on s ≡ Some o → IsOf s.orders o.counterparty
+  pub members_rest : (s : Trading) (o : Candidate) → next on s ≡ Some o → AllStandIn s.orders o.counterparty
   members_rest s o h =
       let l : IsLeast on s.new s.orders o = subst (λ (r : Option Candidate). MatchOption r (NoneFor on s.new s.orders) (IsLeast on s.new s.orders)) (some_next s o (s.new.leaves == 0) h) (first_is_least on s.new s.orders) in
       l.eligible.stands
@@ -218,16 +218,16 @@ module _ (on : Pairs) where
   pub next_left : (s : Trading) (o : Candidate) → next on s ≡ Some o → 0 < s.new.leaves
   next_left s o h = left_at s o (s.new.leaves == 0) refl h
 
-  ended : (references : List ℤ) (s : Trading) (o : Candidate) (b : Bool) → ((s.new.leaves - least_left s.new o.counterparty) == 0) ≡ b → next on s ≡ Some o → (next on (traded references s (Some o)) ≡ None) ⊎ (length (traded references s (Some o)).orders < length s.orders)
+  ended : (references : List ℤ) (s : Trading) (o : Candidate) (b : Bool) → ((s.new.leaves - least_left s.new o.counterparty) == 0) ≡ b → next on s ≡ Some o → (next on (after_match references s (Some o)) ≡ None) ⊎ (length (after_match references s (Some o)).orders < length s.orders)
   ended references s o true e h = inl (rw e refl)
   ended references s o false e h = inr (turn_shorter s.new s.orders o.counterparty (members_rest s o h) (grind (arith, nat_tests)))
 
-  enough_by : (references : List ℤ) (k : ℕ) (s : Trading) (r : Option Candidate) → next on s ≡ r → length s.orders ≤ suc k → ((t : Trading) → length t.orders ≤ k → next on (turns on references k t) ≡ None) → next on (turns on references k (traded references s r)) ≡ None
+  enough_by : (references : List ℤ) (k : ℕ) (s : Trading) (r : Option Candidate) → next on s ≡ r → length s.orders ≤ suc k → ((t : Trading) → length t.orders ≤ k → next on (turns on references k t) ≡ None) → next on (turns on references k (after_match references s r)) ≡ None
   enough_by references k s None e h on = rw (stays references k s e) e
   enough_by references k s (Some o) e h on =
       elim (ended references s o ((s.new.leaves - least_left s.new o.counterparty) == 0) refl e) [
-        | inl d ↦ rw (stays references k (traded references s (Some o)) d) d
-        | inr l ↦ on (traded references s (Some o)) (omega arith)
+        | inl d ↦ rw (stays references k (after_match references s (Some o)) d) d
+        | inr l ↦ on (after_match references s (Some o)) (omega arith)
       ]
 
   -- as many turns as orders rest are enough

@@ -14,9 +14,9 @@ use Rattle.spread_rules.specs.declared.rulebook_text.Draft.{Draft}
 use Rattle.std.proofs.lemmas.List.{length-map}
 use Rattle.spread_rules.specs.Rulebook.{Rules, IsRules, IsMonth}
 use Rattle.spread_rules.specs.RulebookText.{IsTick, IsNamed, SoFar, LineGives, tick, tick_line, month, month_line, EndGives, none, some}
-use Rattle.spread_rules.specs.RulebookFields.{IsRulebook}
+use Rattle.spread_rules.specs.code.RulebookFields.{IsRulebook}
 use Rattle.spread_rules.specs.declared.rule_fault.RuleFault.TheVariants.{NoMonth}
-use Rattle.spread_rules.specs.DraftFields.{IsDraft, HasDistinctNames, so_far}
+use Rattle.spread_rules.specs.code.DraftFields.{IsDraft, HasDistinctNames, so_far}
 use Rattle.std.proofs.Common.{to_z, of_z}
 use Rattle.std.specs.Int.{w64}
 use Rattle.std.proofs.lemmas.Int.{to_z-of_z}

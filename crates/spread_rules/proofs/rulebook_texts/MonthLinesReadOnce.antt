@@ -9,7 +9,7 @@ use Rattle.std.proofs.lemmas.Int.{to_z-of_z}
 use Rattle.host_base.specs.Cut.{Lacks}
 use Rattle.spread_rules.specs.Rulebook.{IsMonth}
 use Rattle.spread_rules.specs.RulebookText.{IsTick, tick_line, month_line}
-use Rattle.spread_rules.specs.DraftFields.{IsName, IsReference}
+use Rattle.spread_rules.specs.code.DraftFields.{IsName, IsReference}
 use Rattle.spread_rules.specs.declared.rulebook.Month.{Month}
 use Rattle.spread_rules.proofs.rulebook_texts.FieldsReadOnce.{signed_is, price_fits}
 use Rattle.spread_rules.proofs.rulebook_texts.NamesHaveNoSpace.{Lacks-name}
