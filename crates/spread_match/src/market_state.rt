@@ -1,4 +1,4 @@
-//! What a market keeps, and what each kind of entry does to it.
+//! The state of a market, and what each kind of entry does to it.
 ghost use Rattle.std.specs.Prelude.{◌≡◌, ℕ, ℤ, pos, ◌<ℤ◌, ◌<◌, ◌≤◌, List, All, OnOk, OnErr, IfOk, ◌++◌, ◌∷◌, [], drop, length, cond, is_some, None, true, false};
 ghost use Rattle.std.specs.List.{find};
 ghost use Rattle.spread_rules.specs.declared.codes.ord_rej_reason.TheConstants.{DUPLICATE_ORDER};
@@ -79,7 +79,7 @@ fn refusal(used: bool, reason: u8) -> Outcome
     })
 }
 
-/// By the fills from that one on.
+/// Orders that the fills from that one on leave nothing of are filled.
 fn mark_filled_from<A: Allocator + Copy>(statuses: &mut Statuses<A>, fills: &[Fill], from: usize)
     requires { from ≤ length fills.now }
     ensures { statuses.new ≡ statuses_after (drop from fills.now) statuses.old }
@@ -176,7 +176,8 @@ impl<B: Book, A: Allocator + Copy> MarketState<B, A> {
         Ok(refusal(used, reason))
     }
 
-    /// The new order stands in the book, and its entry among the statuses. Where its id was used it is refused, and the answer is true.
+    /// The new order stands in the book, and its entry among the statuses. Where its id was used it is refused, and the
+    /// answer is true.
     fn add_to_book(&mut self, order: &Order) -> Result<bool, NoMemory>
         requires orders { All (λ o. o.place < order.now.place) self.old.orders }
         requires statuses { All (λ s. s.place < order.now.place) self.old.statuses }
@@ -244,7 +245,7 @@ impl<B: Book, A: Allocator + Copy> MarketState<B, A> {
         Ok(outcome_with(ticket.immediate, left.leaves))
     }
 
-    /// A New entry.
+    /// A New entry: refused, or traded.
     fn apply_new(
         &mut self,
         rules: &Rulebook,
@@ -301,7 +302,7 @@ impl<B: Book, A: Allocator + Copy> MarketState<B, A> {
         }
     }
 
-    /// Works one entry by what is kept.
+    /// Applies one entry. All growth comes first, so after NoMemory nothing has changed.
     pub fn apply_entry(
         &mut self,
         rules: &Rulebook,

@@ -147,7 +147,8 @@ impl<A: Allocator + Copy> Statuses<A> {
         status_at(&self.rows, *at)
     }
 
-    /// The status of one entry more, whose place is above all others. Where its session and id have one already, it is refused, and the answer is true.
+    /// The status of one entry more, whose place is above all others. Where its session and id have one already, it is
+    /// refused, and the answer is true.
     pub fn add(&mut self, status: OrderStatus) -> Result<bool, NoMemory>
         requires { All (λ s. s.place < status.place) self.old }
         ensures used { IfOk result (λ used.

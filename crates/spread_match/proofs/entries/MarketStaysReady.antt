@@ -11,7 +11,7 @@ use Rattle.spread_rules.specs.declared.event.Event.TheVariants.{Logon, New, Canc
 use Rattle.spread_rules.specs.declared.outcome.OrderStatus.{OrderStatus}
 use Rattle.spread_rules.specs.declared.outcome.Outcome.{Outcome}
 use Rattle.spread_rules.specs.Candidates.{all_on, HasOrderPrice}
-use Rattle.spread_rules.specs.Clearing.{Trading, next, turn, turns, after_match, begin, clear}
+use Rattle.spread_rules.specs.Clearing.{Trading, next_candidate, turn, turns, after_match, begin, clear}
 use Rattle.spread_rules.specs.Prices.{IsOrderPrice}
 use Rattle.spread_rules.specs.Meaning.{is_own, has_id, is_refused, refusal_or_instrument, order_of, resting, new_order_means, cancel_means}
 use Rattle.spread_rules.specs.Rulebook.{Rules, month_count, references_of, find_symbol}
@@ -26,7 +26,7 @@ use Rattle.spread_match.proofs.entries.NewOrder.{turns_all, below_new, taken_is}
 use Rattle.spread_match.proofs.entries.NamedInstrument.{listed_found, near_of, months_of}
 use Rattle.spread_match.proofs.entries.PastStaysSound.{later_all, removed_tradable, rests_all, rest_tradable}
 
-traded_tradable : (references : List ℤ) (months : ℕ) (t : Trading) (r : Option Candidate) → next all_on t ≡ r → IsTradable months t.orders → IsTradable months (after_match references t r).orders
+traded_tradable : (references : List ℤ) (months : ℕ) (t : Trading) (r : Option Candidate) → next_candidate all_on t ≡ r → IsTradable months t.orders → IsTradable months (after_match references t r).orders
 traded_tradable references months t None e h = h
 traded_tradable references months t (Some o) e h =
     let stands = members_rest all_on t o e in
@@ -34,7 +34,7 @@ traded_tradable references months t (Some o) e h =
 
 turns_tradable : (references : List ℤ) (months k : ℕ) (t : Trading) → IsTradable months t.orders → IsTradable months (turns all_on references k t).orders
 turns_tradable references months zero t h = h
-turns_tradable references months (suc k) t h = turns_tradable references months k (turn all_on references t) (traded_tradable references months t (next all_on t) refl h)
+turns_tradable references months (suc k) t h = turns_tradable references months k (turn all_on references t) (traded_tradable references months t (next_candidate all_on t) refl h)
 
 -- orders that can be traded with, up to that place
 record AreReady (months : ℕ) (xs : List Order) (last : ℕ) : Type 0 where

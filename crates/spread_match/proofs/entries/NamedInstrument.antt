@@ -23,4 +23,4 @@ months_of rules (Outright m) l = l
 months_of rules (Spread k m) l = l.1
 
 pub small_references : (rules : Rules) → IsRules rules → All IsOrderPrice (references_of rules)
-small_references rules r = All-map IsOrderPrice (λ (m : Month). m.reference) rules.months (All-weaker (IsMonth rules.tick) (λ (m : Month). IsOrderPrice m.reference) (λ m k. record { low = k.low; high = k.high }) rules.months r.months)
+small_references rules r = All-map IsOrderPrice (λ (m : Month). m.reference) rules.months (All-weaker (IsMonth rules.tick) (λ (m : Month). IsOrderPrice m.reference) (λ m k. k.reference.price) rules.months r.months)

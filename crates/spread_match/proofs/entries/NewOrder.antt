@@ -4,11 +4,11 @@ use Rattle.std.proofs.lemmas.Bool.Decides.{nat_tests}
 use Rattle.std.proofs.lemmas.List.Elements.{All-contains, Contains-get_or, Contains-push_cases, filter-append}
 use Rattle.spread_rules.specs.declared.order.Order.{Order}
 use Rattle.spread_rules.specs.declared.candidate.Candidate.{Candidate}
-use Rattle.spread_rules.specs.Candidates.{least_left, HasOrderPrice, Pairs}
-use Rattle.spread_rules.specs.Clearing.{Trading, next, turn, turns, after_match, begin, clear, removed, reduced, with_less_left}
+use Rattle.spread_rules.specs.Candidates.{least_left, HasOrderPrice, Pairs, PlacesDiffer}
+use Rattle.spread_rules.specs.Clearing.{Trading, next_candidate, turn, turns, after_match, begin, clear, removed, reduced, with_less_left}
 use Rattle.spread_rules.proofs.lists.Membership.{in_head, in_tail}
 use Rattle.spread_rules.proofs.clearings.TurnsEnd.{keeps_turns}
-use Rattle.spread_match.specs.Trade.{IsNearFirst, IsInMonths, PlacesDiffer, IsTradable}
+use Rattle.spread_match.specs.Trade.{IsNearFirst, IsInMonths, IsTradable}
 use Rattle.spread_match.specs.code.StateAfter.{orders_after_trading}
 use Rattle.spread_match.specs.code.Turns.{IsNewest}
 use Rattle.spread_rules.specs.declared.order.Instrument.{Instrument}
@@ -91,7 +91,7 @@ module _ (on : Pairs) where
 
   pub turns_all : (P : Order → Type 0) → ((o : Order) (k : ℕ) → P o → P (record o { leaves = k })) → (references : List ℤ) (k : ℕ) (s : Trading) → All P s.orders → All P (turns on references k s).orders
   turns_all P keep references zero s h = h
-  turns_all P keep references (suc k) s h = turns_all P keep references k (turn on references s) (traded_all P keep references s (next on s) h)
+  turns_all P keep references (suc k) s h = turns_all P keep references k (turn on references s) (traded_all P keep references s (next_candidate on s) h)
 
   traded_most : (references : List ℤ) (s : Trading) (o : Option Candidate) → (after_match references s o).new.leaves ≤ s.new.leaves
   traded_most references s None = omega arith
@@ -99,7 +99,7 @@ module _ (on : Pairs) where
 
   pub turns_most : (references : List ℤ) (k : ℕ) (s : Trading) → (turns on references k s).new.leaves ≤ s.new.leaves
   turns_most references zero s = omega arith
-  turns_most references (suc k) s = let a = turns_most references k (turn on references s) in let b = traded_most references s (next on s) in omega arith
+  turns_most references (suc k) s = let a = turns_most references k (turn on references s) in let b = traded_most references s (next_candidate on s) in omega arith
 
   -- ---- what the book does at the end
 

@@ -9,12 +9,12 @@ use Rattle.spread_rules.specs.declared.order.Order.{Order}
 use Rattle.spread_rules.specs.declared.candidate.Counterparty.{Counterparty}
 use Rattle.spread_rules.specs.declared.candidate.Counterparty.TheVariants.{Direct, Implied}
 use Rattle.spread_rules.specs.declared.candidate.Candidate.{Candidate}
-use Rattle.spread_rules.specs.Candidates.{price_if, implied_price, are_opposite, IsEligible, month_of, Pairs}
+use Rattle.spread_rules.specs.Candidates.{price_if, implied_price, are_opposite, IsEligible, month_of, Pairs, IsBest}
 use Rattle.spread_rules.specs.Quiet.{Rests}
 use Rattle.spread_rules.specs.Legs.{other_side}
 use Rattle.spread_books.proofs.fronts.FoldGivesFront.{same_instrument_is}
 use Rattle.spread_match.specs.Trade.{IsInMonths}
-use Rattle.spread_match.specs.code.Best.{IsFair, Beats, IsBest, CoversOne}
+use Rattle.spread_match.specs.code.Best.{IsFair, Beats, CoversOne}
 
 module _ (on : Pairs) where
   below_or_at : (m k : ℕ) (b : Bool) → nat_lt m k ≡ b → m < k + 1 → (m < k) ⊎ (m ≡ k)

@@ -19,7 +19,7 @@ use Rattle.spread_rules.specs.declared.event.Ticket.{Ticket}
 use Rattle.spread_rules.specs.declared.outcome.OrderStatus.{OrderStatus}
 use Rattle.spread_rules.specs.Candidates.{all_on, takes_part, implied_price, price_of, least_left, month_of, AllStandIn}
 use Rattle.spread_rules.specs.Prices.{IsLegPrice, IsOrderPrice}
-use Rattle.spread_rules.specs.Clearing.{Trading, next, turn, turns, after_match, begin, clear, fills_of, fill_of, leg_prices, leg_prices_of_fill, leg_prices_of_single, leg_prices_of_pair}
+use Rattle.spread_rules.specs.Clearing.{Trading, next_candidate, turn, turns, after_match, begin, clear, fills_of, fill_of, leg_prices, leg_prices_of_fill, leg_prices_of_single, leg_prices_of_pair}
 use Rattle.spread_rules.specs.Meaning.{JournalState, PastNew, no_entries, is_own, has_id, statuses_of, refusal_or_instrument, order_of, outcome_of, resting, new_order_means, cancel_means, meaning_of, after_entry, after_entries, meaning_of_journal}
 use Rattle.spread_rules.specs.Rulebook.{Rules, IsRules, IsListed, month_count, references_of, find_symbol}
 use Rattle.spread_rules.proofs.lists.Membership.{in_cons_cases, in_head, in_tail, not_in_nil}
@@ -149,7 +149,7 @@ less_fits rules o k h = record { quantity = h.quantity; low = h.low; high = h.hi
 no_more : (ps : List PastNew) (fs : List Fill) (o : Order) → IsCounted ps fs o → o.leaves ≤ o.quantity
 no_more ps fs o c = let k = c.counts in omega arith
 
-traded_fits : (rules : Rules) (ps : List PastNew) (past : List Fill) (t : Trading) (r : Option Candidate) → next all_on t ≡ r → IsRules rules → IsRunning all_on (month_count rules) ps past t → AllFit rules t → AllFit rules (after_match (references_of rules) t r)
+traded_fits : (rules : Rules) (ps : List PastNew) (past : List Fill) (t : Trading) (r : Option Candidate) → next_candidate all_on t ≡ r → IsRules rules → IsRunning all_on (month_count rules) ps past t → AllFit rules t → AllFit rules (after_match (references_of rules) t r)
 traded_fits rules ps past t None e lawful run h = h
 traded_fits rules ps past t (Some o) e lawful run h = record {
   own = less_fits rules t.new _ h.own;
@@ -163,7 +163,7 @@ traded_fits rules ps past t (Some o) e lawful run h = record {
 turns_fits : (rules : Rules) (ps : List PastNew) (past : List Fill) (k : ℕ) (t : Trading) → IsRules rules → IsRunning all_on (month_count rules) ps past t → AllFit rules t → AllFit rules (turns all_on (references_of rules) k t)
 turns_fits rules ps past zero t lawful run h = h
 turns_fits rules ps past (suc k) t lawful run h =
-    turns_fits rules ps past k (turn all_on (references_of rules) t) lawful (running_with all_on (references_of rules) (month_count rules) ps past t (next all_on t) refl run) (traded_fits rules ps past t (next all_on t) refl lawful run h)
+    turns_fits rules ps past k (turn all_on (references_of rules) t) lawful (running_with all_on (references_of rules) (month_count rules) ps past t (next_candidate all_on t) refl run) (traded_fits rules ps past t (next_candidate all_on t) refl lawful run h)
 
 -- ---- entries
 

@@ -11,12 +11,12 @@ use Rattle.spread_rules.specs.declared.fill.Fill.{Fill}
 use Rattle.spread_rules.specs.declared.candidate.Candidate.{Candidate}
 use Rattle.spread_rules.specs.declared.candidate.Counterparty.{Counterparty}
 use Rattle.spread_rules.specs.declared.candidate.Counterparty.TheVariants.{Direct, Implied}
-use Rattle.spread_rules.specs.Candidates.{least_left, AllStandIn, is_within_limit}
-use Rattle.spread_rules.specs.Clearing.{Trading, next, turn, turns, after_match, after_fill, removed, reduced, with_less_left, fills_of, fill_of, members, leg_prices}
+use Rattle.spread_rules.specs.Candidates.{least_left, AllStandIn, is_within_limit, PlacesDiffer, Pairs}
+use Rattle.spread_rules.specs.Clearing.{Trading, next_candidate, turn, turns, after_match, after_fill, removed, reduced, with_less_left, fills_of, fill_of, members, leg_prices}
 use Rattle.spread_rules.proofs.lists.Membership.{in_head, in_tail, in_cons_cases, not_in_nil, from_map}
 use Rattle.spread_rules.proofs.clearings.TurnsEnd.{in_filter, members_rest, next_meets, next_left, next_least}
 use Rattle.spread_rules.specs.declared.outcome.OrderStatus.{OrderStatus}
-use Rattle.spread_match.specs.Trade.{PlacesDiffer, IsTradable}
+use Rattle.spread_match.specs.Trade.{IsTradable}
 use Rattle.spread_match.specs.code.StateAfter.{statuses_after, status_after_fill, statuses_after_fill}
 use Rattle.spread_match.specs.code.Turns.{AreApart}
 use Rattle.spread_match.specs.Sound.{IsCounted, KeepsLimit}
@@ -24,7 +24,6 @@ use Rattle.spread_match.proofs.turns.NotAgainstItself.{are_apart}
 use Rattle.spread_match.proofs.turns.StaysTradable.{still_tradable}
 use Rattle.spread_match.proofs.turns.OneTurn.{least_some}
 use Rattle.spread_match.proofs.turns.StaysAfterAFill.{still_there, still_differ}
-use Rattle.spread_rules.specs.Candidates.{Pairs}
 use Rattle.spread_rules.specs.Meaning.{PastNew, filled, is_refused, status_at, status_of}
 
 module _ (on : Pairs) where
@@ -282,7 +281,7 @@ module _ (on : Pairs) where
     pub tradable : IsTradable months t.orders
     pub counted : AreCounted ps past t.new t.orders t.fills
 
-  pub running_with : (references : List ℤ) (months : ℕ) (ps : List PastNew) (past : List Fill) (t : Trading) (r : Option Candidate) → next on t ≡ r → IsRunning months ps past t → IsRunning months ps past (after_match references t r)
+  pub running_with : (references : List ℤ) (months : ℕ) (ps : List PastNew) (past : List Fill) (t : Trading) (r : Option Candidate) → next_candidate on t ≡ r → IsRunning months ps past t → IsRunning months ps past (after_match references t r)
   running_with references months ps past t None e h = h
   running_with references months ps past t (Some o) e h =
       let stands = members_rest on t o e in
@@ -295,4 +294,4 @@ module _ (on : Pairs) where
 
   pub running : (references : List ℤ) (months : ℕ) (ps : List PastNew) (past : List Fill) (k : ℕ) (t : Trading) → IsRunning months ps past t → IsRunning months ps past (turns on references k t)
   running references months ps past zero t h = h
-  running references months ps past (suc k) t h = running references months ps past k (turn on references t) (running_with references months ps past t (next on t) refl h)
+  running references months ps past (suc k) t h = running references months ps past k (turn on references t) (running_with references months ps past t (next_candidate on t) refl h)

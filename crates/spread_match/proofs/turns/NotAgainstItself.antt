@@ -10,13 +10,10 @@ use Rattle.spread_rules.specs.declared.order.Order.{Order}
 use Rattle.spread_rules.specs.declared.candidate.Candidate.{Candidate}
 use Rattle.spread_rules.specs.declared.candidate.Counterparty.{Counterparty}
 use Rattle.spread_rules.specs.declared.candidate.Counterparty.TheVariants.{Direct, Implied}
-use Rattle.spread_rules.specs.Candidates.{price_if, implied_price, are_opposite, price_of, IsEligible, AllStandIn}
+use Rattle.spread_rules.specs.Candidates.{price_if, implied_price, are_opposite, price_of, IsEligible, AllStandIn, PlacesDiffer, IsBest, Pairs}
 use Rattle.spread_rules.specs.Clearing.{removed, reduced, with_less_left}
-use Rattle.spread_match.specs.Trade.{PlacesDiffer}
-use Rattle.spread_match.specs.code.Best.{IsBest}
 use Rattle.spread_match.specs.code.Turns.{AreApart}
 use Rattle.spread_rules.proofs.clearings.BoughtIsSold.{on_price}
-use Rattle.spread_rules.specs.Candidates.{Pairs}
 
 module _ (on : Pairs) where
   not_first : (s : Side) (I : Instrument) (sb : Side) (B : Instrument) (x y p : ℤ) → implied_price s I s I sb B x y ≡ Some p → ⊥

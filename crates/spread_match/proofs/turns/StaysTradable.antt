@@ -6,12 +6,11 @@ use Rattle.spread_rules.specs.declared.order.Order.{Order}
 use Rattle.spread_rules.specs.declared.candidate.Candidate.{Candidate}
 use Rattle.spread_rules.specs.declared.candidate.Counterparty.{Counterparty}
 use Rattle.spread_rules.specs.declared.candidate.Counterparty.TheVariants.{Direct, Implied}
-use Rattle.spread_rules.specs.Candidates.{price_of, AllStandIn, least_left, least_candidate, counterparties, HasOrderPrice, Pairs}
-use Rattle.spread_rules.specs.Clearing.{Trading, next, turn, turns, begin, clear, after_fill, removed, reduced, with_less_left, members}
+use Rattle.spread_rules.specs.Candidates.{price_of, AllStandIn, least_left, least_candidate, counterparties, HasOrderPrice, Pairs, PlacesDiffer, IsBest}
+use Rattle.spread_rules.specs.Clearing.{Trading, next_candidate, turn, turns, begin, clear, after_fill, removed, reduced, with_less_left, members}
 use Rattle.spread_rules.proofs.ranks.LeastIsOne.{best_is_first}
 use Rattle.spread_rules.proofs.clearings.TurnsEnd.{enough, one_end, keeps_turns}
-use Rattle.spread_match.specs.Trade.{IsNearFirst, IsInMonths, PlacesDiffer, IsTradable}
-use Rattle.spread_match.specs.code.Best.{IsBest}
+use Rattle.spread_match.specs.Trade.{IsNearFirst, IsInMonths, IsTradable}
 use Rattle.spread_match.specs.code.Turns.{AreApart, HaveLeft}
 use Rattle.spread_match.proofs.turns.StaysAfterAFill.{still_there, still_differ}
 use Rattle.spread_match.proofs.turns.NotAgainstItself.{IsLike, fill_own, own_single, own_first, own_second}
@@ -98,7 +97,7 @@ module _ (on : Pairs) where
   next_by s r true e h f = absurd (grind (arith, nat_tests))
   next_by s r false e h f = sym f
 
-  pub next_is : (s : Trading) (r : Option Candidate) → 0 < s.new.leaves → PlacesDiffer s.orders → IsBest on s.new s.orders r → next on s ≡ r
+  pub next_is : (s : Trading) (r : Option Candidate) → 0 < s.new.leaves → PlacesDiffer s.orders → IsBest on s.new s.orders r → next_candidate on s ≡ r
   next_is s r h d b = next_by s r (s.new.leaves == 0) refl h (best_is_first on s.new s.orders r d b)
 
   pub like_own : (references : List ℤ) (k : ℕ) (own : Order) (rest : List Order) → IsLike on (turns on references k (begin own rest)).new own
@@ -110,12 +109,12 @@ module _ (on : Pairs) where
   fewer_differ own xs d = λ a b ca cb e. d a b (Contains-append_left xs (own ∷ []) a ca) (Contains-append_left xs (own ∷ []) b cb) e
 
   -- where there is no next, the clearing is done
-  pub cleared_at : (references : List ℤ) (k : ℕ) (own : Order) (rest : List Order) → next on (turns on references k (begin own rest)) ≡ None → turns on references k (begin own rest) ≡ clear on references own rest
+  pub cleared_at : (references : List ℤ) (k : ℕ) (own : Order) (rest : List Order) → next_candidate on (turns on references k (begin own rest)) ≡ None → turns on references k (begin own rest) ≡ clear on references own rest
   cleared_at references k own rest h = one_end on references k (length rest) (begin own rest) h (enough on references (length rest) (begin own rest) (omega arith))
 
   spent : (s : Trading) (b : Bool) → (s.new.leaves == 0) ≡ b → s.new.leaves ≤ 0 → cond b None (least_candidate on s.new (counterparties s.orders)) ≡ None
   spent s true e h = refl
   spent s false e h = absurd (grind (arith, nat_tests))
 
-  pub spent_next : (s : Trading) → s.new.leaves ≤ 0 → next on s ≡ None
+  pub spent_next : (s : Trading) → s.new.leaves ≤ 0 → next_candidate on s ≡ None
   spent_next s h = spent s (s.new.leaves == 0) refl h

@@ -1,12 +1,12 @@
 -- How the least candidate is found over the fronts of queues alone: what each step keeps.
 -- Words of the code alone.
-use Rattle.std.specs.Prelude.{◌≡◌, ℕ, ℤ, ◌<◌, false, List, Option, IfSome, IsSomeAnd, MatchOption}
+use Rattle.std.specs.Prelude.{◌≡◌, ℕ, ℤ, ◌<◌, false, List, Option, IfSome, IsSomeAnd}
 use Rattle.spread_rules.specs.declared.order.Side.{Side}
 use Rattle.spread_rules.specs.declared.order.Instrument.{Instrument}
 use Rattle.spread_rules.specs.declared.order.Order.{Order}
 use Rattle.spread_rules.specs.declared.candidate.Counterparty.TheVariants.{Direct, Implied}
 use Rattle.spread_rules.specs.declared.candidate.Candidate.{Candidate}
-use Rattle.spread_rules.specs.Candidates.{Pairs, HasLegPrice, is_before, IsEligible, IsLeast, month_of}
+use Rattle.spread_rules.specs.Candidates.{Pairs, HasLegPrice, is_before, IsEligible, month_of}
 use Rattle.spread_rules.specs.Quiet.{Rests}
 
 -- the best so far is an eligible candidate
@@ -63,10 +63,3 @@ CoversBelow trades_implied n xs months best =
     → IsEligible trades_implied n xs (record { price = price; counterparty = Implied a b })
     → month_of b.instrument < months
     → Beats n best (record { price = price; counterparty = Implied a b })
-
--- the least eligible candidate, and none only where there is none
-abbrev pub IsBest : Pairs → Order → List Order → Option Candidate → Type 0
-IsBest trades_implied n xs best =
-    MatchOption best
-    ((q : Candidate) → IsEligible trades_implied n xs q → ⊥)
-    (IsLeast trades_implied n xs)
