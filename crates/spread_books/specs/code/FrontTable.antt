@@ -5,17 +5,18 @@ use Rattle.spread_rules.specs.declared.order.Side.{Side}
 use Rattle.spread_rules.specs.declared.order.Instrument.{Instrument}
 use Rattle.spread_rules.specs.declared.order.Instrument.TheVariants.{Outright, Spread}
 use Rattle.spread_rules.specs.declared.order.Order.{Order}
+use Rattle.spread_books.specs.declared.front_table.TheConstants.{MONTHS}
 use Rattle.spread_books.specs.code.QueueKeys.{side_index}
 use Rattle.spread_books.specs.Queues.{IsFront}
 
--- the months 0 to 23 have slots
+-- the early months have slots
 abbrev pub has_slot : Instrument → Bool
-has_slot (Outright m) = nat_lt m 24
-has_slot (Spread i j) = nat_lt i 24 && nat_lt j 24
+has_slot (Outright m) = nat_lt m MONTHS
+has_slot (Spread i j) = nat_lt i MONTHS && nat_lt j MONTHS
 
 abbrev pub slot_number : Instrument → Side → ℕ
 slot_number (Outright m) side = m * 2 + side_index side
-slot_number (Spread i j) side = ((i + 1) * 24 + j) * 2 + side_index side
+slot_number (Spread i j) side = ((i + 1) * MONTHS + j) * 2 + side_index side
 
 abbrev pub slot_of : Instrument → Side → Option ℕ
 slot_of instrument side = if has_slot instrument then Some (slot_number instrument side) else None
