@@ -1,6 +1,6 @@
 //! Tests by subject, and what they share.
 ghost use Rattle.std.specs.Prelude.{◌≡◌, true};
-ghost use Rattle.spread_match.specs.State.{nothing_yet};
+ghost use Rattle.spread_match.specs.State.{empty_state};
 ghost use Rattle.spread_match.specs.Trade.{ArePriced, IsPriced};
 
 use host_base::{Id, NoMemory};
@@ -165,7 +165,7 @@ fn apply_all(
     market: &mut Market<'_, ListBook<Global>, Global>,
     journal: &[Entry],
 ) -> Result<Applied, NoMemory>
-    requires first { market.old.standing ≡ nothing_yet }
+    requires first { market.old.state ≡ empty_state }
     requires prices { ArePriced journal.now }
 {
     let mut fills = Vec::new(alloc);

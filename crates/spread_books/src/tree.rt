@@ -3,7 +3,7 @@ ghost use Rattle.std.specs.Prelude.{◌≡◌, ◌<◌, ◌^◌, ◌==◌, [], l
 ghost use Rattle.std.specs.List.{find};
 ghost use Rattle.spread_rules.specs.Clearing.{reduced, removed};
 ghost use Rattle.spread_books.specs.Queues.{HasMore, HasPlace};
-ghost use Rattle.spread_books.specs.Index.{Ascends};
+ghost use Rattle.spread_books.specs.code.Index.{Ascends};
 
 use crate::book::Book;
 use crate::first_from::first_from;
@@ -27,7 +27,7 @@ impl<A: Allocator + Copy> Model for TreeBook<A> {
     ghost use Rattle.std.specs.Prelude.{List};
     ghost use Rattle.std.specs.Map.{values_of};
     ghost use Rattle.spread_rules.specs.declared.order.Order.{Order};
-    ghost use Rattle.spread_books.specs.Index.{IsIndex};
+    ghost use Rattle.spread_books.specs.code.Index.{IsIndex};
 
     ghost Value = { List Order };
 
@@ -57,7 +57,7 @@ impl<A: Allocator + Copy> TreeBook<A> {
     }
 
     /// As `reduce`, and tells which order it was. Takes no memory.
-    pub(crate) fn lessen(&mut self, place: u64, by: u32) -> Option<Order>
+    pub(crate) fn reduce_order(&mut self, place: u64, by: u32) -> Option<Order>
         requires { HasMore self.old place by }
         ensures book { self.new ≡ reduced place by self.old }
         ensures was { result ≡ find (λ o. o.place == place) self.old }
@@ -72,7 +72,7 @@ impl<A: Allocator + Copy> TreeBook<A> {
     }
 
     /// As `remove`, and gives the order. Takes no memory.
-    pub(crate) fn take(&mut self, place: u64) -> Option<Order>
+    pub(crate) fn remove_order(&mut self, place: u64) -> Option<Order>
         requires { HasPlace self.old place }
         ensures book { self.new ≡ removed place self.old }
         ensures was { result ≡ find (λ o. o.place == place) self.old }
@@ -127,11 +127,11 @@ impl<A: Allocator + Copy> Book for TreeBook<A> {
     }
 
     fn reduce(&mut self, place: u64, by: u32) {
-        self.lessen(place, by);
+        self.reduce_order(place, by);
     }
 
     fn remove(&mut self, place: u64) {
-        self.take(place);
+        self.remove_order(place);
     }
 
     fn walk(&self, n: usize) -> Option<Order> {

@@ -1,5 +1,6 @@
 //! How each New entry so far stands, found by its session and id, and by its place.
 ghost use Rattle.std.specs.Prelude.{◌≡◌, ◌≢◌, ◌<◌, ◌≤◌, length, take, slice_get, slice_index_or, List, All, [], ◌++◌, ◌∷◌, map, OnOk, OnErr, IfSome, IfNone};
+ghost use Rattle.spread_rules.specs.declared.codes.ord_status.TheConstants.{REJECTED};
 ghost use Rattle.spread_rules.specs.declared.outcome.OrderStatus.{OrderStatus};
 ghost use Rattle.std.specs.Prelude.{ℕ, cond, is_some, Some, None, IfOk};
 ghost use Rattle.std.specs.List.{find};
@@ -9,9 +10,10 @@ ghost use Rattle.std.specs.BTreeMap.{get};
 ghost use Rattle.host_base.specs.declared.id_key.IdKey.{IdKey};
 ghost use Rattle.host_base.specs.IdKeys.{id_key_cmp};
 ghost use Rattle.spread_rules.specs.Meaning.{has_id};
-ghost use Rattle.spread_match.specs.Kept.{renewed_by, renewed, AreInOrder};
+ghost use Rattle.spread_match.specs.code.StateAfter.{status_after_fill, statuses_after, AreInOrder};
 
 use host_base::{Id, IdKey, NoMemory};
+use spread_rules::codes::ord_status;
 use spread_rules::{Fill, OrderStatus};
 use std::alloc::Allocator;
 use std::collections::BTreeMap;
@@ -30,14 +32,15 @@ impl<A: Allocator + Copy> Model for Statuses<A> {
     ghost use Rattle.spread_rules.specs.declared.outcome.OrderStatus.{OrderStatus};
     ghost use Rattle.std.specs.BTreeMap.{get};
     ghost use Rattle.host_base.specs.IdKeys.{id_key_cmp};
-    ghost use Rattle.spread_match.specs.Kept.{AreInOrder};
-    ghost use Rattle.spread_match.specs.Statuses.{IsIndex};
+    ghost use Rattle.spread_match.specs.code.StateAfter.{AreInOrder};
+    ghost use Rattle.spread_match.specs.code.Statuses.{IsIndex};
 
     ghost Value = { List OrderStatus };
 
     ghost view = { λ m. m.rows.items };
 
-    ghost invariant = { λ m. AreInOrder m.rows.items × IsIndex (get id_key_cmp m.first) m.rows.items };
+    ghost invariant = { λ m.
+        AreInOrder m.rows.items × IsIndex (get id_key_cmp m.first) m.rows.items };
 }
 
 /// Notes where a status stands, where its session and id have none yet. Answers whether they had one.
@@ -47,8 +50,12 @@ fn note_first<A: Allocator + Copy>(
     at: usize,
 ) -> Result<bool, NoMemory>
     ensures used { IfOk result (λ used. used ≡ is_some (get id_key_cmp first.old key)) }
-    ensures ok { OnOk result ((q : IdKey) → get id_key_cmp first.new q ≡ option_or (get id_key_cmp first.old q) (cond (is_eq (id_key_cmp key q)) (Some at) None)) }
-    ensures err { OnErr result ((q : IdKey) → get id_key_cmp first.new q ≡ get id_key_cmp first.old q) }
+    ensures ok { OnOk result ((q : IdKey)
+        → get id_key_cmp first.new q
+        ≡ option_or (get id_key_cmp first.old q)
+        (cond (is_eq (id_key_cmp key q)) (Some at) None)) }
+    ensures err { OnErr result ((q : IdKey)
+        → get id_key_cmp first.new q ≡ get id_key_cmp first.old q) }
 {
     if let Some(earlier) = first.insert(key, at)? {
         // A key that the table has takes no memory.
@@ -60,10 +67,14 @@ fn note_first<A: Allocator + Copy>(
 
 /// The status of an entry that is refused where its id was used.
 fn if_refused(status: OrderStatus, used: bool) -> OrderStatus
-    ensures { result ≡ record status { status = cond used 8 status.status } }
+    ensures { result ≡ record status { status = cond used REJECTED status.status } }
 {
     OrderStatus {
-        status: if used { 8 } else { status.status },
+        status: if used {
+            ord_status::REJECTED
+        } else {
+            status.status
+        },
         ..status
     }
 }
@@ -93,7 +104,8 @@ fn first_possible(statuses: &[OrderStatus], place: u64) -> usize
 fn place_in(statuses: &[OrderStatus], place: u64) -> Option<usize>
     requires { AreInOrder statuses.now }
     ensures within { IfSome result (λ i. i < length statuses.now) }
-    ensures at { (d : OrderStatus) → IfSome result (λ i. (slice_index_or statuses.now i d).place ≡ place) }
+    ensures at { (d : OrderStatus)
+        → IfSome result (λ i. (slice_index_or statuses.now i d).place ≡ place) }
     ensures none { IfNone result (All (λ s. s.place ≢ place) statuses.now) }
 {
     let from = first_possible(statuses, place);
@@ -104,15 +116,15 @@ fn place_in(statuses: &[OrderStatus], place: u64) -> Option<usize>
 }
 
 /// An order whose fill leaves nothing is filled.
-fn renew<A: Allocator + Copy>(statuses: &mut Vec<OrderStatus, A>, fill: &Fill)
+fn mark_filled<A: Allocator + Copy>(statuses: &mut Vec<OrderStatus, A>, fill: &Fill)
     requires { AreInOrder statuses.old.items }
-    ensures { statuses.new.items ≡ map (renewed_by fill.now) statuses.old.items }
+    ensures { statuses.new.items ≡ map (status_after_fill fill.now) statuses.old.items }
 {
     if fill.leaves > 0 {
         return;
     }
     if let Some(at) = place_in(statuses, fill.order) {
-        statuses[at].status = 2;
+        statuses[at].status = ord_status::FILLED;
     }
 }
 
@@ -135,11 +147,14 @@ impl<A: Allocator + Copy> Statuses<A> {
         status_at(&self.rows, *at)
     }
 
-    /// The status of one entry more, whose place is above all others. Where its session and id have one already, it is refused, and the answer is true.
+    /// The status of one entry more, whose place is above all others. Where its session and id have one already, it is
+    /// refused, and the answer is true.
     pub fn add(&mut self, status: OrderStatus) -> Result<bool, NoMemory>
         requires { All (λ s. s.place < status.place) self.old }
-        ensures used { IfOk result (λ used. used ≡ is_some (find (has_id status.session status.id) self.old)) }
-        ensures ok { IfOk result (λ used. self.new ≡ self.old ++ record status { status = cond used 8 status.status } ∷ []) }
+        ensures used { IfOk result (λ used.
+            used ≡ is_some (find (has_id status.session status.id) self.old)) }
+        ensures ok { IfOk result (λ used. self.new
+            ≡ self.old ++ record status { status = cond used REJECTED status.status } ∷ []) }
         ensures err { OnErr result (self.new ≡ self.old) }
     {
         self.rows.reserve(1)?;
@@ -150,11 +165,11 @@ impl<A: Allocator + Copy> Statuses<A> {
     }
 
     /// After these fills.
-    pub fn renew(&mut self, fills: &[Fill])
-        ensures { self.new ≡ renewed fills.now self.old }
+    pub fn mark_filled(&mut self, fills: &[Fill])
+        ensures { self.new ≡ statuses_after fills.now self.old }
     {
         for fill in fills {
-            renew(&mut self.rows, fill);
+            mark_filled(&mut self.rows, fill);
         }
     }
 }

@@ -22,8 +22,8 @@ fn apply_again<B: Allocator, A: Allocator + Copy>(
     fills: &mut Vec<Fill, A>,
 ) -> Result<Outcome, Fail>
     requires entry { IsPriced entry.now.event }
-    requires place { market.old.standing.last < place }
-    ensures last { OnOk result (market.new.standing.last ≡ place) }
+    requires place { market.old.state.last < place }
+    ensures last { OnOk result (market.new.state.last ≡ place) }
 {
     let refused_before = heap.has_refused();
     let resting = market.book().len();

@@ -14,7 +14,7 @@ use Rattle.spread_rules.specs.Quiet.{Rests}
 use Rattle.spread_rules.specs.Clearing.{reduced, removed, with_less_left}
 use Rattle.spread_rules.proofs.lists.Membership.{in_head, in_map, from_map}
 use Rattle.spread_books.specs.Queues.{IsFront, is_in, is_ahead, queue_cmp}
-use Rattle.spread_books.specs.Index.{Ascends}
+use Rattle.spread_books.specs.code.Index.{Ascends}
 use Rattle.spread_books.proofs.fronts.FoldGivesFront.{queue_total, in_queue, from_queue}
 use Rattle.spread_books.proofs.places.Ascending.{one_at_a_place}
 use Rattle.spread_books.proofs.keys.SetOfKeys.{is_so, from_removed, in_removed, less_left}
@@ -37,15 +37,15 @@ ahead_through side a b c h k = ap (λ (r : Ordering). is_lt r) ((queue_total sid
 pub front_of_others : (xs : List Order) (o : Order) (j : Instrument) (t : Side) (f : Option Order) → ((o.instrument ≡ j) × (o.side ≡ t) → ⊥) → IsFront xs j t f → IsFront (xs ++ o ∷ []) j t f
 front_of_others xs o j t None other h = λ p r.
     elim (Contains-push_cases xs o p r.stands) [
-      | inl c ↦ h p (record { stands = c; of = r.of; on = r.on })
-      | inr e ↦ other (subst (λ (q : Order). (q.instrument ≡ j) × (q.side ≡ t)) (sym e) (r.of, r.on))
+      | inl c ↦ h p (record { stands = c; instrument_is = r.instrument_is; side_is = r.side_is })
+      | inr e ↦ other (subst (λ (q : Order). (q.instrument ≡ j) × (q.side ≡ t)) (sym e) (r.instrument_is, r.side_is))
     ]
 front_of_others xs o j t (Some f) other h = (
-  record { stands = Contains-append_left xs (o ∷ []) f h.0.stands; of = h.0.of; on = h.0.on },
+  record { stands = Contains-append_left xs (o ∷ []) f h.0.stands; instrument_is = h.0.instrument_is; side_is = h.0.side_is },
   λ p r.
       elim (Contains-push_cases xs o p r.stands) [
-        | inl c ↦ h.1 p (record { stands = c; of = r.of; on = r.on })
-        | inr e ↦ absurd (other (subst (λ (q : Order). (q.instrument ≡ j) × (q.side ≡ t)) (sym e) (r.of, r.on)))
+        | inl c ↦ h.1 p (record { stands = c; instrument_is = r.instrument_is; side_is = r.side_is })
+        | inr e ↦ absurd (other (subst (λ (q : Order). (q.instrument ≡ j) × (q.side ≡ t)) (sym e) (r.instrument_is, r.side_is)))
       ],
 )
 
@@ -54,10 +54,10 @@ pub front_of_own : (xs : List Order) (o r : Order) (f : Option Order) → IsFron
 front_of_own xs o r None h e =
     let same : o ≡ r = cc in
     subst (λ (q : Order). IsFront (xs ++ o ∷ []) o.instrument o.side (Some q)) same (
-      record { stands = Contains-push xs o; of = refl; on = refl },
+      record { stands = Contains-push xs o; instrument_is = refl; side_is = refl },
       λ p k.
           elim (Contains-push_cases xs o p k.stands) [
-            | inl c ↦ absurd (h p (record { stands = c; of = k.of; on = k.on }))
+            | inl c ↦ absurd (h p (record { stands = c; instrument_is = k.instrument_is; side_is = k.side_is }))
             | inr d ↦ subst (λ (q : Order). is_ahead o.side q o ≡ false) d (not_ahead_itself o.side o)
           ],
     )
@@ -66,11 +66,11 @@ front_of_own xs o r (Some f) h e =
       | inl a ↦
           let same : o ≡ r = let g = rw a at e in cc in
           subst (λ (q : Order). IsFront (xs ++ o ∷ []) o.instrument o.side (Some q)) same (
-            record { stands = Contains-push xs o; of = refl; on = refl },
+            record { stands = Contains-push xs o; instrument_is = refl; side_is = refl },
             λ p k.
                 elim (Contains-push_cases xs o p k.stands) [
                   | inl c ↦ elim (is_so (is_ahead o.side p o)) [
-                    | inl b ↦ let x = ahead_through o.side p o f b a in let y = h.1 p (record { stands = c; of = k.of; on = k.on }) in cc
+                    | inl b ↦ let x = ahead_through o.side p o f b a in let y = h.1 p (record { stands = c; instrument_is = k.instrument_is; side_is = k.side_is }) in cc
                     | inr b ↦ b
                   ]
                   | inr d ↦ subst (λ (q : Order). is_ahead o.side q o ≡ false) d (not_ahead_itself o.side o)
@@ -79,10 +79,10 @@ front_of_own xs o r (Some f) h e =
       | inr a ↦
           let same : f ≡ r = let g = rw a at e in cc in
           subst (λ (q : Order). IsFront (xs ++ o ∷ []) o.instrument o.side (Some q)) same (
-            record { stands = Contains-append_left xs (o ∷ []) f h.0.stands; of = h.0.of; on = h.0.on },
+            record { stands = Contains-append_left xs (o ∷ []) f h.0.stands; instrument_is = h.0.instrument_is; side_is = h.0.side_is },
             λ p k.
                 elim (Contains-push_cases xs o p k.stands) [
-                  | inl c ↦ h.1 p (record { stands = c; of = k.of; on = k.on })
+                  | inl c ↦ h.1 p (record { stands = c; instrument_is = k.instrument_is; side_is = k.side_is })
                   | inr d ↦ subst (λ (q : Order). is_ahead o.side q f ≡ false) d a
                 ],
           )
@@ -98,7 +98,7 @@ front_of_queue xs o r j t f here h e =
 -- of a queue that it is tested not to be in
 pub front_of_no_queue : (xs : List Order) (o : Order) (j : Instrument) (t : Side) (f : Option Order) → is_in j t o ≡ false → IsFront xs j t f → IsFront (xs ++ o ∷ []) j t f
 front_of_no_queue xs o j t f other h =
-    front_of_others xs o j t f (λ e. let k = in_queue (o ∷ []) j t o (record { stands = in_head o []; of = e.0; on = e.1 }) in cc) h
+    front_of_others xs o j t f (λ e. let k = in_queue (o ∷ []) j t o (record { stands = in_head o []; instrument_is = e.0; side_is = e.1 }) in cc) h
 
 -- ---- one order less, or less of it, where another is the front
 
@@ -106,10 +106,10 @@ differs : (a b : ℕ) → (a ≡ b → ⊥) → (a == b) ≡ false
 differs a b h = elim (is_so (a == b)) [ inl k ↦ absurd (h (grind (arith, nat_tests))) | inr k ↦ k ]
 
 pub front_removed : (xs : List Order) (place : ℕ) (j : Instrument) (t : Side) (f : Option Order) → ((h : Order) → f ≡ Some h → h.place ≡ place → ⊥) → IsFront xs j t f → IsFront (removed place xs) j t f
-front_removed xs place j t None other h = λ p r. h p (record { stands = (from_removed place xs p r.stands).0; of = r.of; on = r.on })
+front_removed xs place j t None other h = λ p r. h p (record { stands = (from_removed place xs p r.stands).0; instrument_is = r.instrument_is; side_is = r.side_is })
 front_removed xs place j t (Some f) other h = (
-  record { stands = in_removed place xs f h.0.stands (differs f.place place (other f refl)); of = h.0.of; on = h.0.on },
-  λ p r. h.1 p (record { stands = (from_removed place xs p r.stands).0; of = r.of; on = r.on }),
+  record { stands = in_removed place xs f h.0.stands (differs f.place place (other f refl)); instrument_is = h.0.instrument_is; side_is = h.0.side_is },
+  λ p r. h.1 p (record { stands = (from_removed place xs p r.stands).0; instrument_is = r.instrument_is; side_is = r.side_is }),
 )
 
 rested : (xs : List Order) (place by : ℕ) (j : Instrument) (t : Side) (p : Order) → Rests (reduced place by xs) j t p → (q : Order) × Rests xs j t q × (with_less_left place by q ≡ p)
@@ -118,8 +118,8 @@ rested xs place by j t p r =
       m.0,
       record {
         stands = m.1;
-        of = sym (less_left (λ (o : Order). o.instrument) (λ o n. refl) place by m.0) ∙ ap (λ (o : Order). o.instrument) m.2 ∙ r.of;
-        on = sym (less_left (λ (o : Order). o.side) (λ o n. refl) place by m.0) ∙ ap (λ (o : Order). o.side) m.2 ∙ r.on;
+        instrument_is = sym (less_left (λ (o : Order). o.instrument) (λ o n. refl) place by m.0) ∙ ap (λ (o : Order). o.instrument) m.2 ∙ r.instrument_is;
+        side_is = sym (less_left (λ (o : Order). o.side) (λ o n. refl) place by m.0) ∙ ap (λ (o : Order). o.side) m.2 ∙ r.side_is;
       },
       m.2,
     )
@@ -129,8 +129,8 @@ pub front_less : (xs : List Order) (place by : ℕ) (j : Instrument) (t : Side) 
 front_less xs place by j t f h = (
   record {
     stands = in_map (with_less_left place by) xs f h.0.stands;
-    of = less_left (λ (o : Order). o.instrument) (λ o n. refl) place by f ∙ h.0.of;
-    on = less_left (λ (o : Order). o.side) (λ o n. refl) place by f ∙ h.0.on;
+    instrument_is = less_left (λ (o : Order). o.instrument) (λ o n. refl) place by f ∙ h.0.instrument_is;
+    side_is = less_left (λ (o : Order). o.side) (λ o n. refl) place by f ∙ h.0.side_is;
   },
   λ p r.
       let m = rested xs place by j t p r in
@@ -151,4 +151,4 @@ pub of_another : (xs : List Order) (o : Order) (j : Instrument) (t : Side) (f : 
 of_another xs o j t f up c other front h e same =
     let k = subst (λ (r : Option Order). IsFront xs j t r) e front in
     let one = one_at_a_place xs h o up k.0.stands c same in
-    other (subst (λ (q : Order). (q.instrument ≡ j) × (q.side ≡ t)) one (k.0.of, k.0.on))
+    other (subst (λ (q : Order). (q.instrument ≡ j) × (q.side ≡ t)) one (k.0.instrument_is, k.0.side_is))

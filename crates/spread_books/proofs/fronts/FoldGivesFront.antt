@@ -46,7 +46,7 @@ both true b h = (refl, h)
 both false b h = cc
 
 pub in_queue : (xs : List Order) (instrument : Instrument) (side : Side) (o : Order) → Rests xs instrument side o → is_in instrument side o ≡ true
-in_queue xs instrument side o r = rw (r.of, r.on, same_instrument_itself instrument) (same_side_itself side)
+in_queue xs instrument side o r = rw (r.instrument_is, r.side_is, same_instrument_itself instrument) (same_side_itself side)
 
 pub from_queue : (instrument : Instrument) (side : Side) (o : Order) → is_in instrument side o ≡ true → (o.instrument ≡ instrument) × (o.side ≡ side)
 from_queue instrument side o h =
@@ -66,7 +66,7 @@ front_from xs instrument side None h = λ o r. let none = h o r.stands in let so
 front_from xs instrument side (Some o) h =
     let g = given instrument side h.0.0 o (is_in instrument side h.0.0) refl h.0.2 in
     let q = from_queue instrument side h.0.0 g.0 in (
-      subst (Rests xs instrument side) g.1 (record { stands = h.0.1; of = q.0; on = q.1 }),
+      subst (Rests xs instrument side) g.1 (record { stands = h.0.1; instrument_is = q.0; side_is = q.1 }),
       λ p r. h.1 p p r.stands (gives instrument side p (in_queue xs instrument side p r)),
     )
 

@@ -12,8 +12,8 @@ use Rattle.spread_rules.specs.Clearing.{reduced, removed, with_less_left}
 use Rattle.spread_rules.proofs.lists.Membership.{not_in_nil, in_head, in_tail, in_cons_cases}
 use Rattle.spread_books.specs.Queues.{IsFront, is_ahead}
 use Rattle.spread_rules.specs.Legs.{is_side}
-use Rattle.spread_books.specs.Index.{Ascends}
-use Rattle.spread_books.specs.FrontTable.{has_slot, slot_number, slot_of, slot_in, put_in, held, with_held, HoldsFronts, may_be_at}
+use Rattle.spread_books.specs.code.Index.{Ascends}
+use Rattle.spread_books.specs.code.FrontTable.{has_slot, slot_number, slot_of, slot_in, put_in, known_front, with_known_front, HoldsFronts, may_be_at}
 use Rattle.spread_books.proofs.fronts.FoldGivesFront.{same_instrument_is, same_instrument_itself, same_side_is, same_side_itself}
 use Rattle.spread_books.proofs.places.Ascending.{one_at_a_place}
 use Rattle.spread_books.proofs.keys.SetOfKeys.{is_so}
@@ -96,23 +96,23 @@ same_queue i j s t =
 
 -- ---- a table whose fronts are those of the others, and of one queue
 
-module _ (ys : List Order) (slots : List (Option Order)) (i : Instrument) (s : Side) (others : (j : Instrument) (t : Side) (f : Option Order) → ((i ≡ j) × (s ≡ t) → ⊥) → held slots j t ≡ Some f → IsFront ys j t f) where
-  pub fronts_put : (f : Option Order) → IsFront ys i s f → HoldsFronts ys (with_held slots i s f)
+module _ (ys : List Order) (slots : List (Option Order)) (i : Instrument) (s : Side) (others : (j : Instrument) (t : Side) (f : Option Order) → ((i ≡ j) × (s ≡ t) → ⊥) → known_front slots j t ≡ Some f → IsFront ys j t f) where
+  pub fronts_put : (f : Option Order) → IsFront ys i s f → HoldsFronts ys (with_known_front slots i s f)
   fronts_put f front j t r h =
       elim (same_queue i j s t) [
         | inl e ↦
             let at = λ (u : Instrument) (v : Side). IsFront ys u v r in
-            let own : held (with_held slots i s f) i s ≡ Some r = subst (λ (v : Side). held (with_held slots i s f) i v ≡ Some r) (sym e.1) (subst (λ (u : Instrument). held (with_held slots i s f) u t ≡ Some r) (sym e.0) h) in
+            let own : known_front (with_known_front slots i s f) i s ≡ Some r = subst (λ (v : Side). known_front (with_known_front slots i s f) i v ≡ Some r) (sym e.1) (subst (λ (u : Instrument). known_front (with_known_front slots i s f) u t ≡ Some r) (sym e.0) h) in
             let k : r ≡ f = put_same_at slots (slot_of i s) f r own in
             subst (λ (u : Instrument). IsFront ys u t r) e.0 (subst (λ (v : Side). IsFront ys i v r) e.1 (subst (λ (g : Option Order). IsFront ys i s g) (sym k) front))
         | inr n ↦ others j t r n (sym (put_other_at slots (slot_of i s) (slot_of j t) f (λ m a b. n (slot_once i j s t m a b))) ∙ h)
       ]
 
-  pub fronts_kept : ((f : Option Order) → held slots i s ≡ Some f → IsFront ys i s f) → HoldsFronts ys slots
+  pub fronts_kept : ((f : Option Order) → known_front slots i s ≡ Some f → IsFront ys i s f) → HoldsFronts ys slots
   fronts_kept own j t r h =
       elim (same_queue i j s t) [
         | inl e ↦
-            let here : held slots i s ≡ Some r = subst (λ (v : Side). held slots i v ≡ Some r) (sym e.1) (subst (λ (u : Instrument). held slots u t ≡ Some r) (sym e.0) h) in
+            let here : known_front slots i s ≡ Some r = subst (λ (v : Side). known_front slots i v ≡ Some r) (sym e.1) (subst (λ (u : Instrument). known_front slots u t ≡ Some r) (sym e.0) h) in
             subst (λ (u : Instrument). IsFront ys u t r) e.0 (subst (λ (v : Side). IsFront ys i v r) e.1 (own r here))
         | inr n ↦ others j t r n h
       ]
@@ -144,11 +144,11 @@ empty_slots n j t f h = subst (λ (g : Option Order). IsFront [] j t g) (sym (no
 
 -- ---- one order more
 
-pub fronts_added : (xs : List Order) (slots : List (Option Order)) (o r : Order) (f : Option Order) → HoldsFronts xs slots → held slots o.instrument o.side ≡ Some f → Some r ≡ better_by (is_ahead o.side) f (Some o) → HoldsFronts (xs ++ o ∷ []) (with_held slots o.instrument o.side (Some r))
+pub fronts_added : (xs : List Order) (slots : List (Option Order)) (o r : Order) (f : Option Order) → HoldsFronts xs slots → known_front slots o.instrument o.side ≡ Some f → Some r ≡ better_by (is_ahead o.side) f (Some o) → HoldsFronts (xs ++ o ∷ []) (with_known_front slots o.instrument o.side (Some r))
 fronts_added xs slots o r f h e b =
     fronts_put (xs ++ o ∷ []) slots o.instrument o.side (λ j t g n k. front_of_others xs o j t g n (h j t g k)) (Some r) (front_of_own xs o r f (h o.instrument o.side f e) b)
 
-pub fronts_unadded : (xs : List Order) (slots : List (Option Order)) (o : Order) → HoldsFronts xs slots → held slots o.instrument o.side ≡ None → HoldsFronts (xs ++ o ∷ []) slots
+pub fronts_unadded : (xs : List Order) (slots : List (Option Order)) (o : Order) → HoldsFronts xs slots → known_front slots o.instrument o.side ≡ None → HoldsFronts (xs ++ o ∷ []) slots
 fronts_unadded xs slots o h e =
     fronts_kept (xs ++ o ∷ []) slots o.instrument o.side (λ j t g n k. front_of_others xs o j t g n (h j t g k)) (λ f k. cc)
 
@@ -185,33 +185,33 @@ apart None place t h e k = cc
 apart (Some g) place t h e k = let same : g.place ≡ place = ap (λ (p : Order). p.place) (let s : g ≡ h = cc in s) ∙ k in let n : (g.place == place) ≡ true = grind (arith, nat_tests) in cc
 
 module _ (xs : List Order) (slots : List (Option Order)) (o : Order) (h : HoldsFronts xs slots) (up : Ascends xs) (c : Contains xs o) where
-  others_removed : (j : Instrument) (t : Side) (f : Option Order) → ((o.instrument ≡ j) × (o.side ≡ t) → ⊥) → held slots j t ≡ Some f → IsFront (removed o.place xs) j t f
+  others_removed : (j : Instrument) (t : Side) (f : Option Order) → ((o.instrument ≡ j) × (o.side ≡ t) → ⊥) → known_front slots j t ≡ Some f → IsFront (removed o.place xs) j t f
   others_removed j t f n k = front_removed xs o.place j t f (of_another xs o j t f up c n (h j t f k)) (h j t f k)
 
-  pub fronts_removed : (f : Option Order) → IsFront (removed o.place xs) o.instrument o.side f → HoldsFronts (removed o.place xs) (with_held slots o.instrument o.side f)
+  pub fronts_removed : (f : Option Order) → IsFront (removed o.place xs) o.instrument o.side f → HoldsFronts (removed o.place xs) (with_known_front slots o.instrument o.side f)
   fronts_removed f front = fronts_put (removed o.place xs) slots o.instrument o.side others_removed f front
 
-  pub fronts_unremoved : ((f : Option Order) → held slots o.instrument o.side ≡ Some f → may_be_at f o.place ≡ false) → HoldsFronts (removed o.place xs) slots
+  pub fronts_unremoved : ((f : Option Order) → known_front slots o.instrument o.side ≡ Some f → may_be_at f o.place ≡ false) → HoldsFronts (removed o.place xs) slots
   fronts_unremoved other = fronts_kept (removed o.place xs) slots o.instrument o.side others_removed (λ f k. front_removed xs o.place o.instrument o.side f (apart f o.place (other f k)) (h o.instrument o.side f k))
 
   -- ---- less of one order
 
-  others_reduced : (by : ℕ) (j : Instrument) (t : Side) (f : Option Order) → ((o.instrument ≡ j) × (o.side ≡ t) → ⊥) → held slots j t ≡ Some f → IsFront (reduced o.place by xs) j t f
+  others_reduced : (by : ℕ) (j : Instrument) (t : Side) (f : Option Order) → ((o.instrument ≡ j) × (o.side ≡ t) → ⊥) → known_front slots j t ≡ Some f → IsFront (reduced o.place by xs) j t f
   others_reduced by j t f n k = front_reduced xs o.place by j t f (of_another xs o j t f up c n (h j t f k)) (h j t f k)
 
-  own_front : (f : Option Order) → held slots o.instrument o.side ≡ Some f → may_be_at f o.place ≡ true → IsFront xs o.instrument o.side (Some o)
-  own_front None k m = absurd (h o.instrument o.side None k o (record { stands = c; of = refl; on = refl }))
+  own_front : (f : Option Order) → known_front slots o.instrument o.side ≡ Some f → may_be_at f o.place ≡ true → IsFront xs o.instrument o.side (Some o)
+  own_front None k m = absurd (h o.instrument o.side None k o (record { stands = c; instrument_is = refl; side_is = refl }))
   own_front (Some g) k m =
       let front = h o.instrument o.side (Some g) k in
       let same = one_at_a_place xs g o up front.0.stands c (grind (arith, nat_tests)) in
       subst (λ (p : Order). IsFront xs o.instrument o.side (Some p)) same front
 
-  pub fronts_reduced : (by : ℕ) (f : Option Order) → held slots o.instrument o.side ≡ Some f → may_be_at f o.place ≡ true → HoldsFronts (reduced o.place by xs) (with_held slots o.instrument o.side (Some (record o { leaves = o.leaves - by })))
+  pub fronts_reduced : (by : ℕ) (f : Option Order) → known_front slots o.instrument o.side ≡ Some f → may_be_at f o.place ≡ true → HoldsFronts (reduced o.place by xs) (with_known_front slots o.instrument o.side (Some (record o { leaves = o.leaves - by })))
   fronts_reduced by f k m =
       let t : (o.place == o.place) ≡ true = grind (arith, nat_tests) in
       let left : with_less_left o.place by o ≡ record o { leaves = o.leaves - by } = rw t in
       fronts_put (reduced o.place by xs) slots o.instrument o.side (others_reduced by) (Some (record o { leaves = o.leaves - by }))
       (subst (λ (p : Order). IsFront (reduced o.place by xs) o.instrument o.side (Some p)) left (front_less xs o.place by o.instrument o.side o (own_front f k m)))
 
-  pub fronts_unreduced : (by : ℕ) → ((f : Option Order) → held slots o.instrument o.side ≡ Some f → may_be_at f o.place ≡ false) → HoldsFronts (reduced o.place by xs) slots
+  pub fronts_unreduced : (by : ℕ) → ((f : Option Order) → known_front slots o.instrument o.side ≡ Some f → may_be_at f o.place ≡ false) → HoldsFronts (reduced o.place by xs) slots
   fronts_unreduced by other = fronts_kept (reduced o.place by xs) slots o.instrument o.side (others_reduced by) (λ f k. front_reduced xs o.place by o.instrument o.side f (apart f o.place (other f k)) (h o.instrument o.side f k))

@@ -11,9 +11,9 @@ use Rattle.spread_rules.specs.declared.order.Order.{Order}
 use Rattle.spread_rules.specs.Quiet.{Rests}
 use Rattle.spread_books.specs.declared.queue_key.QueueKey.{QueueKey}
 use Rattle.spread_books.specs.Queues.{IsFront, queue_cmp}
-use Rattle.spread_books.specs.QueueKeys.{queue_key, queue_start, queue_number, HasMonths, IsInRange}
-use Rattle.spread_books.specs.Firsts.{IsFirstFrom}
-use Rattle.spread_books.specs.Index.{queue_key_cmp, HasKeys, IsKept}
+use Rattle.spread_books.specs.code.QueueKeys.{queue_key, queue_start, queue_number, HasMonths, IsInRange}
+use Rattle.spread_books.specs.code.Firsts.{IsFirstFrom}
+use Rattle.spread_books.specs.code.Index.{queue_key_cmp, HasKeys, IsKept}
 use Rattle.spread_books.proofs.fronts.FoldGivesFront.{queue_total}
 use Rattle.spread_books.proofs.keys.SetOfKeys.{has_key, key_of_some}
 use Rattle.spread_books.proofs.keys.TotalOrders.{queue_key_total, queue_key_exact, queue_is, queue_le, from_start, same_queue_cmp}
@@ -25,11 +25,11 @@ not_ahead a Greater e h = cc
 
 start_below : (xs : List Order) (instrument : Instrument) (side : Side) (o : Order) → Rests xs instrument side o → IsInRange o → IsLeBy queue_key_cmp (queue_start instrument side) (queue_key o)
 start_below xs instrument side o r k =
-    subst (λ (x : Instrument). IsLeBy queue_key_cmp (queue_start x side) (queue_key o)) r.of
-    (subst (λ (s : Side). IsLeBy queue_key_cmp (queue_start o.instrument s) (queue_key o)) r.on (from_start o k))
+    subst (λ (x : Instrument). IsLeBy queue_key_cmp (queue_start x side) (queue_key o)) r.instrument_is
+    (subst (λ (s : Side). IsLeBy queue_key_cmp (queue_start o.instrument s) (queue_key o)) r.side_is (from_start o k))
 
 number_of : (xs : List Order) (instrument : Instrument) (side : Side) (o : Order) → Rests xs instrument side o → queue_number o.instrument o.side ≡ queue_number instrument side
-number_of xs instrument side o r = ap (λ (x : Instrument). queue_number x o.side) r.of ∙ ap (λ (s : Side). queue_number instrument s) r.on
+number_of xs instrument side o r = ap (λ (x : Instrument). queue_number x o.side) r.instrument_is ∙ ap (λ (s : Side). queue_number instrument s) r.side_is
 
 module _ (xs : List Order) (s : BTreeSet QueueKey) (kept : (o : Order) → Contains xs o → IsKept o) (keys : HasKeys queue_key_cmp queue_key s xs) (instrument : Instrument) (side : Side) where
   pub no_key : IsFirstFrom queue_key_cmp s (queue_start instrument side) None → IsFront xs instrument side None
@@ -54,12 +54,12 @@ module _ (xs : List Order) (s : BTreeSet QueueKey) (kept : (o : Order) → Conta
         o,
         found.2,
         (
-          record { stands = found.1; of = at.0; on = at.1 },
+          record { stands = found.1; instrument_is = at.0; side_is = at.1 },
           λ p r.
               let here = has_key queue_key_cmp queue_key_total queue_key_exact queue_key s xs p keys r.stands in
               let le = first.2 (queue_key p) (start_below xs instrument side p r (kept p r.stands).in_range) here in
               let gt : is_gt (queue_key_cmp (queue_key o) (queue_key p)) ≡ false = subst (λ (x : QueueKey). is_gt (queue_key_cmp x (queue_key p)) ≡ false) (sym found.2) le in
-              let cmp = same_queue_cmp instrument side o p at.0 at.1 r.of r.on in
+              let cmp = same_queue_cmp instrument side o p at.0 at.1 r.instrument_is r.side_is in
               not_ahead (queue_cmp side p o) (queue_cmp side o p) ((queue_total side).antisymm p o) (subst (λ (t : Ordering). is_gt t ≡ false) cmp gt),
         ),
       )

@@ -17,9 +17,9 @@ use Rattle.host_base.specs.IdKeys.{key_of, IsIdBytes, id_key_cmp}
 use Rattle.spread_rules.specs.Meaning.{is_own}
 use Rattle.host_base.proofs.IdKeyOnce.{one_key}
 use Rattle.spread_books.specs.declared.own_key.OwnKey.{OwnKey}
-use Rattle.spread_books.specs.OwnKeys.{own_key, own_start}
-use Rattle.spread_books.specs.Firsts.{IsFirstFrom}
-use Rattle.spread_books.specs.Index.{Ascends, own_key_cmp, HasKeys, IsKept}
+use Rattle.spread_books.specs.code.OwnKeys.{own_key, own_start}
+use Rattle.spread_books.specs.code.Firsts.{IsFirstFrom}
+use Rattle.spread_books.specs.code.Index.{Ascends, own_key_cmp, HasKeys, IsKept}
 use Rattle.spread_books.proofs.places.Ascending.{find_none, find_first}
 use Rattle.spread_books.proofs.keys.SetOfKeys.{has_key, key_of_some, is_so}
 use Rattle.spread_books.proofs.keys.TotalOrders.{id_key_total, id_key_exact, own_key_total, own_key_exact}

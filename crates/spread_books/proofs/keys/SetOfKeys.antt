@@ -14,7 +14,7 @@ use Rattle.std.proofs.lemmas.List.Elements.{All-contains}
 use Rattle.spread_rules.specs.declared.order.Order.{Order}
 use Rattle.spread_rules.specs.Clearing.{reduced, removed, with_less_left}
 use Rattle.spread_rules.proofs.lists.Membership.{not_in_nil, in_head, in_tail, in_cons_cases}
-use Rattle.spread_books.specs.Index.{Ascends, HasKeys}
+use Rattle.spread_books.specs.code.Index.{Ascends, HasKeys}
 use Rattle.spread_books.proofs.places.Ascending.{one_at_a_place}
 
 pub is_so : (b : Bool) → (b ≡ true) ⊎ (b ≡ false)

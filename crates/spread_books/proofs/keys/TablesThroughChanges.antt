@@ -14,9 +14,9 @@ use Rattle.spread_rules.proofs.lists.Membership.{not_in_nil, in_cons_cases, from
 use Rattle.spread_books.specs.declared.queue_key.QueueKey.{QueueKey}
 use Rattle.spread_books.specs.declared.own_key.OwnKey.{OwnKey}
 use Rattle.spread_books.specs.Queues.{HasMore}
-use Rattle.spread_books.specs.QueueKeys.{queue_key}
-use Rattle.spread_books.specs.OwnKeys.{own_key}
-use Rattle.spread_books.specs.Index.{Ascends, queue_key_cmp, own_key_cmp, by_place, IsKept, IsIndexOf, IsIndex}
+use Rattle.spread_books.specs.code.QueueKeys.{queue_key}
+use Rattle.spread_books.specs.code.OwnKeys.{own_key}
+use Rattle.spread_books.specs.code.Index.{Ascends, queue_key_cmp, own_key_cmp, by_place, IsKept, IsIndexOf, IsIndex}
 use Rattle.spread_books.proofs.places.Ascending.{lookup_is_find, values_by_place, keys_by_place, found_at, from_found, insert_last, remove_at, set_at}
 use Rattle.spread_books.proofs.keys.SetOfKeys.{keys_added, keys_removed, keys_reduced, from_removed}
 use Rattle.spread_books.proofs.keys.TotalOrders.{queue_key_total, queue_key_exact, own_key_total, own_key_exact}

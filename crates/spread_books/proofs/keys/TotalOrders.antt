@@ -21,9 +21,9 @@ use Rattle.spread_books.specs.declared.queue_key.QueueKey.{QueueKey}
 use Rattle.spread_books.specs.declared.own_key.OwnKey.{OwnKey}
 use Rattle.spread_books.specs.Queues.{queue_cmp}
 use Rattle.spread_rules.specs.Legs.{other_side}
-use Rattle.spread_books.specs.QueueKeys.{queue_number, queue_cost, queue_key, queue_start, HasMonths, IsInRange}
+use Rattle.spread_books.specs.code.QueueKeys.{queue_number, queue_cost, queue_key, queue_start, HasMonths, IsInRange}
 use Rattle.host_base.specs.IdKeys.{id_key_cmp}
-use Rattle.spread_books.specs.Index.{queue_key_cmp, own_key_cmp}
+use Rattle.spread_books.specs.code.Index.{queue_key_cmp, own_key_cmp}
 
 pub queue_key_total : IsTotalOrder queue_key_cmp
 queue_key_total = then_total (on_total (λ (k : QueueKey). k.queue) nat_cmp_total) (then_total (on_total (λ (k : QueueKey). k.cost) int_cmp_total) (on_total (λ (k : QueueKey). k.place) nat_cmp_total))

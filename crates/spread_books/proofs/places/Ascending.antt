@@ -12,7 +12,7 @@ use Rattle.std.proofs.lemmas.List.Elements.{All-from_recursion, All-contains, Al
 use Rattle.spread_rules.specs.declared.order.Order.{Order}
 use Rattle.spread_rules.specs.Clearing.{reduced, removed}
 use Rattle.spread_rules.proofs.lists.Membership.{not_in_nil, in_head, in_tail, in_cons_cases, in_map}
-use Rattle.spread_books.specs.Index.{by_place, Ascends}
+use Rattle.spread_books.specs.code.Index.{by_place, Ascends}
 
 abbrev pub places : List Order → List ℕ
 places xs = map (λ o. o.place) xs

@@ -13,7 +13,7 @@ use Rattle.spread_rules.specs.declared.order.Order.{Order}
 use Rattle.spread_rules.specs.Clearing.{reduced, removed, with_less_left}
 use Rattle.spread_rules.proofs.lists.Membership.{not_in_nil, in_head, in_tail, in_cons_cases}
 use Rattle.spread_books.specs.Queues.{HasMore, HasPlace}
-use Rattle.spread_books.specs.Index.{Ascends}
+use Rattle.spread_books.specs.code.Index.{Ascends}
 use Rattle.spread_books.proofs.places.Ascending.{places, cmp_below, behind_first, others_ascend, find_none}
 use Rattle.spread_books.proofs.keys.SetOfKeys.{is_so, from_removed, keys_reduced}
 

@@ -8,19 +8,19 @@ use Rattle.spread_rules.specs.declared.order.Instrument.{Instrument}
 use Rattle.spread_rules.specs.declared.order.Instrument.TheVariants.{Outright, Spread}
 use Rattle.spread_rules.specs.Rulebook.{Rules, month_count, instruments_of, IsListed, symbol_of, find_symbol, references_of, IsRules, IsMonth}
 use Rattle.spread_rules.proofs.rulebook_texts.SymbolsNameOne.{from_instruments}
-use Rattle.spread_match.specs.Best.{in_months, is_ordered}
+use Rattle.spread_match.specs.Trade.{IsInMonths, IsNearBeforeFar}
 use Rattle.spread_match.proofs.entries.FoundStands.{find_stands}
 
 pub listed_found : (rules : Rules) (symbol : List ℕ) (i : Instrument) → find_symbol rules symbol ≡ Some i → IsListed rules i
 listed_found rules symbol i e = from_instruments rules i (find_stands (λ (x : Instrument). bytes_eq (symbol_of rules x) symbol) (instruments_of rules) i e)
 
-pub near_of : (rules : Rules) (i : Instrument) → IsListed rules i → is_ordered i
+pub near_of : (rules : Rules) (i : Instrument) → IsListed rules i → IsNearBeforeFar i
 near_of rules (Outright m) l = tt
 near_of rules (Spread k m) l = l.0
 
-pub months_of : (rules : Rules) (i : Instrument) → IsListed rules i → in_months (month_count rules) i
+pub months_of : (rules : Rules) (i : Instrument) → IsListed rules i → IsInMonths (month_count rules) i
 months_of rules (Outright m) l = l
 months_of rules (Spread k m) l = l.1
 
 pub small_references : (rules : Rules) → IsRules rules → All IsOrderPrice (references_of rules)
-small_references rules r = All-map IsOrderPrice (λ (m : Month). m.reference) rules.months (All-weaker (IsMonth rules.tick) (λ (m : Month). IsOrderPrice m.reference) (λ m k. record { low = k.low; high = k.high }) rules.months r.months)
+small_references rules r = All-map IsOrderPrice (λ (m : Month). m.reference) rules.months (All-weaker (IsMonth rules.tick) (λ (m : Month). IsOrderPrice m.reference) (λ m k. k.reference.price) rules.months r.months)

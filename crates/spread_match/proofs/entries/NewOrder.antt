@@ -4,20 +4,20 @@ use Rattle.std.proofs.lemmas.Bool.Decides.{nat_tests}
 use Rattle.std.proofs.lemmas.List.Elements.{All-contains, Contains-get_or, Contains-push_cases, filter-append}
 use Rattle.spread_rules.specs.declared.order.Order.{Order}
 use Rattle.spread_rules.specs.declared.candidate.Candidate.{Candidate}
-use Rattle.spread_rules.specs.Candidates.{least_left, HasOrderPrice, Pairs}
-use Rattle.spread_rules.specs.Clearing.{Trading, next, turn, turns, traded, begin, clear, removed, reduced, with_less_left}
+use Rattle.spread_rules.specs.Candidates.{least_left, HasOrderPrice, Pairs, PlacesDiffer}
+use Rattle.spread_rules.specs.Clearing.{Trading, next_candidate, turn, turns, after_match, begin, clear, removed, reduced, with_less_left}
 use Rattle.spread_rules.proofs.lists.Membership.{in_head, in_tail}
 use Rattle.spread_rules.proofs.clearings.TurnsEnd.{keeps_turns}
-use Rattle.spread_match.specs.Best.{IsNearFirst, in_months}
-use Rattle.spread_match.specs.Trade.{PlacesDiffer, IsTradable, IsNewest}
+use Rattle.spread_match.specs.Trade.{IsNearFirst, IsInMonths, IsTradable}
+use Rattle.spread_match.specs.code.StateAfter.{orders_after_trading}
+use Rattle.spread_match.specs.code.Turns.{IsNewest}
 use Rattle.spread_rules.specs.declared.order.Instrument.{Instrument}
 use Rattle.spread_rules.specs.declared.outcome.OrderStatus.{OrderStatus}
 use Rattle.spread_rules.specs.declared.event.Ticket.{Ticket}
 use Rattle.spread_rules.specs.declared.outcome.Outcome.TheVariants.{Rested, Filled, Ended}
-use Rattle.spread_match.specs.Kept.{settled}
 use Rattle.spread_match.proofs.turns.NotAgainstItself.{map_push}
 use Rattle.spread_match.proofs.turns.StaysTradable.{members_all}
-use Rattle.spread_rules.specs.Meaning.{is_refused, judged, judged_by, outcome_of, resting}
+use Rattle.spread_rules.specs.Meaning.{is_refused, refusal_or_instrument, outcome_of, resting}
 use Rattle.spread_rules.specs.Rulebook.{Rules, find_symbol}
 
 module _ (on : Pairs) where
@@ -74,32 +74,32 @@ module _ (on : Pairs) where
     ]
   ]
 
-  pub tradable_more : (months : ℕ) (xs : List Order) (own : Order) → IsTradable months xs → All (λ o. o.place < own.place) xs → HasOrderPrice own → IsNearFirst own → in_months months own.instrument → 0 < own.leaves → IsTradable months (xs ++ own ∷ [])
+  pub tradable_more : (months : ℕ) (xs : List Order) (own : Order) → IsTradable months xs → All (λ o. o.place < own.place) xs → HasOrderPrice own → IsNearFirst own → IsInMonths months own.instrument → 0 < own.leaves → IsTradable months (xs ++ own ∷ [])
   tradable_more months xs own t h small listed within left = record {
     small = push_all HasOrderPrice xs own t.small small;
     listed = push_all IsNearFirst xs own t.listed listed;
-    within = push_all (λ (o : Order). in_months months o.instrument) xs own t.within within;
+    within = push_all (λ (o : Order). IsInMonths months o.instrument) xs own t.within within;
     places = push_differ xs own t.places h;
     left = push_all (λ (o : Order). 0 < o.leaves) xs own t.left left;
   }
 
   -- ---- what turns keep of the orders
 
-  pub traded_all : (P : Order → Type 0) → ((o : Order) (k : ℕ) → P o → P (record o { leaves = k })) → (references : List ℤ) (s : Trading) (o : Option Candidate) → All P s.orders → All P (traded references s o).orders
+  pub traded_all : (P : Order → Type 0) → ((o : Order) (k : ℕ) → P o → P (record o { leaves = k })) → (references : List ℤ) (s : Trading) (o : Option Candidate) → All P s.orders → All P (after_match references s o).orders
   traded_all P keep references s None h = h
   traded_all P keep references s (Some o) h = members_all on P keep (least_left s.new o.counterparty) s.orders o.counterparty h
 
   pub turns_all : (P : Order → Type 0) → ((o : Order) (k : ℕ) → P o → P (record o { leaves = k })) → (references : List ℤ) (k : ℕ) (s : Trading) → All P s.orders → All P (turns on references k s).orders
   turns_all P keep references zero s h = h
-  turns_all P keep references (suc k) s h = turns_all P keep references k (turn on references s) (traded_all P keep references s (next on s) h)
+  turns_all P keep references (suc k) s h = turns_all P keep references k (turn on references s) (traded_all P keep references s (next_candidate on s) h)
 
-  traded_most : (references : List ℤ) (s : Trading) (o : Option Candidate) → (traded references s o).new.leaves ≤ s.new.leaves
+  traded_most : (references : List ℤ) (s : Trading) (o : Option Candidate) → (after_match references s o).new.leaves ≤ s.new.leaves
   traded_most references s None = omega arith
   traded_most references s (Some o) = omega arith
 
   pub turns_most : (references : List ℤ) (k : ℕ) (s : Trading) → (turns on references k s).new.leaves ≤ s.new.leaves
   turns_most references zero s = omega arith
-  turns_most references (suc k) s = let a = turns_most references k (turn on references s) in let b = traded_most references s (next on s) in omega arith
+  turns_most references (suc k) s = let a = turns_most references k (turn on references s) in let b = traded_most references s (next_candidate on s) in omega arith
 
   -- ---- what the book does at the end
 
@@ -116,7 +116,7 @@ module _ (on : Pairs) where
       reduced_newest own (own.leaves - t.new.leaves) t.orders h ∙ ap (λ (o : Order). t.orders ++ o ∷ []) same
 
   pub settled_is : (references : List ℤ) (immediate : Bool) (own : Order) (xs : List Order) → All (λ o. o.place < own.place) xs →
-      settled immediate own (clear on references own xs).new.leaves ((clear on references own xs).orders ++ own ∷ []) ≡ resting immediate (clear on references own xs)
+      orders_after_trading immediate own (clear on references own xs).new.leaves ((clear on references own xs).orders ++ own ∷ []) ≡ resting immediate (clear on references own xs)
   settled_is references immediate own xs h =
       settled_at immediate own (clear on references own xs) ((clear on references own xs).new.leaves == 0 || immediate) ((clear on references own xs).new.leaves == own.leaves) refl
       (turns_all (λ (o : Order). o.place < own.place) (λ o k l. l) references (length xs) (begin own xs) h)
@@ -178,10 +178,10 @@ module _ (on : Pairs) where
   taken_at rules t i j true b e h = cc
   taken_at rules t i j false b e h = (some_quantity t.quantity (nat_lt 999999 t.quantity) e, most_quantity t.quantity (t.quantity == 0) e, price_ok i j b h)
 
-  taken_by : (rules : Rules) (t : Ticket) (r : Option Instrument) (j : Instrument) → judged_by rules t r ≡ Ok j → (r ≡ Some j) × (0 < t.quantity) × (t.quantity ≤ 999999)
+  taken_by : (rules : Rules) (t : Ticket) (r : Option Instrument) (j : Instrument) → refusal_or_instrument rules t None r ≡ Ok j → (r ≡ Some j) × (0 < t.quantity) × (t.quantity ≤ 999999)
   taken_by rules t None j h = cc
   taken_by rules t (Some i) j h = let k = taken_at rules t i j (t.quantity == 0 || nat_lt 999999 t.quantity) _ refl h in (ap (λ (x : Instrument). Some x) k.2, k.0, k.1)
 
-  pub taken_is : (rules : Rules) (t : Ticket) (earlier : Option OrderStatus) (j : Instrument) → judged rules t earlier ≡ Ok j → IsTaken rules t j
+  pub taken_is : (rules : Rules) (t : Ticket) (earlier : Option OrderStatus) (j : Instrument) → refusal_or_instrument rules t earlier (find_symbol rules t.symbol) ≡ Ok j → IsTaken rules t j
   taken_is rules t (Some s) j h = cc
   taken_is rules t None j h = let k = taken_by rules t (find_symbol rules t.symbol) j h in record { names = k.0; some = k.1; most = k.2 }

@@ -17,22 +17,21 @@ use Rattle.spread_rules.specs.declared.event.Event.{Event}
 use Rattle.spread_rules.specs.declared.event.Event.TheVariants.{Logon, New, Cancel, TestReply, Gap, Resend, Reject, Close}
 use Rattle.spread_rules.specs.declared.outcome.Outcome.{Outcome}
 use Rattle.spread_rules.specs.declared.outcome.Outcome.TheVariants.{Refused, Session}
-use Rattle.spread_match.specs.Best.{IsNearFirst, in_months, is_ordered}
-use Rattle.spread_match.specs.Trade.{IsTradable, IsPriced}
-use Rattle.spread_match.specs.Kept.{renewed, first_status, kept_meaning, kept_after}
-use Rattle.spread_match.specs.Sound.{IsSound, IsCounted, IsEntered, KeepsLimit, Reads, IsWorked}
+use Rattle.spread_match.specs.Trade.{IsNearFirst, IsInMonths, IsNearBeforeFar, IsTradable, IsPriced}
+use Rattle.spread_match.specs.code.StateAfter.{statuses_after, first_status, meaning_in, state_after}
+use Rattle.spread_match.specs.Sound.{IsSound, IsCounted, IsEntered, KeepsLimit, IsStateOf, IsEntryApplied}
 use Rattle.spread_match.proofs.status_rows.FillsAndStatuses.{IsRunning, running}
 use Rattle.spread_match.proofs.entries.NamedInstrument.{listed_found, near_of, months_of}
 use Rattle.spread_rules.specs.Prices.{IsOrderPrice}
 use Rattle.spread_match.proofs.entries.NewOrder.{tradable_more, turns_all, not_refused, taken_is, below_new}
-use Rattle.spread_rules.specs.Meaning.{EntryMeaning, JournalState, PastNew, cancelled, cleared, entered_as, filled, has_id, is_own, is_refused, judged, meaning_of, meaning_with, only, order_of, outcome_of, resting, status_at, status_of, statuses_of, with_meaning, new_of}
-use Rattle.spread_rules.specs.Rulebook.{Rules, month_count, references_of}
-use Rattle.spread_match.specs.State.{Standing}
+use Rattle.spread_rules.specs.Meaning.{EntryMeaning, JournalState, PastNew, cancel_means, clearing_means, new_order_means, filled, has_id, is_own, is_refused, refusal_or_instrument, meaning_of, meaning_with, unchanged_with, order_of, outcome_of, resting, status_at, status_of, statuses_of, with_meaning, new_of}
+use Rattle.spread_rules.specs.Rulebook.{Rules, month_count, references_of, find_symbol}
+use Rattle.spread_match.specs.State.{MarketState}
 
 -- the past after an entry of that meaning, and what is kept of it
 pub record IsKept (months : ℕ) (past : JournalState) (place : ℕ) (e : Entry) (m : EntryMeaning) : Type 0 where
   pub sound : IsSound months (with_meaning past place e m) place
-  pub statuses : statuses_of (with_meaning past place e m) ≡ renewed m.fills (statuses_of past ++ first_status place e.session m.outcome e.event)
+  pub statuses : statuses_of (with_meaning past place e m) ≡ statuses_after m.fills (statuses_of past ++ first_status place e.session m.outcome e.event)
 
 pub later_all : (xs : List Order) (last place : ℕ) → last < place → All (λ o. o.place ≤ last) xs → All (λ o. o.place ≤ place) xs
 later_all xs last place l h = λ k d lt. let a = h k d lt in omega arith
@@ -75,7 +74,7 @@ removed_tradable months place xs t =
     record {
       small = All-filter p HasOrderPrice xs t.small;
       listed = All-filter p IsNearFirst xs t.listed;
-      within = All-filter p (λ (o : Order). in_months months o.instrument) xs t.within;
+      within = All-filter p (λ (o : Order). IsInMonths months o.instrument) xs t.within;
       places = λ a b ca cb e. t.places a b (in_filter all_on p xs a ca) (in_filter all_on p xs b cb) e;
       left = All-filter p (λ (o : Order). 0 < o.leaves) xs t.left;
     }
@@ -83,7 +82,7 @@ removed_tradable months place xs t =
 -- ---- a cancel
 
 cancel_kept : (months : ℕ) (past : JournalState) (last place session : ℕ) (id original : List ℕ) (earlier : Option OrderStatus) (found : Option Order) → last < place → IsSound months past last →
-    IsKept months past place (record { session = session; event = Cancel id original }) (cancelled past.orders earlier found)
+    IsKept months past place (record { session = session; event = Cancel id original }) (cancel_means past.orders earlier found)
 cancel_kept months past last place session id original earlier (Some o) l s = record {
   sound = fewer months past last place (removed o.place past.orders) l s (removed_tradable months o.place past.orders s.tradable) (λ w c. in_filter all_on (λ (x : Order). not (x.place == o.place)) past.orders w c);
   statuses = same_statuses past;
@@ -95,7 +94,7 @@ cancel_kept months past last place session id original earlier None l s = record
 
 -- an event that is neither a New entry nor a cancel
 session_kept : (months : ℕ) (past : JournalState) (last place session : ℕ) (event : Event) → new_of place session Session event ≡ [] → first_status place session Session event ≡ [] → last < place → IsSound months past last →
-    IsKept months past place (record { session = session; event = event }) (only Session past.orders)
+    IsKept months past place (record { session = session; event = event }) (unchanged_with Session past.orders)
 session_kept months past last place session event none first l s = record {
   sound = subst (λ (ps : List PastNew). IsSound months (record { orders = past.orders; entered = past.entered ++ ps; fills = past.fills ++ [] }) place) (sym none) (fewer months past last place past.orders l s s.tradable (λ w c. c));
   statuses = ap (λ (ps : List PastNew). map (status_of (past.fills ++ [])) (past.entered ++ ps)) none ∙ (same_statuses past ∙ ap (λ (ss : List OrderStatus). map (status_of past.fills) past.entered ++ ss) (sym first));
@@ -123,7 +122,7 @@ entered_more : (ps : List PastNew) (p : PastNew) (last place : ℕ) → last < p
 entered_more ps p last place l e h = λ w c. elim (Contains-push_cases ps p w c) [ inl k ↦ let a = h w k in omega arith | inr q ↦ let f : p.place ≡ w.place = ap (λ (x : PastNew). x.place) q in omega arith ]
 
 refused_kept : (months : ℕ) (past : JournalState) (last place session : ℕ) (t : Ticket) (reason : ℕ) → last < place → IsSound months past last →
-    IsKept months past place (record { session = session; event = New t }) (only (Refused reason) past.orders)
+    IsKept months past place (record { session = session; event = New t }) (unchanged_with (Refused reason) past.orders)
 refused_kept months past last place session t reason l s =
     let p : PastNew = record { place = place; session = session; ticket = t; outcome = Refused reason } in
     record {
@@ -196,14 +195,14 @@ pub rests_all : (P : Order → Type 0) (t : Trading) (immediate : Bool) → ((o 
 rests_all P t immediate h n true = h
 rests_all P t immediate h n false = λ o c. elim (Contains-push_cases t.orders t.new o c) [ inl d ↦ h o d | inr e ↦ subst P e n ]
 
-pub rest_tradable : (months : ℕ) (t : Trading) (immediate a : Bool) → (t.new.leaves == 0) ≡ a → IsTradable months t.orders → All (λ o. o.place < t.new.place) t.orders → HasOrderPrice t.new → IsNearFirst t.new → in_months months t.new.instrument →
+pub rest_tradable : (months : ℕ) (t : Trading) (immediate a : Bool) → (t.new.leaves == 0) ≡ a → IsTradable months t.orders → All (λ o. o.place < t.new.place) t.orders → HasOrderPrice t.new → IsNearFirst t.new → IsInMonths months t.new.instrument →
     IsTradable months (cond (a || immediate) t.orders (t.orders ++ t.new ∷ []))
 rest_tradable months t immediate true e tr h small listed within = tr
 rest_tradable months t true false e tr h small listed within = tr
 rest_tradable months t false false e tr h small listed within = tradable_more all_on months t.orders t.new tr h small listed within (grind (arith, nat_tests))
 
-cleared_kept : (references : List ℤ) (months : ℕ) (past : JournalState) (last place session : ℕ) (t : Ticket) (i : Instrument) → last < place → IsSound months past last → IsOrderPrice t.price → is_ordered i → in_months months i → 0 < t.quantity →
-    IsKept months past place (record { session = session; event = New t }) (cleared t.immediate (clear all_on references (order_of place session t i) past.orders))
+cleared_kept : (references : List ℤ) (months : ℕ) (past : JournalState) (last place session : ℕ) (t : Ticket) (i : Instrument) → last < place → IsSound months past last → IsOrderPrice t.price → IsNearBeforeFar i → IsInMonths months i → 0 < t.quantity →
+    IsKept months past place (record { session = session; event = New t }) (clearing_means t.immediate (clear all_on references (order_of place session t i) past.orders))
 cleared_kept references months past last place session t i l s small listed within some =
     let n = order_of place session t i in
     let d = clear all_on references n past.orders in
@@ -219,7 +218,7 @@ cleared_kept references months past last place session t i l s small listed with
     record {
       sound = record {
         tradable = rest_tradable months d t.immediate (d.new.leaves == 0) refl run.tradable (subst (λ (k : ℕ). All (λ (o : Order). o.place < k) d.orders) at below)
-            (subst HasOrderPrice (sym new) (record { low = small.low; high = small.high })) (subst IsNearFirst (sym new) (record { near_before_far = listed })) (subst (λ (o : Order). in_months months o.instrument) (sym new) within);
+            (subst HasOrderPrice (sym new) (record { low = small.low; high = small.high })) (subst IsNearFirst (sym new) (record { near_before_far = listed })) (subst (λ (o : Order). IsInMonths months o.instrument) (sym new) within);
         orders_before = λ k e lt. rests_all (λ (o : Order). o.place ≤ place) d t.immediate (λ o c. let a = All-contains (λ (w : Order). w.place < place) d.orders o below c in omega arith) (omega arith) (d.new.leaves == 0 || t.immediate)
             (get_or (resting t.immediate d) k e) (Contains-get_or (resting t.immediate d) k e lt);
         fills_before = λ f c. elim (Contains-append_cases past.fills d.fills f c) [ inl k ↦ let a = s.fills_before f k in omega arith | inr k ↦ let a = run.counted.before f k in omega arith ];
@@ -228,13 +227,13 @@ cleared_kept references months past last place session t i l s small listed with
         within = run.counted.within;
         limits = run.counted.limits;
       };
-      statuses = sym run.counted.statuses ∙ ap (renewed d.fills) (map_append (status_of past.fills) past.entered p ∙ ap (λ (x : OrderStatus). map (status_of past.fills) past.entered ++ x ∷ []) (first_status_is past.fills p r z some));
+      statuses = sym run.counted.statuses ∙ ap (statuses_after d.fills) (map_append (status_of past.fills) past.entered p ∙ ap (λ (x : OrderStatus). map (status_of past.fills) past.entered ++ x ∷ []) (first_status_is past.fills p r z some));
     }
 
 -- ---- any entry
 
-new_kept : (rules : Rules) (past : JournalState) (last place session : ℕ) (t : Ticket) (earlier : Option OrderStatus) (r : Result Instrument ℕ) → judged rules t earlier ≡ r → last < place → IsSound (month_count rules) past last → IsOrderPrice t.price →
-    IsKept (month_count rules) past place (record { session = session; event = New t }) (entered_as rules past.orders place session t r)
+new_kept : (rules : Rules) (past : JournalState) (last place session : ℕ) (t : Ticket) (earlier : Option OrderStatus) (r : Result Instrument ℕ) → refusal_or_instrument rules t earlier (find_symbol rules t.symbol) ≡ r → last < place → IsSound (month_count rules) past last → IsOrderPrice t.price →
+    IsKept (month_count rules) past place (record { session = session; event = New t }) (new_order_means rules past.orders place session t r)
 new_kept rules past last place session t earlier (Err reason) e l s k = refused_kept (month_count rules) past last place session t reason l s
 new_kept rules past last place session t earlier (Ok i) e l s k =
     let w = taken_is all_on rules t earlier i e in
@@ -243,7 +242,7 @@ new_kept rules past last place session t earlier (Ok i) e l s k =
 
 event_kept : (rules : Rules) (past : JournalState) (last place session : ℕ) (event : Event) → last < place → IsSound (month_count rules) past last → IsPriced event →
     IsKept (month_count rules) past place (record { session = session; event = event }) (meaning_of rules past place (record { session = session; event = event }))
-event_kept rules past last place session (New t) l s k = new_kept rules past last place session t (find (has_id session t.id) (statuses_of past)) (judged rules t (find (has_id session t.id) (statuses_of past))) refl l s k
+event_kept rules past last place session (New t) l s k = new_kept rules past last place session t (find (has_id session t.id) (statuses_of past)) (refusal_or_instrument rules t (find (has_id session t.id) (statuses_of past)) (find_symbol rules t.symbol)) refl l s k
 event_kept rules past last place session (Cancel id original) l s k = cancel_kept (month_count rules) past last place session id original (find (has_id session original) (statuses_of past)) (find (is_own session original) past.orders) l s
 event_kept rules past last place session (Logon client host beat) l s k = session_kept (month_count rules) past last place session (Logon client host beat) refl refl l s
 event_kept rules past last place session (TestReply text) l s k = session_kept (month_count rules) past last place session (TestReply text) refl refl l s
@@ -256,23 +255,23 @@ pub entry_kept : (rules : Rules) (past : JournalState) (last place : ℕ) (e : E
 entry_kept rules past last place e l s k = event_kept rules past last place e.session e.event l s k
 
 -- what the market does is what the entry means
-pub worked : (rules : Rules) (m : Standing) (past : JournalState) (place : ℕ) (e : Entry) (outcome : Outcome) (fills made : List Fill) (after : Standing) →
-    Reads rules m past → m.last < place → IsPriced e.event →
-    outcome ≡ (kept_meaning rules m place e.session e.event).outcome → made ≡ fills ++ (kept_meaning rules m place e.session e.event).fills → after ≡ kept_after rules m place e.session e.event →
-    IsWorked rules past place e outcome fills made after
+pub worked : (rules : Rules) (m : MarketState) (past : JournalState) (place : ℕ) (e : Entry) (outcome : Outcome) (fills made : List Fill) (after : MarketState) →
+    IsStateOf rules m past → m.last < place → IsPriced e.event →
+    outcome ≡ (meaning_in rules m place e.session e.event).outcome → made ≡ fills ++ (meaning_in rules m place e.session e.event).fills → after ≡ state_after rules m place e.session e.event →
+    IsEntryApplied rules past place e outcome fills made after
 worked rules m past place e outcome fills made after r l k o f a =
-    let same : kept_meaning rules m place e.session e.event ≡ meaning_of rules past place e =
+    let same : meaning_in rules m place e.session e.event ≡ meaning_of rules past place e =
     ap (λ (xs : List Order). meaning_with rules xs m.statuses place e.session e.event) r.orders ∙ ap (λ (ss : List OrderStatus). meaning_with rules past.orders ss place e.session e.event) r.statuses in
     let kept = entry_kept rules past m.last place e l r.sound k in
-    let last : after.last ≡ place = ap (λ (x : Standing). x.last) a in
+    let last : after.last ≡ place = ap (λ (x : MarketState). x.last) a in
     record {
       outcome_is = o ∙ ap (λ (x : EntryMeaning). x.outcome) same;
       fills_is = f ∙ ap (λ (x : EntryMeaning). fills ++ x.fills) same;
       reads = record {
-        orders = ap (λ (x : Standing). x.orders) a ∙ ap (λ (x : EntryMeaning). x.orders) same;
-        statuses = ap (λ (x : Standing). x.statuses) a
-            ∙ (ap (λ (x : EntryMeaning). renewed x.fills (m.statuses ++ first_status place e.session x.outcome e.event)) same
-            ∙ (ap (λ (ss : List OrderStatus). renewed (meaning_of rules past place e).fills (ss ++ first_status place e.session (meaning_of rules past place e).outcome e.event)) r.statuses
+        orders = ap (λ (x : MarketState). x.orders) a ∙ ap (λ (x : EntryMeaning). x.orders) same;
+        statuses = ap (λ (x : MarketState). x.statuses) a
+            ∙ (ap (λ (x : EntryMeaning). statuses_after x.fills (m.statuses ++ first_status place e.session x.outcome e.event)) same
+            ∙ (ap (λ (ss : List OrderStatus). statuses_after (meaning_of rules past place e).fills (ss ++ first_status place e.session (meaning_of rules past place e).outcome e.event)) r.statuses
             ∙ sym kept.statuses));
         sound = subst (IsSound (month_count rules) (with_meaning past place e (meaning_of rules past place e))) (sym last) kept.sound;
       };

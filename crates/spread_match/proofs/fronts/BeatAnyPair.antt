@@ -9,21 +9,21 @@ use Rattle.spread_rules.specs.declared.order.Order.{Order}
 use Rattle.spread_rules.specs.declared.candidate.Counterparty.{Counterparty}
 use Rattle.spread_rules.specs.declared.candidate.Counterparty.TheVariants.{Direct, Implied}
 use Rattle.spread_rules.specs.declared.candidate.Candidate.{Candidate}
-use Rattle.spread_rules.specs.Candidates.{implied_price, cost, is_within_limit, price_of, candidate_of, better_by, IsOf, month_of, rank_cmp, Pairs, is_on, if_on}
+use Rattle.spread_rules.specs.Candidates.{implied_price, cost, is_within_limit, price_of, candidate_of, better_by, AllStandIn, month_of, rank_cmp, Pairs, takes_part, offered_if}
 use Rattle.spread_rules.specs.Quiet.{Rests}
 use Rattle.spread_rules.proofs.ranks.PlainIsLeast.{candidate_is}
 use Rattle.spread_books.specs.Queues.{IsFront}
 use Rattle.spread_rules.specs.Legs.{other_side}
-use Rattle.spread_match.specs.Best.{IsFair, CoversOne, CoversTwo}
+use Rattle.spread_match.specs.code.Best.{IsFair, CoversOne, CoversTwo}
 use Rattle.spread_match.proofs.fronts.PairCost.{implied_price_sum, implied_price_again, within_cost, behind, rank_after, pair_le, pair_same, so_is, so_again}
 use Rattle.spread_rules.proofs.clearings.BoughtIsSold.{on_price}
 
-was_on : (b : Bool) (r : Option ℤ) (p : ℤ) → if_on b r ≡ Some p → b ≡ true
+was_on : (b : Bool) (r : Option ℤ) (p : ℤ) → offered_if b r ≡ Some p → b ≡ true
 was_on true r p h = refl
 was_on false None p h = cc
 was_on false (Some q) p h = cc
 
-on_again : (b : Bool) (r : Option ℤ) (q : ℤ) → b ≡ true → r ≡ Some q → if_on b r ≡ Some q
+on_again : (b : Bool) (r : Option ℤ) (q : ℤ) → b ≡ true → r ≡ Some q → offered_if b r ≡ Some q
 on_again true None q h k = cc
 on_again true (Some x) q h k = k
 on_again false r q h k = cc
@@ -38,14 +38,14 @@ module _ (on : Pairs) where
       Rests xs of side f → Rests xs and and_side s → Rests xs of side a → Rests xs and and_side b → price_of on n (Implied a b) ≡ Some price → (q : ℤ) × (price_of on n (Implied f s) ≡ Some q)
   fronts_meet n xs of side and and_side f s a b price hf hs ha hb e =
       let t : implied_price n.side n.instrument side of and_side and a.price b.price ≡ Some price =
-      rw (← ha.on, ← ha.of, ← hb.on, ← hb.of) (on_price _ _ price e) in
+      rw (← ha.side_is, ← ha.instrument_is, ← hb.side_is, ← hb.instrument_is) (on_price _ _ price e) in
       let r = implied_price_again n.side n.instrument side of and_side and a.price b.price price f.price s.price t in
-      (r.0, on_again _ _ r.0 (subst (λ (i : Instrument). is_on on n.instrument i ≡ true) (ha.of ∙ sym hf.of) (was_on _ _ price e)) (rw (hf.on, hf.of, hs.on, hs.of) r.1))
+      (r.0, on_again _ _ r.0 (subst (λ (i : Instrument). takes_part on n.instrument i ≡ true) (ha.instrument_is ∙ sym hf.instrument_is) (was_on _ _ price e)) (rw (hf.side_is, hf.instrument_is, hs.side_is, hs.instrument_is) r.1))
 
   pub pair_cost : (n : Order) (xs : List Order) (of : Instrument) (side : Side) (and : Instrument) (and_side : Side) (a b : Order) (price : ℤ) →
       Rests xs of side a → Rests xs and and_side b → price_of on n (Implied a b) ≡ Some price → cost n.side price ≡ cost (other_side side) a.price +ℤ cost (other_side and_side) b.price
   pair_cost n xs of side and and_side a b price ha hb e =
-      implied_price_sum n.side n.instrument side of and_side and a.price b.price price (rw (← ha.on, ← ha.of, ← hb.on, ← hb.of) (on_price _ _ price e))
+      implied_price_sum n.side n.instrument side of and_side and a.price b.price price (rw (← ha.side_is, ← ha.instrument_is, ← hb.side_is, ← hb.instrument_is) (on_price _ _ price e))
 
   module _ {O : Type 0} (before : O → O → Bool) (order : IsStrictWeakOrder before) where
     chosen_left : (o p q : O) (b : Bool) → before p o ≡ b → before q o ≡ false → IsSomeAnd (cond b (Some p) (Some o)) (λ x. before q x ≡ false)
@@ -77,13 +77,13 @@ module _ (on : Pairs) where
     better_has P (Some o) (Some p) h k = one_of P o p (before p o) h k
 
   -- what a counterparty of the list candidates is fair
-  candidate_fair_at : (n : Order) (xs : List Order) (p : Counterparty) (r : Option Candidate) → candidate_of on n p ≡ r → IsOf xs p → IsFair on n xs r
+  candidate_fair_at : (n : Order) (xs : List Order) (p : Counterparty) (r : Option Candidate) → candidate_of on n p ≡ r → AllStandIn xs p → IsFair on n xs r
   candidate_fair_at n xs p None e h = tt
   candidate_fair_at n xs p (Some q) e h =
       let own = candidate_is on n p q e in
-      record { stands = subst (IsOf xs) (sym own.own) h; meets = subst (λ (w : Counterparty). price_of on n w ≡ Some q.price) (sym own.own) own.meets; within = own.within }
+      record { stands = subst (AllStandIn xs) (sym own.own) h; meets = subst (λ (w : Counterparty). price_of on n w ≡ Some q.price) (sym own.own) own.meets; within = own.within }
 
-  pub candidate_fair : (n : Order) (xs : List Order) (p : Counterparty) → IsOf xs p → IsFair on n xs (candidate_of on n p)
+  pub candidate_fair : (n : Order) (xs : List Order) (p : Counterparty) → AllStandIn xs p → IsFair on n xs (candidate_of on n p)
   candidate_fair n xs p h = candidate_fair_at n xs p (candidate_of on n p) refl h
 
   pub candidates : (n : Order) (p : Counterparty) (price : ℤ) → price_of on n p ≡ Some price → is_within_limit n.side n.price price ≡ true → candidate_of on n p ≡ Some (record { price = price; counterparty = p })
@@ -99,7 +99,7 @@ module _ (on : Pairs) where
       let bf = front_best xs of side f a hf ha in
       let bs = front_best xs and and_side s b hs hb in
       let low : cost n.side m.0 ≤ℤ cost n.side price = pair_le _ _ _ _ _ _ new old bf.0 bs.0 in
-      let months : month_of b.instrument ≡ month_of s.instrument = ap month_of (hb.of ∙ sym hs.0.of) in
+      let months : month_of b.instrument ≡ month_of s.instrument = ap month_of (hb.instrument_is ∙ sym hs.0.instrument_is) in
       rw (candidates n (Implied f s) m.0 m.1 (within_cost n.side n.price price m.0 h.within low))
       (subst (λ (month : ℕ). is_lt (rank_cmp (record { cost = cost n.side price; implied = true; month = month; first = a.place; second = b.place }) (record { cost = cost n.side m.0; implied = true; month = month_of s.instrument; first = f.place; second = s.place })) ≡ false) (sym months)
       (rank_after (cost n.side price) (cost n.side m.0) true (month_of s.instrument) a.place f.place b.place s.place low
@@ -114,7 +114,7 @@ module _ (on : Pairs) where
       IsFront xs of (other_side n.side) (Some f) → CoversOne on n xs of (other_side n.side) (candidate_of on n (Direct f))
   front_beats n xs of f hf o price ho h =
       let is : o.price ≡ price = so_is _ _ price h.meets in
-      let meets : price_of on n (Direct f) ≡ Some f.price = rw (hf.0.of, ← ho.of, hf.0.on, ← ho.on) (so_again _ o.price f.price price h.meets) in
+      let meets : price_of on n (Direct f) ≡ Some f.price = rw (hf.0.instrument_is, ← ho.instrument_is, hf.0.side_is, ← ho.side_is) (so_again _ o.price f.price price h.meets) in
       let b = rw (opposite_back n.side) at (front_best xs of (other_side n.side) f o hf ho) in
       let low : cost n.side f.price ≤ℤ cost n.side price = subst (λ (p : ℤ). cost n.side f.price ≤ℤ cost n.side p) is b.0 in
       rw (candidates n (Direct f) f.price meets (within_cost n.side n.price price f.price h.within low))

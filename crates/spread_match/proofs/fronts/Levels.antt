@@ -9,7 +9,7 @@ use Rattle.spread_rules.specs.declared.candidate.Counterparty.TheVariants.{Impli
 use Rattle.spread_rules.specs.Candidates.{Pairs, candidate_of, level_of}
 use Rattle.spread_rules.specs.Quiet.{Rests}
 use Rattle.spread_books.specs.Queues.{IsFront, IsFrontLevel}
-use Rattle.spread_match.specs.Best.{CoversTwo}
+use Rattle.spread_match.specs.code.Best.{CoversTwo}
 use Rattle.spread_match.proofs.fronts.BeatAnyPair.{fronts_beat}
 
 -- an order is the front of its queue, and stands at that level

@@ -9,11 +9,12 @@ use Rattle.spread_rules.specs.declared.order.Order.{Order}
 use Rattle.spread_rules.specs.declared.candidate.Counterparty.{Counterparty}
 use Rattle.spread_rules.specs.declared.candidate.Counterparty.TheVariants.{Direct, Implied}
 use Rattle.spread_rules.specs.declared.candidate.Candidate.{Candidate}
-use Rattle.spread_rules.specs.Candidates.{if_so, implied_price, are_opposite, IsEligible, month_of, Pairs}
+use Rattle.spread_rules.specs.Candidates.{price_if, implied_price, are_opposite, IsEligible, month_of, Pairs, IsBest}
 use Rattle.spread_rules.specs.Quiet.{Rests}
 use Rattle.spread_rules.specs.Legs.{other_side}
 use Rattle.spread_books.proofs.fronts.FoldGivesFront.{same_instrument_is}
-use Rattle.spread_match.specs.Best.{IsFair, Beats, IsBest, in_months, CoversOne}
+use Rattle.spread_match.specs.Trade.{IsInMonths}
+use Rattle.spread_match.specs.code.Best.{IsFair, Beats, CoversOne}
 
 module _ (on : Pairs) where
   below_or_at : (m k : ℕ) (b : Bool) → nat_lt m k ≡ b → m < k + 1 → (m < k) ⊎ (m ≡ k)
@@ -23,7 +24,7 @@ module _ (on : Pairs) where
   pub less_or_same : (m k : ℕ) → m < k + 1 → (m < k) ⊎ (m ≡ k)
   less_or_same m k h = below_or_at m k (nat_lt m k) refl h
 
-  so_true : (b : Bool) (v p : ℤ) → if_so b v ≡ Some p → b ≡ true
+  so_true : (b : Bool) (v p : ℤ) → price_if b v ≡ Some p → b ≡ true
   so_true true v p h = refl
   so_true false v p h = cc
 
@@ -45,7 +46,7 @@ module _ (on : Pairs) where
   pub single_rests : (n : Order) (xs : List Order) (o : Order) (price : ℤ) → IsEligible on n xs (record { price = price; counterparty = Direct o }) → Rests xs n.instrument (other_side n.side) o
   single_rests n xs o price e =
       let t = so_true _ _ _ e.meets in
-      record { stands = e.stands; of = sym (same_instrument_is _ _ (and_left _ _ t)); on = opposite_is _ _ (and_right _ _ t) }
+      record { stands = e.stands; instrument_is = sym (same_instrument_is _ _ (and_left _ _ t)); side_is = opposite_is _ _ (and_right _ _ t) }
 
   -- the pairs of a spread
   pub record IsSpreadPair (i j : ℕ) (s sa : Side) (A : Instrument) (sb : Side) (B : Instrument) : Type 0 where
@@ -71,8 +72,8 @@ module _ (on : Pairs) where
     each (Direct o) price e = one o price (single_rests n xs o price e) e
     each (Implied a b) price e = two a b price e
 
-  pub month_below : (months : ℕ) (o : Order) → in_months months o.instrument → month_of o.instrument < months
+  pub month_below : (months : ℕ) (o : Order) → IsInMonths months o.instrument → month_of o.instrument < months
   month_below months o h = below o.instrument h where
-    below : (i : Instrument) → in_months months i → month_of i < months
+    below : (i : Instrument) → IsInMonths months i → month_of i < months
     below (Outright m) h = h
     below (Spread i j) h = h

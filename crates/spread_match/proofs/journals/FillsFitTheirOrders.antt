@@ -17,15 +17,15 @@ use Rattle.spread_rules.specs.declared.event.Event.{Event}
 use Rattle.spread_rules.specs.declared.event.Event.TheVariants.{Logon, New, Cancel, TestReply, Gap, Resend, Reject, Close}
 use Rattle.spread_rules.specs.declared.event.Ticket.{Ticket}
 use Rattle.spread_rules.specs.declared.outcome.OrderStatus.{OrderStatus}
-use Rattle.spread_rules.specs.Candidates.{all_on, is_on, implied_price, price_of, least_left, month_of, IsOf}
+use Rattle.spread_rules.specs.Candidates.{all_on, takes_part, implied_price, price_of, least_left, month_of, AllStandIn}
 use Rattle.spread_rules.specs.Prices.{IsLegPrice, IsOrderPrice}
-use Rattle.spread_rules.specs.Clearing.{Trading, next, turn, turns, traded, begin, clear, fills_of, fill_of, legs_at, legs_of, legs_one, legs_two}
-use Rattle.spread_rules.specs.Meaning.{JournalState, PastNew, no_entries, is_own, has_id, statuses_of, judged, order_of, outcome_of, resting, entered_as, cancelled, meaning_of, after_entry, after_entries, meaning_of_journal}
-use Rattle.spread_rules.specs.Rulebook.{Rules, IsRules, IsListed, month_count, references_of}
+use Rattle.spread_rules.specs.Clearing.{Trading, next_candidate, turn, turns, after_match, begin, clear, fills_of, fill_of, leg_prices, leg_prices_of_fill, leg_prices_of_single, leg_prices_of_pair}
+use Rattle.spread_rules.specs.Meaning.{JournalState, PastNew, no_entries, is_own, has_id, statuses_of, refusal_or_instrument, order_of, outcome_of, resting, new_order_means, cancel_means, meaning_of, after_entry, after_entries, meaning_of_journal}
+use Rattle.spread_rules.specs.Rulebook.{Rules, IsRules, IsListed, month_count, references_of, find_symbol}
 use Rattle.spread_rules.proofs.lists.Membership.{in_cons_cases, in_head, in_tail, not_in_nil}
 use Rattle.spread_rules.proofs.clearings.TurnsEnd.{members_rest, next_meets}
 use Rattle.spread_rules.proofs.clearings.BoughtIsSold.{on_price}
-use Rattle.spread_match.specs.Sound.{IsSound, IsCounted, FitsFill}
+use Rattle.spread_match.specs.Sound.{IsSound, IsCounted, IsFillWithinLimits}
 use Rattle.spread_match.specs.Trade.{IsPriced, ArePriced}
 use Rattle.spread_match.proofs.status_rows.FillsAndStatuses.{IsRunning, running_with}
 use Rattle.spread_match.proofs.fronts.PairCost.{so_is}
@@ -63,7 +63,7 @@ reference_small [] i h = record { low = omega (arith, ints); high = omega (arith
 reference_small (r ∷ rs) zero h = h r (in_head r rs)
 reference_small (r ∷ rs) (suc i) h = reference_small rs i (λ z c. h z (in_tail r rs z c))
 
-one_fits : (rs : List ℤ) (I : Instrument) (p : ℤ) → ((z : ℤ) → Contains rs z → IsOrderPrice z) → neg_ℤ (pos 1000000000) ≤ℤ p → p ≤ℤ pos 1000000000 → AreFit (legs_one rs I p)
+one_fits : (rs : List ℤ) (I : Instrument) (p : ℤ) → ((z : ℤ) → Contains rs z → IsOrderPrice z) → neg_ℤ (pos 1000000000) ≤ℤ p → p ≤ℤ pos 1000000000 → AreFit (leg_prices_of_single rs I p)
 one_fits rs (Outright m) p h l u = record { near = wider p l u; far = wider p l u }
 one_fits rs (Spread i j) p h l u =
     let r = reference_small rs i h in
@@ -73,11 +73,11 @@ either_fits : (b : Bool) (p y : ℤ) → IsLegPrice p → IsLegPrice y → AreFi
 either_fits true p y h k = record { near = h; far = k }
 either_fits false p y h k = record { near = k; far = h }
 
-two_fits : (I B : Instrument) (p x y : ℤ) → IsLegPrice p → IsLegPrice x → IsLegPrice y → AreFit (legs_two I B p x y)
+two_fits : (I B : Instrument) (p x y : ℤ) → IsLegPrice p → IsLegPrice x → IsLegPrice y → AreFit (leg_prices_of_pair I B p x y)
 two_fits (Spread i j) B p x y h k l = record { near = k; far = l }
 two_fits (Outright m) B p x y h k l = either_fits (nat_lt m (month_of B)) p y h l
 
-own_fits : (I : Instrument) (p : ℤ) (legs : ℤ × ℤ) → IsLegPrice p → AreFit legs → AreFit (legs_of I p legs)
+own_fits : (I : Instrument) (p : ℤ) (legs : ℤ × ℤ) → IsLegPrice p → AreFit legs → AreFit (leg_prices_of_fill I p legs)
 own_fits (Outright m) p legs h k = record { near = h; far = h }
 own_fits (Spread i j) p legs h k = k
 
@@ -89,14 +89,14 @@ pub record FitsOrder (rules : Rules) (o : Order) : Type 0 where
   pub high : o.price ≤ℤ pos 1000000000
   pub listed : IsListed rules o.instrument
 
-fill_fits : (rules : Rules) (at q : ℕ) (o : Order) (price : ℤ) (legs : ℤ × ℤ) → FitsOrder rules o → q ≤ o.leaves → o.leaves ≤ o.quantity → IsLegPrice price → AreFit legs → FitsFill rules (fill_of at q legs o price)
+fill_fits : (rules : Rules) (at q : ℕ) (o : Order) (price : ℤ) (legs : ℤ × ℤ) → FitsOrder rules o → q ≤ o.leaves → o.leaves ≤ o.quantity → IsLegPrice price → AreFit legs → IsFillWithinLimits rules (fill_of at q legs o price)
 fill_fits rules at q o price legs k a b s l =
     let g = own_fits o.instrument price legs s l in
     let m = k.quantity in
     record { quantity = omega arith; total = m; leaves = omega arith; listed = k.listed; price = s; near = g.near; far = g.far }
 
-turn_fits : (rules : Rules) (n : Order) (p : Counterparty) (price : ℤ) → IsRules rules → FitsOrder rules n → n.leaves ≤ n.quantity → price_of all_on n p ≡ Some price → (xs : List Order) → IsOf xs p → ((o : Order) → Contains xs o → FitsOrder rules o) → ((o : Order) → Contains xs o → o.leaves ≤ o.quantity) →
-    (f : Fill) → Contains (fills_of (references_of rules) n (record { price = price; counterparty = p })) f → FitsFill rules f
+turn_fits : (rules : Rules) (n : Order) (p : Counterparty) (price : ℤ) → IsRules rules → FitsOrder rules n → n.leaves ≤ n.quantity → price_of all_on n p ≡ Some price → (xs : List Order) → AllStandIn xs p → ((o : Order) → Contains xs o → FitsOrder rules o) → ((o : Order) → Contains xs o → o.leaves ≤ o.quantity) →
+    (f : Fill) → Contains (fills_of (references_of rules) n (record { price = price; counterparty = p })) f → IsFillWithinLimits rules f
 turn_fits rules n (Direct a) price lawful own less_own meets xs stands fits less_each f c =
     let k = fits a stands in
     let w = less_each a stands in
@@ -104,13 +104,13 @@ turn_fits rules n (Direct a) price lawful own less_own meets xs stands fits less
     let s = wider a.price k.low k.high in
     let small : IsLegPrice price = subst IsLegPrice e s in
     let refs : (z : ℤ) → Contains (references_of rules) z → IsOrderPrice z = λ z d. All-contains IsOrderPrice (references_of rules) z (small_references rules lawful) d in
-    let legs = legs_at (references_of rules) n.instrument price (Direct a) in
-    let l : AreFit legs = subst (λ (z : ℤ). AreFit (legs_one (references_of rules) n.instrument z)) e (one_fits (references_of rules) n.instrument a.price refs k.low k.high) in
+    let legs = leg_prices (references_of rules) n.instrument price (Direct a) in
+    let l : AreFit legs = subst (λ (z : ℤ). AreFit (leg_prices_of_single (references_of rules) n.instrument z)) e (one_fits (references_of rules) n.instrument a.price refs k.low k.high) in
     let q = least_left n (Direct a) in
     elim (in_cons_cases (fill_of n.place q legs n price) (fill_of n.place q legs a a.price ∷ []) f c) [
-      | inl same ↦ subst (FitsFill rules) same (fill_fits rules n.place q n price legs own (omega arith) less_own small l)
+      | inl same ↦ subst (IsFillWithinLimits rules) same (fill_fits rules n.place q n price legs own (omega arith) less_own small l)
       | inr d ↦ elim (in_cons_cases (fill_of n.place q legs a a.price) [] f d) [
-        | inl same ↦ subst (FitsFill rules) same (fill_fits rules n.place q a a.price legs k (omega arith) w s l)
+        | inl same ↦ subst (IsFillWithinLimits rules) same (fill_fits rules n.place q a a.price legs k (omega arith) w s l)
         | inr none ↦ absurd (not_in_nil f none)
       ]
     ]
@@ -119,18 +119,18 @@ turn_fits rules n (Implied a b) price lawful own less_own meets xs stands fits l
     let j = fits b stands.1 in
     let wa = less_each a stands.0 in
     let wb = less_each b stands.1 in
-    let small : IsLegPrice price = implied_fits n.side n.instrument a.side a.instrument b.side b.instrument a.price b.price price k.low k.high j.low j.high (on_price (is_on all_on n.instrument a.instrument) _ price meets) in
+    let small : IsLegPrice price = implied_fits n.side n.instrument a.side a.instrument b.side b.instrument a.price b.price price k.low k.high j.low j.high (on_price (takes_part all_on n.instrument a.instrument) _ price meets) in
     let sa = wider a.price k.low k.high in
     let sb = wider b.price j.low j.high in
-    let legs = legs_at (references_of rules) n.instrument price (Implied a b) in
+    let legs = leg_prices (references_of rules) n.instrument price (Implied a b) in
     let l : AreFit legs = two_fits n.instrument b.instrument price a.price b.price small sa sb in
     let q = least_left n (Implied a b) in
     elim (in_cons_cases (fill_of n.place q legs n price) (fill_of n.place q legs a a.price ∷ fill_of n.place q legs b b.price ∷ []) f c) [
-      | inl same ↦ subst (FitsFill rules) same (fill_fits rules n.place q n price legs own (omega arith) less_own small l)
+      | inl same ↦ subst (IsFillWithinLimits rules) same (fill_fits rules n.place q n price legs own (omega arith) less_own small l)
       | inr d ↦ elim (in_cons_cases (fill_of n.place q legs a a.price) (fill_of n.place q legs b b.price ∷ []) f d) [
-        | inl same ↦ subst (FitsFill rules) same (fill_fits rules n.place q a a.price legs k (omega arith) wa sa l)
+        | inl same ↦ subst (IsFillWithinLimits rules) same (fill_fits rules n.place q a a.price legs k (omega arith) wa sa l)
         | inr g ↦ elim (in_cons_cases (fill_of n.place q legs b b.price) [] f g) [
-          | inl same ↦ subst (FitsFill rules) same (fill_fits rules n.place q b b.price legs j (omega arith) wb sb l)
+          | inl same ↦ subst (IsFillWithinLimits rules) same (fill_fits rules n.place q b b.price legs j (omega arith) wb sb l)
           | inr none ↦ absurd (not_in_nil f none)
         ]
       ]
@@ -141,7 +141,7 @@ turn_fits rules n (Implied a b) price lawful own less_own meets xs stands fits l
 record AllFit (rules : Rules) (t : Trading) : Type 0 where
   pub own : FitsOrder rules t.new
   pub each : All (FitsOrder rules) t.orders
-  pub fills : (f : Fill) → Contains t.fills f → FitsFill rules f
+  pub fills : (f : Fill) → Contains t.fills f → IsFillWithinLimits rules f
 
 less_fits : (rules : Rules) (o : Order) (k : ℕ) → FitsOrder rules o → FitsOrder rules (record o { leaves = k })
 less_fits rules o k h = record { quantity = h.quantity; low = h.low; high = h.high; listed = h.listed }
@@ -149,7 +149,7 @@ less_fits rules o k h = record { quantity = h.quantity; low = h.low; high = h.hi
 no_more : (ps : List PastNew) (fs : List Fill) (o : Order) → IsCounted ps fs o → o.leaves ≤ o.quantity
 no_more ps fs o c = let k = c.counts in omega arith
 
-traded_fits : (rules : Rules) (ps : List PastNew) (past : List Fill) (t : Trading) (r : Option Candidate) → next all_on t ≡ r → IsRules rules → IsRunning all_on (month_count rules) ps past t → AllFit rules t → AllFit rules (traded (references_of rules) t r)
+traded_fits : (rules : Rules) (ps : List PastNew) (past : List Fill) (t : Trading) (r : Option Candidate) → next_candidate all_on t ≡ r → IsRules rules → IsRunning all_on (month_count rules) ps past t → AllFit rules t → AllFit rules (after_match (references_of rules) t r)
 traded_fits rules ps past t None e lawful run h = h
 traded_fits rules ps past t (Some o) e lawful run h = record {
   own = less_fits rules t.new _ h.own;
@@ -163,16 +163,16 @@ traded_fits rules ps past t (Some o) e lawful run h = record {
 turns_fits : (rules : Rules) (ps : List PastNew) (past : List Fill) (k : ℕ) (t : Trading) → IsRules rules → IsRunning all_on (month_count rules) ps past t → AllFit rules t → AllFit rules (turns all_on (references_of rules) k t)
 turns_fits rules ps past zero t lawful run h = h
 turns_fits rules ps past (suc k) t lawful run h =
-    turns_fits rules ps past k (turn all_on (references_of rules) t) lawful (running_with all_on (references_of rules) (month_count rules) ps past t (next all_on t) refl run) (traded_fits rules ps past t (next all_on t) refl lawful run h)
+    turns_fits rules ps past k (turn all_on (references_of rules) t) lawful (running_with all_on (references_of rules) (month_count rules) ps past t (next_candidate all_on t) refl run) (traded_fits rules ps past t (next_candidate all_on t) refl lawful run h)
 
 -- ---- entries
 
 record PastFits (rules : Rules) (xs : List Order) (fs : List Fill) : Type 0 where
   pub orders : All (FitsOrder rules) xs
-  pub fills : (f : Fill) → Contains fs f → FitsFill rules f
+  pub fills : (f : Fill) → Contains fs f → IsFillWithinLimits rules f
 
 cleared_fits : (rules : Rules) (past : JournalState) (last place session : ℕ) (t : Ticket) (i : Instrument) → IsRules rules → last < place → IsSound (month_count rules) past last → All (FitsOrder rules) past.orders → FitsOrder rules (order_of place session t i) →
-    PastFits rules (entered_as rules past.orders place session t (Ok i)).orders (entered_as rules past.orders place session t (Ok i)).fills
+    PastFits rules (new_order_means rules past.orders place session t (Ok i)).orders (new_order_means rules past.orders place session t (Ok i)).fills
 cleared_fits rules past last place session t i lawful l s h own =
     let n = order_of place session t i in
     let d = clear all_on (references_of rules) n past.orders in
@@ -183,20 +183,20 @@ cleared_fits rules past last place session t i lawful l s h own =
       fills = all.fills;
     }
 
-entered_fits : (rules : Rules) (past : JournalState) (last place session : ℕ) (t : Ticket) (earlier : Option OrderStatus) (r : Result Instrument ℕ) → judged rules t earlier ≡ r → IsRules rules → last < place → IsSound (month_count rules) past last → All (FitsOrder rules) past.orders → IsOrderPrice t.price →
-    PastFits rules (entered_as rules past.orders place session t r).orders (entered_as rules past.orders place session t r).fills
+entered_fits : (rules : Rules) (past : JournalState) (last place session : ℕ) (t : Ticket) (earlier : Option OrderStatus) (r : Result Instrument ℕ) → refusal_or_instrument rules t earlier (find_symbol rules t.symbol) ≡ r → IsRules rules → last < place → IsSound (month_count rules) past last → All (FitsOrder rules) past.orders → IsOrderPrice t.price →
+    PastFits rules (new_order_means rules past.orders place session t r).orders (new_order_means rules past.orders place session t r).fills
 entered_fits rules past last place session t earlier (Err reason) e lawful l s h k = record { orders = h; fills = λ f c. absurd (not_in_nil f c) }
 entered_fits rules past last place session t earlier (Ok i) e lawful l s h k =
     let w = taken_is all_on rules t earlier i e in
     cleared_fits rules past last place session t i lawful l s h (record { quantity = w.most; low = k.low; high = k.high; listed = listed_found rules t.symbol i w.names })
 
-cancelled_fits : (rules : Rules) (xs : List Order) (earlier : Option OrderStatus) (found : Option Order) → All (FitsOrder rules) xs → PastFits rules (cancelled xs earlier found).orders (cancelled xs earlier found).fills
+cancelled_fits : (rules : Rules) (xs : List Order) (earlier : Option OrderStatus) (found : Option Order) → All (FitsOrder rules) xs → PastFits rules (cancel_means xs earlier found).orders (cancel_means xs earlier found).fills
 cancelled_fits rules xs earlier (Some o) h = record { orders = All-filter (λ (w : Order). not (w.place == o.place)) (FitsOrder rules) xs h; fills = λ f c. absurd (not_in_nil f c) }
 cancelled_fits rules xs earlier None h = record { orders = h; fills = λ f c. absurd (not_in_nil f c) }
 
 event_fits : (rules : Rules) (past : JournalState) (last place session : ℕ) (event : Event) → IsRules rules → last < place → IsSound (month_count rules) past last → All (FitsOrder rules) past.orders → IsPriced event →
     PastFits rules (meaning_of rules past place (record { session = session; event = event })).orders (meaning_of rules past place (record { session = session; event = event })).fills
-event_fits rules past last place session (New t) lawful l s h k = entered_fits rules past last place session t (find (has_id session t.id) (statuses_of past)) (judged rules t (find (has_id session t.id) (statuses_of past))) refl lawful l s h k
+event_fits rules past last place session (New t) lawful l s h k = entered_fits rules past last place session t (find (has_id session t.id) (statuses_of past)) (refusal_or_instrument rules t (find (has_id session t.id) (statuses_of past)) (find_symbol rules t.symbol)) refl lawful l s h k
 event_fits rules past last place session (Cancel id original) lawful l s h k = cancelled_fits rules past.orders (find (has_id session original) (statuses_of past)) (find (is_own session original) past.orders) h
 event_fits rules past last place session (Logon client host beat) lawful l s h k = record { orders = h; fills = λ f c. absurd (not_in_nil f c) }
 event_fits rules past last place session (TestReply text) lawful l s h k = record { orders = h; fills = λ f c. absurd (not_in_nil f c) }
@@ -205,7 +205,7 @@ event_fits rules past last place session (Resend first until) lawful l s h k = r
 event_fits rules past last place session (Reject number reason) lawful l s h k = record { orders = h; fills = λ f c. absurd (not_in_nil f c) }
 event_fits rules past last place session (Close reason) lawful l s h k = record { orders = h; fills = λ f c. absurd (not_in_nil f c) }
 
-both_fit : (rules : Rules) (fs made : List Fill) → ((f : Fill) → Contains fs f → FitsFill rules f) → ((f : Fill) → Contains made f → FitsFill rules f) → (f : Fill) → Contains (fs ++ made) f → FitsFill rules f
+both_fit : (rules : Rules) (fs made : List Fill) → ((f : Fill) → Contains fs f → IsFillWithinLimits rules f) → ((f : Fill) → Contains made f → IsFillWithinLimits rules f) → (f : Fill) → Contains (fs ++ made) f → IsFillWithinLimits rules f
 both_fit rules fs made h k f c = elim (Contains-append_cases fs made f c) [ inl d ↦ h f d | inr d ↦ k f d ]
 
 entries_fit : (rules : Rules) (past : JournalState) (last : ℕ) (es : List Entry) → IsRules rules → ((e : Entry) → Contains es e → IsPriced e.event) → IsSound (month_count rules) past last → PastFits rules past.orders past.fills →
@@ -218,7 +218,7 @@ entries_fit rules past last (e ∷ es) lawful k s h =
     (record { orders = now.orders; fills = both_fit rules past.fills (meaning_of rules past (last + 1) e).fills h.fills now.fills })
 
 -- each fill of a journal
-pub fills_fit : (rules : Rules) (journal : List Entry) → IsRules rules → ArePriced journal → (f : Fill) → Contains (meaning_of_journal rules journal).fills f → FitsFill rules f
+pub fills_fit : (rules : Rules) (journal : List Entry) → IsRules rules → ArePriced journal → (f : Fill) → Contains (meaning_of_journal rules journal).fills f → IsFillWithinLimits rules f
 fills_fit rules journal lawful k =
     (entries_fit rules no_entries 0 journal lawful (λ e c. All-contains (λ (x : Entry). IsPriced x.event) journal e k c) (none_sound (month_count rules))
     (record { orders = λ k z lt. absurd (omega arith); fills = λ f c. absurd (not_in_nil f c) })).fills

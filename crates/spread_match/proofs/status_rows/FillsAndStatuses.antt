@@ -11,19 +11,19 @@ use Rattle.spread_rules.specs.declared.fill.Fill.{Fill}
 use Rattle.spread_rules.specs.declared.candidate.Candidate.{Candidate}
 use Rattle.spread_rules.specs.declared.candidate.Counterparty.{Counterparty}
 use Rattle.spread_rules.specs.declared.candidate.Counterparty.TheVariants.{Direct, Implied}
-use Rattle.spread_rules.specs.Candidates.{least_left, IsOf, is_within_limit}
-use Rattle.spread_rules.specs.Clearing.{Trading, next, turn, turns, traded, after_fill, removed, reduced, with_less_left, fills_of, fill_of, members, legs_at}
+use Rattle.spread_rules.specs.Candidates.{least_left, AllStandIn, is_within_limit, PlacesDiffer, Pairs}
+use Rattle.spread_rules.specs.Clearing.{Trading, next_candidate, turn, turns, after_match, after_fill, removed, reduced, with_less_left, fills_of, fill_of, members, leg_prices}
 use Rattle.spread_rules.proofs.lists.Membership.{in_head, in_tail, in_cons_cases, not_in_nil, from_map}
 use Rattle.spread_rules.proofs.clearings.TurnsEnd.{in_filter, members_rest, next_meets, next_left, next_least}
 use Rattle.spread_rules.specs.declared.outcome.OrderStatus.{OrderStatus}
-use Rattle.spread_match.specs.Trade.{PlacesDiffer, AreApart, IsTradable}
+use Rattle.spread_match.specs.Trade.{IsTradable}
+use Rattle.spread_match.specs.code.StateAfter.{statuses_after, status_after_fill, statuses_after_fill}
+use Rattle.spread_match.specs.code.Turns.{AreApart}
 use Rattle.spread_match.specs.Sound.{IsCounted, KeepsLimit}
-use Rattle.spread_match.specs.Kept.{renewed, renewed_by, renew_step}
 use Rattle.spread_match.proofs.turns.NotAgainstItself.{are_apart}
 use Rattle.spread_match.proofs.turns.StaysTradable.{still_tradable}
 use Rattle.spread_match.proofs.turns.OneTurn.{least_some}
 use Rattle.spread_match.proofs.turns.StaysAfterAFill.{still_there, still_differ}
-use Rattle.spread_rules.specs.Candidates.{Pairs}
 use Rattle.spread_rules.specs.Meaning.{PastNew, filled, is_refused, status_at, status_of}
 
 module _ (on : Pairs) where
@@ -80,10 +80,10 @@ module _ (on : Pairs) where
       ∙ ap (λ (r : Bool). cond r 8 (cond (filled p.place (fs ++ f ∷ []) == p.ticket.quantity) 2 4)) (sym own.taken))))
 
   pub statuses_push : (fs : List Fill) (f : Fill) (ps : List PastNew) → 0 < f.quantity → ((p : PastNew) → Contains ps p → p.place ≡ f.order → IsFillOf fs f p) →
-      map (renewed_by f) (map (status_of fs) ps) ≡ map (status_of (fs ++ f ∷ [])) ps
+      map (status_after_fill f) (map (status_of fs) ps) ≡ map (status_of (fs ++ f ∷ [])) ps
   statuses_push fs f [] s h = refl
   statuses_push fs f (p ∷ ps) s h =
-      ap (λ (x : OrderStatus). x ∷ map (renewed_by f) (map (status_of fs) ps)) (renewed_at fs f p (p.place == f.order) refl s (h p (in_head p ps)))
+      ap (λ (x : OrderStatus). x ∷ map (status_after_fill f) (map (status_of fs) ps)) (renewed_at fs f p (p.place == f.order) refl s (h p (in_head p ps)))
       ∙ ap (λ (xs : List OrderStatus). status_of (fs ++ f ∷ []) p ∷ xs) (statuses_push fs f ps s (λ q c. h q (in_tail p ps q c)))
 
   -- ---- the account of the orders that trade
@@ -97,7 +97,7 @@ module _ (on : Pairs) where
     pub differ : PlacesDiffer xs
     pub within : (f : Fill) → Contains (past ++ made) f → filled f.order (past ++ made) ≤ f.total
     pub limits : (f : Fill) → Contains (past ++ made) f → KeepsLimit ps f
-    pub statuses : renewed made (map (status_of past) ps) ≡ map (status_of (past ++ made)) ps
+    pub statuses : statuses_after made (map (status_of past) ps) ≡ map (status_of (past ++ made)) ps
 
   -- a fill of q of that order
   pub record IsFill (f : Fill) (o : Order) (q : ℕ) : Type 0 where
@@ -128,11 +128,11 @@ module _ (on : Pairs) where
   }
 
   more_statuses : (ps : List PastNew) (past made : List Fill) (f : Fill) (o : Order) (q : ℕ) → IsFill f o q → q ≤ o.leaves → 0 < q → IsCounted ps (past ++ made) o →
-      renewed made (map (status_of past) ps) ≡ map (status_of (past ++ made)) ps → renewed (made ++ f ∷ []) (map (status_of past) ps) ≡ map (status_of (past ++ (made ++ f ∷ []))) ps
+      statuses_after made (map (status_of past) ps) ≡ map (status_of (past ++ made)) ps → statuses_after (made ++ f ∷ []) (map (status_of past) ps) ≡ map (status_of (past ++ (made ++ f ∷ []))) ps
   more_statuses ps past made f o q is l s c h =
       let some : 0 < f.quantity = subst (λ (k : ℕ). 0 < k) (sym is.quantity) s in
-      fold-append renew_step (map (status_of past) ps) made (f ∷ [])
-      ∙ (ap (map (renewed_by f)) h
+      fold-append statuses_after_fill (map (status_of past) ps) made (f ∷ [])
+      ∙ (ap (map (status_after_fill f)) h
       ∙ (statuses_push (past ++ made) f ps some
       (λ p d m.
       let at : p.place ≡ o.place = m ∙ is.order in
@@ -253,12 +253,12 @@ module _ (on : Pairs) where
     statuses = more_statuses ps past made f m q is l s (h.each m c) h.statuses;
   }
 
-  turn_counted : (references : List ℤ) (ps : List PastNew) (past : List Fill) (n : Order) (xs : List Order) (made : List Fill) (p : Counterparty) (price : ℤ) → IsOf xs p → AreApart p → 0 < least_left n p → is_within_limit n.side n.price price ≡ true →
+  turn_counted : (references : List ℤ) (ps : List PastNew) (past : List Fill) (n : Order) (xs : List Order) (made : List Fill) (p : Counterparty) (price : ℤ) → AllStandIn xs p → AreApart p → 0 < least_left n p → is_within_limit n.side n.price price ≡ true →
       AreCounted ps past n xs made →
       AreCounted ps past (record n { leaves = n.leaves - least_left n p }) (fold (after_fill (least_left n p)) xs (members p)) (made ++ fills_of references n (record { price = price; counterparty = p }))
   turn_counted references ps past n xs made (Direct a) price c d s u h =
       let q = least_left n (Direct a) in
-      let legs = legs_at references n.instrument price (Direct a) in
+      let legs = leg_prices references n.instrument price (Direct a) in
       let f = fill_of n.place q legs n price in
       let g = fill_of n.place q legs a a.price in
       let one = own_filled ps past n xs made f q (record { order = refl; quantity = refl; leaves = refl; total = refl; side = refl; within = u }) (omega arith) s h in
@@ -266,7 +266,7 @@ module _ (on : Pairs) where
       subst (AreCounted ps past (record n { leaves = n.leaves - q }) (after_fill q xs a)) (append_assoc made (f ∷ []) (g ∷ [])) two
   turn_counted references ps past n xs made (Implied a b) price c d s u h =
       let q = least_left n (Implied a b) in
-      let legs = legs_at references n.instrument price (Implied a b) in
+      let legs = leg_prices references n.instrument price (Implied a b) in
       let f = fill_of n.place q legs n price in
       let g = fill_of n.place q legs a a.price in
       let k = fill_of n.place q legs b b.price in
@@ -281,7 +281,7 @@ module _ (on : Pairs) where
     pub tradable : IsTradable months t.orders
     pub counted : AreCounted ps past t.new t.orders t.fills
 
-  pub running_with : (references : List ℤ) (months : ℕ) (ps : List PastNew) (past : List Fill) (t : Trading) (r : Option Candidate) → next on t ≡ r → IsRunning months ps past t → IsRunning months ps past (traded references t r)
+  pub running_with : (references : List ℤ) (months : ℕ) (ps : List PastNew) (past : List Fill) (t : Trading) (r : Option Candidate) → next_candidate on t ≡ r → IsRunning months ps past t → IsRunning months ps past (after_match references t r)
   running_with references months ps past t None e h = h
   running_with references months ps past t (Some o) e h =
       let stands = members_rest on t o e in
@@ -294,4 +294,4 @@ module _ (on : Pairs) where
 
   pub running : (references : List ℤ) (months : ℕ) (ps : List PastNew) (past : List Fill) (k : ℕ) (t : Trading) → IsRunning months ps past t → IsRunning months ps past (turns on references k t)
   running references months ps past zero t h = h
-  running references months ps past (suc k) t h = running references months ps past k (turn on references t) (running_with references months ps past t (next on t) refl h)
+  running references months ps past (suc k) t h = running references months ps past k (turn on references t) (running_with references months ps past t (next_candidate on t) refl h)

@@ -4,7 +4,7 @@ use Rattle.std.specs.Prelude.{◌≢◌, slice_get}
 use Rattle.std.proofs.lemmas.List.{get_or-take, length-take, length-drop, take_all}
 use Rattle.std.proofs.lemmas.Option.{get_or_from_slice_get}
 use Rattle.spread_rules.specs.declared.outcome.OrderStatus.{OrderStatus}
-use Rattle.spread_match.specs.Kept.{AreInOrder}
+use Rattle.spread_match.specs.code.StateAfter.{AreInOrder}
 use Rattle.spread_match.proofs.status_rows.InOrder.{not_later}
 
 pub in_order_from : (n : ℕ) (ss : List OrderStatus) → AreInOrder ss → AreInOrder (drop n ss)

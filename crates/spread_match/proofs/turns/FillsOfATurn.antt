@@ -4,13 +4,13 @@ use Rattle.spread_rules.specs.declared.order.Order.{Order}
 use Rattle.spread_rules.specs.declared.fill.Fill.{Fill}
 use Rattle.spread_rules.specs.declared.candidate.Candidate.{Candidate}
 use Rattle.spread_rules.specs.Candidates.{least_left}
-use Rattle.spread_rules.specs.Clearing.{fill_of, fills_of, legs_at, members}
+use Rattle.spread_rules.specs.Clearing.{fill_of, fills_of, leg_prices, members}
 
 -- the new order's fill, then one for each member
 abbrev fills_with : Order → ℤ → ℕ → ℤ × ℤ → List Order → List Fill
 fills_with n price q legs ms = fill_of n.place q legs n price ∷ map (λ m. fill_of n.place q legs m m.price) ms
 
-pub fills_made : (references : List ℤ) (n : Order) (o : Candidate) (q : ℕ) (legs : ℤ × ℤ) (ms : List Order) → members o.counterparty ≡ ms → q ≡ least_left n o.counterparty → legs ≡ legs_at references n.instrument o.price o.counterparty
+pub fills_made : (references : List ℤ) (n : Order) (o : Candidate) (q : ℕ) (legs : ℤ × ℤ) (ms : List Order) → members o.counterparty ≡ ms → q ≡ least_left n o.counterparty → legs ≡ leg_prices references n.instrument o.price o.counterparty
     → fills_with n o.price q legs ms ≡ fills_of references n o
 fills_made references n o q legs ms m e l =
     ap (λ (ks : List Order). fills_with n o.price q legs ks) (sym m)

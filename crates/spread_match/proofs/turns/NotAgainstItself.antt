@@ -10,12 +10,10 @@ use Rattle.spread_rules.specs.declared.order.Order.{Order}
 use Rattle.spread_rules.specs.declared.candidate.Candidate.{Candidate}
 use Rattle.spread_rules.specs.declared.candidate.Counterparty.{Counterparty}
 use Rattle.spread_rules.specs.declared.candidate.Counterparty.TheVariants.{Direct, Implied}
-use Rattle.spread_rules.specs.Candidates.{if_so, implied_price, are_opposite, price_of, IsEligible, IsOf}
+use Rattle.spread_rules.specs.Candidates.{price_if, implied_price, are_opposite, price_of, IsEligible, AllStandIn, PlacesDiffer, IsBest, Pairs}
 use Rattle.spread_rules.specs.Clearing.{removed, reduced, with_less_left}
-use Rattle.spread_match.specs.Best.{IsBest}
-use Rattle.spread_match.specs.Trade.{PlacesDiffer, AreApart}
+use Rattle.spread_match.specs.code.Turns.{AreApart}
 use Rattle.spread_rules.proofs.clearings.BoughtIsSold.{on_price}
-use Rattle.spread_rules.specs.Candidates.{Pairs}
 
 module _ (on : Pairs) where
   not_first : (s : Side) (I : Instrument) (sb : Side) (B : Instrument) (x y p : ℤ) → implied_price s I s I sb B x y ≡ Some p → ⊥
@@ -65,7 +63,7 @@ module _ (on : Pairs) where
   not_opposite Buy h = cc
   not_opposite Sell h = cc
 
-  so_true : (b : Bool) (v p : ℤ) → if_so b v ≡ Some p → b ≡ true
+  so_true : (b : Bool) (v p : ℤ) → price_if b v ≡ Some p → b ≡ true
   so_true true v p h = refl
   so_true false v p h = cc
 
@@ -102,14 +100,14 @@ module _ (on : Pairs) where
       (subst (λ (x : Instrument). implied_price n.side n.instrument a.side a.instrument b.side x a.price b.price ≡ Some p) i (on_price _ _ p h)))
 
   -- whoever is a candidate is one of the others
-  among_others : (n own : Order) (xs : List Order) (p : Counterparty) (price : ℤ) → IsLike n own → price_of on n p ≡ Some price → IsOf (xs ++ own ∷ []) p → IsOf xs p
+  among_others : (n own : Order) (xs : List Order) (p : Counterparty) (price : ℤ) → IsLike n own → price_of on n p ≡ Some price → AllStandIn (xs ++ own ∷ []) p → AllStandIn xs p
   among_others n own xs (Direct o) price l h c = elim (Contains-push_cases xs own o c) [ inl d ↦ d | inr e ↦ absurd (own_single n own o price l e h) ]
   among_others n own xs (Implied a b) price l h c = (
     elim (Contains-push_cases xs own a c.0) [ inl d ↦ d | inr e ↦ absurd (own_first n own a b price l e h) ],
     elim (Contains-push_cases xs own b c.1) [ inl d ↦ d | inr e ↦ absurd (own_second n own a b price l e h) ],
   )
 
-  with_own : (own : Order) (xs : List Order) (p : Counterparty) → IsOf xs p → IsOf (xs ++ own ∷ []) p
+  with_own : (own : Order) (xs : List Order) (p : Counterparty) → AllStandIn xs p → AllStandIn (xs ++ own ∷ []) p
   with_own own xs (Direct o) c = Contains-append_left xs (own ∷ []) o c
   with_own own xs (Implied a b) c = (Contains-append_left xs (own ∷ []) a c.0, Contains-append_left xs (own ∷ []) b c.1)
 
@@ -124,7 +122,7 @@ module _ (on : Pairs) where
   best_of_others n own xs None l h = λ q e. h q (wider n own xs q e)
   best_of_others n own xs (Some o) l h = record { eligible = narrower n own xs o l h.eligible; least = λ q e. h.least q (wider n own xs q e) }
 
-  pub are_apart : (n : Order) (xs : List Order) (p : Counterparty) (price : ℤ) → PlacesDiffer xs → IsOf xs p → price_of on n p ≡ Some price → AreApart p
+  pub are_apart : (n : Order) (xs : List Order) (p : Counterparty) (price : ℤ) → PlacesDiffer xs → AllStandIn xs p → price_of on n p ≡ Some price → AreApart p
   are_apart n xs (Direct o) price d c h = tt
   are_apart n xs (Implied a b) price d c h = λ e.
       let same = d a b c.0 c.1 e in

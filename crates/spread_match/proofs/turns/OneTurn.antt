@@ -7,16 +7,15 @@ use Rattle.spread_rules.specs.declared.fill.Fill.{Fill}
 use Rattle.spread_rules.specs.declared.candidate.Candidate.{Candidate}
 use Rattle.spread_rules.specs.declared.candidate.Counterparty.{Counterparty}
 use Rattle.spread_rules.specs.declared.candidate.Counterparty.TheVariants.{Direct, Implied}
-use Rattle.spread_rules.specs.Candidates.{IsLeast, IsOf, least_left}
-use Rattle.spread_rules.specs.Clearing.{Trading, next, turns, traded, begin, clear, fills_of, after_fill, members}
-use Rattle.spread_match.specs.Best.{IsBest}
-use Rattle.spread_match.specs.Trade.{IsTradable, IsAfter}
+use Rattle.spread_rules.specs.Candidates.{IsLeast, AllStandIn, least_left, IsBest, Pairs}
+use Rattle.spread_rules.specs.Clearing.{Trading, next_candidate, turns, after_match, begin, clear, fills_of, after_fill, members}
+use Rattle.spread_match.specs.Trade.{IsTradable}
+use Rattle.spread_match.specs.code.Turns.{IsAfter}
 use Rattle.spread_match.proofs.turns.NotAgainstItself.{best_of_others}
 use Rattle.spread_match.proofs.turns.StaysTradable.{others_after, turns_more, next_is, like_own, fewer_differ, cleared_at, spent_next}
-use Rattle.spread_rules.specs.Candidates.{Pairs}
 
 module _ (on : Pairs) where
-  pub least_some : (n : Order) (xs : List Order) (p : Counterparty) → IsOf xs p → All (λ o. 0 < o.leaves) xs → 0 < n.leaves → 0 < least_left n p
+  pub least_some : (n : Order) (xs : List Order) (p : Counterparty) → AllStandIn xs p → All (λ o. 0 < o.leaves) xs → 0 < n.leaves → 0 < least_left n p
   least_some n xs (Direct o) c h l = let a = All-contains (λ (w : Order). 0 < w.leaves) xs o h c in omega (arith, a)
   least_some n xs (Implied x y) c h l =
       let a = All-contains (λ (w : Order). 0 < w.leaves) xs x h c.0 in
@@ -34,8 +33,8 @@ module _ (on : Pairs) where
       let t = turns on references k (begin own rest) in
       let like = like_own on references k own rest in
       let narrow : IsLeast on t.new t.orders candidate = best_of_others on t.new own t.orders (Some candidate) like least in
-      let found : next on t ≡ Some candidate = next_is on t (Some candidate) pos (fewer_differ on own t.orders tr.places) narrow in
-      let more : turns on references (suc k) (begin own rest) ≡ traded references t (Some candidate) = turns_more on references k (begin own rest) ∙ ap (traded references t) found in
+      let found : next_candidate on t ≡ Some candidate = next_is on t (Some candidate) pos (fewer_differ on own t.orders tr.places) narrow in
+      let more : turns on references (suc k) (begin own rest) ≡ after_match references t (Some candidate) = turns_more on references k (begin own rest) ∙ ap (after_match references t) found in
       record {
         count = suc k;
         left_is = sym (ap (λ (s : Trading). s.new) more);
@@ -64,7 +63,7 @@ module _ (on : Pairs) where
     pub fills_is : made ≡ (clear on references own rest).fills
 
   done_at : (references : List ℤ) (own : Order) (rest : List Order) (left : Order) (book : List Order) (made : List Fill) (a : IsAfter on references own rest left book made) →
-      next on (turns on references a.count (begin own rest)) ≡ None → IsDone references own rest left book made
+      next_candidate on (turns on references a.count (begin own rest)) ≡ None → IsDone references own rest left book made
   done_at references own rest left book made a h =
       let e = cleared_at on references a.count own rest h in
       record { left_is = a.left_is ∙ ap (λ (s : Trading). s.new) e; orders_is = a.orders_is ∙ ap (λ (s : Trading). s.orders ++ own ∷ []) e; fills_is = a.fills_is ∙ ap (λ (s : Trading). s.fills) e }
@@ -87,7 +86,7 @@ module _ (on : Pairs) where
   length_push [] y = refl
   length_push (x ∷ xs) y = omega (arith, length_push xs y)
 
-  some_rest : (xs : List Order) (p : Counterparty) → IsOf xs p → 0 < length xs
+  some_rest : (xs : List Order) (p : Counterparty) → AllStandIn xs p → 0 < length xs
   some_rest xs (Direct o) c = omega (arith, c.1)
   some_rest xs (Implied a b) c = omega (arith, c.0.1)
 

@@ -5,8 +5,7 @@ use Rattle.spread_rules.specs.declared.order.Order.{Order}
 use Rattle.spread_rules.specs.Clearing.{removed, reduced, with_less_left}
 use Rattle.spread_rules.proofs.lists.Membership.{not_in_nil, in_head, in_tail, in_cons_cases, in_map, from_map}
 use Rattle.spread_rules.proofs.clearings.TurnsEnd.{in_filter}
-use Rattle.spread_rules.specs.Candidates.{all_on}
-use Rattle.spread_match.specs.Trade.{PlacesDiffer}
+use Rattle.spread_rules.specs.Candidates.{all_on, PlacesDiffer}
 
 other_place : (a b : ℕ) → b ≢ a → (b == a) ≡ false
 other_place a b h = grind (arith, nat_tests)

@@ -6,12 +6,12 @@ use Rattle.spread_rules.specs.declared.order.Order.{Order}
 use Rattle.spread_rules.specs.declared.candidate.Candidate.{Candidate}
 use Rattle.spread_rules.specs.declared.candidate.Counterparty.{Counterparty}
 use Rattle.spread_rules.specs.declared.candidate.Counterparty.TheVariants.{Direct, Implied}
-use Rattle.spread_rules.specs.Candidates.{price_of, IsOf, least_left, least_candidate, counterparties, HasOrderPrice, Pairs}
-use Rattle.spread_rules.specs.Clearing.{Trading, next, turn, turns, begin, clear, after_fill, removed, reduced, with_less_left, members}
+use Rattle.spread_rules.specs.Candidates.{price_of, AllStandIn, least_left, least_candidate, counterparties, HasOrderPrice, Pairs, PlacesDiffer, IsBest}
+use Rattle.spread_rules.specs.Clearing.{Trading, next_candidate, turn, turns, begin, clear, after_fill, removed, reduced, with_less_left, members}
 use Rattle.spread_rules.proofs.ranks.LeastIsOne.{best_is_first}
 use Rattle.spread_rules.proofs.clearings.TurnsEnd.{enough, one_end, keeps_turns}
-use Rattle.spread_match.specs.Best.{IsBest, IsNearFirst, in_months}
-use Rattle.spread_match.specs.Trade.{PlacesDiffer, AreApart, IsWithin, IsTradable}
+use Rattle.spread_match.specs.Trade.{IsNearFirst, IsInMonths, IsTradable}
+use Rattle.spread_match.specs.code.Turns.{AreApart, HaveLeft}
 use Rattle.spread_match.proofs.turns.StaysAfterAFill.{still_there, still_differ}
 use Rattle.spread_match.proofs.turns.NotAgainstItself.{IsLike, fill_own, own_single, own_first, own_second}
 
@@ -49,7 +49,7 @@ module _ (on : Pairs) where
       (λ k z lt. less_left q (get_or xs k z) ((get_or xs k z).place == m.place) (h k z lt)
       (λ s. let same : get_or xs k z ≡ m = d (get_or xs k z) m (Contains-get_or xs k z lt) c (number_is _ _ s) in subst (λ (o : Order). q < o.leaves) (sym same) (more_left q m l e)))
 
-  members_left : (q : ℕ) (xs : List Order) (p : Counterparty) → PlacesDiffer xs → IsOf xs p → AreApart p → IsWithin q p → All (λ o. 0 < o.leaves) xs → All (λ o. 0 < o.leaves) (fold (after_fill q) xs (members p))
+  members_left : (q : ℕ) (xs : List Order) (p : Counterparty) → PlacesDiffer xs → AllStandIn xs p → AreApart p → HaveLeft q p → All (λ o. 0 < o.leaves) xs → All (λ o. 0 < o.leaves) (fold (after_fill q) xs (members p))
   members_left q xs (Direct o) d c a w h = fill_left q xs o (o.leaves == q) refl d c w h
   members_left q xs (Implied x y) d c a w h =
       fill_left q (after_fill q xs x) y (y.leaves == q) refl (still_differ q xs x (x.leaves == q) d) (still_there q xs x y (x.leaves == q) a c.1) w.1
@@ -59,22 +59,22 @@ module _ (on : Pairs) where
   members_differ q xs (Direct o) d = still_differ q xs o (o.leaves == q) d
   members_differ q xs (Implied x y) d = still_differ q (after_fill q xs x) y (y.leaves == q) (still_differ q xs x (x.leaves == q) d)
 
-  least_within : (n : Order) (p : Counterparty) → IsWithin (least_left n p) p
+  least_within : (n : Order) (p : Counterparty) → HaveLeft (least_left n p) p
   least_within n (Direct o) = omega arith
   least_within n (Implied a b) = (omega arith, omega arith)
 
-  pub still_tradable : (months : ℕ) (n : Order) (xs : List Order) (p : Counterparty) → IsTradable months xs → IsOf xs p → AreApart p → IsTradable months (fold (after_fill (least_left n p)) xs (members p))
+  pub still_tradable : (months : ℕ) (n : Order) (xs : List Order) (p : Counterparty) → IsTradable months xs → AllStandIn xs p → AreApart p → IsTradable months (fold (after_fill (least_left n p)) xs (members p))
   still_tradable months n xs p t c a = record {
     small = members_all HasOrderPrice (λ o k h. record { low = h.low; high = h.high }) (least_left n p) xs p t.small;
     listed = members_all IsNearFirst (λ o k h. record { near_before_far = h.near_before_far }) (least_left n p) xs p t.listed;
-    within = members_all (λ (o : Order). in_months months o.instrument) (λ o k h. h) (least_left n p) xs p t.within;
+    within = members_all (λ (o : Order). IsInMonths months o.instrument) (λ o k h. h) (least_left n p) xs p t.within;
     places = members_differ (least_left n p) xs p t.places;
     left = members_left (least_left n p) xs p t.places c a (least_within n p) t.left;
   }
 
   -- ---- the new order stays as it was added
 
-  members_own : (n own : Order) (q : ℕ) (xs : List Order) (p : Counterparty) (price : ℤ) → IsLike on n own → PlacesDiffer (xs ++ own ∷ []) → price_of on n p ≡ Some price → IsOf xs p →
+  members_own : (n own : Order) (q : ℕ) (xs : List Order) (p : Counterparty) (price : ℤ) → IsLike on n own → PlacesDiffer (xs ++ own ∷ []) → price_of on n p ≡ Some price → AllStandIn xs p →
       fold (after_fill q) (xs ++ own ∷ []) (members p) ≡ fold (after_fill q) xs (members p) ++ own ∷ []
   members_own n own q xs (Direct o) price l d h c =
       fill_own on q xs o own (o.leaves == q) (λ e. own_single on n own o price l (d own o (Contains-push xs own) (Contains-append_left xs (own ∷ []) o c) e) h)
@@ -82,7 +82,7 @@ module _ (on : Pairs) where
       ap (λ (ys : List Order). after_fill q ys b) (fill_own on q xs a own (a.leaves == q) (λ e. own_first on n own a b price l (d own a (Contains-push xs own) (Contains-append_left xs (own ∷ []) a c.0) e) h))
       ∙ fill_own on q (after_fill q xs a) b own (b.leaves == q) (λ e. own_second on n own a b price l (d own b (Contains-push xs own) (Contains-append_left xs (own ∷ []) b c.1) e) h)
 
-  pub others_after : (n own : Order) (q : ℕ) (xs : List Order) (p : Counterparty) (price : ℤ) → IsLike on n own → PlacesDiffer (xs ++ own ∷ []) → price_of on n p ≡ Some price → IsOf xs p →
+  pub others_after : (n own : Order) (q : ℕ) (xs : List Order) (p : Counterparty) (price : ℤ) → IsLike on n own → PlacesDiffer (xs ++ own ∷ []) → price_of on n p ≡ Some price → AllStandIn xs p →
       fold (after_fill q) (xs ++ own ∷ []) (members p) ≡ fold (after_fill q) xs (members p) ++ own ∷ []
   others_after n own q xs p price l d h c = members_own n own q xs p price l d h c
 
@@ -97,7 +97,7 @@ module _ (on : Pairs) where
   next_by s r true e h f = absurd (grind (arith, nat_tests))
   next_by s r false e h f = sym f
 
-  pub next_is : (s : Trading) (r : Option Candidate) → 0 < s.new.leaves → PlacesDiffer s.orders → IsBest on s.new s.orders r → next on s ≡ r
+  pub next_is : (s : Trading) (r : Option Candidate) → 0 < s.new.leaves → PlacesDiffer s.orders → IsBest on s.new s.orders r → next_candidate on s ≡ r
   next_is s r h d b = next_by s r (s.new.leaves == 0) refl h (best_is_first on s.new s.orders r d b)
 
   pub like_own : (references : List ℤ) (k : ℕ) (own : Order) (rest : List Order) → IsLike on (turns on references k (begin own rest)).new own
@@ -109,12 +109,12 @@ module _ (on : Pairs) where
   fewer_differ own xs d = λ a b ca cb e. d a b (Contains-append_left xs (own ∷ []) a ca) (Contains-append_left xs (own ∷ []) b cb) e
 
   -- where there is no next, the clearing is done
-  pub cleared_at : (references : List ℤ) (k : ℕ) (own : Order) (rest : List Order) → next on (turns on references k (begin own rest)) ≡ None → turns on references k (begin own rest) ≡ clear on references own rest
+  pub cleared_at : (references : List ℤ) (k : ℕ) (own : Order) (rest : List Order) → next_candidate on (turns on references k (begin own rest)) ≡ None → turns on references k (begin own rest) ≡ clear on references own rest
   cleared_at references k own rest h = one_end on references k (length rest) (begin own rest) h (enough on references (length rest) (begin own rest) (omega arith))
 
   spent : (s : Trading) (b : Bool) → (s.new.leaves == 0) ≡ b → s.new.leaves ≤ 0 → cond b None (least_candidate on s.new (counterparties s.orders)) ≡ None
   spent s true e h = refl
   spent s false e h = absurd (grind (arith, nat_tests))
 
-  pub spent_next : (s : Trading) → s.new.leaves ≤ 0 → next on s ≡ None
+  pub spent_next : (s : Trading) → s.new.leaves ≤ 0 → next_candidate on s ≡ None
   spent_next s h = spent s (s.new.leaves == 0) refl h

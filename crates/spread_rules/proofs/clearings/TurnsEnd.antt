@@ -5,8 +5,8 @@ use Rattle.spread_rules.specs.declared.order.Order.{Order}
 use Rattle.spread_rules.specs.declared.candidate.Candidate.{Candidate}
 use Rattle.spread_rules.specs.declared.candidate.Counterparty.{Counterparty}
 use Rattle.spread_rules.specs.declared.candidate.Counterparty.TheVariants.{Direct, Implied}
-use Rattle.spread_rules.specs.Candidates.{IsLeast, least_candidate, counterparties, least_left, IsOf, price_of}
-use Rattle.spread_rules.specs.Clearing.{Trading, next, turn, turns, traded, after_fill, removed, reduced, with_less_left, members}
+use Rattle.spread_rules.specs.Candidates.{IsLeast, least_candidate, counterparties, least_left, AllStandIn, price_of}
+use Rattle.spread_rules.specs.Clearing.{Trading, next_candidate, turn, turns, after_match, after_fill, removed, reduced, with_less_left, members}
 use Rattle.spread_rules.specs.Quiet.{IsQuiet}
 use Rattle.spread_rules.proofs.lists.Membership.{not_in_nil, in_head, in_tail, in_cons_cases, from_map, in_map}
 use Rattle.spread_rules.proofs.ranks.PlainIsLeast.{first_is_least}
@@ -25,7 +25,7 @@ module _ (on : Pairs) where
   in_filter p (x ∷ xs) o c = kept_in x (filter p xs) xs o (p x) (in_filter p xs o) c
 
   pub come_removed : (place : ℕ) (xs : List Order) → ComeFrom on xs (removed place xs)
-  come_removed place xs = record { each = λ of side o r. (o, record { stands = in_filter (λ (p : Order). not (p.place == place)) xs o r.stands; of = r.of; on = r.on }, refl) }
+  come_removed place xs = record { each = λ of side o r. (o, record { stands = in_filter (λ (p : Order). not (p.place == place)) xs o r.stands; instrument_is = r.instrument_is; side_is = r.side_is }, refl) }
 
   -- what loses some keeps the rest
   less_instrument : (place by : ℕ) (o : Order) (b : Bool) → (cond b (record o { leaves = o.leaves - by }) o).instrument ≡ o.instrument
@@ -45,7 +45,7 @@ module _ (on : Pairs) where
     each = λ of side o r.
         let m = from_map (with_less_left place by) xs o r.stands in (
           m.0,
-          record { stands = m.1; of = sym (less_instrument place by m.0 (m.0.place == place)) ∙ (ap (λ (w : Order). w.instrument) m.2 ∙ r.of); on = sym (less_side place by m.0 (m.0.place == place)) ∙ (ap (λ (w : Order). w.side) m.2 ∙ r.on) },
+          record { stands = m.1; instrument_is = sym (less_instrument place by m.0 (m.0.place == place)) ∙ (ap (λ (w : Order). w.instrument) m.2 ∙ r.instrument_is); side_is = sym (less_side place by m.0 (m.0.place == place)) ∙ (ap (λ (w : Order). w.side) m.2 ∙ r.side_is) },
           sym (less_price place by m.0 (m.0.place == place)) ∙ ap (λ (w : Order). w.price) m.2,
         );
   }
@@ -65,14 +65,14 @@ module _ (on : Pairs) where
     pub orders : ComeFrom on s.orders t.orders
     pub new : t.new ≡ record s.new { leaves = t.new.leaves }
 
-  keeps_traded : (references : List ℤ) (s : Trading) (o : Option Candidate) → Keeps s (traded references s o)
+  keeps_traded : (references : List ℤ) (s : Trading) (o : Option Candidate) → Keeps s (after_match references s o)
   keeps_traded references s None = record { orders = come_itself on s.orders; new = refl }
   keeps_traded references s (Some o) = record { orders = come_members (least_left s.new o.counterparty) s.orders o.counterparty; new = refl }
 
   pub keeps_turns : (references : List ℤ) (k : ℕ) (s : Trading) → Keeps s (turns on references k s)
   keeps_turns references zero s = record { orders = come_itself on s.orders; new = refl }
   keeps_turns references (suc k) s =
-      let one = keeps_traded references s (next on s) in
+      let one = keeps_traded references s (next_candidate on s) in
       let more = keeps_turns references k (turn on references s) in
       record {
         orders = come_on on s.orders (turn on references s).orders (turns on references k (turn on references s)).orders one.orders more.orders;
@@ -82,32 +82,32 @@ module _ (on : Pairs) where
   -- ---- where turns end
 
   -- no next, with something left: nobody is eligible
-  none_left : (s : Trading) (b : Bool) → (s.new.leaves == 0) ≡ b → next on s ≡ None → 0 < s.new.leaves → NoneFor on s.new s.orders
+  none_left : (s : Trading) (b : Bool) → (s.new.leaves == 0) ≡ b → next_candidate on s ≡ None → 0 < s.new.leaves → NoneFor on s.new s.orders
   none_left s true e h l = absurd (grind (arith, nat_tests))
   none_left s false e h l =
       let none : least_candidate on s.new (counterparties s.orders) ≡ None = subst (λ (b : Bool). cond b None (least_candidate on s.new (counterparties s.orders)) ≡ None) e h in
       subst (λ (r : Option Candidate). MatchOption r (NoneFor on s.new s.orders) (IsLeast on s.new s.orders)) none (first_is_least on s.new s.orders)
 
-  pub nobody_left : (s : Trading) → next on s ≡ None → 0 < s.new.leaves → NoneFor on s.new s.orders
+  pub nobody_left : (s : Trading) → next_candidate on s ≡ None → 0 < s.new.leaves → NoneFor on s.new s.orders
   nobody_left s h l = none_left s (s.new.leaves == 0) refl h l
 
   -- a quiet list is quiet after the turns, with what is left of the new order or without it
   pub quiet_after : (references : List ℤ) (k : ℕ) (s : Trading) → IsQuiet on s.orders → IsQuiet on (turns on references k s).orders
   quiet_after references k s q = quiet_less on s.orders (turns on references k s).orders (keeps_turns references k s).orders q
 
-  pub quiet_resting : (references : List ℤ) (k : ℕ) (s : Trading) → IsQuiet on s.orders → next on (turns on references k s) ≡ None → 0 < (turns on references k s).new.leaves → IsQuiet on ((turns on references k s).orders ++ (turns on references k s).new ∷ [])
+  pub quiet_resting : (references : List ℤ) (k : ℕ) (s : Trading) → IsQuiet on s.orders → next_candidate on (turns on references k s) ≡ None → 0 < (turns on references k s).new.leaves → IsQuiet on ((turns on references k s).orders ++ (turns on references k s).new ∷ [])
   quiet_resting references k s q h l = quiet_with on (turns on references k s).new (turns on references k s).orders (nobody_left (turns on references k s) h l) (quiet_after references k s q)
 
   -- ---- as many turns as orders rest are enough
 
-  pub stays : (references : List ℤ) (k : ℕ) (s : Trading) → next on s ≡ None → turns on references k s ≡ s
+  pub stays : (references : List ℤ) (k : ℕ) (s : Trading) → next_candidate on s ≡ None → turns on references k s ≡ s
   stays references zero s h = refl
   stays references (suc k) s h =
-      let same : turn on references s ≡ s = ap (traded references s) h in
+      let same : turn on references s ≡ s = ap (after_match references s) h in
       ap (turns on references k) same ∙ stays references k s h
 
   -- two ends of one run are one
-  pub one_end : (references : List ℤ) (k j : ℕ) (s : Trading) → next on (turns on references k s) ≡ None → next on (turns on references j s) ≡ None → turns on references k s ≡ turns on references j s
+  pub one_end : (references : List ℤ) (k j : ℕ) (s : Trading) → next_candidate on (turns on references k s) ≡ None → next_candidate on (turns on references j s) ≡ None → turns on references k s ≡ turns on references j s
   one_end references zero j s h g = sym (stays references j s h)
   one_end references (suc k) zero s h g = stays references (suc k) s g
   one_end references (suc k) (suc j) s h g = one_end references k j (turn on references s) h g
@@ -175,7 +175,7 @@ module _ (on : Pairs) where
   which k x y true e h = inl e
   which k x y false e h = inr (grind (arith, nat_tests))
 
-  pub turn_shorter : (n : Order) (xs : List Order) (p : Counterparty) → IsOf xs p → least_left n p < n.leaves → length (fold (after_fill (least_left n p)) xs (members p)) < length xs
+  pub turn_shorter : (n : Order) (xs : List Order) (p : Counterparty) → AllStandIn xs p → least_left n p < n.leaves → length (fold (after_fill (least_left n p)) xs (members p)) < length xs
   turn_shorter n xs (Direct a) c h =
       let e : (a.leaves == min n.leaves a.leaves) ≡ true = grind (arith, nat_tests) in
       spent_shorter (min n.leaves a.leaves) xs a (a.leaves == min n.leaves a.leaves) e (record { order = a; stands = c; at = refl })
@@ -199,38 +199,38 @@ module _ (on : Pairs) where
   some_next s o true h = cc
   some_next s o false h = h
 
-  pub members_rest : (s : Trading) (o : Candidate) → next on s ≡ Some o → IsOf s.orders o.counterparty
+  pub members_rest : (s : Trading) (o : Candidate) → next_candidate on s ≡ Some o → AllStandIn s.orders o.counterparty
   members_rest s o h =
       let l : IsLeast on s.new s.orders o = subst (λ (r : Option Candidate). MatchOption r (NoneFor on s.new s.orders) (IsLeast on s.new s.orders)) (some_next s o (s.new.leaves == 0) h) (first_is_least on s.new s.orders) in
       l.eligible.stands
 
   -- what is next is eligible, and something is left of the new order
-  pub next_least : (s : Trading) (o : Candidate) → next on s ≡ Some o → IsLeast on s.new s.orders o
+  pub next_least : (s : Trading) (o : Candidate) → next_candidate on s ≡ Some o → IsLeast on s.new s.orders o
   next_least s o h = subst (λ (r : Option Candidate). MatchOption r (NoneFor on s.new s.orders) (IsLeast on s.new s.orders)) (some_next s o (s.new.leaves == 0) h) (first_is_least on s.new s.orders)
 
-  pub next_meets : (s : Trading) (o : Candidate) → next on s ≡ Some o → price_of on s.new o.counterparty ≡ Some o.price
+  pub next_meets : (s : Trading) (o : Candidate) → next_candidate on s ≡ Some o → price_of on s.new o.counterparty ≡ Some o.price
   next_meets s o h = (next_least s o h).eligible.meets
 
   left_at : (s : Trading) (o : Candidate) (b : Bool) → (s.new.leaves == 0) ≡ b → cond b None (least_candidate on s.new (counterparties s.orders)) ≡ Some o → 0 < s.new.leaves
   left_at s o true e h = cc
   left_at s o false e h = grind (arith, nat_tests)
 
-  pub next_left : (s : Trading) (o : Candidate) → next on s ≡ Some o → 0 < s.new.leaves
+  pub next_left : (s : Trading) (o : Candidate) → next_candidate on s ≡ Some o → 0 < s.new.leaves
   next_left s o h = left_at s o (s.new.leaves == 0) refl h
 
-  ended : (references : List ℤ) (s : Trading) (o : Candidate) (b : Bool) → ((s.new.leaves - least_left s.new o.counterparty) == 0) ≡ b → next on s ≡ Some o → (next on (traded references s (Some o)) ≡ None) ⊎ (length (traded references s (Some o)).orders < length s.orders)
+  ended : (references : List ℤ) (s : Trading) (o : Candidate) (b : Bool) → ((s.new.leaves - least_left s.new o.counterparty) == 0) ≡ b → next_candidate on s ≡ Some o → (next_candidate on (after_match references s (Some o)) ≡ None) ⊎ (length (after_match references s (Some o)).orders < length s.orders)
   ended references s o true e h = inl (rw e refl)
   ended references s o false e h = inr (turn_shorter s.new s.orders o.counterparty (members_rest s o h) (grind (arith, nat_tests)))
 
-  enough_by : (references : List ℤ) (k : ℕ) (s : Trading) (r : Option Candidate) → next on s ≡ r → length s.orders ≤ suc k → ((t : Trading) → length t.orders ≤ k → next on (turns on references k t) ≡ None) → next on (turns on references k (traded references s r)) ≡ None
+  enough_by : (references : List ℤ) (k : ℕ) (s : Trading) (r : Option Candidate) → next_candidate on s ≡ r → length s.orders ≤ suc k → ((t : Trading) → length t.orders ≤ k → next_candidate on (turns on references k t) ≡ None) → next_candidate on (turns on references k (after_match references s r)) ≡ None
   enough_by references k s None e h on = rw (stays references k s e) e
   enough_by references k s (Some o) e h on =
       elim (ended references s o ((s.new.leaves - least_left s.new o.counterparty) == 0) refl e) [
-        | inl d ↦ rw (stays references k (traded references s (Some o)) d) d
-        | inr l ↦ on (traded references s (Some o)) (omega arith)
+        | inl d ↦ rw (stays references k (after_match references s (Some o)) d) d
+        | inr l ↦ on (after_match references s (Some o)) (omega arith)
       ]
 
   -- as many turns as orders rest are enough
-  pub enough : (references : List ℤ) (k : ℕ) (s : Trading) → length s.orders ≤ k → next on (turns on references k s) ≡ None
+  pub enough : (references : List ℤ) (k : ℕ) (s : Trading) → length s.orders ≤ k → next_candidate on (turns on references k s) ≡ None
   enough references zero s h = none_next s (s.new.leaves == 0) (nobody s.new s.orders h)
-  enough references (suc k) s h = enough_by references k s (next on s) refl h (enough references k)
+  enough references (suc k) s h = enough_by references k s (next_candidate on s) refl h (enough references k)

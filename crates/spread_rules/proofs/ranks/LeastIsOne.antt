@@ -11,15 +11,11 @@ use Rattle.spread_rules.specs.declared.candidate.Candidate.{Candidate}
 use Rattle.spread_rules.specs.declared.candidate.Counterparty.{Counterparty}
 use Rattle.spread_rules.specs.declared.candidate.Counterparty.TheVariants.{Direct, Implied}
 use Rattle.spread_rules.specs.declared.candidate.Rank.{Rank}
-use Rattle.spread_rules.specs.Candidates.{IsEligible, IsLeast, IsOf, rank_cmp, rank_of, rank_at, cost, least_candidate, counterparties}
+use Rattle.spread_rules.specs.Candidates.{IsBest, IsEligible, IsLeast, PlacesDiffer, AllStandIn, rank_cmp, rank_of, rank_at, cost, least_candidate, counterparties}
 use Rattle.spread_rules.proofs.ranks.PlainIsLeast.{rank_total, first_is_least}
 use Rattle.spread_rules.specs.Candidates.{Pairs}
 
 module _ (on : Pairs) where
-  -- orders of one place are one order
-  abbrev pub PlacesDiffer : List Order → Type 0
-  PlacesDiffer xs = (a b : Order) → Contains xs a → Contains xs b → a.place ≡ b.place → a ≡ b
-
   -- neither before the other: alike
   alike : (o q : Ordering) → is_lt o ≡ false → is_lt q ≡ false → o ≡ ordering_reverse q → o ≡ Equal
   alike Less q h k e = cc
@@ -73,7 +69,7 @@ module _ (on : Pairs) where
   cost_same Buy p q h = h
   cost_same Sell p q h = omega (arith, ints)
 
-  same_counterparty : (xs : List Order) (side : Side) (x y : ℤ) (p q : Counterparty) → PlacesDiffer xs → IsOf xs p → IsOf xs q → SameRank (rank_at side x p) (rank_at side y q) → (x ≡ y) × (p ≡ q)
+  same_counterparty : (xs : List Order) (side : Side) (x y : ℤ) (p q : Counterparty) → PlacesDiffer xs → AllStandIn xs p → AllStandIn xs q → SameRank (rank_at side x p) (rank_at side y q) → (x ≡ y) × (p ≡ q)
   same_counterparty xs side x y (Direct a) (Direct b) d ca cb r = (cost_same side x y r.cost, ap (λ (o : Order). Direct o) (d a b ca cb r.first))
   same_counterparty xs side x y (Direct a) (Implied b c) d ca cb r = let no : false ≡ true = r.implied in cc
   same_counterparty xs side x y (Implied a b) (Direct c) d ca cb r = let no : true ≡ false = r.implied in cc
@@ -82,16 +78,25 @@ module _ (on : Pairs) where
       let g = d b e ca.1 cb.1 r.second in
       (cost_same side x y r.cost, ap (λ (o : Order). Implied o b) f ∙ ap (λ (o : Order). Implied c o) g)
 
+  -- no two eligible candidates share a rank
+  pub one_of_a_rank : (n : Order) (xs : List Order) (p q : Candidate) → PlacesDiffer xs → IsEligible on n xs p → IsEligible on n xs q → rank_of n p ≡ rank_of n q → p ≡ q
+  one_of_a_rank n xs p q d a b e =
+      let r : SameRank (rank_of n p) (rank_of n q) = record {
+        cost = ap (λ (r : Rank). r.cost) e;
+        implied = ap (λ (r : Rank). r.implied) e;
+        first = ap (λ (r : Rank). r.first) e;
+        second = ap (λ (r : Rank). r.second) e;
+      } in
+      let s = same_counterparty xs n.side p.price q.price p.counterparty q.counterparty d a.stands b.stands r in
+      ap (λ (x : ℤ). record { price = x; counterparty = p.counterparty }) s.0 ∙ ap (λ (x : Counterparty). record { price = q.price; counterparty = x }) s.1
+
   pub one_least : (n : Order) (xs : List Order) (o q : Candidate) → PlacesDiffer xs → IsLeast on n xs o → IsLeast on n xs q → o ≡ q
   one_least n xs o q d l k =
       let e = alike (rank_cmp (rank_of n o) (rank_of n q)) (rank_cmp (rank_of n q) (rank_of n o)) (k.least o l.eligible) (l.least q k.eligible) ((rank_total on).antisymm (rank_of n o) (rank_of n q)) in
       let s = same_counterparty xs n.side o.price q.price o.counterparty q.counterparty d l.eligible.stands k.eligible.stands (same_rank (rank_of n o) (rank_of n q) e) in
       ap (λ (p : ℤ). record { price = p; counterparty = o.counterparty }) s.0 ∙ ap (λ (p : Counterparty). record { price = q.price; counterparty = p }) s.1
 
-  abbrev IsBestOf : Order → List Order → Option Candidate → Type 0
-  IsBestOf n xs r = MatchOption r ((q : Candidate) → IsEligible on n xs q → ⊥) (IsLeast on n xs)
-
-  best_same : (n : Order) (xs : List Order) (r s : Option Candidate) → PlacesDiffer xs → IsBestOf n xs r → IsBestOf n xs s → r ≡ s
+  best_same : (n : Order) (xs : List Order) (r s : Option Candidate) → PlacesDiffer xs → IsBest on n xs r → IsBest on n xs s → r ≡ s
   best_same n xs None None d h k = refl
   best_same n xs None (Some q) d h k = absurd (h q k.eligible)
   best_same n xs (Some o) None d h k = absurd (k o h.eligible)

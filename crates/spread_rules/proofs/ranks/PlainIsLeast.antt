@@ -10,7 +10,7 @@ use Rattle.spread_rules.specs.declared.candidate.Candidate.{Candidate}
 use Rattle.spread_rules.specs.declared.candidate.Rank.{Rank}
 use Rattle.spread_rules.specs.declared.candidate.Counterparty.{Counterparty}
 use Rattle.spread_rules.specs.declared.candidate.Counterparty.TheVariants.{Direct, Implied}
-use Rattle.spread_rules.specs.Candidates.{least_candidate, candidate_of, candidate_at, price_of, is_within_limit, is_before, rank_of, rank_cmp, IsEligible, IsLeast, IsOf, counterparties}
+use Rattle.spread_rules.specs.Candidates.{least_candidate, candidate_of, candidate_at, price_of, is_within_limit, is_before, rank_of, rank_cmp, IsEligible, IsLeast, AllStandIn, counterparties}
 use Rattle.spread_rules.proofs.lists.Membership.{in_map, from_map, in_flat_map, from_flat_map}
 use Rattle.spread_rules.proofs.ranks.FirstOfAFold.{IsFirst, fold_first}
 use Rattle.spread_rules.specs.Candidates.{Pairs}
@@ -52,18 +52,18 @@ module _ (on : Pairs) where
 
   -- ---- the list of counterparties has all of the list's
 
-  pub listed : (xs : List Order) (p : Counterparty) → IsOf xs p → Contains (counterparties xs) p
+  pub listed : (xs : List Order) (p : Counterparty) → AllStandIn xs p → Contains (counterparties xs) p
   listed xs (Direct o) c = Contains-append_left (map Direct xs) (flat_map (λ a. map (Implied a) xs) xs) (Direct o) (in_map (λ (x : Order). Direct x) xs o c)
   listed xs (Implied a b) c = Contains-append_right (map Direct xs) (flat_map (λ a. map (Implied a) xs) xs) (Implied a b) (in_flat_map (λ (x : Order). map (Implied x) xs) xs a (Implied a b) c.0 (in_map (λ (x : Order). Implied a x) xs b c.1))
 
-  pub of_list : (xs : List Order) (p : Counterparty) → Contains (counterparties xs) p → IsOf xs p
+  pub of_list : (xs : List Order) (p : Counterparty) → Contains (counterparties xs) p → AllStandIn xs p
   of_list xs p c =
       elim (Contains-append_cases (map Direct xs) (flat_map (λ a. map (Implied a) xs) xs) p c) [
-        | inl d ↦ let r = from_map (λ (x : Order). Direct x) xs p d in subst (IsOf xs) r.2 r.1
+        | inl d ↦ let r = from_map (λ (x : Order). Direct x) xs p d in subst (AllStandIn xs) r.2 r.1
         | inr d ↦
             let r = from_flat_map (λ (x : Order). map (Implied x) xs) xs p d in
             let s = from_map (λ (x : Order). Implied r.0 x) xs p r.2 in
-            subst (IsOf xs) s.2 (r.1, s.1)
+            subst (AllStandIn xs) s.2 (r.1, s.1)
       ]
 
   -- ---- the theorem
@@ -74,7 +74,7 @@ module _ (on : Pairs) where
       let own : IsOwn n h.0.0 o = candidate_is n h.0.0 o h.0.2 in
       record {
         eligible = record {
-          stands = subst (IsOf xs) (sym own.own) (of_list xs h.0.0 h.0.1);
+          stands = subst (AllStandIn xs) (sym own.own) (of_list xs h.0.0 h.0.1);
           meets = subst (λ (p : Counterparty). price_of on n p ≡ Some o.price) (sym own.own) own.meets;
           within = own.within;
         };

@@ -12,11 +12,11 @@ use Rattle.std.proofs.lemmas.Slice.Eq.{bytes_eq-Decides}
 use Rattle.spread_rules.specs.declared.rulebook.Month.{Month}
 use Rattle.spread_rules.specs.declared.rulebook_text.Draft.{Draft}
 use Rattle.std.proofs.lemmas.List.{length-map}
-use Rattle.spread_rules.specs.Rulebook.{Rules, IsRules, IsMonth}
-use Rattle.spread_rules.specs.RulebookText.{IsTick, IsNamed, SoFar, LineGives, tick, tick_line, month, month_line, EndGives, none, some}
-use Rattle.spread_rules.specs.RulebookFields.{IsRulebook}
+use Rattle.spread_rules.specs.Rulebook.{Rules, IsRules, IsMonth, IsTick}
+use Rattle.spread_rules.specs.RulebookText.{IsNamed, SoFar, LineGives, tick, tick_line, month, month_line, EndGives, none, some}
+use Rattle.spread_rules.specs.code.DraftFields.{IsDraft, HasDistinctNames, so_far}
+use Rattle.spread_rules.specs.code.RulebookFields.{IsRulebook}
 use Rattle.spread_rules.specs.declared.rule_fault.RuleFault.TheVariants.{NoMonth}
-use Rattle.spread_rules.specs.DraftFields.{IsDraft, HasDistinctNames, so_far}
 use Rattle.std.proofs.Common.{to_z, of_z}
 use Rattle.std.specs.Int.{w64}
 use Rattle.std.proofs.lemmas.Int.{to_z-of_z}
@@ -151,8 +151,7 @@ finished d t k is some_month =
     let months = take d.list.count d.list.slots in
     let names = length-map months (λ (m : Month). m.name) in
     record {
-      tick_low = (k.tick t is).0.low;
-      tick_high = (k.tick t is).0.high;
+      tick = (k.tick t is).0;
       some = omega arith;
       most = omega arith;
       months = (k.tick t is).1;

@@ -7,9 +7,8 @@ use Rattle.std.proofs.lemmas.Int.{ints}
 use Rattle.std.proofs.lemmas.List.{append_cancel_left}
 use Rattle.std.proofs.lemmas.Int.{to_z-of_z}
 use Rattle.host_base.specs.Cut.{Lacks}
-use Rattle.spread_rules.specs.Rulebook.{IsMonth}
-use Rattle.spread_rules.specs.RulebookText.{IsTick, tick_line, month_line}
-use Rattle.spread_rules.specs.DraftFields.{IsName, IsReference}
+use Rattle.spread_rules.specs.Rulebook.{IsMonth, IsTick, IsName, IsReference}
+use Rattle.spread_rules.specs.RulebookText.{tick_line, month_line}
 use Rattle.spread_rules.specs.declared.rulebook.Month.{Month}
 use Rattle.spread_rules.proofs.rulebook_texts.FieldsReadOnce.{signed_is, price_fits}
 use Rattle.spread_rules.proofs.rulebook_texts.NamesHaveNoSpace.{Lacks-name}
@@ -26,7 +25,7 @@ pub tick_is : (y t : ℤ) (line digits : List ℕ) → FitsSigned w64 y → line
 tick_is y t line digits fy is r f e = signed_behind (codes "tick ") y t line digits fy (tick_fits t f) is r e
 
 pub reference_is : (tick y z : ℤ) (text : List ℕ) → FitsSigned w64 y → text ≡ signed_decimal y → IsReference tick z → text ≡ signed_decimal z → y ≡ z
-reference_is tick y z text fy is f e = signed_is y z text fy (price_fits z f.low f.high) is e
+reference_is tick y z text fy is f e = signed_is y z text fy (price_fits z f.price.low f.price.high) is e
 
 -- ---- a month line's fields
 
@@ -38,18 +37,16 @@ pub no_space : (tick : ℤ) (m : Month) (line fields : List ℕ) → line ≡ co
 no_space tick m line fields is lacks f e = not_lacking 32 m.name (signed_decimal m.reference) (subst (Lacks 32) (fields_are m line fields is e) lacks)
 
 pub cut_is : (tick : ℤ) (m : Month) (line fields name digits : List ℕ) → line ≡ codes "month " ++ fields → fields ≡ name ++ 32 ∷ digits → Lacks 32 name → IsMonth tick m → line ≡ month_line m → (name ≡ m.name) × (digits ≡ signed_decimal m.reference)
-cut_is tick m line fields name digits is cut lacks f e = cut_once 32 name m.name digits (signed_decimal m.reference) (sym cut ∙ fields_are m line fields is e) lacks (Lacks-name 32 refl m.name f.letters)
+cut_is tick m line fields name digits is cut lacks f e = cut_once 32 name m.name digits (signed_decimal m.reference) (sym cut ∙ fields_are m line fields is e) lacks (Lacks-name 32 refl m.name f.name.letters)
 
 pub no_name : (tick : ℤ) (m : Month) (line fields name digits : List ℕ) → line ≡ codes "month " ++ fields → fields ≡ name ++ 32 ∷ digits → Lacks 32 name → (IsName name → ⊥) → IsMonth tick m → line ≢ month_line m
 no_name tick m line fields name digits is cut lacks none f e =
     let same = (cut_is tick m line fields name digits is cut lacks f e).0 in
-    let n : IsName m.name = record { some = f.some; most = f.most; letters = f.letters } in
-    none (subst IsName (sym same) n)
+    none (subst IsName (sym same) f.name)
 
 pub no_reference : (tick : ℤ) (m : Month) (line fields name digits : List ℕ) → line ≡ codes "month " ++ fields → fields ≡ name ++ 32 ∷ digits → Lacks 32 name → ((z : ℤ) → IsReference tick z → digits ≢ signed_decimal z) → IsMonth tick m → line ≢ month_line m
 no_reference tick m line fields name digits is cut lacks none f e =
-    let n : IsReference tick m.reference = record { low = f.low; high = f.high; multiple = f.multiple } in
-    none m.reference n (cut_is tick m line fields name digits is cut lacks f e).1
+    none m.reference f.reference (cut_is tick m line fields name digits is cut lacks f e).1
 
 -- the test of the remainder, as the code's signed numbers have it
 pub no_rest : (y z t : ℤ) → FitsSigned w64 y → FitsSigned w64 t → y ≡ z → int_rem z t ≡ pos 0 → of_z w64 (int_rem (to_z w64 (of_z w64 y)) (to_z w64 (of_z w64 t))) ≡ 0

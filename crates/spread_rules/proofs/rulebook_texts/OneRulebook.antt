@@ -2,8 +2,8 @@
 use Rattle.std.proofs.Common.{◌≡◌, ℕ, ℤ, ◌+◌, List, ◌∷◌, ◌++◌, Option, Some, None, Result, Ok, Err, refl, sym, ap, ◌∙◌, subst, arith}
 use Rattle.std.specs.Fmt.{signed_decimal}
 use Rattle.host_base.specs.Cut.{Lacks}
-use Rattle.spread_rules.specs.Rulebook.{Rules, IsMonth}
-use Rattle.spread_rules.specs.RulebookText.{SoFar, IsSkipped, IsTick, IsNamed, tick_line, month_line, with_tick, with_month, LineGives, EndGives, Reads, skipped, tick, no_tick, no_month, too_many, twice, month, none, some, last, last_fault, more, fault}
+use Rattle.spread_rules.specs.Rulebook.{Rules, IsMonth, IsTick}
+use Rattle.spread_rules.specs.RulebookText.{SoFar, IsSkipped, IsNamed, tick_line, month_line, with_tick, with_month, LineGives, EndGives, Reads, skipped, tick, no_tick, no_month, too_many, twice, month, none, some, last, last_fault, more, fault}
 use Rattle.spread_rules.specs.declared.rulebook.Month.{Month}
 use Rattle.spread_rules.specs.declared.rule_fault.RuleFault.{RuleFault}
 use Rattle.host_base.proofs.Cuts.{cut_once, not_lacking}
@@ -43,8 +43,8 @@ made name reference = record { name = name; reference = reference }
 month_once : (line : List ℕ) (t : ℤ) (m n : Month) → IsMonth t m → IsMonth t n → line ≡ month_line m → line ≡ month_line n → m ≡ n
 unfolding made
 month_once line t m n f g is same =
-    let parts = cut_is t n line (m.name ++ 32 ∷ signed_decimal m.reference) m.name (signed_decimal m.reference) is refl (Lacks-name 32 refl m.name f.letters) g same in
-    let references = signed_is m.reference n.reference (signed_decimal m.reference) (price_fits m.reference f.low f.high) (price_fits n.reference g.low g.high) refl parts.1 in
+    let parts = cut_is t n line (m.name ++ 32 ∷ signed_decimal m.reference) m.name (signed_decimal m.reference) is refl (Lacks-name 32 refl m.name f.name.letters) g same in
+    let references = signed_is m.reference n.reference (signed_decimal m.reference) (price_fits m.reference f.reference.price.low f.reference.price.high) (price_fits n.reference g.reference.price.low g.reference.price.high) refl parts.1 in
     ap (λ x. made x m.reference) parts.0 ∙ ap (made n.name) references
 
 -- ---- one answer

@@ -113,7 +113,7 @@ name_lacks : (rules : Rules) → IsRules rules → (m : ℕ) → m < month_count
 name_lacks rules r m lt =
     let d : Month = record { name = []; reference = pos 0 } in
     let month = All-get_or (IsMonth rules.tick) rules.months m d lt r.months in
-    Lacks-name 45 refl (get_or (names_of rules) m []) (ap (list_all is_name_byte) (get_or-map (λ (x : Month). x.name) rules.months m d [] lt) ∙ month.letters)
+    Lacks-name 45 refl (get_or (names_of rules) m []) (ap (list_all is_name_byte) (get_or-map (λ (x : Month). x.name) rules.months m d [] lt) ∙ month.name.letters)
 
 pub symbol_once : (rules : Rules) → IsRules rules → (i j : Instrument) → IsListed rules i → IsListed rules j → symbol_of rules i ≡ symbol_of rules j → i ≡ j
 symbol_once rules r (Outright m) (Outright n) a b e = ap Outright (r.names m n a b e)

@@ -2,4 +2,4 @@ use Rattle.std.proofs.Common.{◌≤◌}
 use Rattle.market_tests.proofs.matching.memory_refused.fills_of.Given as goal
 
 abbrev pub invariant-loop-n : goal.invariant-loop-n
-invariant-loop-n g l = l.market.standing.last ≤ l.n
+invariant-loop-n g l = l.market.state.last ≤ l.n

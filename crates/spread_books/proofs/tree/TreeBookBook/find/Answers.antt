@@ -5,8 +5,8 @@ use Rattle.std.specs.BTreeMap.{is_at}
 use Rattle.spread_rules.specs.declared.order.Order.{Order}
 use Rattle.host_base.specs.IdKeys.{key_of}
 use Rattle.spread_books.specs.declared.own_key.OwnKey.{OwnKey}
-use Rattle.spread_books.specs.Firsts.{IsFirstFrom}
-use Rattle.spread_books.specs.Index.{own_key_cmp, IsIndexOf}
+use Rattle.spread_books.specs.code.Firsts.{IsFirstFrom}
+use Rattle.spread_books.specs.code.Index.{own_key_cmp, IsIndexOf}
 use Rattle.spread_books.proofs.keys.TablesThroughChanges.{is_found}
 use Rattle.spread_books.proofs.keys.FirstOfAnId.{no_own, own_of_another, own_of_earliest}
 use Rattle.spread_books.proofs.tree.TreeBookBook.find.Goals as goal

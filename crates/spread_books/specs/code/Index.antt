@@ -1,0 +1,52 @@
+-- What holds of the tables of a book: one by place, which the book is seen as, and the keys of its orders in two sets.
+-- Words of the code alone.
+use Rattle.std.specs.Prelude.{◌≡◌, ℕ, List, map, Contains}
+use Rattle.std.specs.declared.cmp.Ordering.{Ordering}
+use Rattle.std.specs.Ordering.{nat_cmp, int_cmp, ordering_then}
+use Rattle.std.specs.List.{list_any}
+use Rattle.std.specs.List.Sorted.{IsStrictlySortedBy}
+use Rattle.std.specs.Map.{values_of}
+use Rattle.std.specs.BTreeMap.{is_at}
+use Rattle.std.specs.BTreeSet.{BTreeSet, contains}
+use Rattle.spread_rules.specs.declared.order.Order.{Order}
+use Rattle.host_base.specs.IdKeys.{IsIdBytes, id_key_cmp}
+use Rattle.spread_books.specs.declared.queue_key.QueueKey.{QueueKey}
+use Rattle.spread_books.specs.declared.own_key.OwnKey.{OwnKey}
+use Rattle.spread_books.specs.code.QueueKeys.{queue_key, IsInRange}
+use Rattle.spread_books.specs.code.OwnKeys.{own_key}
+
+abbrev pub queue_key_cmp : QueueKey → QueueKey → Ordering
+queue_key_cmp a b =
+    ordering_then (nat_cmp a.queue b.queue)
+    (ordering_then (int_cmp a.cost b.cost) (nat_cmp a.place b.place))
+
+abbrev pub own_key_cmp : OwnKey → OwnKey → Ordering
+own_key_cmp a b = ordering_then (id_key_cmp a.id b.id) (nat_cmp a.place b.place)
+
+abbrev pub by_place : Order → ℕ × Order
+by_place o = (o.place, o)
+
+-- the set has the keys of these orders and no other
+abbrev pub HasKeys :
+    {K : Type 0} → (K → K → Ordering) → (Order → K) → BTreeSet K → List Order → Type 0
+HasKeys {K} cmp key s xs = (k : K) → contains cmp s k ≡ list_any (is_at (cmp k)) (map key xs)
+
+-- the places rise
+abbrev pub Ascends : List Order → Type 0
+Ascends xs = IsStrictlySortedBy nat_cmp (map (λ o. o.place) xs)
+
+pub record IsKept (o : Order) : Type 0 where
+  pub in_range : IsInRange o
+  pub id : IsIdBytes o.id
+
+pub record IsIndexOf
+    (xs : List Order)
+    (orders : List (ℕ × Order)) (queues : BTreeSet QueueKey) (ids : BTreeSet OwnKey) : Type 0 where
+  pub placed : orders ≡ map by_place xs
+  pub ordered : Ascends xs
+  pub queued : HasKeys queue_key_cmp queue_key queues xs
+  pub owned : HasKeys own_key_cmp own_key ids xs
+  pub kept : (o : Order) → Contains xs o → IsKept o
+
+abbrev pub IsIndex : List (ℕ × Order) → BTreeSet QueueKey → BTreeSet OwnKey → Type 0
+IsIndex orders queues ids = IsIndexOf (values_of orders) orders queues ids

@@ -1,0 +1,4 @@
+pub mod Best
+pub mod StateAfter
+pub mod Statuses
+pub mod Turns

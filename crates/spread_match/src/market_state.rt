@@ -1,0 +1,335 @@
+//! The state of a market, and what each kind of entry does to it.
+ghost use Rattle.std.specs.Prelude.{◌≡◌, ℕ, ℤ, pos, ◌<ℤ◌, ◌<◌, ◌≤◌, List, All, OnOk, OnErr, IfOk, ◌++◌, ◌∷◌, [], drop, length, cond, is_some, None, true, false};
+ghost use Rattle.std.specs.List.{find};
+ghost use Rattle.spread_rules.specs.declared.codes.ord_rej_reason.TheConstants.{DUPLICATE_ORDER};
+ghost use Rattle.spread_rules.specs.declared.order.Order.{Order};
+ghost use Rattle.spread_rules.specs.declared.event.Event.TheVariants.{New, Cancel};
+ghost use Rattle.spread_rules.specs.declared.outcome.Outcome.TheVariants.{Refused};
+ghost use Rattle.spread_rules.specs.Prices.{IsOrderPrice};
+ghost use Rattle.spread_rules.specs.Meaning.{has_id, refusal_or_instrument, outcome_of, order_of};
+ghost use Rattle.spread_rules.specs.Rulebook.{month_count, find_symbol};
+ghost use Rattle.spread_match.specs.State.{empty_state};
+ghost use Rattle.spread_match.specs.Trade.{IsInMonths, IsNearBeforeFar, IsPriced};
+ghost use Rattle.spread_match.specs.code.StateAfter.{statuses_after, with_order, with_refusal, refusal_in, matched_in, cancel_in, meaning_in, state_after, state_with, orders_after_trading, IsReady};
+ghost use Rattle.spread_match.specs.code.Turns.{IsNewest};
+
+use crate::statuses::Statuses;
+use crate::trade::trade;
+use host_base::{Id, NoMemory, limits};
+use spread_books::Book;
+use spread_rules::codes::{cxl_rej_reason, ord_rej_reason, ord_status};
+use spread_rules::{Entry, Event, Fill, Instrument, Order, OrderStatus, Outcome, Rulebook, Ticket};
+use std::alloc::Allocator;
+use std::marker::Model;
+
+/// Resting orders, the status of each New entry so far, and the greatest place that was given.
+#[derive(Drop)]
+pub struct MarketState<B: Book, A: Allocator + Copy> {
+    book: B,
+    statuses: Statuses<A>,
+    last: u64,
+}
+
+impl<B: Book, A: Allocator + Copy> Model for MarketState<B, A> {
+    ghost use Rattle.spread_match.specs.State.{MarketState};
+
+    ghost Value = { MarketState };
+
+    ghost view = { λ m. record { orders = B.orders m.book; statuses = m.statuses; last = m.last } };
+}
+
+/// The instrument, or why the ticket is refused, for one whose id was not used.
+fn judge(rules: &Rulebook, ticket: &Ticket) -> Result<Instrument, u8>
+    ensures { result
+        ≡ refusal_or_instrument rules.now ticket.now None
+        (find_symbol rules.now ticket.now.symbol) }
+{
+    judge_fields(rules, ticket, rules.find(ticket.symbol.bytes()))
+}
+
+fn judge_fields(
+    rules: &Rulebook,
+    ticket: &Ticket,
+    named: Option<Instrument>,
+) -> Result<Instrument, u8>
+    ensures { result ≡ refusal_or_instrument rules.now ticket.now None named }
+{
+    match named {
+        None => Err(ord_rej_reason::UNKNOWN_SYMBOL),
+        Some(instrument) => {
+            if ticket.quantity == 0 || ticket.quantity > limits::MAX_ORDER_QTY {
+                Err(ord_rej_reason::EXCEEDS_LIMIT)
+            } else if ticket.price % rules.tick() != 0 {
+                Err(ord_rej_reason::OFF_TICK)
+            } else {
+                Ok(instrument)
+            }
+        }
+    }
+}
+
+/// A refusal. That its id was used comes before any other reason.
+fn refusal(used: bool, reason: u8) -> Outcome
+    ensures { result ≡ Refused (cond used DUPLICATE_ORDER reason) }
+{
+    Outcome::Refused(if used {
+        ord_rej_reason::DUPLICATE_ORDER
+    } else {
+        reason
+    })
+}
+
+/// Orders that the fills from that one on leave nothing of are filled.
+fn mark_filled_from<A: Allocator + Copy>(statuses: &mut Statuses<A>, fills: &[Fill], from: usize)
+    requires { from ≤ length fills.now }
+    ensures { statuses.new ≡ statuses_after (drop from fills.now) statuses.old }
+{
+    statuses.mark_filled(&fills[from..]);
+}
+
+/// What becomes of an order of which so much is left.
+fn outcome_with(immediate: bool, left: u32) -> Outcome
+    ensures { result ≡ outcome_of immediate left }
+{
+    if left == 0 {
+        Outcome::Filled
+    } else if immediate {
+        Outcome::Ended { left }
+    } else {
+        Outcome::Rested
+    }
+}
+
+/// A new order as it comes in.
+fn new_order(place: u64, session: u8, ticket: &Ticket, instrument: Instrument) -> Order
+    ensures { result ≡ order_of place session ticket.now instrument }
+{
+    Order {
+        place,
+        session,
+        id: ticket.id,
+        instrument,
+        side: ticket.side,
+        price: ticket.price,
+        quantity: ticket.quantity,
+        leaves: ticket.quantity,
+    }
+}
+
+/// The new order rests with what is left, or goes.
+fn rest_or_remove<B: Book>(book: &mut B, immediate: bool, own: &Order, left: u32)
+    requires newest { IsNewest own.now (B.orders book.old) }
+    requires most { left ≤ own.now.leaves }
+    ensures { B.orders book.new ≡ orders_after_trading immediate own.now left (B.orders book.old) }
+{
+    if left == 0 || immediate {
+        book.remove(own.place);
+    } else if left < own.leaves {
+        book.reduce(own.place, own.leaves - left);
+    }
+}
+
+impl<B: Book, A: Allocator + Copy> MarketState<B, A> {
+    /// Before the first entry, over a book that is empty.
+    pub fn new(alloc: A, book: B) -> Self
+        requires { B.orders book ≡ [] }
+        ensures { result ≡ empty_state }
+    {
+        MarketState {
+            book,
+            statuses: Statuses::new(alloc),
+            last: 0,
+        }
+    }
+
+    /// The resting orders.
+    pub fn book(&self) -> &B
+        ensures { B.orders result.now ≡ self.now.orders }
+    {
+        &self.book
+    }
+
+    /// A ticket that is refused keeps its id used.
+    fn refuse(
+        &mut self,
+        place: u64,
+        session: u8,
+        ticket: &Ticket,
+        reason: u8,
+    ) -> Result<Outcome, NoMemory>
+        requires noted { All (λ s. s.place ≤ self.old.last) self.old.statuses }
+        requires place { self.old.last < place }
+        ensures outcome { IfOk result (λ outcome.
+            outcome ≡ (refusal_in self.old session ticket.now reason).outcome) }
+        ensures after { OnOk result (self.new
+            ≡ state_with self.old place session (New ticket.now)
+            (refusal_in self.old session ticket.now reason)) }
+        ensures err { OnErr result (self.new ≡ self.old) }
+    {
+        let used = self.statuses.add(OrderStatus {
+            session,
+            id: ticket.id,
+            place,
+            status: ord_status::REJECTED,
+        })?;
+        self.last = place;
+        Ok(refusal(used, reason))
+    }
+
+    /// The new order stands in the book, and its entry among the statuses. Where its id was used it is refused, and the
+    /// answer is true.
+    fn add_to_book(&mut self, order: &Order) -> Result<bool, NoMemory>
+        requires orders { All (λ o. o.place < order.now.place) self.old.orders }
+        requires statuses { All (λ s. s.place < order.now.place) self.old.statuses }
+        ensures used { IfOk result (λ used.
+            used ≡ is_some (find (has_id order.now.session order.now.id) self.old.statuses)) }
+        ensures stands { IfOk result (λ used.
+            used ≡ false → self.new ≡ with_order self.old order.now) }
+        ensures refused { IfOk result (λ used.
+            used ≡ true → self.new ≡ with_refusal self.old order.now) }
+        ensures err { OnErr result (self.new ≡ self.old) }
+    {
+        self.book.add(*order)?;
+        let place = order.place;
+        let noted = self.statuses.add(OrderStatus {
+            session: order.session,
+            id: order.id,
+            place,
+            status: ord_status::CANCELED,
+        });
+        if noted.unwrap_or(true) {
+            self.book.remove(place);
+        }
+        noted
+    }
+
+    /// Clears a ticket of that instrument, which is refused only where its id was used. All growth comes first.
+    fn match_new(
+        &mut self,
+        rules: &Rulebook,
+        place: u64,
+        session: u8,
+        ticket: &Ticket,
+        instrument: Instrument,
+        fills: &mut Vec<Fill, A>,
+    ) -> Result<Outcome, NoMemory>
+        requires ready { IsReady (month_count rules.now) self.old }
+        requires price { IsOrderPrice ticket.now.price }
+        requires some { 0 < ticket.now.quantity }
+        requires listed { IsNearBeforeFar instrument }
+        requires within { IsInMonths (month_count rules.now) instrument }
+        requires place { self.old.last < place }
+        ensures outcome { IfOk result (λ outcome.
+            outcome ≡ (matched_in rules.now self.old place session ticket.now instrument).outcome) }
+        ensures fills { OnOk result (fills.new.items
+            ≡ fills.old.items
+            ++ (matched_in rules.now self.old place session ticket.now instrument).fills) }
+        ensures after { OnOk result (self.new
+            ≡ state_with self.old place session (New ticket.now)
+            (matched_in rules.now self.old place session ticket.now instrument)) }
+        ensures err { OnErr result (self.new ≡ self.old) }
+        ensures no_fills { OnErr result (fills.new.items ≡ fills.old.items) }
+    {
+        let before = fills.len();
+        fills.reserve(3 * self.book.len().min(ticket.quantity as usize))?;
+        let order = new_order(place, session, ticket, instrument);
+        let used = self.add_to_book(&order)?;
+        if used {
+            self.last = place;
+            return Ok(Outcome::Refused(ord_rej_reason::DUPLICATE_ORDER));
+        }
+        let left = trade(&mut self.book, rules.months(), rules, order, fills);
+        rest_or_remove(&mut self.book, ticket.immediate, &order, left.leaves);
+        mark_filled_from(&mut self.statuses, fills, before);
+        self.last = place;
+        Ok(outcome_with(ticket.immediate, left.leaves))
+    }
+
+    /// A New entry: refused, or traded.
+    fn apply_new(
+        &mut self,
+        rules: &Rulebook,
+        place: u64,
+        session: u8,
+        ticket: &Ticket,
+        fills: &mut Vec<Fill, A>,
+    ) -> Result<Outcome, NoMemory>
+        requires ready { IsReady (month_count rules.now) self.old }
+        requires price { IsOrderPrice ticket.now.price }
+        requires place { self.old.last < place }
+        ensures outcome { IfOk result (λ outcome.
+            outcome ≡ (meaning_in rules.now self.old place session (New ticket.now)).outcome) }
+        ensures fills { OnOk result (fills.new.items
+            ≡ fills.old.items
+            ++ (meaning_in rules.now self.old place session (New ticket.now)).fills) }
+        ensures after { OnOk result (self.new
+            ≡ state_after rules.now self.old place session (New ticket.now)) }
+        ensures err { OnErr result (self.new ≡ self.old) }
+        ensures no_fills { OnErr result (fills.new.items ≡ fills.old.items) }
+    {
+        match judge(rules, ticket) {
+            Err(reason) => self.refuse(place, session, ticket, reason),
+            Ok(instrument) => self.match_new(rules, place, session, ticket, instrument, fills),
+        }
+    }
+
+    /// Ends the resting order with the original id.
+    fn cancel(&mut self, place: u64, session: u8, id: &Id, original: &Id) -> Outcome
+        requires { self.old.last < place }
+        ensures outcome { result ≡ (cancel_in self.old session original.now).outcome }
+        ensures after { self.new
+            ≡ state_with self.old place session (Cancel id.now original.now)
+            (cancel_in self.old session original.now) }
+    {
+        self.last = place;
+        match self.book.find(session, original) {
+            Some(order) => {
+                self.book.remove(order.place);
+                Outcome::Cancelled(order)
+            }
+            None => match self.statuses.find(session, original) {
+                Some(status) => Outcome::CancelRefused {
+                    reason: cxl_rej_reason::TOO_LATE,
+                    place: status.place,
+                    status: status.status,
+                },
+                None => Outcome::CancelRefused {
+                    reason: cxl_rej_reason::UNKNOWN_ORDER,
+                    place: 0,
+                    status: ord_status::REJECTED,
+                },
+            },
+        }
+    }
+
+    /// Applies one entry. All growth comes first, so after NoMemory nothing has changed.
+    pub fn apply_entry(
+        &mut self,
+        rules: &Rulebook,
+        place: u64,
+        entry: &Entry,
+        fills: &mut Vec<Fill, A>,
+    ) -> Result<Outcome, NoMemory>
+        requires ready { IsReady (month_count rules.now) self.old }
+        requires entry { IsPriced entry.now.event }
+        requires place { self.old.last < place }
+        ensures outcome { IfOk result (λ outcome.
+            outcome ≡ (meaning_in rules.now self.old place entry.now.session entry.now.event).outcome) }
+        ensures fills { OnOk result (fills.new.items
+            ≡ fills.old.items
+            ++ (meaning_in rules.now self.old place entry.now.session entry.now.event).fills) }
+        ensures after { OnOk result (self.new
+            ≡ state_after rules.now self.old place entry.now.session entry.now.event) }
+        ensures err { OnErr result (self.new ≡ self.old) }
+        ensures no_fills { OnErr result (fills.new.items ≡ fills.old.items) }
+    {
+        match &entry.event {
+            Event::New(ticket) => self.apply_new(rules, place, entry.session, ticket, fills),
+            Event::Cancel { id, original } => Ok(self.cancel(place, entry.session, id, original)),
+            _ => {
+                self.last = place;
+                Ok(Outcome::Session)
+            }
+        }
+    }
+}

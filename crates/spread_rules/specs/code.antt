@@ -1,0 +1,2 @@
+pub mod RulebookFields
+pub mod DraftFields
