@@ -1,3 +1,4 @@
+pub mod Codes
 pub mod EntryMessages
 pub mod ReportBodies
 pub mod Outgoing

@@ -1,6 +1,9 @@
 -- The bytes that each session is sent.
 use Rattle.std.specs.Prelude.{ℕ, ◌+◌, ◌==◌, nat_lt, Bool, true, false, ◌&&◌, ◌||◌, if◌then◌else◌, List, [], ◌∷◌, ◌++◌, codes, Option, Some, None}
+use Rattle.host_base.specs.declared.limits.TheConstants.{MAX_MSG_SEQ_NUM}
 use Rattle.fix_wire.specs.Layout.{message_text}
+use Rattle.fix_wire.specs.declared.msg_types.TheConstants as msg_types
+use Rattle.fix_wire.specs.declared.tags.TheConstants as tags
 use Rattle.fix_wire.specs.declared.writer.Head.{Head}
 use Rattle.fix_wire.specs.declared.writer.Field.{Field}
 use Rattle.spread_rules.specs.declared.fill.Fill.{Fill}
@@ -24,12 +27,12 @@ head_of stamp ids kind n duplicate = record { kind = kind; number = n; duplicate
 
 -- the fields of a gap fill: NewSeqNo, GapFillFlag
 abbrev pub gap_fields : ℕ → ℕ → List Field
-gap_fields next last = number 36 (new_seq_no next last) ∷ text 123 (codes "Y") ∷ []
+gap_fields next last = number tags.NEW_SEQ_NO (new_seq_no next last) ∷ text tags.GAP_FILL_FLAG (codes "Y") ∷ []
 
 -- its text, the session's next number being this: a gap fill, of kind `4`, only where its first number was sent before
 abbrev pub content_text : List ℕ → CompIds → ℕ → MessageContent → List ℕ
 content_text stamp ids next (numbered kind fields) = message_text (head_of stamp ids kind next false) fields
-content_text stamp ids next (gap_fill first last) = if nat_lt first next then message_text (head_of stamp ids 52 first true) (gap_fields next last) else []
+content_text stamp ids next (gap_fill first last) = if nat_lt first next then message_text (head_of stamp ids msg_types.SEQUENCE_RESET first true) (gap_fields next last) else []
 
 -- a gap fill uses no number
 abbrev pub next_after : ℕ → MessageContent → ℕ
@@ -38,7 +41,7 @@ next_after next (gap_fill first last) = next
 
 -- it would bear a number above 999,999,999
 abbrev pub is_spent : ℕ → MessageContent → Bool
-is_spent next (numbered kind fields) = nat_lt 999999999 next
+is_spent next (numbered kind fields) = nat_lt MAX_MSG_SEQ_NUM next
 is_spent next (gap_fill first last) = false
 
 -- a session without a Logon is sent nothing, and its number stays

@@ -11,8 +11,10 @@ ghost use Rattle.spread_report.specs.EntryMessages.{report, new_report, rejected
 use super::Desk;
 use super::entry::{CancelRequest, NewOrder};
 use super::report_body::{CancelReport, ExecId, FillReport, OrderReport, RejectReport};
+use crate::codes::{MultiLegReportingType, OrdStatus};
 use crate::fault::DeskFault;
 use crate::symbol::symbol_of;
+use fix_wire::msg_types;
 use host_base::Id;
 use spread_rules::{Fill, Instrument, Order, Rulebook, Side};
 use std::alloc::Allocator;
@@ -24,8 +26,7 @@ pub struct ReportedPart {
     pub side: Side,
     /// In hundredths.
     pub price: i64,
-    /// MultiLegReportingType (tag 442): 1 an outright, 2 a leg, 3 the spread.
-    pub legs: u8,
+    pub multi_leg: MultiLegReportingType,
 }
 
 impl Desk {
@@ -48,14 +49,14 @@ impl Desk {
                 place: order.place,
                 index: 1,
             },
-            ord_status: 0,
+            ord_status: OrdStatus::New,
             symbol: ticket.symbol,
             side: ticket.side,
             order_qty: ticket.quantity as u64,
             leaves_qty: ticket.quantity as u64,
             cum_qty: 0,
         };
-        self.send_body(lists, order.session, b'8', &report)
+        self.send_body(lists, order.session, msg_types::EXECUTION_REPORT, &report)
     }
 
     /// Reports that a new order is refused.
@@ -80,7 +81,7 @@ impl Desk {
                     place: order.place,
                     index: 1,
                 },
-                ord_status: 8,
+                ord_status: OrdStatus::Rejected,
                 symbol: ticket.symbol,
                 side: ticket.side,
                 order_qty: ticket.quantity as u64,
@@ -89,7 +90,7 @@ impl Desk {
             },
             reason: reason as u64,
         };
-        self.send_body(lists, order.session, b'8', &report)
+        self.send_body(lists, order.session, msg_types::EXECUTION_REPORT, &report)
     }
 
     /// Reports that what is left of an immediate order is cancelled.
@@ -116,14 +117,14 @@ impl Desk {
                 place: order.place,
                 index,
             },
-            ord_status: 4,
+            ord_status: OrdStatus::Canceled,
             symbol: ticket.symbol,
             side: ticket.side,
             order_qty: ticket.quantity as u64,
             leaves_qty: 0,
             cum_qty: filled as u64,
         };
-        self.send_body(lists, order.session, b'8', &report)
+        self.send_body(lists, order.session, msg_types::EXECUTION_REPORT, &report)
     }
 
     /// Reports a cancelled order to who cancelled it.
@@ -150,7 +151,7 @@ impl Desk {
                     place: request.place,
                     index: 1,
                 },
-                ord_status: 4,
+                ord_status: OrdStatus::Canceled,
                 symbol: *symbol,
                 side: order.side,
                 order_qty: order.quantity as u64,
@@ -159,7 +160,7 @@ impl Desk {
             },
             original: request.original,
         };
-        self.send_body(lists, request.session, b'8', &report)
+        self.send_body(lists, request.session, msg_types::EXECUTION_REPORT, &report)
     }
 
     /// One report of a fill.
@@ -176,7 +177,7 @@ impl Desk {
         requires price { FitsSigned w64 part.now.price }
         ensures { Sends self.old self.new lists.old lists.new
             (report fill.now.session (fill_report exec_id.place exec_id.index fill.now
-            part.now.symbol part.now.side part.now.price part.now.legs) ∷ []) result }
+            part.now.symbol part.now.side part.now.price part.now.multi_leg) ∷ []) result }
     {
         let filled = fill.total - fill.leaves;
         let report = FillReport {
@@ -193,9 +194,9 @@ impl Desk {
             },
             last_shares: fill.quantity as u64,
             last_px: part.price,
-            legs: part.legs as u64,
+            multi_leg: part.multi_leg,
         };
-        self.send_body(lists, fill.session, b'8', &report)
+        self.send_body(lists, fill.session, msg_types::EXECUTION_REPORT, &report)
     }
 
     /// Reports the legs of a spread's fill, in the near and in the far month.
@@ -220,14 +221,14 @@ impl Desk {
             symbol: rules.name_id(months.0),
             side: fill.side,
             price: near_of(fill),
-            legs: 2,
+            multi_leg: MultiLegReportingType::IndividualLeg,
         };
         self.fill_part(lists, exec_id, fill, &near)?;
         let far = ReportedPart {
             symbol: rules.name_id(months.1),
             side: other_side(fill.side),
             price: far_of(fill),
-            legs: 2,
+            multi_leg: MultiLegReportingType::IndividualLeg,
         };
         self.fill_part(lists, next(exec_id), fill, &far)
     }
@@ -253,7 +254,7 @@ impl Desk {
                     symbol,
                     side: fill.side,
                     price: price_of(fill),
-                    legs: 1,
+                    multi_leg: MultiLegReportingType::SingleSecurity,
                 };
                 self.fill_part(lists, exec_id, fill, &part)
             }
@@ -262,7 +263,7 @@ impl Desk {
                     symbol,
                     side: fill.side,
                     price: price_of(fill),
-                    legs: 3,
+                    multi_leg: MultiLegReportingType::MultiLegSecurity,
                 };
                 self.fill_part(lists, exec_id, fill, &part)?;
                 self.fill_legs(lists, rules, next(exec_id), fill, (near, far))
@@ -315,11 +316,15 @@ fn report_count(instrument: Instrument) -> u64
     }
 }
 
-/// OrdStatus (tag 39) of a fill's report: 2 filled, 1 partially filled.
-fn fill_status(leaves: u32) -> u64
+/// The status of an order of which that many lots are left.
+fn fill_status(leaves: u32) -> OrdStatus
     ensures { result ≡ fill_status leaves }
 {
-    if leaves == 0 { 2 } else { 1 }
+    if leaves == 0 {
+        OrdStatus::Filled
+    } else {
+        OrdStatus::PartiallyFilled
+    }
 }
 
 /// The other side.
