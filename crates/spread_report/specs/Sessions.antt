@@ -1,6 +1,7 @@
 -- What a call does to the sixteen sessions and the sixteen lists, session by session.
 use Rattle.std.specs.Prelude.{◌≡◌, ℕ, ◌<◌, true, false, List, ◌++◌, length, map, take, slice_index_or, Result, Ok, Err, []}
 use Rattle.std.specs.declared.vec.Vec.{Vec}
+use Rattle.host_base.specs.declared.limits.TheConstants.{SESSIONS}
 use Rattle.spread_report.specs.declared.outbound.OutboundSession.{OutboundSession}
 use Rattle.spread_report.specs.declared.fault.DeskFault.{DeskFault}
 use Rattle.spread_report.specs.declared.fault.DeskFault.TheVariants.{NoMemory, NumbersSpent}
@@ -29,22 +30,22 @@ outbound_at sessions s = slice_index_or sessions s (outbound_before_logon 1)
 pub record Sent {A : Type 0} (stamp : List ℕ) (a b : List OutboundSession) (x y : List (Vec ℕ A)) (ms : List AddressedMessage) : Type 0 where
   pub sessions : length b ≡ length a
   pub lists : length y ≡ length x
-  pub bytes : (s : ℕ) → s < 16 → bytes_of y s ≡ bytes_of x s ++ bytes_to stamp s (outbound_at a s) ms
-  pub outbound : (s : ℕ) → s < 16 → outbound_at b s ≡ outbound_after s (outbound_at a s) ms
-  pub unspent : (s : ℕ) → s < 16 → spends s (outbound_at a s) ms ≡ false
-  pub row : (s : ℕ) → s < 16 → IsRow (texts_to stamp s (outbound_at a s) ms) (bytes_to stamp s (outbound_at a s) ms)
+  pub bytes : (s : ℕ) → s < SESSIONS → bytes_of y s ≡ bytes_of x s ++ bytes_to stamp s (outbound_at a s) ms
+  pub outbound : (s : ℕ) → s < SESSIONS → outbound_at b s ≡ outbound_after s (outbound_at a s) ms
+  pub unspent : (s : ℕ) → s < SESSIONS → spends s (outbound_at a s) ms ≡ false
+  pub row : (s : ℕ) → s < SESSIONS → IsRow (texts_to stamp s (outbound_at a s) ms) (bytes_to stamp s (outbound_at a s) ms)
 
 -- to some sessions something was appended, and their CompIDs stayed
 pub record OnlyAppended {A : Type 0} (a b : List OutboundSession) (x y : List (Vec ℕ A)) : Type 0 where
   pub sessions : length b ≡ length a
   pub lists : length y ≡ length x
-  pub comp_ids : (s : ℕ) → s < 16 → (outbound_at b s).comp_ids ≡ (outbound_at a s).comp_ids
-  pub begins : (s : ℕ) → s < 16 → take (length (bytes_of x s)) (bytes_of y s) ≡ bytes_of x s
+  pub comp_ids : (s : ℕ) → s < SESSIONS → (outbound_at b s).comp_ids ≡ (outbound_at a s).comp_ids
+  pub begins : (s : ℕ) → s < SESSIONS → take (length (bytes_of x s)) (bytes_of y s) ≡ bytes_of x s
 
 -- one of the messages would bear a number above 999,999,999
 pub record NumbersRunOut (a : List OutboundSession) (ms : List AddressedMessage) : Type 0 where
   pub session : ℕ
-  pub below : session < 16
+  pub below : session < SESSIONS
   pub spent : spends session (outbound_at a session) ms ≡ true
 
 -- what became of sending these messages
@@ -56,9 +57,9 @@ SendResult stamp a b x y ms (Err NumbersSpent) = OnlyAppended a b x y × Numbers
 -- an entry would send some session a message with a number above 999,999,999
 pub record RunsOut (rules : Rules) (sessions : List OutboundSession) (w : WorkedEntry) : Type 0 where
   pub session : ℕ
-  pub below : session < 16
+  pub below : session < SESSIONS
   pub spent : entry_spends rules session (outbound_at sessions session) w ≡ true
 
 -- every list holds what it held
 abbrev pub KeepsBytes : {A : Type 0} → List (Vec ℕ A) → List (Vec ℕ A) → Type 0
-KeepsBytes x y = (s : ℕ) → s < 16 → bytes_of y s ≡ bytes_of x s
+KeepsBytes x y = (s : ℕ) → s < SESSIONS → bytes_of y s ≡ bytes_of x s

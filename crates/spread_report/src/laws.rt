@@ -2,6 +2,7 @@
 ghost use Rattle.std.specs.Prelude.{◌≡◌, ◌<◌, ◌≤◌, ◌∷◌, ◌++◌, [], List, ℕ, true, false, length};
 ghost use Rattle.std.specs.List.{AllByRecursion, concat};
 ghost use Rattle.fix_wire.specs.Frames.{IsFrame, frames};
+ghost use Rattle.host_base.specs.declared.limits.TheConstants.{SESSIONS, MAX_MSG_SEQ_NUM};
 ghost use Rattle.host_base.specs.Ids.{is_id};
 ghost use Rattle.spread_rules.specs.Rulebook.{Rules};
 ghost use Rattle.spread_report.specs.Outgoing.{WorkedEntry, entry_bytes, entry_outbound, entry_spends, outgoing_starting, spends_from, outbound_before_logon};
@@ -14,13 +15,13 @@ ghost use Rattle.spread_report.specs.Ranges.{AreNames, EntryInRange};
 /// What a session is sent is a row of whole frames, and is read back as exactly the messages that were written.
 pub fn read_back()
     ensures joined { (next : ℕ) (rules : Rules) (stamp : List ℕ) (worked : List WorkedEntry) (s : ℕ) →
-        next ≤ 999999999 → is_id stamp ≡ true → AreNames rules → AllByRecursion (EntryInRange rules) worked → spends_from rules s (outbound_before_logon next) worked ≡ false →
+        next ≤ MAX_MSG_SEQ_NUM → is_id stamp ≡ true → AreNames rules → AllByRecursion (EntryInRange rules) worked → spends_from rules s (outbound_before_logon next) worked ≡ false →
         outgoing_starting next rules stamp worked s ≡ concat (messages_starting next rules stamp worked s) }
     ensures whole { (next : ℕ) (rules : Rules) (stamp : List ℕ) (worked : List WorkedEntry) (s : ℕ) →
-        next ≤ 999999999 → is_id stamp ≡ true → AreNames rules → AllByRecursion (EntryInRange rules) worked → spends_from rules s (outbound_before_logon next) worked ≡ false →
+        next ≤ MAX_MSG_SEQ_NUM → is_id stamp ≡ true → AreNames rules → AllByRecursion (EntryInRange rules) worked → spends_from rules s (outbound_before_logon next) worked ≡ false →
         AllByRecursion IsFrame (messages_starting next rules stamp worked s) }
     ensures read { (next : ℕ) (rules : Rules) (stamp : List ℕ) (worked : List WorkedEntry) (s : ℕ) →
-        next ≤ 999999999 → is_id stamp ≡ true → AreNames rules → AllByRecursion (EntryInRange rules) worked → spends_from rules s (outbound_before_logon next) worked ≡ false →
+        next ≤ MAX_MSG_SEQ_NUM → is_id stamp ≡ true → AreNames rules → AllByRecursion (EntryInRange rules) worked → spends_from rules s (outbound_before_logon next) worked ≡ false →
         frames (outgoing_starting next rules stamp worked s) ≡ messages_starting next rules stamp worked s }
 {}
 
@@ -29,16 +30,16 @@ pub fn read_back()
 /// entry needs a number above 999,999,999.
 pub fn running()
     ensures start { (rules : Rules) (stamp : List ℕ) (next : ℕ) (texts : List (List ℕ)) →
-        length texts ≡ 16 → ((s : ℕ) → s < 16 → text_at texts s ≡ []) → HasSent rules stamp next [] (desk_starting stamp next) texts }
+        length texts ≡ SESSIONS → ((s : ℕ) → s < SESSIONS → text_at texts s ≡ []) → HasSent rules stamp next [] (desk_starting stamp next) texts }
     ensures more { (rules : Rules) (stamp : List ℕ) (next : ℕ) (worked : List WorkedEntry) (w : WorkedEntry) (desk after : DeskState) (texts new : List (List ℕ)) →
-        HasSent rules stamp next worked desk texts → after.stamp ≡ desk.stamp → length new ≡ 16 →
-        ((s : ℕ) → s < 16 → text_at new s ≡ text_at texts s ++ entry_bytes desk.stamp rules s (outbound_at desk.sessions s) w) →
-        ((s : ℕ) → s < 16 → outbound_at after.sessions s ≡ entry_outbound rules s (outbound_at desk.sessions s) w) →
-        ((s : ℕ) → s < 16 → entry_spends rules s (outbound_at desk.sessions s) w ≡ false) →
-        ((s : ℕ) → s < 16 → IsRow (entry_texts desk.stamp rules s (outbound_at desk.sessions s) w) (entry_bytes desk.stamp rules s (outbound_at desk.sessions s) w)) →
+        HasSent rules stamp next worked desk texts → after.stamp ≡ desk.stamp → length new ≡ SESSIONS →
+        ((s : ℕ) → s < SESSIONS → text_at new s ≡ text_at texts s ++ entry_bytes desk.stamp rules s (outbound_at desk.sessions s) w) →
+        ((s : ℕ) → s < SESSIONS → outbound_at after.sessions s ≡ entry_outbound rules s (outbound_at desk.sessions s) w) →
+        ((s : ℕ) → s < SESSIONS → entry_spends rules s (outbound_at desk.sessions s) w ≡ false) →
+        ((s : ℕ) → s < SESSIONS → IsRow (entry_texts desk.stamp rules s (outbound_at desk.sessions s) w) (entry_bytes desk.stamp rules s (outbound_at desk.sessions s) w)) →
         HasSent rules stamp next (worked ++ w ∷ []) after new }
     ensures same { (rules : Rules) (stamp : List ℕ) (next : ℕ) (worked : List WorkedEntry) (desk after : DeskState) (texts new : List (List ℕ)) →
-        HasSent rules stamp next worked desk texts → after ≡ desk → length new ≡ 16 → ((s : ℕ) → s < 16 → text_at new s ≡ text_at texts s) →
+        HasSent rules stamp next worked desk texts → after ≡ desk → length new ≡ SESSIONS → ((s : ℕ) → s < SESSIONS → text_at new s ≡ text_at texts s) →
         HasSent rules stamp next worked after new }
     ensures spent { (rules : Rules) (stamp : List ℕ) (next : ℕ) (worked : List WorkedEntry) (w : WorkedEntry) (desk : DeskState) (texts : List (List ℕ)) →
         HasSent rules stamp next worked desk texts → (r : RunsOut rules desk.sessions w) → spends_from rules r.session (outbound_before_logon next) (worked ++ w ∷ []) ≡ true }

@@ -15,6 +15,7 @@ use crate::fault::DeskFault;
 use crate::symbol::known_id;
 use fix_wire::{Field, Head, Value, msg_types, tags, write_message};
 use host_base::Id;
+use host_base::limits::SESSIONS;
 use spread_rules::codes::close_reason;
 use std::alloc::Allocator;
 
@@ -26,8 +27,8 @@ impl Desk {
         session: u8,
         beat: u32,
     ) -> Result<(), DeskFault>
-        requires lists { length lists.old ≡ 16 }
-        requires session { session < 16 }
+        requires lists { length lists.old ≡ SESSIONS }
+        requires session { session < SESSIONS }
         ensures { Sends self.old self.new lists.old lists.new
             (numbered_message session LOGON (logon_fields beat) ∷ []) result }
     {
@@ -45,8 +46,8 @@ impl Desk {
         session: u8,
         answer: &Id,
     ) -> Result<(), DeskFault>
-        requires lists { length lists.old ≡ 16 }
-        requires session { session < 16 }
+        requires lists { length lists.old ≡ SESSIONS }
+        requires session { session < SESSIONS }
         ensures { Sends self.old self.new lists.old lists.new
             (numbered_message session HEARTBEAT (heartbeat_fields answer.now) ∷ []) result }
     {
@@ -61,8 +62,8 @@ impl Desk {
         session: u8,
         first: u32,
     ) -> Result<(), DeskFault>
-        requires lists { length lists.old ≡ 16 }
-        requires session { session < 16 }
+        requires lists { length lists.old ≡ SESSIONS }
+        requires session { session < SESSIONS }
         ensures { Sends self.old self.new lists.old lists.new
             (numbered_message session RESEND_REQUEST (resend_request_fields first) ∷ []) result }
     {
@@ -81,8 +82,8 @@ impl Desk {
         refused: u32,
         reason: u8,
     ) -> Result<(), DeskFault>
-        requires lists { length lists.old ≡ 16 }
-        requires session { session < 16 }
+        requires lists { length lists.old ≡ SESSIONS }
+        requires session { session < SESSIONS }
         ensures { Sends self.old self.new lists.old lists.new
             (numbered_message session REJECT (reject_fields refused reason) ∷ []) result }
     {
@@ -100,8 +101,8 @@ impl Desk {
         session: u8,
         reason: u8,
     ) -> Result<(), DeskFault>
-        requires lists { length lists.old ≡ 16 }
-        requires session { session < 16 }
+        requires lists { length lists.old ≡ SESSIONS }
+        requires session { session < SESSIONS }
         ensures { Sends self.old self.new lists.old lists.new
             (close_messages session reason) result }
     {
@@ -126,8 +127,8 @@ impl Desk {
         first: u32,
         last: u32,
     ) -> Result<(), DeskFault>
-        requires lists { length lists.old ≡ 16 }
-        requires session { session < 16 }
+        requires lists { length lists.old ≡ SESSIONS }
+        requires session { session < SESSIONS }
         ensures { Sends self.old self.new lists.old lists.new
             (record { to = session; content = gap_fill first last } ∷ []) result }
     {
@@ -169,8 +170,8 @@ impl Desk {
         place: u64,
         status: u8,
     ) -> Result<(), DeskFault>
-        requires lists { length lists.old ≡ 16 }
-        requires session { request.now.session < 16 }
+        requires lists { length lists.old ≡ SESSIONS }
+        requires session { request.now.session < SESSIONS }
         ensures { Sends self.old self.new lists.old lists.new
             (numbered_message request.now.session ORDER_CANCEL_REJECT
             (cancel_reject_fields request.now.id request.now.original reason place status) ∷ [])

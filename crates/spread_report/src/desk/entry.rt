@@ -12,6 +12,7 @@ use crate::fault::DeskFault;
 use crate::outbound::CompIds;
 use crate::symbol::symbol_of;
 use host_base::Id;
+use host_base::limits::SESSIONS;
 use spread_rules::{Entry, Event, Fill, Outcome, Rulebook, Ticket};
 use std::alloc::Allocator;
 
@@ -46,9 +47,9 @@ pub struct CancelRequest {
 impl Desk {
     /// Notes the CompIDs that a Logon brings.
     pub(super) fn note_comp_ids(&mut self, entry: &Entry)
-        requires { entry.now.session < 16 }
+        requires { entry.now.session < SESSIONS }
         ensures stamp { self.new.stamp ≡ self.old.stamp }
-        ensures noted { (s : ℕ) → s < 16 → outbound_at self.new.sessions s ≡ outbound_at_entry s
+        ensures noted { (s : ℕ) → s < SESSIONS → outbound_at self.new.sessions s ≡ outbound_at_entry s
             (outbound_at self.old.sessions s) entry.now.session entry.now.event }
     {
         if let Event::Logon { client, host, .. } = entry.event {
@@ -63,8 +64,8 @@ impl Desk {
         rules: &Rulebook,
         applied: &AppliedEntry,
     ) -> Result<(), DeskFault>
-        requires lists { length lists.old ≡ 16 }
-        requires session { applied.now.entry.now.session < 16 }
+        requires lists { length lists.old ≡ SESSIONS }
+        requires session { applied.now.entry.now.session < SESSIONS }
         requires outcome { FitsOutcome rules.now applied.now.entry.now.event
             applied.now.outcome.now }
         requires fills { FitFills rules.now applied.now.fills.now }
@@ -110,8 +111,8 @@ impl Desk {
         outcome: &Outcome,
         fills: &[Fill],
     ) -> Result<(), DeskFault>
-        requires lists { length lists.old ≡ 16 }
-        requires session { order.now.session < 16 }
+        requires lists { length lists.old ≡ SESSIONS }
+        requires session { order.now.session < SESSIONS }
         requires outcome { FitsNew order.now.ticket.quantity outcome.now }
         requires fills { FitFills rules.now fills.now }
         ensures { Sends self.old self.new lists.old lists.new
@@ -140,8 +141,8 @@ impl Desk {
         order: &NewOrder,
         fills: &[Fill],
     ) -> Result<u64, DeskFault>
-        requires lists { length lists.old ≡ 16 }
-        requires session { order.now.session < 16 }
+        requires lists { length lists.old ≡ SESSIONS }
+        requires session { order.now.session < SESSIONS }
         requires fills { FitFills rules.now fills.now }
         ensures sent { Sends self.old self.new lists.old lists.new
             (report order.now.session (new_report order.now.place order.now.ticket)
@@ -160,8 +161,8 @@ impl Desk {
         request: &CancelRequest,
         outcome: &Outcome,
     ) -> Result<(), DeskFault>
-        requires lists { length lists.old ≡ 16 }
-        requires session { request.now.session < 16 }
+        requires lists { length lists.old ≡ SESSIONS }
+        requires session { request.now.session < SESSIONS }
         requires outcome { FitsCancel rules.now outcome.now }
         ensures { Sends self.old self.new lists.old lists.new
             (cancel_messages rules.now request.now.place request.now.session request.now.id

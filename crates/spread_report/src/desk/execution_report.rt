@@ -16,6 +16,7 @@ use crate::fault::DeskFault;
 use crate::symbol::symbol_of;
 use fix_wire::msg_types;
 use host_base::Id;
+use host_base::limits::SESSIONS;
 use spread_rules::{Fill, Instrument, Order, Rulebook, Side};
 use std::alloc::Allocator;
 
@@ -36,8 +37,8 @@ impl Desk {
         lists: &mut [Vec<u8, A>],
         order: &NewOrder,
     ) -> Result<(), DeskFault>
-        requires lists { length lists.old ≡ 16 }
-        requires session { order.now.session < 16 }
+        requires lists { length lists.old ≡ SESSIONS }
+        requires session { order.now.session < SESSIONS }
         ensures { Sends self.old self.new lists.old lists.new
             (report order.now.session (new_report order.now.place order.now.ticket) ∷ []) result }
     {
@@ -66,8 +67,8 @@ impl Desk {
         order: &NewOrder,
         reason: u8,
     ) -> Result<(), DeskFault>
-        requires lists { length lists.old ≡ 16 }
-        requires session { order.now.session < 16 }
+        requires lists { length lists.old ≡ SESSIONS }
+        requires session { order.now.session < SESSIONS }
         ensures { Sends self.old self.new lists.old lists.new
             (report order.now.session (rejected_report order.now.place order.now.ticket reason)
             ∷ []) result }
@@ -101,8 +102,8 @@ impl Desk {
         index: u64,
         left: u32,
     ) -> Result<(), DeskFault>
-        requires lists { length lists.old ≡ 16 }
-        requires session { order.now.session < 16 }
+        requires lists { length lists.old ≡ SESSIONS }
+        requires session { order.now.session < SESSIONS }
         requires left { left ≤ order.now.ticket.quantity }
         ensures { Sends self.old self.new lists.old lists.new
             (report order.now.session (ended_report order.now.place index order.now.ticket left)
@@ -135,8 +136,8 @@ impl Desk {
         order: &Order,
         symbol: &Id,
     ) -> Result<(), DeskFault>
-        requires lists { length lists.old ≡ 16 }
-        requires session { request.now.session < 16 }
+        requires lists { length lists.old ≡ SESSIONS }
+        requires session { request.now.session < SESSIONS }
         requires left { order.now.leaves ≤ order.now.quantity }
         ensures { Sends self.old self.new lists.old lists.new
             (report request.now.session (cancelled_report symbol.now request.now.place
@@ -171,8 +172,8 @@ impl Desk {
         fill: &Fill,
         part: &ReportedPart,
     ) -> Result<(), DeskFault>
-        requires lists { length lists.old ≡ 16 }
-        requires session { fill.now.session < 16 }
+        requires lists { length lists.old ≡ SESSIONS }
+        requires session { fill.now.session < SESSIONS }
         requires left { fill.now.leaves ≤ fill.now.total }
         requires price { FitsSigned w64 part.now.price }
         ensures { Sends self.old self.new lists.old lists.new
@@ -208,7 +209,7 @@ impl Desk {
         fill: &Fill,
         months: (u8, u8),
     ) -> Result<(), DeskFault>
-        requires lists { length lists.old ≡ 16 }
+        requires lists { length lists.old ≡ SESSIONS }
         requires near { months.0 < month_count rules.now }
         requires far { months.1 < month_count rules.now }
         requires fits { FitsFill rules.now fill.now }
@@ -241,7 +242,7 @@ impl Desk {
         exec_id: ExecId,
         fill: &Fill,
     ) -> Result<(), DeskFault>
-        requires lists { length lists.old ≡ 16 }
+        requires lists { length lists.old ≡ SESSIONS }
         requires fits { FitsFill rules.now fill.now }
         requires index { exec_id.index < 18446744073709551613 }
         ensures { Sends self.old self.new lists.old lists.new
@@ -279,7 +280,7 @@ impl Desk {
         place: u64,
         fills: &[Fill],
     ) -> Result<u64, DeskFault>
-        requires lists { length lists.old ≡ 16 }
+        requires lists { length lists.old ≡ SESSIONS }
         requires fills { FitFills rules.now fills.now }
         ensures sent { Sends self.old self.new lists.old lists.new
             (fills_reports rules.now place 2 fills.now) result }
