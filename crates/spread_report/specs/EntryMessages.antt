@@ -11,7 +11,6 @@ use Rattle.spread_rules.specs.declared.order.Instrument.{Instrument}
 use Rattle.spread_rules.specs.declared.order.Instrument.TheVariants.{Outright, Spread}
 use Rattle.spread_rules.specs.declared.fill.Fill.{Fill}
 use Rattle.spread_rules.specs.declared.event.Ticket.{Ticket}
-use Rattle.spread_rules.specs.declared.event.Entry.{Entry}
 use Rattle.spread_rules.specs.declared.event.Event.{Event}
 use Rattle.spread_rules.specs.declared.event.Event.TheVariants.{Logon, New, Cancel, TestReply, Gap, Resend, Reject, Close}
 use Rattle.spread_rules.specs.declared.outcome.Outcome.{Outcome}
@@ -37,17 +36,17 @@ pub record AddressedMessage : Type 0 where
 
 -- ---- fields
 
-abbrev pub text : ℕ → List ℕ → Field
-text tag bytes = record { tag = tag; value = Text bytes }
+abbrev pub text_field : ℕ → List ℕ → Field
+text_field tag bytes = record { tag = tag; value = Text bytes }
 
-abbrev pub number : ℕ → ℕ → Field
-number tag n = record { tag = tag; value = Number n }
+abbrev pub number_field : ℕ → ℕ → Field
+number_field tag n = record { tag = tag; value = Number n }
 
-abbrev pub price : ℕ → ℤ → Field
-price tag z = record { tag = tag; value = Price z }
+abbrev pub price_field : ℕ → ℤ → Field
+price_field tag z = record { tag = tag; value = Price z }
 
-abbrev pub pair : ℕ → ℕ → ℕ → Field
-pair tag a b = record { tag = tag; value = Pair a b }
+abbrev pub pair_field : ℕ → ℕ → ℕ → Field
+pair_field tag a b = record { tag = tag; value = Pair a b }
 
 -- 1 to 9 digits
 abbrev pub has_tag : Field → Bool
@@ -80,41 +79,41 @@ pub record ExecutionReport : Type 0 where
 -- OrigClOrdID, in a report on a cancel alone
 abbrev pub original_field : Option (List ℕ) → List Field
 original_field None = []
-original_field (Some id) = text tags.ORIG_CL_ORD_ID id ∷ []
+original_field (Some id) = text_field tags.ORIG_CL_ORD_ID id ∷ []
 
 -- OrdRejReason, in a rejected order's report alone
 abbrev pub reason_field : Option ℕ → List Field
 reason_field None = []
-reason_field (Some n) = number tags.ORD_REJ_REASON n ∷ []
+reason_field (Some n) = number_field tags.ORD_REJ_REASON n ∷ []
 
 -- LastShares and LastPx, in a fill's report alone
 abbrev pub last_fields : Option Traded → List Field
 last_fields None = []
-last_fields (Some t) = number tags.LAST_SHARES t.last_shares ∷ price tags.LAST_PX t.last_px ∷ []
+last_fields (Some t) = number_field tags.LAST_SHARES t.last_shares ∷ price_field tags.LAST_PX t.last_px ∷ []
 
 -- MultiLegReportingType, in a fill's report alone
 abbrev pub legs_field : Option Traded → List Field
 legs_field None = []
-legs_field (Some t) = number tags.MULTI_LEG_REPORTING_TYPE (multi_leg_code t.multi_leg) ∷ []
+legs_field (Some t) = number_field tags.MULTI_LEG_REPORTING_TYPE (multi_leg_code t.multi_leg) ∷ []
 
 -- The fields of an ExecutionReport, in order.
 abbrev pub report_fields : ExecutionReport → List Field
 report_fields r =
-    number tags.ORDER_ID r.order_id
-    ∷ text tags.CL_ORD_ID r.cl_ord_id
+    number_field tags.ORDER_ID r.order_id
+    ∷ text_field tags.CL_ORD_ID r.cl_ord_id
     ∷ (original_field r.orig_cl_ord_id
-    ++ pair tags.EXEC_ID r.place r.index
-    ∷ number tags.EXEC_TRANS_TYPE EXEC_TRANS_TYPE_NEW
-    ∷ number tags.EXEC_TYPE (ord_status_code r.ord_status)
-    ∷ number tags.ORD_STATUS (ord_status_code r.ord_status)
+    ++ pair_field tags.EXEC_ID r.place r.index
+    ∷ number_field tags.EXEC_TRANS_TYPE EXEC_TRANS_TYPE_NEW
+    ∷ number_field tags.EXEC_TYPE (ord_status_code r.ord_status)
+    ∷ number_field tags.ORD_STATUS (ord_status_code r.ord_status)
     ∷ (reason_field r.ord_rej_reason
-    ++ text tags.SYMBOL r.symbol
-    ∷ number tags.SIDE (side_code r.side)
-    ∷ number tags.ORDER_QTY r.order_qty
+    ++ text_field tags.SYMBOL r.symbol
+    ∷ number_field tags.SIDE (side_code r.side)
+    ∷ number_field tags.ORDER_QTY r.order_qty
     ∷ (last_fields r.traded
-    ++ number tags.LEAVES_QTY r.leaves_qty
-    ∷ number tags.CUM_QTY r.cum_qty
-    ∷ number tags.AVG_PX 0
+    ++ number_field tags.LEAVES_QTY r.leaves_qty
+    ∷ number_field tags.CUM_QTY r.cum_qty
+    ∷ number_field tags.AVG_PX 0
     ∷ legs_field r.traded)))
 
 abbrev pub numbered_message : ℕ → ℕ → List Field → AddressedMessage
@@ -258,17 +257,17 @@ new_messages rules place session t _ fills = []
 -- OrderID in an OrderCancelReject: the place of the order that was named, or `NONE`
 abbrev pub place_field : ℕ → Field
 place_field place =
-    if place == 0 then text tags.ORDER_ID (codes "NONE") else number tags.ORDER_ID place
+    if place == 0 then text_field tags.ORDER_ID (codes "NONE") else number_field tags.ORDER_ID place
 
 -- the fields of an OrderCancelReject, where the order that was named has that place and that status
 abbrev pub cancel_reject_fields : List ℕ → List ℕ → ℕ → ℕ → ℕ → List Field
 cancel_reject_fields id original reason place ord_status =
     place_field place
-    ∷ text tags.CL_ORD_ID id
-    ∷ text tags.ORIG_CL_ORD_ID original
-    ∷ number tags.ORD_STATUS ord_status
-    ∷ number tags.CXL_REJ_RESPONSE_TO CXL_REJ_RESPONSE_TO_CANCEL
-    ∷ number tags.CXL_REJ_REASON reason
+    ∷ text_field tags.CL_ORD_ID id
+    ∷ text_field tags.ORIG_CL_ORD_ID original
+    ∷ number_field tags.ORD_STATUS ord_status
+    ∷ number_field tags.CXL_REJ_RESPONSE_TO CXL_REJ_RESPONSE_TO_CANCEL
+    ∷ number_field tags.CXL_REJ_REASON reason
     ∷ []
 
 -- a resting order is cancelled, or the cancel request is refused
@@ -287,25 +286,25 @@ logout session fields = numbered_message session msg_types.LOGOUT fields ∷ []
 abbrev pub close_messages : ℕ → ℕ → List AddressedMessage
 close_messages session reason =
     if reason == close_reason.LOGOUT then logout session []
-    else if reason == close_reason.MSG_SEQ_NUM_TOO_LOW then logout session (text tags.TEXT (codes "MsgSeqNum too low") ∷ [])
-    else if reason == close_reason.COMP_ID then logout session (text tags.TEXT (codes "CompID") ∷ [])
+    else if reason == close_reason.MSG_SEQ_NUM_TOO_LOW then logout session (text_field tags.TEXT (codes "MsgSeqNum too low") ∷ [])
+    else if reason == close_reason.COMP_ID then logout session (text_field tags.TEXT (codes "CompID") ∷ [])
     else []
 
 -- the session's own messages and their fields
 abbrev pub logon_fields : ℕ → List Field
 logon_fields beat =
-    number tags.ENCRYPT_METHOD ENCRYPT_METHOD_NONE ∷ number tags.HEART_BT_INT beat ∷ []
+    number_field tags.ENCRYPT_METHOD ENCRYPT_METHOD_NONE ∷ number_field tags.HEART_BT_INT beat ∷ []
 
 abbrev pub heartbeat_fields : List ℕ → List Field
-heartbeat_fields answer = text tags.TEST_REQ_ID answer ∷ []
+heartbeat_fields answer = text_field tags.TEST_REQ_ID answer ∷ []
 
 -- an EndSeqNo of 0 asks for all that was sent
 abbrev pub resend_request_fields : ℕ → List Field
-resend_request_fields first = number tags.BEGIN_SEQ_NO first ∷ number tags.END_SEQ_NO 0 ∷ []
+resend_request_fields first = number_field tags.BEGIN_SEQ_NO first ∷ number_field tags.END_SEQ_NO 0 ∷ []
 
 abbrev pub reject_fields : ℕ → ℕ → List Field
 reject_fields n reason =
-    number tags.REF_SEQ_NUM n ∷ number tags.SESSION_REJECT_REASON reason ∷ []
+    number_field tags.REF_SEQ_NUM n ∷ number_field tags.SESSION_REJECT_REASON reason ∷ []
 
 -- what an event at its place sends its session, with its outcome and its fills
 abbrev pub event_messages : Rules → ℕ → ℕ → Event → Outcome → List Fill → List AddressedMessage
@@ -324,8 +323,3 @@ event_messages rules place session (Resend first last) outcome fills =
 event_messages rules place session (Reject n reason) outcome fills =
     numbered_message session msg_types.REJECT (reject_fields n reason) ∷ []
 event_messages rules place session (Close reason) outcome fills = close_messages session reason
-
--- the messages of an entry at its place, with its outcome and its fills
-abbrev pub messages_of : Rules → ℕ → Entry → Outcome → List Fill → List AddressedMessage
-messages_of rules place e outcome fills =
-    event_messages rules place e.session e.event outcome fills

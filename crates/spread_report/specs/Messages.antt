@@ -5,7 +5,7 @@ use Rattle.fix_wire.specs.Frames.{IsFrame, frames}
 use Rattle.spread_rules.specs.Rulebook.{Rules}
 use Rattle.spread_report.specs.declared.outbound.OutboundSession.{OutboundSession}
 use Rattle.spread_report.specs.EntryMessages.{AddressedMessage}
-use Rattle.spread_report.specs.Outgoing.{WorkedEntry, text_for, outbound_for, outbound_at_entry, entry_messages, entry_outbound, outbound_before_logon}
+use Rattle.spread_report.specs.Outgoing.{WorkedEntry, bytes_for, outbound_for, outbound_before, entry_messages, entry_outbound, outbound_before_logon}
 
 -- a text that isn't empty is one message
 abbrev pub as_message : List ℕ → List (List ℕ)
@@ -14,19 +14,23 @@ as_message (b ∷ bs) = (b ∷ bs) ∷ []
 
 abbrev pub texts_to : List ℕ → ℕ → OutboundSession → List AddressedMessage → List (List ℕ)
 texts_to stamp s out [] = []
-texts_to stamp s out (m ∷ ms) = as_message (text_for stamp s out m) ++ texts_to stamp s (outbound_for s out m) ms
+texts_to stamp s out (m ∷ ms) =
+    as_message (bytes_for stamp s out m) ++ texts_to stamp s (outbound_for s out m) ms
 
 -- the messages that an entry sends session s
 abbrev pub entry_texts : List ℕ → Rules → ℕ → OutboundSession → WorkedEntry → List (List ℕ)
-entry_texts stamp rules s out w = texts_to stamp s (outbound_at_entry s out w.entry.session w.entry.event) (entry_messages rules w)
+entry_texts stamp rules s out w =
+    texts_to stamp s (outbound_before s out w) (entry_messages rules w)
 
 abbrev pub texts_from : List ℕ → Rules → ℕ → OutboundSession → List WorkedEntry → List (List ℕ)
 texts_from stamp rules s out [] = []
-texts_from stamp rules s out (w ∷ ws) = entry_texts stamp rules s out w ++ texts_from stamp rules s (entry_outbound rules s out w) ws
+texts_from stamp rules s out (w ∷ ws) =
+    entry_texts stamp rules s out w ++ texts_from stamp rules s (entry_outbound rules s out w) ws
 
 -- all messages that session s is sent over a journal, its first message bearing this number
 abbrev pub messages_starting : ℕ → Rules → List ℕ → List WorkedEntry → ℕ → List (List ℕ)
-messages_starting next rules stamp worked s = texts_from stamp rules s (outbound_before_logon next) worked
+messages_starting next rules stamp worked s =
+    texts_from stamp rules s (outbound_before_logon next) worked
 
 -- all messages that session s is sent over a journal
 abbrev pub messages_to : Rules → List ℕ → List WorkedEntry → ℕ → List (List ℕ)

@@ -9,37 +9,37 @@ use Rattle.spread_report.specs.declared.desk.report_body.RejectReport.{RejectRep
 use Rattle.spread_report.specs.declared.desk.report_body.CancelReport.{CancelReport}
 use Rattle.spread_report.specs.declared.desk.report_body.FillReport.{FillReport}
 use Rattle.spread_report.specs.Codes.{side_code, ord_status_code, multi_leg_code}
-use Rattle.spread_report.specs.EntryMessages.{text, number, price, pair}
+use Rattle.spread_report.specs.EntryMessages.{text_field, number_field, price_field, pair_field}
 
 -- OrderID and ClOrdID
 abbrev pub order_fields : OrderReport → List Field
-order_fields r = number tags.ORDER_ID r.order_id ∷ text tags.CL_ORD_ID r.cl_ord_id ∷ []
+order_fields r = number_field tags.ORDER_ID r.order_id ∷ text_field tags.CL_ORD_ID r.cl_ord_id ∷ []
 
 -- ExecID, ExecTransType, ExecType and OrdStatus
 abbrev pub event_fields : OrderReport → List Field
 event_fields r =
-    pair tags.EXEC_ID r.exec_id.place r.exec_id.index
-    ∷ number tags.EXEC_TRANS_TYPE EXEC_TRANS_TYPE_NEW
-    ∷ number tags.EXEC_TYPE (ord_status_code r.ord_status)
-    ∷ number tags.ORD_STATUS (ord_status_code r.ord_status)
+    pair_field tags.EXEC_ID r.exec_id.place r.exec_id.index
+    ∷ number_field tags.EXEC_TRANS_TYPE EXEC_TRANS_TYPE_NEW
+    ∷ number_field tags.EXEC_TYPE (ord_status_code r.ord_status)
+    ∷ number_field tags.ORD_STATUS (ord_status_code r.ord_status)
     ∷ []
 
 -- Symbol, Side and OrderQty
 abbrev pub terms_fields : OrderReport → List Field
 terms_fields r =
-    text tags.SYMBOL r.symbol
-    ∷ number tags.SIDE (side_code r.side)
-    ∷ number tags.ORDER_QTY r.order_qty
+    text_field tags.SYMBOL r.symbol
+    ∷ number_field tags.SIDE (side_code r.side)
+    ∷ number_field tags.ORDER_QTY r.order_qty
     ∷ []
 
 -- LeavesQty, CumQty and AvgPx
 abbrev pub left_fields : OrderReport → List Field
 left_fields r =
-    number tags.LEAVES_QTY r.leaves_qty ∷ number tags.CUM_QTY r.cum_qty ∷ number tags.AVG_PX 0 ∷ []
+    number_field tags.LEAVES_QTY r.leaves_qty ∷ number_field tags.CUM_QTY r.cum_qty ∷ number_field tags.AVG_PX 0 ∷ []
 
 -- LastShares and LastPx
 abbrev pub last_fields : ℕ → ℤ → List Field
-last_fields quantity at = number tags.LAST_SHARES quantity ∷ price tags.LAST_PX at ∷ []
+last_fields quantity at = number_field tags.LAST_SHARES quantity ∷ price_field tags.LAST_PX at ∷ []
 
 -- a report that tells of no trade
 abbrev pub fields_of_order : OrderReport → List Field
@@ -50,13 +50,13 @@ abbrev pub fields_of_reject : RejectReport → List Field
 fields_of_reject r =
     order_fields r.order
     ++ (event_fields r.order
-    ++ (number tags.ORD_REJ_REASON r.reason ∷ (terms_fields r.order ++ left_fields r.order)))
+    ++ (number_field tags.ORD_REJ_REASON r.reason ∷ (terms_fields r.order ++ left_fields r.order)))
 
 -- a report of an order that a cancel request ended, with OrigClOrdID
 abbrev pub fields_of_cancel : CancelReport → List Field
 fields_of_cancel r =
     order_fields r.order
-    ++ (text tags.ORIG_CL_ORD_ID r.original
+    ++ (text_field tags.ORIG_CL_ORD_ID r.original
     ∷ (event_fields r.order ++ (terms_fields r.order ++ left_fields r.order)))
 
 -- a report of a fill, with MultiLegReportingType
@@ -67,4 +67,4 @@ fields_of_fill r =
     ++ (terms_fields r.order
     ++ (last_fields r.last_shares r.last_px
     ++ (left_fields r.order
-    ++ number tags.MULTI_LEG_REPORTING_TYPE (multi_leg_code r.multi_leg) ∷ []))))
+    ++ number_field tags.MULTI_LEG_REPORTING_TYPE (multi_leg_code r.multi_leg) ∷ []))))

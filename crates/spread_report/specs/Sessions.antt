@@ -8,18 +8,18 @@ use Rattle.spread_report.specs.declared.fault.DeskFault.TheVariants.{NoMemory, N
 use Rattle.spread_rules.specs.Rulebook.{Rules}
 use Rattle.spread_report.specs.EntryMessages.{AddressedMessage}
 use Rattle.spread_report.specs.Messages.{IsRow, texts_to}
-use Rattle.spread_report.specs.Outgoing.{WorkedEntry, entry_spends, bytes_to, outbound_after, spends, outbound_before_logon}
+use Rattle.spread_report.specs.Outgoing.{WorkedEntry, entry_spends, messages_bytes, outbound_after, spends, outbound_before_logon}
 
 -- the texts of the sessions' lists
 abbrev pub texts_of : {A : Type 0} → List (Vec ℕ A) → List (List ℕ)
 texts_of {A} lists = map (λ (v : Vec ℕ A). v.items) lists
 
-abbrev pub text_at : List (List ℕ) → ℕ → List ℕ
-text_at texts s = slice_index_or texts s []
+abbrev pub session_text : List (List ℕ) → ℕ → List ℕ
+session_text texts s = slice_index_or texts s []
 
 -- the bytes of session s
 abbrev pub bytes_of : {A : Type 0} → List (Vec ℕ A) → ℕ → List ℕ
-bytes_of lists s = text_at (texts_of lists) s
+bytes_of lists s = session_text (texts_of lists) s
 
 -- the outbound state of session s
 abbrev pub outbound_at : List OutboundSession → ℕ → OutboundSession
@@ -30,10 +30,10 @@ outbound_at sessions s = slice_index_or sessions s (outbound_before_logon 1)
 pub record Sent {A : Type 0} (stamp : List ℕ) (a b : List OutboundSession) (x y : List (Vec ℕ A)) (ms : List AddressedMessage) : Type 0 where
   pub sessions : length b ≡ length a
   pub lists : length y ≡ length x
-  pub bytes : (s : ℕ) → s < SESSIONS → bytes_of y s ≡ bytes_of x s ++ bytes_to stamp s (outbound_at a s) ms
+  pub bytes : (s : ℕ) → s < SESSIONS → bytes_of y s ≡ bytes_of x s ++ messages_bytes stamp s (outbound_at a s) ms
   pub outbound : (s : ℕ) → s < SESSIONS → outbound_at b s ≡ outbound_after s (outbound_at a s) ms
   pub unspent : (s : ℕ) → s < SESSIONS → spends s (outbound_at a s) ms ≡ false
-  pub row : (s : ℕ) → s < SESSIONS → IsRow (texts_to stamp s (outbound_at a s) ms) (bytes_to stamp s (outbound_at a s) ms)
+  pub row : (s : ℕ) → s < SESSIONS → IsRow (texts_to stamp s (outbound_at a s) ms) (messages_bytes stamp s (outbound_at a s) ms)
 
 -- to some sessions something was appended, and their CompIDs stayed
 pub record OnlyAppended {A : Type 0} (a b : List OutboundSession) (x y : List (Vec ℕ A)) : Type 0 where

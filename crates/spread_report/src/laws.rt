@@ -9,7 +9,7 @@ ghost use Rattle.spread_report.specs.Outgoing.{WorkedEntry, entry_bytes, entry_o
 ghost use Rattle.spread_report.specs.Messages.{IsRow, entry_texts, messages_starting};
 ghost use Rattle.spread_report.specs.Desk.{DeskState, desk_starting};
 ghost use Rattle.spread_report.specs.Running.{HasSent};
-ghost use Rattle.spread_report.specs.Sessions.{text_at, outbound_at, RunsOut};
+ghost use Rattle.spread_report.specs.Sessions.{session_text, outbound_at, RunsOut};
 ghost use Rattle.spread_report.specs.Ranges.{AreNames, EntryInRange};
 
 /// What a session is sent is a row of whole frames, and is read back as exactly the messages that were written.
@@ -30,16 +30,16 @@ pub fn read_back()
 /// entry needs a number above 999,999,999.
 pub fn running()
     ensures start { (rules : Rules) (stamp : List ℕ) (next : ℕ) (texts : List (List ℕ)) →
-        length texts ≡ SESSIONS → ((s : ℕ) → s < SESSIONS → text_at texts s ≡ []) → HasSent rules stamp next [] (desk_starting stamp next) texts }
+        length texts ≡ SESSIONS → ((s : ℕ) → s < SESSIONS → session_text texts s ≡ []) → HasSent rules stamp next [] (desk_starting stamp next) texts }
     ensures more { (rules : Rules) (stamp : List ℕ) (next : ℕ) (worked : List WorkedEntry) (w : WorkedEntry) (desk after : DeskState) (texts new : List (List ℕ)) →
         HasSent rules stamp next worked desk texts → after.stamp ≡ desk.stamp → length new ≡ SESSIONS →
-        ((s : ℕ) → s < SESSIONS → text_at new s ≡ text_at texts s ++ entry_bytes desk.stamp rules s (outbound_at desk.sessions s) w) →
+        ((s : ℕ) → s < SESSIONS → session_text new s ≡ session_text texts s ++ entry_bytes desk.stamp rules s (outbound_at desk.sessions s) w) →
         ((s : ℕ) → s < SESSIONS → outbound_at after.sessions s ≡ entry_outbound rules s (outbound_at desk.sessions s) w) →
         ((s : ℕ) → s < SESSIONS → entry_spends rules s (outbound_at desk.sessions s) w ≡ false) →
         ((s : ℕ) → s < SESSIONS → IsRow (entry_texts desk.stamp rules s (outbound_at desk.sessions s) w) (entry_bytes desk.stamp rules s (outbound_at desk.sessions s) w)) →
         HasSent rules stamp next (worked ++ w ∷ []) after new }
     ensures same { (rules : Rules) (stamp : List ℕ) (next : ℕ) (worked : List WorkedEntry) (desk after : DeskState) (texts new : List (List ℕ)) →
-        HasSent rules stamp next worked desk texts → after ≡ desk → length new ≡ SESSIONS → ((s : ℕ) → s < SESSIONS → text_at new s ≡ text_at texts s) →
+        HasSent rules stamp next worked desk texts → after ≡ desk → length new ≡ SESSIONS → ((s : ℕ) → s < SESSIONS → session_text new s ≡ session_text texts s) →
         HasSent rules stamp next worked after new }
     ensures spent { (rules : Rules) (stamp : List ℕ) (next : ℕ) (worked : List WorkedEntry) (w : WorkedEntry) (desk : DeskState) (texts : List (List ℕ)) →
         HasSent rules stamp next worked desk texts → (r : RunsOut rules desk.sessions w) → spends_from rules r.session (outbound_before_logon next) (worked ++ w ∷ []) ≡ true }

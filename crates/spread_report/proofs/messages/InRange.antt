@@ -20,7 +20,7 @@ use Rattle.spread_rules.specs.declared.event.Event.{Event}
 use Rattle.spread_rules.specs.declared.event.Event.TheVariants.{Logon, New, Cancel, TestReply, Gap, Resend, Reject, Close}
 use Rattle.spread_rules.specs.declared.outcome.Outcome.{Outcome}
 use Rattle.spread_rules.specs.declared.outcome.Outcome.TheVariants.{Rested, Filled, Ended, Cancelled, Refused, CancelRefused, Session}
-use Rattle.spread_report.specs.EntryMessages.{MessageContent, numbered, gap_fill, AddressedMessage, text, number, price, pair, Traded, ExecutionReport, original_field, reason_field, last_fields, legs_field, report_fields, numbered_message, report, new_report, rejected_report, ended_report, cancelled_report, fill_status, fill_report, report_count, reports_by, fill_reports, fills_reports, reports_of, new_messages, place_field, cancel_messages, close_messages, event_messages}
+use Rattle.spread_report.specs.EntryMessages.{MessageContent, numbered, gap_fill, AddressedMessage, text_field, number_field, price_field, pair_field, Traded, ExecutionReport, original_field, reason_field, last_fields, legs_field, report_fields, numbered_message, report, new_report, rejected_report, ended_report, cancelled_report, fill_status, fill_report, report_count, reports_by, fill_reports, fills_reports, reports_of, new_messages, place_field, cancel_messages, close_messages, event_messages}
 use Rattle.spread_report.specs.Codes.{side_code, ord_status_code, multi_leg_code}
 use Rattle.spread_report.specs.declared.codes.OrdStatus.{OrdStatus}
 use Rattle.spread_report.specs.declared.codes.OrdStatus.TheVariants as status
@@ -57,16 +57,16 @@ FitsContent (gap_fill first last) = Unit {0}
 abbrev pub FitsAddressed : AddressedMessage → Type 0
 FitsAddressed m = FitsContent m.content
 
-text_fits : (tag : ℕ) (id : List ℕ) → 1 ≤ tag → tag < 1000000000 → is_id id ≡ true → FitsReport (text tag id)
+text_fits : (tag : ℕ) (id : List ℕ) → 1 ≤ tag → tag < 1000000000 → is_id id ≡ true → FitsReport (text_field tag id)
 text_fits tag id low high e = record { fits = (low, high, id_plain id e); short = id_short id e }
 
-number_fits : (tag n : ℕ) → 1 ≤ tag → tag < 1000000000 → n < 2 ^ 64 → FitsReport (number tag n)
+number_fits : (tag n : ℕ) → 1 ≤ tag → tag < 1000000000 → n < 2 ^ 64 → FitsReport (number_field tag n)
 number_fits tag n low high h = record { fits = (low, high, h); short = tt }
 
-price_fits : (tag : ℕ) (z : ℤ) → 1 ≤ tag → tag < 1000000000 → unsigned_abs z < 2 ^ 64 → FitsReport (price tag z)
+price_fits : (tag : ℕ) (z : ℤ) → 1 ≤ tag → tag < 1000000000 → unsigned_abs z < 2 ^ 64 → FitsReport (price_field tag z)
 price_fits tag z low high h = record { fits = (low, high, h); short = tt }
 
-pair_fits : (tag a b : ℕ) → 1 ≤ tag → tag < 1000000000 → a < 2 ^ 64 → b < 2 ^ 64 → FitsReport (pair tag a b)
+pair_fits : (tag a b : ℕ) → 1 ≤ tag → tag < 1000000000 → a < 2 ^ 64 → b < 2 ^ 64 → FitsReport (pair_field tag a b)
 pair_fits tag a b low high h k = record { fits = (low, high, (h, k)); short = tt }
 
 fits_append : (fs gs : List Field) → AllByRecursion FitsReport fs → AllByRecursion FitsReport gs → AllByRecursion FitsReport (fs ++ gs)
@@ -154,13 +154,13 @@ side_small Sell = omega arith
 
 module _ (r : ExecutionReport) where
   abbrev tail : List Field
-  tail = number 151 r.leaves_qty ∷ number 14 r.cum_qty ∷ number 6 0 ∷ legs_field r.traded
+  tail = number_field 151 r.leaves_qty ∷ number_field 14 r.cum_qty ∷ number_field 6 0 ∷ legs_field r.traded
 
   abbrev order_part : List Field
-  order_part = text 55 r.symbol ∷ number 54 (side_code r.side) ∷ number 38 r.order_qty ∷ (last_fields r.traded ++ tail)
+  order_part = text_field 55 r.symbol ∷ number_field 54 (side_code r.side) ∷ number_field 38 r.order_qty ∷ (last_fields r.traded ++ tail)
 
   abbrev status_part : List Field
-  status_part = pair 17 r.place r.index ∷ number 20 0 ∷ number 150 (ord_status_code r.ord_status) ∷ number 39 (ord_status_code r.ord_status) ∷ (reason_field r.ord_rej_reason ++ order_part)
+  status_part = pair_field 17 r.place r.index ∷ number_field 20 0 ∷ number_field 150 (ord_status_code r.ord_status) ∷ number_field 39 (ord_status_code r.ord_status) ∷ (reason_field r.ord_rej_reason ++ order_part)
 
   report_fit : ReportFits r → AllByRecursion FitsReport (report_fields r)
   report_fit h =
@@ -317,7 +317,7 @@ module _ (rules : Rules) (names : AreNames rules) where
   news_fit place session t Session fs p h o few fits = tt
 
   place_fits : (of : ℕ) → of < 2 ^ 64 → FitsReport (place_field of)
-  place_fits of h = elim (of == 0) as (λ b. FitsReport (if b then text 37 (codes "NONE") else number 37 of)) [ true ↦ text_fits 37 (codes "NONE") (omega arith) (omega arith) refl | false ↦ number_fits 37 of (omega arith) (omega arith) h ]
+  place_fits of h = elim (of == 0) as (λ b. FitsReport (if b then text_field 37 (codes "NONE") else number_field 37 of)) [ true ↦ text_fits 37 (codes "NONE") (omega arith) (omega arith) refl | false ↦ number_fits 37 of (omega arith) (omega arith) h ]
 
   cancels_fit : (place session : ℕ) (id original : List ℕ) (outcome : Outcome) → place < 2 ^ 64 → is_id id ≡ true → is_id original ≡ true → OutcomeInRange rules outcome
       → AllByRecursion FitsAddressed (cancel_messages rules place session id original outcome)
@@ -332,11 +332,11 @@ module _ (rules : Rules) (names : AreNames rules) where
 
   close_fits : (session reason : ℕ) → AllByRecursion FitsAddressed (close_messages session reason)
   close_fits session reason =
-      elim (reason == 1) as (λ a. AllByRecursion FitsAddressed (if a then numbered_message session 53 [] ∷ [] else if reason == 2 then numbered_message session 53 (text 58 (codes "MsgSeqNum too low") ∷ []) ∷ [] else if reason == 4 then numbered_message session 53 (text 58 (codes "CompID") ∷ []) ∷ [] else [])) [
+      elim (reason == 1) as (λ a. AllByRecursion FitsAddressed (if a then numbered_message session 53 [] ∷ [] else if reason == 2 then numbered_message session 53 (text_field 58 (codes "MsgSeqNum too low") ∷ []) ∷ [] else if reason == 4 then numbered_message session 53 (text_field 58 (codes "CompID") ∷ []) ∷ [] else [])) [
         | true ↦ ((omega arith, tt, omega arith), tt)
-        | false ↦ elim (reason == 2) as (λ b. AllByRecursion FitsAddressed (if b then numbered_message session 53 (text 58 (codes "MsgSeqNum too low") ∷ []) ∷ [] else if reason == 4 then numbered_message session 53 (text 58 (codes "CompID") ∷ []) ∷ [] else [])) [
+        | false ↦ elim (reason == 2) as (λ b. AllByRecursion FitsAddressed (if b then numbered_message session 53 (text_field 58 (codes "MsgSeqNum too low") ∷ []) ∷ [] else if reason == 4 then numbered_message session 53 (text_field 58 (codes "CompID") ∷ []) ∷ [] else [])) [
           | true ↦ ((omega arith, (text_fits 58 (codes "MsgSeqNum too low") (omega arith) (omega arith) refl, tt), omega arith), tt)
-          | false ↦ elim (reason == 4) as (λ d. AllByRecursion FitsAddressed (if d then numbered_message session 53 (text 58 (codes "CompID") ∷ []) ∷ [] else [])) [
+          | false ↦ elim (reason == 4) as (λ d. AllByRecursion FitsAddressed (if d then numbered_message session 53 (text_field 58 (codes "CompID") ∷ []) ∷ [] else [])) [
             | true ↦ ((omega arith, (text_fits 58 (codes "CompID") (omega arith) (omega arith) refl, tt), omega arith), tt)
             | false ↦ tt
           ]

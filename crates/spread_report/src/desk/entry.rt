@@ -3,7 +3,8 @@ ghost use Rattle.std.specs.Prelude.{◌≡◌, ℕ, ◌<◌, ◌+◌, ◌∷◌,
 ghost use Rattle.spread_rules.specs.declared.fill.Fill.{Fill};
 ghost use Rattle.spread_rules.specs.Ranges.{FitsCancel, FitsNew, FitsOutcome, FitFills};
 ghost use Rattle.spread_report.specs.Desk.{Sends};
-ghost use Rattle.spread_report.specs.EntryMessages.{messages_of, new_messages, cancel_messages, report, new_report, fills_reports, reports_of};
+ghost use Rattle.spread_report.specs.EntryMessages.{event_messages, new_messages, cancel_messages};
+ghost use Rattle.spread_report.specs.EntryMessages.{accepted_messages, reports_of};
 ghost use Rattle.spread_report.specs.Outgoing.{outbound_at_entry};
 ghost use Rattle.spread_report.specs.Sessions.{outbound_at};
 
@@ -70,8 +71,8 @@ impl Desk {
             applied.now.outcome.now }
         requires fills { FitFills rules.now applied.now.fills.now }
         ensures { Sends self.old self.new lists.old lists.new
-            (messages_of rules.now applied.now.place applied.now.entry.now
-            applied.now.outcome.now applied.now.fills.now) result }
+            (event_messages rules.now applied.now.place applied.now.entry.now.session
+            applied.now.entry.now.event applied.now.outcome.now applied.now.fills.now) result }
     {
         let place = applied.place;
         let session = applied.entry.session;
@@ -145,8 +146,8 @@ impl Desk {
         requires session { order.now.session < SESSIONS }
         requires fills { FitFills rules.now fills.now }
         ensures sent { Sends self.old self.new lists.old lists.new
-            (report order.now.session (new_report order.now.place order.now.ticket)
-            ∷ fills_reports rules.now order.now.place 2 fills.now) result }
+            (accepted_messages rules.now order.now.place order.now.session order.now.ticket
+            fills.now) result }
         ensures index { IfOk result (λ i. i ≡ 2 + reports_of fills.now) }
     {
         self.accepted(lists, order)?;
