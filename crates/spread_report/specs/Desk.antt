@@ -23,11 +23,13 @@ pub record IsDesk (d : Inside) : Type 0 where
 
 -- nobody has logged on, and each session's next number is this
 abbrev pub desk_starting : List ℕ → ℕ → DeskState
-desk_starting stamp next = record { stamp = stamp; sessions = replicate SESSIONS (outbound_before_logon next) }
+desk_starting stamp next = record
+    { stamp = stamp; sessions = replicate SESSIONS (outbound_before_logon next) }
 
 -- a next number is 1 to 999,999,999
 abbrev pub desk_at : List ℕ → ℕ → Option DeskState
-desk_at stamp next = if nat_le 1 next && nat_le next MAX_MSG_SEQ_NUM then Some (desk_starting stamp next) else None
+desk_at stamp next = if nat_le 1 next
+    && nat_le next MAX_MSG_SEQ_NUM then Some (desk_starting stamp next) else None
 
 -- what became of a desk and of its lists as it sent these messages
 pub record Sends {A T : Type 0} (a b : DeskState) (x y : List (Vec ℕ A))

@@ -89,7 +89,8 @@ reason_field (Some n) = number_field tags.ORD_REJ_REASON n ∷ []
 -- LastShares and LastPx, in a fill's report alone
 abbrev pub last_fields : Option Traded → List Field
 last_fields None = []
-last_fields (Some t) = number_field tags.LAST_SHARES t.last_shares ∷ price_field tags.LAST_PX t.last_px ∷ []
+last_fields (Some t) = number_field tags.LAST_SHARES t.last_shares
+    ∷ price_field tags.LAST_PX t.last_px ∷ []
 
 -- MultiLegReportingType, in a fill's report alone
 abbrev pub legs_field : Option Traded → List Field
@@ -286,8 +287,10 @@ logout session fields = numbered_message session msg_types.LOGOUT fields ∷ []
 abbrev pub close_messages : ℕ → ℕ → List AddressedMessage
 close_messages session reason =
     if reason == close_reason.LOGOUT then logout session []
-    else if reason == close_reason.MSG_SEQ_NUM_TOO_LOW then logout session (text_field tags.TEXT (codes "MsgSeqNum too low") ∷ [])
-    else if reason == close_reason.COMP_ID then logout session (text_field tags.TEXT (codes "CompID") ∷ [])
+    else if reason == close_reason.MSG_SEQ_NUM_TOO_LOW then logout session
+    (text_field tags.TEXT (codes "MsgSeqNum too low") ∷ [])
+    else if reason == close_reason.COMP_ID then logout session
+    (text_field tags.TEXT (codes "CompID") ∷ [])
     else []
 
 -- the session's own messages and their fields
@@ -300,7 +303,8 @@ heartbeat_fields answer = text_field tags.TEST_REQ_ID answer ∷ []
 
 -- an EndSeqNo of 0 asks for all that was sent
 abbrev pub resend_request_fields : ℕ → List Field
-resend_request_fields first = number_field tags.BEGIN_SEQ_NO first ∷ number_field tags.END_SEQ_NO 0 ∷ []
+resend_request_fields first = number_field tags.BEGIN_SEQ_NO first ∷ number_field tags.END_SEQ_NO 0
+    ∷ []
 
 abbrev pub reject_fields : ℕ → ℕ → List Field
 reject_fields n reason =

@@ -100,14 +100,14 @@ outbound_at_entry s out session (Logon client host beat) =
 outbound_at_entry s out session _ = out
 
 -- An entry at its place in the journal, with its outcome and its fills.
-pub record WorkedEntry : Type 0 where
+pub record AppliedEntry : Type 0 where
   pub place : ℕ
   pub entry : Entry
   pub outcome : Outcome
   pub fills : List Fill
 
-abbrev pub worked_at : ℕ → Entry → Outcome → List Fill → WorkedEntry
-worked_at place entry outcome fills = record {
+abbrev pub applied_at : ℕ → Entry → Outcome → List Fill → AppliedEntry
+applied_at place entry outcome fills = record {
   place = place;
   entry = entry;
   outcome = outcome;
@@ -115,38 +115,38 @@ worked_at place entry outcome fills = record {
 }
 
 -- the outbound state of session s under which its messages go
-abbrev pub outbound_before : ℕ → OutboundSession → WorkedEntry → OutboundSession
+abbrev pub outbound_before : ℕ → OutboundSession → AppliedEntry → OutboundSession
 outbound_before s out w = outbound_at_entry s out w.entry.session w.entry.event
 
-abbrev pub entry_messages : Rules → WorkedEntry → List AddressedMessage
+abbrev pub entry_messages : Rules → AppliedEntry → List AddressedMessage
 entry_messages rules w =
     event_messages rules w.place w.entry.session w.entry.event w.outcome w.fills
 
 -- what an entry sends session s
-abbrev pub entry_bytes : List ℕ → Rules → ℕ → OutboundSession → WorkedEntry → List ℕ
+abbrev pub entry_bytes : List ℕ → Rules → ℕ → OutboundSession → AppliedEntry → List ℕ
 entry_bytes stamp rules s out w =
     messages_bytes stamp s (outbound_before s out w) (entry_messages rules w)
 
 -- the outbound state of session s after it
-abbrev pub entry_outbound : Rules → ℕ → OutboundSession → WorkedEntry → OutboundSession
+abbrev pub entry_outbound : Rules → ℕ → OutboundSession → AppliedEntry → OutboundSession
 entry_outbound rules s out w = outbound_after s (outbound_before s out w) (entry_messages rules w)
 
 -- a message that it sends session s needs a number above the limit
-abbrev pub entry_spends : Rules → ℕ → OutboundSession → WorkedEntry → Bool
+abbrev pub entry_spends : Rules → ℕ → OutboundSession → AppliedEntry → Bool
 entry_spends rules s out w = spends s (outbound_before s out w) (entry_messages rules w)
 
 -- ---- a journal
 
-abbrev pub journal_bytes : List ℕ → Rules → ℕ → OutboundSession → List WorkedEntry → List ℕ
+abbrev pub journal_bytes : List ℕ → Rules → ℕ → OutboundSession → List AppliedEntry → List ℕ
 journal_bytes stamp rules s out [] = []
 journal_bytes stamp rules s out (w ∷ ws) =
     entry_bytes stamp rules s out w ++ journal_bytes stamp rules s (entry_outbound rules s out w) ws
 
-abbrev pub outbound_from : Rules → ℕ → OutboundSession → List WorkedEntry → OutboundSession
+abbrev pub outbound_from : Rules → ℕ → OutboundSession → List AppliedEntry → OutboundSession
 outbound_from rules s out [] = out
 outbound_from rules s out (w ∷ ws) = outbound_from rules s (entry_outbound rules s out w) ws
 
-abbrev pub spends_from : Rules → ℕ → OutboundSession → List WorkedEntry → Bool
+abbrev pub spends_from : Rules → ℕ → OutboundSession → List AppliedEntry → Bool
 spends_from rules s out [] = false
 spends_from rules s out (w ∷ ws) =
     entry_spends rules s out w || spends_from rules s (entry_outbound rules s out w) ws
@@ -156,10 +156,10 @@ abbrev pub outbound_before_logon : ℕ → OutboundSession
 outbound_before_logon next = record { next = next; comp_ids = None }
 
 -- all that session s is sent over a journal, its first message bearing this number
-abbrev pub outgoing_starting : ℕ → Rules → List ℕ → List WorkedEntry → ℕ → List ℕ
-outgoing_starting next rules stamp worked s =
-    journal_bytes stamp rules s (outbound_before_logon next) worked
+abbrev pub outgoing_starting : ℕ → Rules → List ℕ → List AppliedEntry → ℕ → List ℕ
+outgoing_starting next rules stamp applied s =
+    journal_bytes stamp rules s (outbound_before_logon next) applied
 
 -- all that session s is sent over a journal
-abbrev pub outgoing_of : Rules → List ℕ → List WorkedEntry → ℕ → List ℕ
-outgoing_of rules stamp worked s = outgoing_starting 1 rules stamp worked s
+abbrev pub outgoing_of : Rules → List ℕ → List AppliedEntry → ℕ → List ℕ
+outgoing_of rules stamp applied s = outgoing_starting 1 rules stamp applied s

@@ -35,7 +35,8 @@ terms_fields r =
 -- LeavesQty, CumQty and AvgPx
 abbrev pub left_fields : OrderReport → List Field
 left_fields r =
-    number_field tags.LEAVES_QTY r.leaves_qty ∷ number_field tags.CUM_QTY r.cum_qty ∷ number_field tags.AVG_PX 0 ∷ []
+    number_field tags.LEAVES_QTY r.leaves_qty ∷ number_field tags.CUM_QTY r.cum_qty
+    ∷ number_field tags.AVG_PX 0 ∷ []
 
 -- LastShares and LastPx
 abbrev pub last_fields : ℕ → ℤ → List Field

@@ -6,7 +6,7 @@ ghost use Rattle.spread_rules.specs.Ranges.{FitsOutcome, FitsFill};
 ghost use Rattle.spread_report.specs.Desk.{desk_starting, desk_at, Sends};
 ghost use Rattle.spread_report.specs.EntryMessages.{numbered_message, has_tag};
 ghost use Rattle.spread_report.specs.Messages.{IsRow, entry_texts};
-ghost use Rattle.spread_report.specs.Outgoing.{entry_bytes, entry_outbound, entry_spends, worked_at};
+ghost use Rattle.spread_report.specs.Outgoing.{entry_bytes, entry_outbound, entry_spends, applied_at};
 ghost use Rattle.spread_report.specs.Sessions.{bytes_of, outbound_at, KeepsBytes, RunsOut};
 ghost use Rattle.spread_report.specs.declared.fault.DeskFault.TheVariants.{NumbersSpent};
 
@@ -94,20 +94,20 @@ impl Desk {
             → FitsFill rules.now (slice_index_or fills.now k d) }
         ensures bytes { OnOk result ((s : ℕ) → s < SESSIONS → bytes_of lists.new s ≡ bytes_of lists.old s
             ++ entry_bytes self.old.stamp rules.now s (outbound_at self.old.sessions s)
-            (worked_at place entry.now outcome.now fills.now)) }
+            (applied_at place entry.now outcome.now fills.now)) }
         ensures outbound { OnOk result ((s : ℕ) → s < SESSIONS → outbound_at self.new.sessions s
             ≡ entry_outbound rules.now s (outbound_at self.old.sessions s)
-            (worked_at place entry.now outcome.now fills.now)) }
+            (applied_at place entry.now outcome.now fills.now)) }
         ensures unspent { OnOk result ((s : ℕ) → s < SESSIONS →
             entry_spends rules.now s (outbound_at self.old.sessions s)
-            (worked_at place entry.now outcome.now fills.now) ≡ false) }
+            (applied_at place entry.now outcome.now fills.now) ≡ false) }
         ensures whole { OnOk result ((s : ℕ) → s < SESSIONS → IsRow
             (entry_texts self.old.stamp rules.now s (outbound_at self.old.sessions s)
-            (worked_at place entry.now outcome.now fills.now))
+            (applied_at place entry.now outcome.now fills.now))
             (entry_bytes self.old.stamp rules.now s (outbound_at self.old.sessions s)
-            (worked_at place entry.now outcome.now fills.now))) }
+            (applied_at place entry.now outcome.now fills.now))) }
         ensures spent { IsErrOf result NumbersSpent →
-            RunsOut rules.now self.old.sessions (worked_at place entry.now outcome.now fills.now) }
+            RunsOut rules.now self.old.sessions (applied_at place entry.now outcome.now fills.now) }
         ensures stamp { self.new.stamp ≡ self.old.stamp }
         ensures desk_kept { OnErr result (self.new ≡ self.old) }
         ensures lists_kept { OnErr result (KeepsBytes lists.old lists.new) }
@@ -221,7 +221,8 @@ fn lengths_of<A: Allocator>(lists: &[Vec<u8, A>]) -> [usize; SESSIONS]
 
 /// The next number of each session.
 fn numbers_of(sessions: &[OutboundSession; SESSIONS]) -> [u64; SESSIONS]
-    ensures { (s : ℕ) → s < SESSIONS → slice_index_or result s 0 ≡ (outbound_at sessions.now s).next }
+    ensures { (s : ℕ) → s < SESSIONS
+        → slice_index_or result s 0 ≡ (outbound_at sessions.now s).next }
 {
     let mut numbers = [0; SESSIONS];
     for s in 0..SESSIONS {

@@ -8,7 +8,7 @@ use Rattle.spread_report.specs.declared.fault.DeskFault.{DeskFault}
 use Rattle.spread_report.specs.declared.fault.DeskFault.TheVariants.{NoMemory, NumbersSpent}
 use Rattle.spread_report.specs.declared.outbound.OutboundSession.{OutboundSession}
 use Rattle.spread_report.specs.Messages.{IsRow, texts_to, entry_texts}
-use Rattle.spread_report.specs.Outgoing.{WorkedEntry, entry_messages, entry_bytes, entry_outbound, entry_spends, messages_bytes, outbound_after, spends, outbound_at_entry}
+use Rattle.spread_report.specs.Outgoing.{AppliedEntry, entry_messages, entry_bytes, entry_outbound, entry_spends, messages_bytes, outbound_after, spends, outbound_at_entry}
 use Rattle.spread_report.specs.Sessions.{bytes_of, outbound_at, SendResult, RunsOut}
 
 -- what is said of an answer of the other kind
@@ -21,7 +21,7 @@ err_sent P (Ok t) sent = tt
 err_sent P (Err fault) sent = absurd (false≢true (sym sent))
 
 -- the sessions `a` before the entry, `k` with the CompIDs that it brings, and `b` after it
-module _ {A T : Type 0} (stamp : List ℕ) (rules : Rules) (a k b : List OutboundSession) (x y : List (Vec ℕ A)) (w : WorkedEntry)
+module _ {A T : Type 0} (stamp : List ℕ) (rules : Rules) (a k b : List OutboundSession) (x y : List (Vec ℕ A)) (w : AppliedEntry)
     (noted : (s : ℕ) → s < 16 → outbound_at k s ≡ outbound_at_entry s (outbound_at a s) w.entry.session w.entry.event) where
   pub sent_bytes : (r : Result T DeskFault) → SendResult stamp k b x y (entry_messages rules w) r
       → OnOk r ((s : ℕ) → s < 16 → bytes_of y s ≡ bytes_of x s ++ entry_bytes stamp rules s (outbound_at a s) w)

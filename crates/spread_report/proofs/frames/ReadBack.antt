@@ -14,7 +14,7 @@ use Rattle.spread_rules.specs.Journal.{FitsEvent}
 use Rattle.spread_report.specs.declared.outbound.OutboundSession.{OutboundSession}
 use Rattle.spread_report.specs.declared.outbound.CompIds.{CompIds}
 use Rattle.spread_report.specs.EntryMessages.{MessageContent, numbered, gap_fill, AddressedMessage}
-use Rattle.spread_report.specs.Outgoing.{WorkedEntry, new_seq_no, head_of, gap_fields, message_bytes, next_after, needs_number_above_limit, bytes_for, outbound_for, needs_number_for, messages_bytes, outbound_after, spends, outbound_at_entry, entry_messages, entry_bytes, entry_outbound, entry_spends, journal_bytes, spends_from}
+use Rattle.spread_report.specs.Outgoing.{AppliedEntry, new_seq_no, head_of, gap_fields, message_bytes, next_after, needs_number_above_limit, bytes_for, outbound_for, needs_number_for, messages_bytes, outbound_after, spends, outbound_at_entry, entry_messages, entry_bytes, entry_outbound, entry_spends, journal_bytes, spends_from}
 use Rattle.spread_report.proofs.frames.FrameRows.{no_row, rows_both, message_row}
 use Rattle.spread_report.specs.Messages.{IsRow, as_message, texts_to, entry_texts, texts_from}
 use Rattle.spread_report.specs.Ranges.{AreNames, EntryInRange}
@@ -126,7 +126,7 @@ module _ (stamp : List ℕ) (stamp_id : is_id stamp ≡ true) where
   opened s out session (Close reason) h fit = h
 
   module _ (rules : Rules) (names : AreNames rules) (s : ℕ) where
-    pub from_is : (out : OutboundSession) (ws : List WorkedEntry) → OutboundFits out → AllByRecursion (EntryInRange rules) ws → spends_from rules s out ws ≡ false → IsRow (texts_from stamp rules s out ws) (journal_bytes stamp rules s out ws)
+    pub from_is : (out : OutboundSession) (ws : List AppliedEntry) → OutboundFits out → AllByRecursion (EntryInRange rules) ws → spends_from rules s out ws ≡ false → IsRow (texts_from stamp rules s out ws) (journal_bytes stamp rules s out ws)
     from_is out [] h fit spent = no_row
     from_is out (w ∷ ws) h fit spent =
         let first = to_is s (outbound_at_entry s out w.entry.session w.entry.event) (entry_messages rules w) (opened s out w.entry.session w.entry.event h fit.0.event) (entry_fits rules names w fit.0)

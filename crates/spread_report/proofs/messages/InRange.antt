@@ -26,7 +26,7 @@ use Rattle.spread_report.specs.declared.codes.OrdStatus.{OrdStatus}
 use Rattle.spread_report.specs.declared.codes.OrdStatus.TheVariants as status
 use Rattle.spread_report.specs.declared.codes.MultiLegReportingType.{MultiLegReportingType}
 use Rattle.spread_report.specs.declared.codes.MultiLegReportingType.TheVariants.{SingleSecurity, IndividualLeg, MultiLegSecurity}
-use Rattle.spread_report.specs.Outgoing.{WorkedEntry, entry_messages}
+use Rattle.spread_report.specs.Outgoing.{AppliedEntry, entry_messages}
 use Rattle.spread_report.specs.Ranges.{AreNames, FillInRange, OutcomeInRange, EntryInRange}
 use Rattle.spread_report.proofs.frames.BodyLengths.{FitsReport}
 use Rattle.spread_report.proofs.messages.SymbolIds.{joined_id}
@@ -357,5 +357,5 @@ module _ (rules : Rules) (names : AreNames rules) where
   event_fits place session (Reject n reason) outcome fs p h o few fits = ((omega arith, (number_fits 45 n (omega arith) (omega arith) (omega (arith, h.0.1)), (number_fits 373 reason (omega arith) (omega arith) (small_reason reason h.1), tt)), omega arith), tt)
   event_fits place session (Close reason) outcome fs p h o few fits = close_fits session reason
 
-  pub entry_fits : (w : WorkedEntry) → EntryInRange rules w → AllByRecursion FitsAddressed (entry_messages rules w)
+  pub entry_fits : (w : AppliedEntry) → EntryInRange rules w → AllByRecursion FitsAddressed (entry_messages rules w)
   entry_fits w h = event_fits w.place w.entry.session w.entry.event w.outcome w.fills h.place h.event h.outcome h.few h.fills

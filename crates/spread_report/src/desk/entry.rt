@@ -50,7 +50,8 @@ impl Desk {
     pub(super) fn note_comp_ids(&mut self, entry: &Entry)
         requires { entry.now.session < SESSIONS }
         ensures stamp { self.new.stamp ≡ self.old.stamp }
-        ensures noted { (s : ℕ) → s < SESSIONS → outbound_at self.new.sessions s ≡ outbound_at_entry s
+        ensures noted { (s : ℕ) → s < SESSIONS
+            → outbound_at self.new.sessions s ≡ outbound_at_entry s
             (outbound_at self.old.sessions s) entry.now.session entry.now.event }
     {
         if let Event::Logon { client, host, .. } = entry.event {

@@ -2,7 +2,7 @@ use Rattle.std.proofs.Common.{◌≡◌, ℕ, ◌<◌, List, sym, ap, subst, ◌
 use Rattle.spread_report.specs.declared.outbound.OutboundSession.{OutboundSession}
 use Rattle.spread_report.specs.Desk.{DeskState}
 use Rattle.spread_report.specs.EntryMessages.{event_messages}
-use Rattle.spread_report.specs.Outgoing.{outbound_at_entry, worked_at}
+use Rattle.spread_report.specs.Outgoing.{outbound_at_entry, applied_at}
 use Rattle.spread_report.specs.Sessions.{outbound_at, OnlyAppended, KeepsBytes}
 use Rattle.spread_report.proofs.entries.EntrySent.{ok_refused, err_sent, sent_bytes, sent_outbound, sent_unspent, sent_whole, sent_spent}
 use Rattle.spread_report.proofs.entries.TakenBack.{sessions_back, back_again, after_refusal, desk_of, desk_back}
@@ -44,32 +44,32 @@ returns-then-is_err-clause-whole g c = ok_refused _ c.send_entry-result.result (
 
 pub returns-then-is_err-clause-spent : goal.returns-then-is_err-clause-spent
 returns-then-is_err-clause-spent g c =
-    sent_spent c.note_comp_ids.new.self.stamp c.args.rules.now c.args.self.now.sessions c.note_comp_ids.new.self.sessions c.send_entry-result.new.self.sessions c.args.lists.now c.send_entry-result.new.lists (worked_at c.args.place c.args.entry.now c.args.outcome.now c.args.fills.now)
+    sent_spent c.note_comp_ids.new.self.stamp c.args.rules.now c.args.self.now.sessions c.note_comp_ids.new.self.sessions c.send_entry-result.new.self.sessions c.args.lists.now c.send_entry-result.new.lists (applied_at c.args.place c.args.entry.now c.args.outcome.now c.args.fills.now)
     c.note_comp_ids.ensures.noted c.send_entry-result.result c.send_entry-result.ensures.result
 
 pub returns-else-is_err-clause-bytes : goal.returns-else-is_err-clause-bytes
 returns-else-is_err-clause-bytes g c =
-    rw (← c.note_comp_ids.ensures.stamp) (sent_bytes c.note_comp_ids.new.self.stamp c.args.rules.now c.args.self.now.sessions c.note_comp_ids.new.self.sessions c.send_entry-result.new.self.sessions c.args.lists.now c.send_entry-result.new.lists (worked_at c.args.place c.args.entry.now c.args.outcome.now c.args.fills.now)
+    rw (← c.note_comp_ids.ensures.stamp) (sent_bytes c.note_comp_ids.new.self.stamp c.args.rules.now c.args.self.now.sessions c.note_comp_ids.new.self.sessions c.send_entry-result.new.self.sessions c.args.lists.now c.send_entry-result.new.lists (applied_at c.args.place c.args.entry.now c.args.outcome.now c.args.fills.now)
     c.note_comp_ids.ensures.noted c.send_entry-result.result c.send_entry-result.ensures.result)
 
 pub returns-else-is_err-clause-outbound : goal.returns-else-is_err-clause-outbound
 returns-else-is_err-clause-outbound g c =
-    sent_outbound c.note_comp_ids.new.self.stamp c.args.rules.now c.args.self.now.sessions c.note_comp_ids.new.self.sessions c.send_entry-result.new.self.sessions c.args.lists.now c.send_entry-result.new.lists (worked_at c.args.place c.args.entry.now c.args.outcome.now c.args.fills.now)
+    sent_outbound c.note_comp_ids.new.self.stamp c.args.rules.now c.args.self.now.sessions c.note_comp_ids.new.self.sessions c.send_entry-result.new.self.sessions c.args.lists.now c.send_entry-result.new.lists (applied_at c.args.place c.args.entry.now c.args.outcome.now c.args.fills.now)
     c.note_comp_ids.ensures.noted c.send_entry-result.result c.send_entry-result.ensures.result
 
 pub returns-else-is_err-clause-unspent : goal.returns-else-is_err-clause-unspent
 returns-else-is_err-clause-unspent g c =
-    sent_unspent c.note_comp_ids.new.self.stamp c.args.rules.now c.args.self.now.sessions c.note_comp_ids.new.self.sessions c.send_entry-result.new.self.sessions c.args.lists.now c.send_entry-result.new.lists (worked_at c.args.place c.args.entry.now c.args.outcome.now c.args.fills.now)
+    sent_unspent c.note_comp_ids.new.self.stamp c.args.rules.now c.args.self.now.sessions c.note_comp_ids.new.self.sessions c.send_entry-result.new.self.sessions c.args.lists.now c.send_entry-result.new.lists (applied_at c.args.place c.args.entry.now c.args.outcome.now c.args.fills.now)
     c.note_comp_ids.ensures.noted c.send_entry-result.result c.send_entry-result.ensures.result
 
 pub returns-else-is_err-clause-whole : goal.returns-else-is_err-clause-whole
 returns-else-is_err-clause-whole g c =
-    rw (← c.note_comp_ids.ensures.stamp) (sent_whole c.note_comp_ids.new.self.stamp c.args.rules.now c.args.self.now.sessions c.note_comp_ids.new.self.sessions c.send_entry-result.new.self.sessions c.args.lists.now c.send_entry-result.new.lists (worked_at c.args.place c.args.entry.now c.args.outcome.now c.args.fills.now)
+    rw (← c.note_comp_ids.ensures.stamp) (sent_whole c.note_comp_ids.new.self.stamp c.args.rules.now c.args.self.now.sessions c.note_comp_ids.new.self.sessions c.send_entry-result.new.self.sessions c.args.lists.now c.send_entry-result.new.lists (applied_at c.args.place c.args.entry.now c.args.outcome.now c.args.fills.now)
     c.note_comp_ids.ensures.noted c.send_entry-result.result c.send_entry-result.ensures.result)
 
 pub returns-else-is_err-clause-spent : goal.returns-else-is_err-clause-spent
 returns-else-is_err-clause-spent g c =
-    sent_spent c.note_comp_ids.new.self.stamp c.args.rules.now c.args.self.now.sessions c.note_comp_ids.new.self.sessions c.send_entry-result.new.self.sessions c.args.lists.now c.send_entry-result.new.lists (worked_at c.args.place c.args.entry.now c.args.outcome.now c.args.fills.now)
+    sent_spent c.note_comp_ids.new.self.stamp c.args.rules.now c.args.self.now.sessions c.note_comp_ids.new.self.sessions c.send_entry-result.new.self.sessions c.args.lists.now c.send_entry-result.new.lists (applied_at c.args.place c.args.entry.now c.args.outcome.now c.args.fills.now)
     c.note_comp_ids.ensures.noted c.send_entry-result.result c.send_entry-result.ensures.result
 
 pub returns-then-is_err-clause-lists_kept : goal.returns-then-is_err-clause-lists_kept
