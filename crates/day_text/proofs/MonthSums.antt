@@ -17,7 +17,7 @@ use Rattle.spread_rules.specs.declared.fill.Fill.{Fill}
 use Rattle.spread_rules.specs.Legs.{Leg, is_side, legs_by, legs_in, legs, quantities, money, quantity_in, money_in, other_side}
 use Rattle.day_text.specs.declared.months.MonthTotals.{MonthTotals}
 use Rattle.day_text.specs.Totals.{AreTotals, IsSummable}
-use Rattle.day_text.specs.Sums.{plus_leg, empty_month, with_leg, with_fill, empty_months, IsLegInRange, HasRoom}
+use Rattle.day_text.specs.code.Sums.{plus_leg, empty_month, with_leg, with_fill, empty_months, IsLegInRange, HasRoom}
 
 -- ---- the money of one leg
 

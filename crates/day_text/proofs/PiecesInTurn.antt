@@ -7,7 +7,7 @@ use Rattle.std.proofs.lemmas.List.{take-append-le}
 use Rattle.std.specs.Io.KnownBytes.{Appends}
 use Rattle.host_base.specs.Ends.{AppendsPrefix}
 use Rattle.day_text.specs.Messages.{shown_byte, line_lead, outgoing_line}
-use Rattle.day_text.specs.Pieces.{IsPut}
+use Rattle.day_text.specs.code.Pieces.{IsPut}
 
 -- of a call that failed, and of one whose result is handed on
 pub on_err_any : {T E P : Type 0} (r : Result T E) → P → OnErr r P

@@ -5,7 +5,7 @@ ghost use Rattle.host_base.specs.Ends.{AppendsPrefix};
 ghost use Rattle.fix_wire.specs.Frames.{IsFrameRow};
 ghost use Rattle.day_text.specs.DayText.{texts_of};
 ghost use Rattle.day_text.specs.Messages.{shown_byte, line_lead, outgoing_line, outgoing_lines, outgoing_lines_from};
-ghost use Rattle.day_text.specs.Pieces.{IsPut};
+ghost use Rattle.day_text.specs.code.Pieces.{IsPut};
 
 use fix_wire::first_of_row;
 use host_base::limits::SESSIONS;

@@ -3,7 +3,8 @@ ghost use Rattle.std.specs.Prelude.{◌≡◌, ◌≢◌, ℕ, ◌<◌, ◌≤�
 ghost use Rattle.std.specs.List.{list_all};
 ghost use Rattle.spread_rules.specs.declared.fill.Fill.{Fill};
 ghost use Rattle.spread_rules.specs.Ranges.{FitsOutcome, FitsFill};
-ghost use Rattle.spread_report.specs.Desk.{desk_starting, desk_at, Sends};
+ghost use Rattle.spread_report.specs.Desk.{desk_starting, desk_at};
+ghost use Rattle.spread_report.specs.code.Sending.{Sends};
 ghost use Rattle.spread_report.specs.EntryMessages.{numbered_message, has_tag};
 ghost use Rattle.spread_report.specs.Messages.{IsRow, entry_texts};
 ghost use Rattle.spread_report.specs.Outgoing.{entry_bytes, entry_outbound, entry_spends, applied_at};
@@ -34,7 +35,8 @@ pub struct Desk {
 }
 
 impl Model for Desk {
-    ghost use Rattle.spread_report.specs.Desk.{DeskState, state_of, IsDesk};
+    ghost use Rattle.spread_report.specs.Desk.{DeskState};
+ghost use Rattle.spread_report.specs.code.Sending.{state_of, IsDesk};
 
     ghost Value = { DeskState };
 

@@ -9,7 +9,8 @@ use Rattle.spread_report.specs.declared.fault.DeskFault.TheVariants.{NoMemory, N
 use Rattle.spread_report.specs.declared.outbound.OutboundSession.{OutboundSession}
 use Rattle.spread_report.specs.Messages.{IsRow, texts_to, entry_texts}
 use Rattle.spread_report.specs.Outgoing.{AppliedEntry, entry_messages, entry_bytes, entry_outbound, entry_spends, messages_bytes, outbound_after, spends, outbound_at_entry}
-use Rattle.spread_report.specs.Sessions.{bytes_of, outbound_at, SendResult, RunsOut}
+use Rattle.spread_report.specs.Sessions.{bytes_of, outbound_at, RunsOut}
+use Rattle.spread_report.specs.code.Sending.{SendResult}
 
 -- what is said of an answer of the other kind
 pub ok_refused : {T E : Type 0} (P : Type 0) (r : Result T E) → is_err r ≡ true → OnOk r P

@@ -11,8 +11,10 @@ use Rattle.spread_report.specs.EntryMessages.{AddressedMessage}
 use Rattle.spread_report.specs.Outgoing.{next_after, messages_bytes, outbound_after, spends, bytes_for, outbound_for, needs_number_for}
 use Rattle.spread_report.specs.Messages.{IsRow, as_message, texts_to}
 use Rattle.spread_report.proofs.frames.FrameRows.{rows_both}
-use Rattle.spread_report.specs.Desk.{DeskState, Sends}
-use Rattle.spread_report.specs.Sessions.{bytes_of, outbound_at, Sent, OnlyAppended, NumbersRunOut, SendResult}
+use Rattle.spread_report.specs.Desk.{DeskState}
+use Rattle.spread_report.specs.code.Sending.{Sends}
+use Rattle.spread_report.specs.Sessions.{bytes_of, outbound_at}
+use Rattle.spread_report.specs.code.Sending.{Sent, OnlyAppended, NumbersRunOut, SendResult}
 
 pub outbound_after-append : (s : ℕ) (l : OutboundSession) (xs ys : List AddressedMessage) → outbound_after s l (xs ++ ys) ≡ outbound_after s (outbound_after s l xs) ys
 outbound_after-append s l [] ys = refl

@@ -12,7 +12,8 @@ use Rattle.spread_report.specs.Outgoing.{messages_bytes, outbound_after, spends,
 use Rattle.fix_wire.specs.Layout.{message_text}
 use Rattle.spread_report.specs.Messages.{IsRow, as_message, texts_to}
 use Rattle.spread_report.proofs.frames.FrameRows.{no_row}
-use Rattle.spread_report.specs.Sessions.{bytes_of, outbound_at, Sent, OnlyAppended, NumbersRunOut, SendResult}
+use Rattle.spread_report.specs.Sessions.{bytes_of, outbound_at}
+use Rattle.spread_report.specs.code.Sending.{Sent, OnlyAppended, NumbersRunOut, SendResult}
 
 -- the message
 abbrev pub one : ℕ → MessageContent → List AddressedMessage

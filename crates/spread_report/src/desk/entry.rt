@@ -2,7 +2,7 @@
 ghost use Rattle.std.specs.Prelude.{◌≡◌, ℕ, ◌<◌, ◌+◌, ◌∷◌, length, IfOk};
 ghost use Rattle.spread_rules.specs.declared.fill.Fill.{Fill};
 ghost use Rattle.spread_rules.specs.Ranges.{FitsCancel, FitsNew, FitsOutcome, FitFills};
-ghost use Rattle.spread_report.specs.Desk.{Sends};
+ghost use Rattle.spread_report.specs.code.Sending.{Sends};
 ghost use Rattle.spread_report.specs.EntryMessages.{event_messages, new_messages, cancel_messages};
 ghost use Rattle.spread_report.specs.EntryMessages.{accepted_messages, reports_of};
 ghost use Rattle.spread_report.specs.Outgoing.{outbound_at_entry};

@@ -5,7 +5,7 @@ ghost use Rattle.spread_rules.specs.Legs.{other_side};
 ghost use Rattle.spread_rules.specs.Rulebook.{month_count};
 ghost use Rattle.spread_rules.specs.declared.fill.Fill.{Fill};
 ghost use Rattle.spread_rules.specs.Ranges.{FitFills, FitsFill};
-ghost use Rattle.spread_report.specs.Desk.{Sends};
+ghost use Rattle.spread_report.specs.code.Sending.{Sends};
 ghost use Rattle.spread_report.specs.EntryMessages.{report, new_report, rejected_report, ended_report, cancelled_report, fill_report, leg_reports, fill_reports, fills_reports, reports_of, fill_status, report_count};
 
 use super::Desk;

@@ -3,9 +3,9 @@ ghost use Rattle.std.specs.Prelude.{◌≡◌, ◌++◌, ◌≤◌, ◌+◌, Fit
 ghost use Rattle.std.specs.Int.{w64};
 ghost use Rattle.std.specs.List.{flat_map, AllByRecursion};
 ghost use Rattle.fix_wire.specs.Layout.{field_text, field_of_given, FitsValueOf};
-ghost use Rattle.spread_report.specs.ReportBodies.{order_fields, event_fields, terms_fields};
-ghost use Rattle.spread_report.specs.ReportBodies.{left_fields, last_fields, fields_of_order};
-ghost use Rattle.spread_report.specs.ReportBodies.{fields_of_reject, fields_of_cancel, fields_of_fill};
+ghost use Rattle.spread_report.specs.code.ReportBodies.{order_fields, event_fields, terms_fields};
+ghost use Rattle.spread_report.specs.code.ReportBodies.{left_fields, last_fields, fields_of_order};
+ghost use Rattle.spread_report.specs.code.ReportBodies.{fields_of_reject, fields_of_cancel, fields_of_fill};
 
 use crate::codes::{EXEC_TRANS_TYPE_NEW, MultiLegReportingType, OrdStatus, side_code};
 use fix_wire::{Body, Field, Value, put_field, tags};

@@ -1,6 +1,6 @@
 use Rattle.std.proofs.Common.{◌≡◌, ◌++◌, ◌∷◌, [], List, map, subst, sym, ◌∙◌, append_assoc}
 use Rattle.day_text.specs.Messages.{shown_byte, outgoing_line}
-use Rattle.day_text.specs.Pieces.{IsPut}
+use Rattle.day_text.specs.code.Pieces.{IsPut}
 use Rattle.day_text.proofs.PiecesInTurn.{put_none, put_after, put_fails, on_err_any, on_err, on_ok, line_of_three}
 use Rattle.day_text.proofs.messages.put_message.Goals as goal
 

@@ -1,7 +1,7 @@
 use Rattle.std.proofs.Common.{rules, ◌≡◌, ◌++◌, [], List, ℕ, map, sym, ap, subst, ◌∙◌, append_assoc}
 use Rattle.std.proofs.lemmas.List.{map-append}
 use Rattle.day_text.specs.Messages.{shown_byte}
-use Rattle.day_text.specs.Pieces.{IsPut}
+use Rattle.day_text.specs.code.Pieces.{IsPut}
 use Rattle.day_text.proofs.PiecesInTurn.{put_fails, put_more, put_after, front_of_more, on_err_any}
 use Rattle.day_text.proofs.messages.put_shown.Goals as goal
 

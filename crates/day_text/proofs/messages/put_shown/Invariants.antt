@@ -1,6 +1,6 @@
 use Rattle.std.proofs.Common.{◌≡◌, ◌<◌, ℕ, List, ◌++◌, length, map, vec_capacity, false}
 use Rattle.day_text.specs.Messages.{shown_byte}
-use Rattle.day_text.specs.Pieces.{IsPut}
+use Rattle.day_text.specs.code.Pieces.{IsPut}
 use Rattle.day_text.proofs.messages.put_shown.Given as goal
 
 -- what was put and the rest are all bytes

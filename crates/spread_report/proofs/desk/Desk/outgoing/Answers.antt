@@ -3,7 +3,8 @@ use Rattle.spread_report.specs.declared.outbound.OutboundSession.{OutboundSessio
 use Rattle.spread_report.specs.Desk.{DeskState}
 use Rattle.spread_report.specs.EntryMessages.{event_messages}
 use Rattle.spread_report.specs.Outgoing.{outbound_at_entry, applied_at}
-use Rattle.spread_report.specs.Sessions.{outbound_at, OnlyAppended, KeepsBytes}
+use Rattle.spread_report.specs.Sessions.{outbound_at, KeepsBytes}
+use Rattle.spread_report.specs.code.Sending.{OnlyAppended}
 use Rattle.spread_report.proofs.entries.EntrySent.{ok_refused, err_sent, sent_bytes, sent_outbound, sent_unspent, sent_whole, sent_spent}
 use Rattle.spread_report.proofs.entries.TakenBack.{sessions_back, back_again, after_refusal, desk_of, desk_back}
 use Rattle.spread_report.proofs.desk.Desk.outgoing.Goals as goal

@@ -4,7 +4,7 @@ use Rattle.std.proofs.lemmas.List.{get_or_default}
 use Rattle.std.proofs.lemmas.Result.{err_from_is_err_and}
 use Rattle.spread_report.specs.declared.outbound.OutboundSession.{OutboundSession}
 use Rattle.spread_report.specs.declared.outbound.CompIds.{CompIds}
-use Rattle.spread_report.specs.Sessions.{Sent}
+use Rattle.spread_report.specs.code.Sending.{Sent}
 use Rattle.spread_report.specs.EntryMessages.{numbered}
 use Rattle.spread_report.proofs.messages.OneMessage.{one, sent_off, sent_line, spent_line, appended_line, appended_none}
 use Rattle.spread_report.specs.Outgoing.{head_of}

@@ -1,6 +1,6 @@
 use Rattle.std.proofs.Common.{◌++◌, ◌∷◌, [], take}
 use Rattle.spread_report.specs.EntryMessages.{text_field}
-use Rattle.spread_report.specs.ReportBodies.{order_fields, event_fields, terms_fields, left_fields}
+use Rattle.spread_report.specs.code.ReportBodies.{order_fields, event_fields, terms_fields, left_fields}
 use Rattle.spread_report.proofs.frames.FieldsInTurn.{more, next}
 use Rattle.spread_report.proofs.desk.report_body.CancelReportBody.put.Goals as goal
 

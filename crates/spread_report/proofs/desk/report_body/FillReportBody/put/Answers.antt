@@ -3,7 +3,7 @@ use Rattle.std.specs.Int.{w64}
 use Rattle.std.proofs.lemmas.Int.{to_z-of_z}
 use Rattle.spread_report.specs.Codes.{multi_leg_code}
 use Rattle.spread_report.specs.EntryMessages.{number_field}
-use Rattle.spread_report.specs.ReportBodies.{order_fields, event_fields, terms_fields, last_fields, left_fields}
+use Rattle.spread_report.specs.code.ReportBodies.{order_fields, event_fields, terms_fields, last_fields, left_fields}
 use Rattle.spread_report.proofs.frames.FieldsInTurn.{more, next}
 use Rattle.spread_report.proofs.desk.report_body.FillReportBody.put.Goals as goal
 
