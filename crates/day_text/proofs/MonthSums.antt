@@ -17,7 +17,7 @@ use Rattle.spread_rules.specs.declared.fill.Fill.{Fill}
 use Rattle.spread_rules.specs.Legs.{Leg, is_side, legs_by, legs_in, legs, quantities, money, quantity_in, money_in, other_side}
 use Rattle.day_text.specs.declared.months.MonthTotals.{MonthTotals}
 use Rattle.day_text.specs.Totals.{AreTotals, IsSummable}
-use Rattle.day_text.specs.Sums.{added, none, with_leg, with_fill, twelve, IsSmallLeg, HasRoom}
+use Rattle.day_text.specs.code.Sums.{plus_leg, empty_month, with_leg, with_fill, empty_months, IsLegInRange, HasRoom}
 
 -- ---- the money of one leg
 
@@ -77,7 +77,7 @@ zero_high n = omega (arith, ints)
 zero_lots : (n : ℕ) → 0 ≤ 999999 * n
 zero_lots n = omega arith
 
-room_none : (n : ℕ) → HasRoom n none
+room_none : (n : ℕ) → HasRoom n empty_month
 room_none n = record {
   bought = zero_lots n;
   sold = zero_lots n;
@@ -100,7 +100,7 @@ low_added n z x low least = omega (arith, ints)
 high_added : (n : ℕ) (z x : ℤ) → z ≤ℤ pos (1999998000000000 * n) → x ≤ℤ pos 1999998000000000 → (z +ℤ x) ≤ℤ pos (1999998000000000 * (n + 1))
 high_added n z x high most = omega (arith, ints)
 
-room_added : (s : Side) (q : ℕ) (p : ℤ) (t : MonthTotals) (n : ℕ) → q ≤ 999999 → neg_ℤ (pos 2000000000) ≤ℤ p → p ≤ℤ pos 2000000000 → HasRoom n t → HasRoom (n + 1) (added s q p t)
+room_added : (s : Side) (q : ℕ) (p : ℤ) (t : MonthTotals) (n : ℕ) → q ≤ 999999 → neg_ℤ (pos 2000000000) ≤ℤ p → p ≤ℤ pos 2000000000 → HasRoom n t → HasRoom (n + 1) (plus_leg s q p t)
 room_added Buy q p t n few low high h = record {
   bought = lots_added n t.bought q h.bought few;
   sold = lots_more n (n + 1) t.sold (one_more n) h.sold;
@@ -124,15 +124,15 @@ some_below n = omega arith
 next_below : (k n : ℕ) → k < n → suc k < suc n
 next_below k n lt = omega arith
 
-room_at : (n : ℕ) (ts : List MonthTotals) (m : ℕ) → All (HasRoom n) ts → HasRoom n (get_or ts m none)
+room_at : (n : ℕ) (ts : List MonthTotals) (m : ℕ) → All (HasRoom n) ts → HasRoom n (get_or ts m empty_month)
 room_at n [] m h = room_none n
-room_at n (t ∷ ts) zero h = h 0 none (some_below (length ts))
+room_at n (t ∷ ts) zero h = h 0 empty_month (some_below (length ts))
 room_at n (t ∷ ts) (suc m) h = room_at n ts m (λ k d lt. h (suc k) d (next_below k (length ts) lt))
 
-pub room_leg : (n : ℕ) (ts : List MonthTotals) (l : Leg) → IsSmallLeg l → All (HasRoom n) ts → All (HasRoom (n + 1)) (with_leg ts l)
+pub room_leg : (n : ℕ) (ts : List MonthTotals) (l : Leg) → IsLegInRange l → All (HasRoom n) ts → All (HasRoom (n + 1)) (with_leg ts l)
 room_leg n ts l small h =
-    All-set (HasRoom (n + 1)) ts l.month (added l.side l.quantity l.price (get_or ts l.month none))
-    (room_added l.side l.quantity l.price (get_or ts l.month none) n small.quantity small.price_low small.price_high (room_at n ts l.month h))
+    All-set (HasRoom (n + 1)) ts l.month (plus_leg l.side l.quantity l.price (get_or ts l.month empty_month))
+    (room_added l.side l.quantity l.price (get_or ts l.month empty_month) n small.quantity small.price.low small.price.high (room_at n ts l.month h))
     (λ k d lt. room_more n (n + 1) (get_or ts k d) (omega arith) (h k d lt))
 
 room_by : (i : Instrument) (s : Side) (q : ℕ) (p x y : ℤ) (n : ℕ) (ts : List MonthTotals) → q ≤ 999999
@@ -140,15 +140,15 @@ room_by : (i : Instrument) (s : Side) (q : ℕ) (p x y : ℤ) (n : ℕ) (ts : Li
     → All (HasRoom n) ts → All (HasRoom (n + 2)) (fold with_leg ts (legs_by i s q p x y))
 room_by (Outright m) s q p x y n ts few pl ph xl xh yl yh h = λ k d lt.
     let l : Leg = record { month = m; side = s; quantity = q; price = p } in
-    room_more (n + 1) (n + 2) (get_or (with_leg ts l) k d) (omega arith) (room_leg n ts l (record { quantity = few; price_low = pl; price_high = ph }) h k d lt)
+    room_more (n + 1) (n + 2) (get_or (with_leg ts l) k d) (omega arith) (room_leg n ts l (record { quantity = few; price = record { low = pl; high = ph } }) h k d lt)
 room_by (Spread i j) s q p x y n ts few pl ph xl xh yl yh h =
     let a : Leg = record { month = i; side = s; quantity = q; price = x } in
     let b : Leg = record { month = j; side = other_side s; quantity = q; price = y } in
     λ k d lt. room_more (n + 1 + 1) (n + 2) (get_or (with_leg (with_leg ts a) b) k d) (omega arith)
-    (room_leg (n + 1) (with_leg ts a) b (record { quantity = few; price_low = yl; price_high = yh }) (room_leg n ts a (record { quantity = few; price_low = xl; price_high = xh }) h) k d lt)
+    (room_leg (n + 1) (with_leg ts a) b (record { quantity = few; price = record { low = yl; high = yh } }) (room_leg n ts a (record { quantity = few; price = record { low = xl; high = xh } }) h) k d lt)
 
 pub room_fill : (n : ℕ) (ts : List MonthTotals) (f : Fill) → IsSummable f → All (HasRoom n) ts → All (HasRoom (n + 2)) (with_fill ts f)
-room_fill n ts f s h = room_by f.instrument f.side f.quantity f.price f.near f.far n ts s.quantity s.price_low s.price_high s.near_low s.near_high s.far_low s.far_high h
+room_fill n ts f s h = room_by f.instrument f.side f.quantity f.price f.near f.far n ts s.quantity s.price.low s.price.high s.near.low s.near.high s.far.low s.far.high h
 
 pub room_fills : (fs : List Fill) (n : ℕ) (ts : List MonthTotals) → All IsSummable fs → All (HasRoom n) ts → All (HasRoom (n + 2 * length fs)) (fold with_fill ts fs)
 room_fills [] n ts s h = λ k d lt. room_more n (n + 2 * length {A = Fill} []) (get_or ts k d) (omega arith) (h k d lt)
@@ -204,7 +204,7 @@ no_lots n = omega arith
 no_money : (z : ℤ) → z ≡ z +ℤ pos 0
 no_money z = omega (arith, ints)
 
-cond_step : (b : Bool) (s : Side) (q : ℕ) (p : ℤ) (t u : MonthTotals) → (b ≡ true → t ≡ u) → cond b (added s q p t) u ≡ record {
+cond_step : (b : Bool) (s : Side) (q : ℕ) (p : ℤ) (t u : MonthTotals) → (b ≡ true → t ≡ u) → cond b (plus_leg s q p t) u ≡ record {
   bought = u.bought + cond (is_side Buy s && b) q 0;
   sold = u.sold + cond (is_side Sell s && b) q 0;
   paid = u.paid +ℤ cond (is_side Buy s && b) (pos q *ℤ p) (pos 0);
@@ -212,8 +212,8 @@ cond_step : (b : Bool) (s : Side) (q : ℕ) (p : ℤ) (t u : MonthTotals) → (b
 }
 cond_step false Buy q p t u h = same_totals u.bought u.sold _ _ u.paid u.received _ _ (no_lots u.bought) (no_lots u.sold) (no_money u.paid) (no_money u.received)
 cond_step false Sell q p t u h = same_totals u.bought u.sold _ _ u.paid u.received _ _ (no_lots u.bought) (no_lots u.sold) (no_money u.paid) (no_money u.received)
-cond_step true Buy q p t u h = ap (λ (x : MonthTotals). added Buy q p x) (h refl) ∙ same_totals (u.bought + q) u.sold _ _ (u.paid +ℤ (pos q *ℤ p)) u.received _ _ refl (no_lots u.sold) refl (no_money u.received)
-cond_step true Sell q p t u h = ap (λ (x : MonthTotals). added Sell q p x) (h refl) ∙ same_totals u.bought (u.sold + q) _ _ u.paid (u.received +ℤ (pos q *ℤ p)) _ _ (no_lots u.bought) refl (no_money u.paid) refl
+cond_step true Buy q p t u h = ap (λ (x : MonthTotals). plus_leg Buy q p x) (h refl) ∙ same_totals (u.bought + q) u.sold _ _ (u.paid +ℤ (pos q *ℤ p)) u.received _ _ refl (no_lots u.sold) refl (no_money u.received)
+cond_step true Sell q p t u h = ap (λ (x : MonthTotals). plus_leg Sell q p x) (h refl) ∙ same_totals u.bought (u.sold + q) _ _ u.paid (u.received +ℤ (pos q *ℤ p)) _ _ (no_lots u.bought) refl (no_money u.paid) refl
 
 get_any : (ts : List MonthTotals) (m : ℕ) (d e : MonthTotals) → m < length ts → get_or ts m d ≡ get_or ts m e
 get_any [] m d e lt = absurd (omega arith)
@@ -225,8 +225,8 @@ get_same ts i m d e lt h = rw (same_of i m h) (get_any ts m d e lt)
 
 one_leg : (ts : List MonthTotals) (l : Leg) (m : ℕ) (d : MonthTotals) → m < length ts → get_or (with_leg ts l) m d ≡ after_leg (get_or ts m d) m l
 one_leg ts l m d lt =
-    at_set ts l.month m (added l.side l.quantity l.price (get_or ts l.month none)) d lt
-    ∙ cond_step (l.month == m) l.side l.quantity l.price (get_or ts l.month none) (get_or ts m d) (λ h. get_same ts l.month m none d lt h)
+    at_set ts l.month m (plus_leg l.side l.quantity l.price (get_or ts l.month empty_month)) d lt
+    ∙ cond_step (l.month == m) l.side l.quantity l.price (get_or ts l.month empty_month) (get_or ts m d) (λ h. get_same ts l.month m empty_month d lt h)
 
 lots_assoc : (a b n : ℕ) → a + b + n ≡ a + (b + n)
 lots_assoc a b n = omega arith
@@ -237,7 +237,7 @@ money_assoc x y z = omega (arith, ints)
 pub fold_is : (ls : List Leg) (ts : List MonthTotals) (m : ℕ) (d : MonthTotals) → m < length ts → get_or (fold with_leg ts ls) m d ≡ after_legs (get_or ts m d) m ls
 fold_is [] ts m d lt = let u = get_or ts m d in same_totals u.bought u.sold _ _ u.paid u.received _ _ (no_lots u.bought) (no_lots u.sold) (no_money u.paid) (no_money u.received)
 fold_is (l ∷ ls) ts m d lt =
-    let len = length-set ts l.month (added l.side l.quantity l.price (get_or ts l.month none)) in
+    let len = length-set ts l.month (plus_leg l.side l.quantity l.price (get_or ts l.month empty_month)) in
     let u = get_or ts m d in
     fold_is ls (with_leg ts l) m d (omega (arith, len))
     ∙ (ap (λ (t : MonthTotals). after_legs t m ls) (one_leg ts l m d lt)
@@ -248,8 +248,8 @@ pub fold_fills : (fs : List Fill) (ts : List MonthTotals) → fold with_fill ts 
 fold_fills [] ts = refl
 fold_fills (f ∷ fs) ts = fold_fills fs (with_fill ts f) ∙ sym (fold-append with_leg ts (legs_in f) (legs fs))
 
-twelve_none : All (λ t. t ≡ none) twelve
-twelve_none = All-replicate (λ t. t ≡ none) 12 none refl
+twelve_none : All (λ t. t ≡ empty_month) empty_months
+twelve_none = All-replicate (λ t. t ≡ empty_month) 12 empty_month refl
 
 from_no_lots : (n : ℕ) → 0 + n ≡ n
 from_no_lots n = omega arith
@@ -258,12 +258,12 @@ from_no_money : (z : ℤ) → pos 0 +ℤ z ≡ z
 from_no_money z = omega (arith, ints)
 
 -- from nothing, the sums of all fills
-pub sums_are : (fs : List Fill) → AreTotals fs (fold with_fill twelve fs)
+pub sums_are : (fs : List Fill) → AreTotals fs (fold with_fill empty_months fs)
 sums_are fs = λ m d lt.
-    let len = length-replicate 12 none in
-    let less : m < length twelve = omega (arith, len, lt) in
-    ap (λ (xs : List MonthTotals). get_or xs m d) (fold_fills fs twelve)
-    ∙ (fold_is (legs fs) twelve m d less
+    let len = length-replicate 12 empty_month in
+    let less : m < length empty_months = omega (arith, len, lt) in
+    ap (λ (xs : List MonthTotals). get_or xs m d) (fold_fills fs empty_months)
+    ∙ (fold_is (legs fs) empty_months m d less
     ∙ (ap (λ (t : MonthTotals). after_legs t m (legs fs)) (twelve_none m d less)
     ∙ same_totals _ _ _ _ _ _ _ _ (from_no_lots (quantities Buy m (legs fs))) (from_no_lots (quantities Sell m (legs fs))) (from_no_money (money Buy m (legs fs))) (from_no_money (money Sell m (legs fs)))))
 
@@ -271,22 +271,22 @@ sums_are fs = λ m d lt.
 pub room_far : (ts us : List MonthTotals) (month : ℕ) (s : Side) (f : Fill) → us ≡ with_leg ts (record { month = month; side = s; quantity = f.quantity; price = to_z w64 (of_z w64 f.near) }) → IsSummable f → All (HasRoom (2 ^ 66)) ts → All (HasRoom (2 ^ 67)) us
 room_far ts us month s f is sum h =
     let l : Leg = record { month = month; side = s; quantity = f.quantity; price = f.near } in
-    let fits : FitsSigned w64 f.near = let low = sum.near_low in let high = sum.near_high in omega (arith, ints) in
+    let fits : FitsSigned w64 f.near = let low = sum.near.low in let high = sum.near.high in omega (arith, ints) in
     let same = rw (to_z-of_z w64 f.near fits) at is in
     subst (λ (t : List MonthTotals). All (HasRoom (2 ^ 67)) t) (sym same)
     (λ k d lt. room_more (2 ^ 66 + 1) (2 ^ 67) (get_or (with_leg ts l) k d) (omega arith)
-    (room_leg (2 ^ 66) ts l (record { quantity = sum.quantity; price_low = sum.near_low; price_high = sum.near_high }) h k d lt))
+    (room_leg (2 ^ 66) ts l (record { quantity = sum.quantity; price = sum.near }) h k d lt))
 
 -- the sums of the fills so far
-pub sums_taken : (fs : List Fill) (n : ℕ) (ts : List MonthTotals) → ts ≡ fold with_fill twelve (take n fs) → length fs ≤ n → AreTotals fs ts
-sums_taken fs n ts is end = let all = take_all n fs end in subst (λ (t : List MonthTotals). AreTotals fs t) (sym (is ∙ ap (λ (xs : List Fill). fold with_fill twelve xs) all)) (sums_are fs)
+pub sums_taken : (fs : List Fill) (n : ℕ) (ts : List MonthTotals) → ts ≡ fold with_fill empty_months (take n fs) → length fs ≤ n → AreTotals fs ts
+sums_taken fs n ts is end = let all = take_all n fs end in subst (λ (t : List MonthTotals). AreTotals fs t) (sym (is ∙ ap (λ (xs : List Fill). fold with_fill empty_months xs) all)) (sums_are fs)
 
-pub room_taken : (fs : List Fill) (n : ℕ) (ts : List MonthTotals) → ts ≡ fold with_fill twelve (take n fs) → All IsSummable fs → n < 2 ^ 64 → All (HasRoom (2 ^ 66)) ts
+pub room_taken : (fs : List Fill) (n : ℕ) (ts : List MonthTotals) → ts ≡ fold with_fill empty_months (take n fs) → All IsSummable fs → n < 2 ^ 64 → All (HasRoom (2 ^ 66)) ts
 room_taken fs n ts is all few =
-    let start : All (HasRoom 0) twelve = λ k d lt. subst (HasRoom 0) (sym (twelve_none k d lt)) (room_none 0) in
+    let start : All (HasRoom 0) empty_months = λ k d lt. subst (HasRoom 0) (sym (twelve_none k d lt)) (room_none 0) in
     subst (λ (t : List MonthTotals). All (HasRoom (2 ^ 66)) t) (sym is)
-    (λ k d lt. room_more (0 + 2 * length (take n fs)) (2 ^ 66) (get_or (fold with_fill twelve (take n fs)) k d) (omega (arith, length-take n fs))
-    (room_fills (take n fs) 0 twelve (All-take IsSummable n fs all) start k d lt))
+    (λ k d lt. room_more (0 + 2 * length (take n fs)) (2 ^ 66) (get_or (fold with_fill empty_months (take n fs)) k d) (omega (arith, length-take n fs))
+    (room_fills (take n fs) 0 empty_months (All-take IsSummable n fs all) start k d lt))
 
 -- ---- one addition of the code
 
@@ -336,13 +336,13 @@ pub lots_fit : (n k q : ℕ) → k ≡ q → q ≤ 999999 → n ≤ 999999 * 2 ^
 lots_fit n k q same few most = omega arith
 
 pub added_buy : (s : Side) (q k : ℕ) (p y x : ℤ) (t : MonthTotals) → s ≡ Buy → k ≡ q → y ≡ pos q → x ≡ p → q ≤ 999999 → neg_ℤ (pos 2000000000) ≤ℤ p → p ≤ℤ pos 2000000000 → HasRoom (2 ^ 67) t
-    → (let u : MonthTotals = record { bought = t.bought + k; sold = t.sold; paid = to_z w128 (of_z w128 (to_z w128 (of_z w128 t.paid) +ℤ to_z w128 (of_z w128 (to_z w128 (of_z w128 y) *ℤ to_z w128 (of_z w128 x))))); received = t.received } in u) ≡ added s q p t
+    → (let u : MonthTotals = record { bought = t.bought + k; sold = t.sold; paid = to_z w128 (of_z w128 (to_z w128 (of_z w128 t.paid) +ℤ to_z w128 (of_z w128 (to_z w128 (of_z w128 y) *ℤ to_z w128 (of_z w128 x))))); received = t.received } in u) ≡ plus_leg s q p t
 added_buy s q k p y x t is e f g few low high room =
     same_totals (t.bought + k) t.sold (t.bought + q) t.sold _ t.received _ t.received (ap (λ (n : ℕ). t.bought + n) e) refl (money_added q p y x t.paid f g few low high room.paid_low room.paid_high) refl
-    ∙ ap (λ (side : Side). added side q p t) (sym is)
+    ∙ ap (λ (side : Side). plus_leg side q p t) (sym is)
 
 pub added_sell : (s : Side) (q k : ℕ) (p y x : ℤ) (t : MonthTotals) → s ≡ Sell → k ≡ q → y ≡ pos q → x ≡ p → q ≤ 999999 → neg_ℤ (pos 2000000000) ≤ℤ p → p ≤ℤ pos 2000000000 → HasRoom (2 ^ 67) t
-    → (let u : MonthTotals = record { bought = t.bought; sold = t.sold + k; paid = t.paid; received = to_z w128 (of_z w128 (to_z w128 (of_z w128 t.received) +ℤ to_z w128 (of_z w128 (to_z w128 (of_z w128 y) *ℤ to_z w128 (of_z w128 x))))) } in u) ≡ added s q p t
+    → (let u : MonthTotals = record { bought = t.bought; sold = t.sold + k; paid = t.paid; received = to_z w128 (of_z w128 (to_z w128 (of_z w128 t.received) +ℤ to_z w128 (of_z w128 (to_z w128 (of_z w128 y) *ℤ to_z w128 (of_z w128 x))))) } in u) ≡ plus_leg s q p t
 added_sell s q k p y x t is e f g few low high room =
     same_totals t.bought (t.sold + k) t.bought (t.sold + q) t.paid _ t.paid _ refl (ap (λ (n : ℕ). t.sold + n) e) refl (money_added q p y x t.received f g few low high room.received_low room.received_high)
-    ∙ ap (λ (side : Side). added side q p t) (sym is)
+    ∙ ap (λ (side : Side). plus_leg side q p t) (sym is)

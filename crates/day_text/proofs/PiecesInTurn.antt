@@ -6,8 +6,8 @@ use Rattle.std.proofs.lemmas.Fmt.{decimal_step, decimal_digit}
 use Rattle.std.proofs.lemmas.List.{take-append-le}
 use Rattle.std.specs.Io.KnownBytes.{Appends}
 use Rattle.host_base.specs.Ends.{AppendsPrefix}
-use Rattle.day_text.specs.Messages.{shown, line_lead, outgoing_line}
-use Rattle.day_text.specs.Pieces.{IsPut}
+use Rattle.day_text.specs.Messages.{shown_byte, line_lead, outgoing_line}
+use Rattle.day_text.specs.code.Pieces.{IsPut}
 
 -- of a call that failed, and of one whose result is handed on
 pub on_err_any : {T E P : Type 0} (r : Result T E) → P → OnErr r P
@@ -98,5 +98,5 @@ lead_of_two session d is h =
     sym (ap line_lead is ∙ ap (λ (ds : List ℕ). 79 ∷ 32 ∷ (ds ++ 58 ∷ [])) digits)
 
 -- a line is its lead, the message and its end
-pub line_of_three : (session : ℕ) (message text : List ℕ) → text ≡ line_lead session → outgoing_line session message ≡ text ++ (map shown message ++ 10 ∷ [])
-line_of_three session message text is = append_assoc (line_lead session) (map shown message) (10 ∷ []) ∙ ap (λ (t : List ℕ). t ++ (map shown message ++ 10 ∷ [])) (sym is)
+pub line_of_three : (session : ℕ) (message text : List ℕ) → text ≡ line_lead session → outgoing_line session message ≡ text ++ (map shown_byte message ++ 10 ∷ [])
+line_of_three session message text is = append_assoc (line_lead session) (map shown_byte message) (10 ∷ []) ∙ ap (λ (t : List ℕ). t ++ (map shown_byte message ++ 10 ∷ [])) (sym is)

@@ -1,4 +1,4 @@
--- The text of a day.
+-- The text of a day: its journal, its fills, what each session is sent, and the months.
 use Rattle.std.specs.Prelude.{ℕ, Bool, true, false, List, ◌++◌, map, All}
 use Rattle.std.specs.declared.vec.Vec.{Vec}
 use Rattle.spread_journal.specs.JournalText.{journal_text}
@@ -26,4 +26,8 @@ pub record AreShown (rules : Rules) (fills : List Fill) : Type 0 where
 -- the text of a day: the journal, fills, then what each session is sent, then the months; or the journal alone
 abbrev pub day_text : Bool → Rules → List Entry → List Fill → List (List ℕ) → List ℕ
 day_text true rules journal fills texts = journal_text journal
-day_text false rules journal fills texts = journal_text journal ++ fill_lines rules fills ++ outgoing_lines_from 0 texts ++ month_lines rules fills
+day_text false rules journal fills texts =
+    journal_text journal
+    ++ fill_lines rules fills
+    ++ outgoing_lines_from 0 texts
+    ++ month_lines rules fills

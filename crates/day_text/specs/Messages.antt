@@ -1,19 +1,20 @@
--- The lines of outgoing messages.
+-- The lines of outgoing messages: each session's frames, byte 1 shown as `|` (byte 124).
 use Rattle.std.specs.Prelude.{ℕ, suc, ◌==◌, if◌then◌else◌, List, [], ◌∷◌, ◌++◌, map, codes, decimal}
 use Rattle.std.specs.List.{flat_map}
 use Rattle.fix_wire.specs.Frames.{frames}
+use Rattle.spread_journal.specs.JournalText.{newline}
 
 -- byte 1 is shown as `|`
-abbrev pub shown : ℕ → ℕ
-shown b = if b == 1 then 124 else b
+abbrev pub shown_byte : ℕ → ℕ
+shown_byte b = if b == 1 then 124 else b
 
 -- `O S:`
 abbrev pub line_lead : ℕ → List ℕ
-line_lead session = codes "O " ++ decimal session ++ 58 ∷ []
+line_lead session = codes "O " ++ decimal session ++ codes ":"
 
 -- `O S:MESSAGE`
 abbrev pub outgoing_line : ℕ → List ℕ → List ℕ
-outgoing_line session message = line_lead session ++ map shown message ++ 10 ∷ []
+outgoing_line session message = line_lead session ++ map shown_byte message ++ newline ∷ []
 
 -- a session's outgoing messages
 abbrev pub outgoing_lines : ℕ → List ℕ → List ℕ
@@ -22,4 +23,5 @@ outgoing_lines session bytes = flat_map (outgoing_line session) (frames bytes)
 -- those of these sessions, of which the first has this number
 abbrev pub outgoing_lines_from : ℕ → List (List ℕ) → List ℕ
 outgoing_lines_from session [] = []
-outgoing_lines_from session (bytes ∷ others) = outgoing_lines session bytes ++ outgoing_lines_from (suc session) others
+outgoing_lines_from session (bytes ∷ others) =
+    outgoing_lines session bytes ++ outgoing_lines_from (suc session) others

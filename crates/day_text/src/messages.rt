@@ -3,15 +3,17 @@ ghost use Rattle.std.specs.Prelude.{◌≡◌, ◌<◌, ◌≤◌, ◌+◌, ◌+
 ghost use Rattle.std.specs.Io.KnownBytes.{Appends};
 ghost use Rattle.host_base.specs.Ends.{AppendsPrefix};
 ghost use Rattle.fix_wire.specs.Frames.{IsFrameRow};
-ghost use Rattle.day_text.specs.Messages.{shown, line_lead, outgoing_line, outgoing_lines, outgoing_lines_from};
-ghost use Rattle.day_text.specs.Pieces.{IsPut};
+ghost use Rattle.day_text.specs.DayText.{texts_of};
+ghost use Rattle.day_text.specs.Messages.{shown_byte, line_lead, outgoing_line, outgoing_lines, outgoing_lines_from};
+ghost use Rattle.day_text.specs.code.Pieces.{IsPut};
 
 use fix_wire::first_of_row;
+use host_base::limits::SESSIONS;
 use host_base::{Failed, Sink, write_all};
 use std::alloc::Allocator;
 
 /// How many bytes a piece has room for.
-pub const PIECE: usize = 65_536;
+pub const PIECE_BYTES: usize = 65_536;
 
 /// Writes what stands in the piece.
 fn write_out<K: Sink, A: Allocator>(piece: &mut Vec<u8, A>, sink: &mut K) -> Result<(), Failed>
@@ -22,7 +24,8 @@ fn write_out<K: Sink, A: Allocator>(piece: &mut Vec<u8, A>, sink: &mut K) -> Res
     ensures room { vec_capacity piece.new ≡ vec_capacity piece.old }
     ensures sound { OnOk result (K.has_failed sink.new ≡ false) }
     ensures failed { OnErr result (K.has_failed sink.new ≡ true) }
-    ensures front { OnErr result (AppendsPrefix (K.written sink.old) (K.written sink.new) piece.old.items) }
+    ensures front { OnErr result
+        (AppendsPrefix (K.written sink.old) (K.written sink.new) piece.old.items) }
 {
     write_all(sink, piece)?;
     piece.clear();
@@ -33,11 +36,13 @@ fn write_out<K: Sink, A: Allocator>(piece: &mut Vec<u8, A>, sink: &mut K) -> Res
 fn make_room<K: Sink, A: Allocator>(piece: &mut Vec<u8, A>, sink: &mut K) -> Result<(), Failed>
     requires works { K.has_failed sink.old ≡ false }
     requires some { 0 < vec_capacity piece.old }
-    ensures put { OnOk result (IsPut (K.written sink.old) (K.written sink.new) piece.new.items piece.old.items) }
+    ensures put { OnOk result
+        (IsPut (K.written sink.old) (K.written sink.new) piece.new.items piece.old.items) }
     ensures room { OnOk result (vec_len piece.new < vec_capacity piece.new) }
     ensures sound { OnOk result (K.has_failed sink.new ≡ false) }
     ensures failed { OnErr result (K.has_failed sink.new ≡ true) }
-    ensures front { OnErr result (AppendsPrefix (K.written sink.old) (K.written sink.new) piece.old.items) }
+    ensures front { OnErr result
+        (AppendsPrefix (K.written sink.old) (K.written sink.new) piece.old.items) }
 {
     if piece.len() == piece.capacity() {
         return write_out(piece, sink);
@@ -47,7 +52,7 @@ fn make_room<K: Sink, A: Allocator>(piece: &mut Vec<u8, A>, sink: &mut K) -> Res
 
 /// Shows each byte 1 as `|`.
 fn show_field_ends(text: &mut [u8])
-    ensures { text.new ≡ map shown text.old }
+    ensures { text.new ≡ map shown_byte text.old }
 {
     for byte in text.iter_mut() {
         *byte = shown_byte(*byte);
@@ -55,7 +60,7 @@ fn show_field_ends(text: &mut [u8])
 }
 
 fn shown_byte(byte: u8) -> u8
-    ensures { result ≡ shown byte }
+    ensures { result ≡ shown_byte byte }
 {
     if byte == 1 { b'|' } else { byte }
 }
@@ -63,7 +68,7 @@ fn shown_byte(byte: u8) -> u8
 /// Appends bytes for which there is room, as they are shown.
 fn append_shown<A: Allocator>(piece: &mut Vec<u8, A>, bytes: &[u8])
     requires { vec_len piece.old + length bytes.now ≤ vec_capacity piece.old }
-    ensures items { piece.new.items ≡ piece.old.items ++ map shown bytes.now }
+    ensures items { piece.new.items ≡ piece.old.items ++ map shown_byte bytes.now }
     ensures room { vec_capacity piece.old ≤ vec_capacity piece.new }
 {
     let start = piece.len();
@@ -81,11 +86,15 @@ fn put_shown<K: Sink, A: Allocator>(
 ) -> Result<(), Failed>
     requires works { K.has_failed sink.old ≡ false }
     requires some { 0 < vec_capacity piece.old }
-    ensures put { OnOk result (IsPut (K.written sink.old) (K.written sink.new) piece.new.items (piece.old.items ++ map shown bytes.now)) }
+    ensures put { OnOk result
+        (IsPut (K.written sink.old) (K.written sink.new) piece.new.items
+        (piece.old.items ++ map shown_byte bytes.now)) }
     ensures some { OnOk result (0 < vec_capacity piece.new) }
     ensures sound { OnOk result (K.has_failed sink.new ≡ false) }
     ensures failed { OnErr result (K.has_failed sink.new ≡ true) }
-    ensures front { OnErr result (AppendsPrefix (K.written sink.old) (K.written sink.new) (piece.old.items ++ map shown bytes.now)) }
+    ensures front { OnErr result
+        (AppendsPrefix (K.written sink.old) (K.written sink.new)
+        (piece.old.items ++ map shown_byte bytes.now)) }
 {
     let mut rest = bytes;
     while !rest.is_empty() {
@@ -99,9 +108,9 @@ fn put_shown<K: Sink, A: Allocator>(
 
 /// What each line of a session begins with, `O S:`.
 fn lead(session: u8) -> &'static [u8]
-    requires { session < 16 }
+    requires { session < SESSIONS }
     ensures text { result.now ≡ line_lead session }
-    ensures shown { map shown result.now ≡ result.now }
+    ensures shown { map shown_byte result.now ≡ result.now }
 {
     match session {
         0 => b"O 0:",
@@ -132,12 +141,16 @@ fn put_message<K: Sink, A: Allocator>(
 ) -> Result<(), Failed>
     requires works { K.has_failed sink.old ≡ false }
     requires some { 0 < vec_capacity piece.old }
-    requires session { session < 16 }
-    ensures put { OnOk result (IsPut (K.written sink.old) (K.written sink.new) piece.new.items (piece.old.items ++ outgoing_line session message.now)) }
+    requires session { session < SESSIONS }
+    ensures put { OnOk result
+        (IsPut (K.written sink.old) (K.written sink.new) piece.new.items
+        (piece.old.items ++ outgoing_line session message.now)) }
     ensures some { OnOk result (0 < vec_capacity piece.new) }
     ensures sound { OnOk result (K.has_failed sink.new ≡ false) }
     ensures failed { OnErr result (K.has_failed sink.new ≡ true) }
-    ensures front { OnErr result (AppendsPrefix (K.written sink.old) (K.written sink.new) (piece.old.items ++ outgoing_line session message.now)) }
+    ensures front { OnErr result
+        (AppendsPrefix (K.written sink.old) (K.written sink.new)
+        (piece.old.items ++ outgoing_line session message.now)) }
 {
     put_shown(piece, sink, lead(session))?;
     put_shown(piece, sink, message)?;
@@ -153,13 +166,17 @@ fn put_outgoing<K: Sink, A: Allocator>(
 ) -> Result<(), Failed>
     requires works { K.has_failed sink.old ≡ false }
     requires some { 0 < vec_capacity piece.old }
-    requires session { session < 16 }
+    requires session { session < SESSIONS }
     requires row { IsFrameRow bytes.now }
-    ensures put { OnOk result (IsPut (K.written sink.old) (K.written sink.new) piece.new.items (piece.old.items ++ outgoing_lines session bytes.now)) }
+    ensures put { OnOk result
+        (IsPut (K.written sink.old) (K.written sink.new) piece.new.items
+        (piece.old.items ++ outgoing_lines session bytes.now)) }
     ensures some { OnOk result (0 < vec_capacity piece.new) }
     ensures sound { OnOk result (K.has_failed sink.new ≡ false) }
     ensures failed { OnErr result (K.has_failed sink.new ≡ true) }
-    ensures front { OnErr result (AppendsPrefix (K.written sink.old) (K.written sink.new) (piece.old.items ++ outgoing_lines session bytes.now)) }
+    ensures front { OnErr result
+        (AppendsPrefix (K.written sink.old) (K.written sink.new)
+        (piece.old.items ++ outgoing_lines session bytes.now)) }
 {
     let mut rest = bytes;
     while let Some((message, later)) = first_of_row(rest) {
@@ -177,12 +194,16 @@ fn put_sessions<K: Sink, A: Allocator, B: Allocator>(
 ) -> Result<(), Failed>
     requires works { K.has_failed sink.old ≡ false }
     requires some { 0 < vec_capacity piece.old }
-    requires count { length lists.now ≤ 16 }
-    requires rows { All IsFrameRow (map (λ v. v.items) lists.now) }
-    ensures put { OnOk result (IsPut (K.written sink.old) (K.written sink.new) piece.new.items (piece.old.items ++ outgoing_lines_from 0 (map (λ v. v.items) lists.now))) }
+    requires count { length lists.now ≤ SESSIONS }
+    requires rows { All IsFrameRow (texts_of lists.now) }
+    ensures put { OnOk result
+        (IsPut (K.written sink.old) (K.written sink.new) piece.new.items
+        (piece.old.items ++ outgoing_lines_from 0 (texts_of lists.now))) }
     ensures sound { OnOk result (K.has_failed sink.new ≡ false) }
     ensures failed { OnErr result (K.has_failed sink.new ≡ true) }
-    ensures front { OnErr result (AppendsPrefix (K.written sink.old) (K.written sink.new) (piece.old.items ++ outgoing_lines_from 0 (map (λ v. v.items) lists.now))) }
+    ensures front { OnErr result
+        (AppendsPrefix (K.written sink.old) (K.written sink.new)
+        (piece.old.items ++ outgoing_lines_from 0 (texts_of lists.now))) }
 {
     for (session, bytes) in lists.iter().enumerate() {
         put_outgoing(piece, sink, session as u8, bytes)?;
@@ -201,13 +222,17 @@ pub fn write_sessions<K: Sink, A: Allocator, B: Allocator>(
     requires works { K.has_failed sink.old ≡ false }
     requires empty { piece.old.items ≡ [] }
     requires some { 0 < vec_capacity piece.old }
-    requires count { length lists.now ≤ 16 }
-    requires rows { All IsFrameRow (map (λ v. v.items) lists.now) }
-    ensures ok { OnOk result (Appends (K.written sink.old) (K.written sink.new) (outgoing_lines_from 0 (map (λ v. v.items) lists.now))) }
+    requires count { length lists.now ≤ SESSIONS }
+    requires rows { All IsFrameRow (texts_of lists.now) }
+    ensures ok { OnOk result
+        (Appends (K.written sink.old) (K.written sink.new)
+        (outgoing_lines_from 0 (texts_of lists.now))) }
     ensures emptied { OnOk result (piece.new.items ≡ []) }
     ensures sound { OnOk result (K.has_failed sink.new ≡ false) }
     ensures failed { OnErr result (K.has_failed sink.new ≡ true) }
-    ensures front { OnErr result (AppendsPrefix (K.written sink.old) (K.written sink.new) (outgoing_lines_from 0 (map (λ v. v.items) lists.now))) }
+    ensures front { OnErr result
+        (AppendsPrefix (K.written sink.old) (K.written sink.new)
+        (outgoing_lines_from 0 (texts_of lists.now))) }
 {
     put_sessions(piece, sink, lists)?;
     write_out(piece, sink)

@@ -14,7 +14,7 @@ ghost use Rattle.spread_report.specs.Messages.{IsRow, messages_to};
 ghost use Rattle.spread_report.specs.Sessions.{bytes_of};
 ghost use Rattle.spread_journal.specs.JournalReading.{ReadsJournal};
 ghost use Rattle.spread_journal.specs.JournalText.{journal_text};
-ghost use Rattle.day_apply.specs.Applied.{outgoing_bytes, worked_entries};
+ghost use Rattle.day_apply.specs.Applied.{outgoing_bytes, applied_entries};
 ghost use Rattle.day_lines.specs.Reading.{IsJournalOf, HasParts};
 ghost use Rattle.day_text.specs.DayText.{AreShown, texts_of};
 ghost use Rattle.day_threads.specs.Streams.{whole_at, all_events};
@@ -49,7 +49,7 @@ pub fn day_of_streams<R: Threads + Wait + Sync, G: Gate, A: Allocator + Copy + S
     ensures outgoing { IfOk result (λ day.
         (s : ℕ) → s < 16 → bytes_of day.out.items s ≡ outgoing_bytes rulebook.now stamp day.journal.items s) }
     ensures whole_frames { IfOk result (λ day.
-        (s : ℕ) → s < 16 → IsRow (messages_to rulebook.now stamp (worked_entries rulebook.now day.journal.items) s) (bytes_of day.out.items s)) }
+        (s : ℕ) → s < 16 → IsRow (messages_to rulebook.now stamp (applied_entries rulebook.now day.journal.items) s) (bytes_of day.out.items s)) }
     ensures no_stream { IfOk result (λ day.
         (s : ℕ) → s < 16 → length streams.items ≤ s → bytes_of day.out.items s ≡ []) }
     ensures lists { IfOk result (λ day. length day.out.items ≡ 16) }
@@ -99,7 +99,7 @@ pub fn day_of_lines<S: Source, K: Sink, A: Allocator + Copy>(
     ensures outgoing { IfOk result (λ day.
         (s : ℕ) → s < 16 → bytes_of day.out.items s ≡ outgoing_bytes rulebook.now stamp day.journal.items s) }
     ensures whole_frames { IfOk result (λ day.
-        (s : ℕ) → s < 16 → IsRow (messages_to rulebook.now stamp (worked_entries rulebook.now day.journal.items) s) (bytes_of day.out.items s)) }
+        (s : ℕ) → s < 16 → IsRow (messages_to rulebook.now stamp (applied_entries rulebook.now day.journal.items) s) (bytes_of day.out.items s)) }
     ensures lists { IfOk result (λ day. length day.out.items ≡ 16) }
     ensures bought_is_sold { IfOk result (λ day.
         (month : ℕ) → bought month day.fills.items ≡ sold month day.fills.items) }

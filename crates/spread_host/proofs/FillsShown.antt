@@ -9,12 +9,9 @@ use Rattle.day_text.specs.DayText.{AreShown}
 summable_of : (rules : Rules) (f : Fill) → IsFillInRange rules f → IsSummable f
 summable_of rules f r = record {
   quantity = r.quantity;
-  price_low = r.price.low;
-  price_high = r.price.high;
-  near_low = r.near.low;
-  near_high = r.near.high;
-  far_low = r.far.low;
-  far_high = r.far.high;
+  price = r.price;
+  near = r.near;
+  far = r.far;
 }
 
 pub shown_of : (rules : Rules) (fills : List Fill) → All (IsFillInRange rules) fills → AreShown rules fills

@@ -9,10 +9,10 @@ use Rattle.spread_rules.specs.Meaning.{JournalState, meaning_of, after_entry, no
 use Rattle.spread_rules.specs.Rulebook.{Rules}
 use Rattle.spread_report.specs.declared.outbound.OutboundSession.{OutboundSession}
 use Rattle.spread_report.specs.EntryMessages.{AddressedMessage}
-use Rattle.spread_report.specs.Outgoing.{bytes_to, bytes_from, entry_messages, text_for, outbound_after, outbound_at_entry, outbound_before_logon, outbound_for}
-use Rattle.day_apply.specs.Applied.{worked_with, worked_entries_from, outgoing_bytes}
+use Rattle.spread_report.specs.Outgoing.{messages_bytes, journal_bytes, entry_messages, bytes_for, outbound_after, outbound_at_entry, outbound_before_logon, outbound_for}
+use Rattle.day_apply.specs.Applied.{applied_with, applied_entries_from, outgoing_bytes}
 
-text_silent : (stamp : List ℕ) (s n : ℕ) (m : AddressedMessage) → text_for stamp s (outbound_before_logon n) m ≡ []
+text_silent : (stamp : List ℕ) (s n : ℕ) (m : AddressedMessage) → bytes_for stamp s (outbound_before_logon n) m ≡ []
 text_silent stamp s n m = by_test (eqb m.to s)
   where
     by_test : (v : Bool) → cond {A = List ℕ} v [] [] ≡ []
@@ -27,11 +27,11 @@ line_silent s n m = by_test (eqb m.to s)
     by_test false = refl
 
 -- before its Logon it is sent nothing, and its line stays
-bytes_silent : (stamp : List ℕ) (s n : ℕ) (ms : List AddressedMessage) → bytes_to stamp s (outbound_before_logon n) ms ≡ []
+bytes_silent : (stamp : List ℕ) (s n : ℕ) (ms : List AddressedMessage) → messages_bytes stamp s (outbound_before_logon n) ms ≡ []
 bytes_silent stamp s n [] = refl
 bytes_silent stamp s n (m ∷ ms) =
-    ap (λ (t : List ℕ). t ++ bytes_to stamp s (outbound_for s (outbound_before_logon n) m) ms) (text_silent stamp s n m)
-    ∙ (ap (λ (l : OutboundSession). bytes_to stamp s l ms) (line_silent s n m) ∙ bytes_silent stamp s n ms)
+    ap (λ (t : List ℕ). t ++ messages_bytes stamp s (outbound_for s (outbound_before_logon n) m) ms) (text_silent stamp s n m)
+    ∙ (ap (λ (l : OutboundSession). messages_bytes stamp s l ms) (line_silent s n m) ∙ bytes_silent stamp s n ms)
 
 line_stays : (s n : ℕ) (ms : List AddressedMessage) → outbound_after s (outbound_before_logon n) ms ≡ outbound_before_logon n
 line_stays s n [] = refl
@@ -49,12 +49,12 @@ entry_silent s n i (Reject number reason) other = refl
 entry_silent s n i (Close reason) other = refl
 
 silent_from : (rules : Rules) (stamp : List ℕ) (s n : ℕ) (past : JournalState) (place : ℕ) (es : List Entry) → restricted s es ≡ []
-    → bytes_from stamp rules s (outbound_before_logon n) (worked_entries_from rules past place es) ≡ []
+    → journal_bytes stamp rules s (outbound_before_logon n) (applied_entries_from rules past place es) ≡ []
 silent_from rules stamp s n past place [] none = refl
 silent_from rules stamp s n past place (e ∷ es) none =
-    let w = worked_with place e (meaning_of rules past place e) in
+    let w = applied_with place e (meaning_of rules past place e) in
     let ms = entry_messages rules w in
-    let later = worked_entries_from rules (after_entry rules past place e) (place + 1) es in
+    let later = applied_entries_from rules (after_entry rules past place e) (place + 1) es in
     elim (cases_eq e.session s) [
       | inl same ↦
           let at : restricted s (e ∷ es) ≡ e.event ∷ restricted s es = rw (eq-eqb e.session s same) refl in
@@ -64,9 +64,9 @@ silent_from rules stamp s n past place (e ∷ es) none =
           let other : eqb e.session s ≡ false = ne_eqb e.session s apart in
           let at : restricted s (e ∷ es) ≡ restricted s es = rw other refl in
           let line = entry_silent s n e.session e.event other in
-          ap (λ (l : OutboundSession). bytes_to stamp s l ms ++ bytes_from stamp rules s (outbound_after s l ms) later) line
-          ∙ (ap (λ (t : List ℕ). t ++ bytes_from stamp rules s (outbound_after s (outbound_before_logon n) ms) later) (bytes_silent stamp s n ms)
-          ∙ (ap (λ (l : OutboundSession). bytes_from stamp rules s l later) (line_stays s n ms)
+          ap (λ (l : OutboundSession). messages_bytes stamp s l ms ++ journal_bytes stamp rules s (outbound_after s l ms) later) line
+          ∙ (ap (λ (t : List ℕ). t ++ journal_bytes stamp rules s (outbound_after s (outbound_before_logon n) ms) later) (bytes_silent stamp s n ms)
+          ∙ (ap (λ (l : OutboundSession). journal_bytes stamp rules s l later) (line_stays s n ms)
           ∙ silent_from rules stamp s n (after_entry rules past place e) (place + 1) es (sym at ∙ none)))
     ]
 

@@ -14,7 +14,7 @@ use Rattle.spread_rules.specs.Rulebook.{Rules}
 use Rattle.spread_match.specs.Sound.{KeepsOrder}
 use Rattle.spread_report.specs.Messages.{IsRow, messages_to}
 use Rattle.spread_report.specs.Sessions.{bytes_of}
-use Rattle.day_apply.specs.Applied.{outgoing_bytes, worked_entries}
+use Rattle.day_apply.specs.Applied.{outgoing_bytes, applied_entries}
 use Rattle.day_text.specs.DayText.{AreShown, texts_of}
 use Rattle.day_lines.specs.Reading.{IsJournalOf, HasParts}
 use Rattle.day_threads.specs.Streams.{whole_at}
@@ -68,7 +68,7 @@ pub record IsDayOf {A : Type 0} (rules : Rules) (stamp : List ℕ) (journal : Li
   pub lists : length out ≡ SESSIONS
   -- what a session is sent is whole messages, and is read back as them
   pub whole_frames : (s : ℕ) → s < SESSIONS
-      → IsRow (messages_to rules stamp (worked_entries rules journal) s) (bytes_of out s)
+      → IsRow (messages_to rules stamp (applied_entries rules journal) s) (bytes_of out s)
   -- the same of all sessions in one list
   pub texts : texts_of out ≡ texts_below SESSIONS rules stamp journal
   pub rows : All IsFrameRow (texts_of out)

@@ -1,5 +1,5 @@
+pub mod Codes
 pub mod EntryMessages
-pub mod ReportBodies
 pub mod Outgoing
 pub mod Sessions
 pub mod Faults
@@ -7,3 +7,4 @@ pub mod Desk
 pub mod Messages
 pub mod Ranges
 pub mod Running
+pub mod code

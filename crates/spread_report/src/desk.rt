@@ -1,12 +1,12 @@
 //! The desk: what each session is sent next.
 ghost use Rattle.std.specs.Prelude.{◌≡◌, ◌≢◌, ℕ, ◌<◌, ◌≤◌, ◌++◌, ◌∷◌, [], true, false, length, take, slice_index_or, OnOk, OnErr, IsErrOf, ◌==◌, if◌then◌else◌};
 ghost use Rattle.std.specs.List.{list_all};
-ghost use Rattle.spread_rules.specs.declared.fill.Fill.{Fill};
-ghost use Rattle.spread_rules.specs.Ranges.{FitsOutcome, FitsFill};
-ghost use Rattle.spread_report.specs.Desk.{desk_starting, desk_at, Sends};
+ghost use Rattle.spread_rules.specs.Ranges.{FitsOutcome, FitFills};
+ghost use Rattle.spread_report.specs.Desk.{desk_starting, desk_at};
+ghost use Rattle.spread_report.specs.code.Sending.{Sends};
 ghost use Rattle.spread_report.specs.EntryMessages.{numbered_message, has_tag};
 ghost use Rattle.spread_report.specs.Messages.{IsRow, entry_texts};
-ghost use Rattle.spread_report.specs.Outgoing.{entry_bytes, entry_outbound, entry_spends, worked_at};
+ghost use Rattle.spread_report.specs.Outgoing.{entry_bytes, entry_outbound, entry_spends, applied_at};
 ghost use Rattle.spread_report.specs.Sessions.{bytes_of, outbound_at, KeepsBytes, RunsOut};
 ghost use Rattle.spread_report.specs.declared.fault.DeskFault.TheVariants.{NumbersSpent};
 
@@ -20,23 +20,22 @@ use crate::outbound::{CompIds, OutboundSession};
 use entry::AppliedEntry;
 use fix_wire::{Body, Field, FieldList, Head, write_body};
 use host_base::Id;
+use host_base::limits::{MAX_MSG_SEQ_NUM, SESSIONS};
 use spread_rules::{Entry, Fill, Outcome, Rulebook};
 use std::alloc::Allocator;
 use std::marker::Model;
-
-/// The greatest MsgSeqNum that a message may bear.
-const MAX_MSG_SEQ_NUM: u64 = 999_999_999;
 
 /// Publishes execution reports and session messages. For each of the sixteen sessions it keeps the next
 /// outgoing number, and the CompIDs of the last Logon.
 #[derive(Drop)]
 pub struct Desk {
     stamp: Id,
-    sessions: [OutboundSession; 16],
+    sessions: [OutboundSession; SESSIONS],
 }
 
 impl Model for Desk {
-    ghost use Rattle.spread_report.specs.Desk.{DeskState, state_of, IsDesk};
+    ghost use Rattle.spread_report.specs.Desk.{DeskState};
+    ghost use Rattle.spread_report.specs.code.Sending.{state_of, IsDesk};
 
     ghost Value = { DeskState };
 
@@ -56,22 +55,22 @@ impl Desk {
             sessions: [OutboundSession {
                 next: 1,
                 comp_ids: None,
-            }; 16],
+            }; SESSIONS],
         }
     }
 
-    /// The same, each session's first message bearing this number. None where it is not 1 to
-    /// 999,999,999.
+    /// The same, each session's first message bearing this number. None where it is 0 or above the
+    /// limit.
     pub fn starting(stamp: Id, next: u32) -> Option<Desk>
         ensures { result ≡ desk_at stamp next }
     {
-        if 1 <= next && next <= 999_999_999 {
+        if 1 <= next && next <= MAX_MSG_SEQ_NUM {
             Some(Desk {
                 stamp,
                 sessions: [OutboundSession {
                     next: u64::from(next),
                     comp_ids: None,
-                }; 16],
+                }; SESSIONS],
             })
         } else {
             None
@@ -89,31 +88,31 @@ impl Desk {
         fills: &[Fill],
         lists: &mut [Vec<u8, A>],
     ) -> Result<(), DeskFault>
-        requires lists { length lists.old ≡ 16 }
-        requires session { entry.now.session < 16 }
+        requires lists { length lists.old ≡ SESSIONS }
+        requires session { entry.now.session < SESSIONS }
         requires outcome { FitsOutcome rules.now entry.now.event outcome.now }
-        requires fills { (k : ℕ) (d : Fill) → k < length fills.now
-            → FitsFill rules.now (slice_index_or fills.now k d) }
-        ensures bytes { OnOk result ((s : ℕ) → s < 16 → bytes_of lists.new s ≡ bytes_of lists.old s
+        requires fills { FitFills rules.now fills.now }
+        ensures bytes { OnOk result ((s : ℕ) → s < SESSIONS → bytes_of lists.new s
+            ≡ bytes_of lists.old s
             ++ entry_bytes self.old.stamp rules.now s (outbound_at self.old.sessions s)
-            (worked_at place entry.now outcome.now fills.now)) }
-        ensures outbound { OnOk result ((s : ℕ) → s < 16 → outbound_at self.new.sessions s
+            (applied_at place entry.now outcome.now fills.now)) }
+        ensures outbound { OnOk result ((s : ℕ) → s < SESSIONS → outbound_at self.new.sessions s
             ≡ entry_outbound rules.now s (outbound_at self.old.sessions s)
-            (worked_at place entry.now outcome.now fills.now)) }
-        ensures unspent { OnOk result ((s : ℕ) → s < 16 →
+            (applied_at place entry.now outcome.now fills.now)) }
+        ensures unspent { OnOk result ((s : ℕ) → s < SESSIONS →
             entry_spends rules.now s (outbound_at self.old.sessions s)
-            (worked_at place entry.now outcome.now fills.now) ≡ false) }
-        ensures whole { OnOk result ((s : ℕ) → s < 16 → IsRow
+            (applied_at place entry.now outcome.now fills.now) ≡ false) }
+        ensures whole { OnOk result ((s : ℕ) → s < SESSIONS → IsRow
             (entry_texts self.old.stamp rules.now s (outbound_at self.old.sessions s)
-            (worked_at place entry.now outcome.now fills.now))
+            (applied_at place entry.now outcome.now fills.now))
             (entry_bytes self.old.stamp rules.now s (outbound_at self.old.sessions s)
-            (worked_at place entry.now outcome.now fills.now))) }
+            (applied_at place entry.now outcome.now fills.now))) }
         ensures spent { IsErrOf result NumbersSpent →
-            RunsOut rules.now self.old.sessions (worked_at place entry.now outcome.now fills.now) }
+            RunsOut rules.now self.old.sessions (applied_at place entry.now outcome.now fills.now) }
         ensures stamp { self.new.stamp ≡ self.old.stamp }
         ensures desk_kept { OnErr result (self.new ≡ self.old) }
         ensures lists_kept { OnErr result (KeepsBytes lists.old lists.new) }
-        ensures count { length lists.new ≡ 16 }
+        ensures count { length lists.new ≡ SESSIONS }
     {
         let lengths = lengths_of(lists);
         let numbers = numbers_of(&self.sessions);
@@ -141,8 +140,8 @@ impl Desk {
         kind: u8,
         body: &B,
     ) -> Result<(), DeskFault>
-        requires lists { length lists.old ≡ 16 }
-        requires session { session < 16 }
+        requires lists { length lists.old ≡ SESSIONS }
+        requires session { session < SESSIONS }
         requires kind { kind ≢ 1 }
         requires tags { list_all has_tag (B.fields body.now) ≡ true }
         requires few { length (B.fields body.now) ≤ 18 }
@@ -155,7 +154,7 @@ impl Desk {
         match comp_ids {
             None => Ok(()),
             Some(ids) => {
-                if outbound.next > MAX_MSG_SEQ_NUM {
+                if outbound.next > u64::from(MAX_MSG_SEQ_NUM) {
                     return Err(DeskFault::NumbersSpent);
                 }
                 let head = Head {
@@ -181,8 +180,8 @@ impl Desk {
         kind: u8,
         fields: &[Field],
     ) -> Result<(), DeskFault>
-        requires lists { length lists.old ≡ 16 }
-        requires session { session < 16 }
+        requires lists { length lists.old ≡ SESSIONS }
+        requires session { session < SESSIONS }
         requires kind { kind ≢ 1 }
         requires tags { list_all has_tag fields.now ≡ true }
         requires few { length fields.now ≤ 18 }
@@ -196,25 +195,25 @@ impl Desk {
 // ---- taking back after a refusal
 
 /// Cuts each list to its length.
-fn cut_back<A: Allocator>(lists: &mut [Vec<u8, A>], lengths: &[usize; 16])
-    requires lists { length lists.old ≡ 16 }
-    ensures size { length lists.new ≡ 16 }
-    ensures rows { (s : ℕ) → s < 16 → bytes_of lists.new s
+fn cut_back<A: Allocator>(lists: &mut [Vec<u8, A>], lengths: &[usize; SESSIONS])
+    requires lists { length lists.old ≡ SESSIONS }
+    ensures size { length lists.new ≡ SESSIONS }
+    ensures rows { (s : ℕ) → s < SESSIONS → bytes_of lists.new s
         ≡ take (slice_index_or lengths.now s 0) (bytes_of lists.old s) }
 {
-    for s in 0..16 {
+    for s in 0..SESSIONS {
         let length = lengths[s];
         lists[s].truncate(length);
     }
 }
 
 /// How long each list is.
-fn lengths_of<A: Allocator>(lists: &[Vec<u8, A>]) -> [usize; 16]
-    requires { length lists.now ≡ 16 }
-    ensures { (s : ℕ) → s < 16 → slice_index_or result s 0 ≡ length (bytes_of lists.now s) }
+fn lengths_of<A: Allocator>(lists: &[Vec<u8, A>]) -> [usize; SESSIONS]
+    requires { length lists.now ≡ SESSIONS }
+    ensures { (s : ℕ) → s < SESSIONS → slice_index_or result s 0 ≡ length (bytes_of lists.now s) }
 {
-    let mut lengths = [0; 16];
-    for s in 0..16 {
+    let mut lengths = [0; SESSIONS];
+    for s in 0..SESSIONS {
         let count = lists[s].len();
         lengths[s] = count;
     }
@@ -222,26 +221,27 @@ fn lengths_of<A: Allocator>(lists: &[Vec<u8, A>]) -> [usize; 16]
 }
 
 /// The next number of each session.
-fn numbers_of(sessions: &[OutboundSession; 16]) -> [u64; 16]
-    ensures { (s : ℕ) → s < 16 → slice_index_or result s 0 ≡ (outbound_at sessions.now s).next }
+fn numbers_of(sessions: &[OutboundSession; SESSIONS]) -> [u64; SESSIONS]
+    ensures { (s : ℕ) → s < SESSIONS
+        → slice_index_or result s 0 ≡ (outbound_at sessions.now s).next }
 {
-    let mut numbers = [0; 16];
-    for s in 0..16 {
+    let mut numbers = [0; SESSIONS];
+    for s in 0..SESSIONS {
         numbers[s] = sessions[s].next;
     }
     numbers
 }
 
 /// Gives each session that next number.
-fn renumber(sessions: &mut [OutboundSession; 16], numbers: &[u64; 16])
-    ensures size { length sessions.new ≡ 16 }
-    ensures numbered { (s : ℕ) → s < 16 → outbound_at sessions.new s
+fn renumber(sessions: &mut [OutboundSession; SESSIONS], numbers: &[u64; SESSIONS])
+    ensures size { length sessions.new ≡ SESSIONS }
+    ensures numbered { (s : ℕ) → s < SESSIONS → outbound_at sessions.new s
         ≡ record {
           next = slice_index_or numbers.now s 0;
           comp_ids = (outbound_at sessions.old s).comp_ids;
         } }
 {
-    for s in 0..16 {
+    for s in 0..SESSIONS {
         let comp_ids = sessions[s].comp_ids;
         sessions[s] = OutboundSession {
             next: numbers[s],
@@ -252,14 +252,14 @@ fn renumber(sessions: &mut [OutboundSession; 16], numbers: &[u64; 16])
 
 /// Gives each session that next number, and one of them those CompIDs.
 fn restore(
-    sessions: &mut [OutboundSession; 16],
-    numbers: &[u64; 16],
+    sessions: &mut [OutboundSession; SESSIONS],
+    numbers: &[u64; SESSIONS],
     session: u8,
     comp_ids: Option<CompIds>,
 )
-    requires { session < 16 }
-    ensures size { length sessions.new ≡ 16 }
-    ensures restored { (s : ℕ) → s < 16 → outbound_at sessions.new s ≡ record {
+    requires { session < SESSIONS }
+    ensures size { length sessions.new ≡ SESSIONS }
+    ensures restored { (s : ℕ) → s < SESSIONS → outbound_at sessions.new s ≡ record {
       next = slice_index_or numbers.now s 0;
       comp_ids = if session == s then comp_ids else (outbound_at sessions.old s).comp_ids;
     } }

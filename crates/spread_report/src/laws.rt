@@ -2,44 +2,74 @@
 ghost use Rattle.std.specs.Prelude.{◌≡◌, ◌<◌, ◌≤◌, ◌∷◌, ◌++◌, [], List, ℕ, true, false, length};
 ghost use Rattle.std.specs.List.{AllByRecursion, concat};
 ghost use Rattle.fix_wire.specs.Frames.{IsFrame, frames};
+ghost use Rattle.host_base.specs.declared.limits.TheConstants.{SESSIONS, MAX_MSG_SEQ_NUM};
 ghost use Rattle.host_base.specs.Ids.{is_id};
 ghost use Rattle.spread_rules.specs.Rulebook.{Rules};
-ghost use Rattle.spread_report.specs.Outgoing.{WorkedEntry, entry_bytes, entry_outbound, entry_spends, outgoing_starting, spends_from, outbound_before_logon};
+ghost use Rattle.spread_report.specs.Outgoing.{AppliedEntry, entry_bytes, entry_outbound, entry_spends, outgoing_starting, spends_from, outbound_before_logon};
 ghost use Rattle.spread_report.specs.Messages.{IsRow, entry_texts, messages_starting};
 ghost use Rattle.spread_report.specs.Desk.{DeskState, desk_starting};
 ghost use Rattle.spread_report.specs.Running.{HasSent};
-ghost use Rattle.spread_report.specs.Sessions.{text_at, outbound_at, RunsOut};
+ghost use Rattle.spread_report.specs.Sessions.{session_text, outbound_at, RunsOut};
 ghost use Rattle.spread_report.specs.Ranges.{AreNames, EntryInRange};
 
 /// What a session is sent is a row of whole frames, and is read back as exactly the messages that were written.
 pub fn read_back()
-    ensures joined { (next : ℕ) (rules : Rules) (stamp : List ℕ) (worked : List WorkedEntry) (s : ℕ) →
-        next ≤ 999999999 → is_id stamp ≡ true → AreNames rules → AllByRecursion (EntryInRange rules) worked → spends_from rules s (outbound_before_logon next) worked ≡ false →
-        outgoing_starting next rules stamp worked s ≡ concat (messages_starting next rules stamp worked s) }
-    ensures whole { (next : ℕ) (rules : Rules) (stamp : List ℕ) (worked : List WorkedEntry) (s : ℕ) →
-        next ≤ 999999999 → is_id stamp ≡ true → AreNames rules → AllByRecursion (EntryInRange rules) worked → spends_from rules s (outbound_before_logon next) worked ≡ false →
-        AllByRecursion IsFrame (messages_starting next rules stamp worked s) }
-    ensures read { (next : ℕ) (rules : Rules) (stamp : List ℕ) (worked : List WorkedEntry) (s : ℕ) →
-        next ≤ 999999999 → is_id stamp ≡ true → AreNames rules → AllByRecursion (EntryInRange rules) worked → spends_from rules s (outbound_before_logon next) worked ≡ false →
-        frames (outgoing_starting next rules stamp worked s) ≡ messages_starting next rules stamp worked s }
+    ensures joined { (next : ℕ) (rules : Rules) (stamp : List ℕ)
+        (applied : List AppliedEntry) (s : ℕ) →
+        next ≤ MAX_MSG_SEQ_NUM → is_id stamp ≡ true → AreNames rules →
+        AllByRecursion (EntryInRange rules) applied →
+        spends_from rules s (outbound_before_logon next) applied ≡ false →
+        outgoing_starting next rules stamp applied s
+        ≡ concat (messages_starting next rules stamp applied s) }
+    ensures whole { (next : ℕ) (rules : Rules) (stamp : List ℕ)
+        (applied : List AppliedEntry) (s : ℕ) →
+        next ≤ MAX_MSG_SEQ_NUM → is_id stamp ≡ true → AreNames rules →
+        AllByRecursion (EntryInRange rules) applied →
+        spends_from rules s (outbound_before_logon next) applied ≡ false →
+        AllByRecursion IsFrame (messages_starting next rules stamp applied s) }
+    ensures read { (next : ℕ) (rules : Rules) (stamp : List ℕ)
+        (applied : List AppliedEntry) (s : ℕ) →
+        next ≤ MAX_MSG_SEQ_NUM → is_id stamp ≡ true → AreNames rules →
+        AllByRecursion (EntryInRange rules) applied →
+        spends_from rules s (outbound_before_logon next) applied ≡ false →
+        frames (outgoing_starting next rules stamp applied s)
+        ≡ messages_starting next rules stamp applied s }
 {}
 
-/// A desk that works the entries of a journal one after the other has sent the journal's bytes: so it begins; an entry that
-/// `outgoing` works keeps it so, and so does one that it refuses; and where it refuses for want of numbers, the journal with this
-/// entry needs a number above 999,999,999.
+/// A desk that applies the entries of a journal one after the other has sent the journal's bytes: so it begins; an entry that
+/// `outgoing` applies keeps it so, and so does one that it refuses; and where it refuses for want of numbers, the journal with this
+/// entry needs a number above the limit.
 pub fn running()
     ensures start { (rules : Rules) (stamp : List ℕ) (next : ℕ) (texts : List (List ℕ)) →
-        length texts ≡ 16 → ((s : ℕ) → s < 16 → text_at texts s ≡ []) → HasSent rules stamp next [] (desk_starting stamp next) texts }
-    ensures more { (rules : Rules) (stamp : List ℕ) (next : ℕ) (worked : List WorkedEntry) (w : WorkedEntry) (desk after : DeskState) (texts new : List (List ℕ)) →
-        HasSent rules stamp next worked desk texts → after.stamp ≡ desk.stamp → length new ≡ 16 →
-        ((s : ℕ) → s < 16 → text_at new s ≡ text_at texts s ++ entry_bytes desk.stamp rules s (outbound_at desk.sessions s) w) →
-        ((s : ℕ) → s < 16 → outbound_at after.sessions s ≡ entry_outbound rules s (outbound_at desk.sessions s) w) →
-        ((s : ℕ) → s < 16 → entry_spends rules s (outbound_at desk.sessions s) w ≡ false) →
-        ((s : ℕ) → s < 16 → IsRow (entry_texts desk.stamp rules s (outbound_at desk.sessions s) w) (entry_bytes desk.stamp rules s (outbound_at desk.sessions s) w)) →
-        HasSent rules stamp next (worked ++ w ∷ []) after new }
-    ensures same { (rules : Rules) (stamp : List ℕ) (next : ℕ) (worked : List WorkedEntry) (desk after : DeskState) (texts new : List (List ℕ)) →
-        HasSent rules stamp next worked desk texts → after ≡ desk → length new ≡ 16 → ((s : ℕ) → s < 16 → text_at new s ≡ text_at texts s) →
-        HasSent rules stamp next worked after new }
-    ensures spent { (rules : Rules) (stamp : List ℕ) (next : ℕ) (worked : List WorkedEntry) (w : WorkedEntry) (desk : DeskState) (texts : List (List ℕ)) →
-        HasSent rules stamp next worked desk texts → (r : RunsOut rules desk.sessions w) → spends_from rules r.session (outbound_before_logon next) (worked ++ w ∷ []) ≡ true }
+        length texts ≡ SESSIONS →
+        ((s : ℕ) → s < SESSIONS → session_text texts s ≡ []) →
+        HasSent rules stamp next [] (desk_starting stamp next) texts }
+    ensures more { (rules : Rules) (stamp : List ℕ) (next : ℕ) (applied : List AppliedEntry)
+        (w : AppliedEntry) (desk after : DeskState) (texts new : List (List ℕ)) →
+        HasSent rules stamp next applied desk texts →
+        after.stamp ≡ desk.stamp →
+        length new ≡ SESSIONS →
+        ((s : ℕ) → s < SESSIONS → session_text new s
+        ≡ session_text texts s
+        ++ entry_bytes desk.stamp rules s (outbound_at desk.sessions s) w) →
+        ((s : ℕ) → s < SESSIONS →
+        outbound_at after.sessions s ≡ entry_outbound rules s (outbound_at desk.sessions s) w) →
+        ((s : ℕ) → s < SESSIONS →
+        entry_spends rules s (outbound_at desk.sessions s) w ≡ false) →
+        ((s : ℕ) → s < SESSIONS → IsRow
+        (entry_texts desk.stamp rules s (outbound_at desk.sessions s) w)
+        (entry_bytes desk.stamp rules s (outbound_at desk.sessions s) w)) →
+        HasSent rules stamp next (applied ++ w ∷ []) after new }
+    ensures same { (rules : Rules) (stamp : List ℕ) (next : ℕ) (applied : List AppliedEntry)
+        (desk after : DeskState) (texts new : List (List ℕ)) →
+        HasSent rules stamp next applied desk texts →
+        after ≡ desk →
+        length new ≡ SESSIONS →
+        ((s : ℕ) → s < SESSIONS → session_text new s ≡ session_text texts s) →
+        HasSent rules stamp next applied after new }
+    ensures spent { (rules : Rules) (stamp : List ℕ) (next : ℕ) (applied : List AppliedEntry)
+        (w : AppliedEntry) (desk : DeskState) (texts : List (List ℕ)) →
+        HasSent rules stamp next applied desk texts →
+        (r : RunsOut rules desk.sessions w) →
+        spends_from rules r.session (outbound_before_logon next) (applied ++ w ∷ []) ≡ true }
 {}

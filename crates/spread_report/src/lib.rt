@@ -37,6 +37,7 @@ macro_rules! pair_field {
     };
 }
 
+mod codes;
 mod desk;
 mod fault;
 pub mod laws;

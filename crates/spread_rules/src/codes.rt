@@ -5,3 +5,4 @@ pub mod cxl_rej_reason;
 pub mod ord_rej_reason;
 pub mod ord_status;
 pub mod session_reject_reason;
+pub mod side;

@@ -8,8 +8,9 @@ use Rattle.spread_report.specs.declared.fault.DeskFault.{DeskFault}
 use Rattle.spread_report.specs.declared.fault.DeskFault.TheVariants.{NoMemory, NumbersSpent}
 use Rattle.spread_report.specs.declared.outbound.OutboundSession.{OutboundSession}
 use Rattle.spread_report.specs.Messages.{IsRow, texts_to, entry_texts}
-use Rattle.spread_report.specs.Outgoing.{WorkedEntry, entry_messages, entry_bytes, entry_outbound, entry_spends, bytes_to, outbound_after, spends, outbound_at_entry}
-use Rattle.spread_report.specs.Sessions.{bytes_of, outbound_at, SendResult, RunsOut}
+use Rattle.spread_report.specs.Outgoing.{AppliedEntry, entry_messages, entry_bytes, entry_outbound, entry_spends, messages_bytes, outbound_after, spends, outbound_at_entry}
+use Rattle.spread_report.specs.Sessions.{bytes_of, outbound_at, RunsOut}
+use Rattle.spread_report.specs.code.Sending.{SendResult}
 
 -- what is said of an answer of the other kind
 pub ok_refused : {T E : Type 0} (P : Type 0) (r : Result T E) → is_err r ≡ true → OnOk r P
@@ -21,11 +22,11 @@ err_sent P (Ok t) sent = tt
 err_sent P (Err fault) sent = absurd (false≢true (sym sent))
 
 -- the sessions `a` before the entry, `k` with the CompIDs that it brings, and `b` after it
-module _ {A T : Type 0} (stamp : List ℕ) (rules : Rules) (a k b : List OutboundSession) (x y : List (Vec ℕ A)) (w : WorkedEntry)
+module _ {A T : Type 0} (stamp : List ℕ) (rules : Rules) (a k b : List OutboundSession) (x y : List (Vec ℕ A)) (w : AppliedEntry)
     (noted : (s : ℕ) → s < 16 → outbound_at k s ≡ outbound_at_entry s (outbound_at a s) w.entry.session w.entry.event) where
   pub sent_bytes : (r : Result T DeskFault) → SendResult stamp k b x y (entry_messages rules w) r
       → OnOk r ((s : ℕ) → s < 16 → bytes_of y s ≡ bytes_of x s ++ entry_bytes stamp rules s (outbound_at a s) w)
-  sent_bytes (Ok t) sent = λ s below. sent.bytes s below ∙ ap (λ (o : OutboundSession). bytes_of x s ++ bytes_to stamp s o (entry_messages rules w)) (noted s below)
+  sent_bytes (Ok t) sent = λ s below. sent.bytes s below ∙ ap (λ (o : OutboundSession). bytes_of x s ++ messages_bytes stamp s o (entry_messages rules w)) (noted s below)
   sent_bytes (Err fault) sent = tt
 
   pub sent_outbound : (r : Result T DeskFault) → SendResult stamp k b x y (entry_messages rules w) r
@@ -41,7 +42,7 @@ module _ {A T : Type 0} (stamp : List ℕ) (rules : Rules) (a k b : List Outboun
   pub sent_whole : (r : Result T DeskFault) → SendResult stamp k b x y (entry_messages rules w) r
       → OnOk r ((s : ℕ) → s < 16 → IsRow (entry_texts stamp rules s (outbound_at a s) w) (entry_bytes stamp rules s (outbound_at a s) w))
   sent_whole (Ok t) sent =
-      λ s below. subst (λ (o : OutboundSession). IsRow (texts_to stamp s o (entry_messages rules w)) (bytes_to stamp s o (entry_messages rules w))) (noted s below) (sent.row s below)
+      λ s below. subst (λ (o : OutboundSession). IsRow (texts_to stamp s o (entry_messages rules w)) (messages_bytes stamp s o (entry_messages rules w))) (noted s below) (sent.row s below)
   sent_whole (Err fault) sent = tt
 
   pub sent_spent : (r : Result T DeskFault) → SendResult stamp k b x y (entry_messages rules w) r → IsErrOf r NumbersSpent → RunsOut rules a w

@@ -16,7 +16,8 @@ use Rattle.spread_rules.specs.declared.event.Event.TheVariants.{Logon, New, Canc
 use Rattle.spread_report.specs.declared.outbound.CompIds.{CompIds}
 use Rattle.spread_report.specs.Outgoing.{outbound_before_logon, outbound_at_entry}
 use Rattle.spread_report.specs.Desk.{DeskState}
-use Rattle.spread_report.specs.Sessions.{bytes_of, outbound_at, OnlyAppended, SendResult}
+use Rattle.spread_report.specs.Sessions.{bytes_of, outbound_at}
+use Rattle.spread_report.specs.code.Sending.{OnlyAppended, SendResult}
 use Rattle.spread_report.proofs.messages.OneMessage.{row_same, row_other}
 
 module _ {A : Type 0} (x x₀ : List (Vec ℕ A)) (i : ℕ) (v w : Vec ℕ A) (ns : List ℕ) where

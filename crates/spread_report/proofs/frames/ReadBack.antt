@@ -14,7 +14,7 @@ use Rattle.spread_rules.specs.Journal.{FitsEvent}
 use Rattle.spread_report.specs.declared.outbound.OutboundSession.{OutboundSession}
 use Rattle.spread_report.specs.declared.outbound.CompIds.{CompIds}
 use Rattle.spread_report.specs.EntryMessages.{MessageContent, numbered, gap_fill, AddressedMessage}
-use Rattle.spread_report.specs.Outgoing.{WorkedEntry, new_seq_no, head_of, gap_fields, content_text, is_spent, text_under, next_under, spent_under, text_for, outbound_for, spent_for, bytes_to, outbound_after, spends, outbound_at_entry, entry_messages, entry_bytes, entry_outbound, entry_spends, bytes_from, spends_from}
+use Rattle.spread_report.specs.Outgoing.{AppliedEntry, new_seq_no, head_of, gap_fields, message_bytes, next_after, needs_number_above_limit, bytes_for, outbound_for, needs_number_for, messages_bytes, outbound_after, spends, outbound_at_entry, entry_messages, entry_bytes, entry_outbound, entry_spends, journal_bytes, spends_from}
 use Rattle.spread_report.proofs.frames.FrameRows.{no_row, rows_both, message_row}
 use Rattle.spread_report.specs.Messages.{IsRow, as_message, texts_to, entry_texts, texts_from}
 use Rattle.spread_report.specs.Ranges.{AreNames, EntryInRange}
@@ -70,27 +70,24 @@ module _ (stamp : List ℕ) (stamp_id : is_id stamp ≡ true) where
       (record { fits = (omega arith, omega arith, new_small next last h); short = tt }, (record { fits = (omega arith, omega arith, refl); short = omega arith }, tt)) (omega arith)
   gap_is ids next first last false e i h = no_row
 
-  content_is : (ids : CompIds) (next : ℕ) (m : MessageContent) → IdsFit (Some ids) → next ≤ 1000000000 → FitsContent m → is_spent next m ≡ false → IsOne (content_text stamp ids next m)
-  content_is ids next (numbered kind fields) i h fit spent =
+  under_is : (o : Option CompIds) (next : ℕ) (m : MessageContent) → IdsFit o → next ≤ 1000000000 → FitsContent m → needs_number_above_limit o next m ≡ false → IsOne (message_bytes stamp o next m)
+  under_is None next m i h fit spent = no_row
+  under_is (Some ids) next (numbered kind fields) i h fit spent =
       let small : next ≤ 999999999 = not_below 999999999 next spent in
       written ids kind next false fields i fit.0 (omega (arith, small)) fit.1 fit.2
-  content_is ids next (gap_fill first last) i h fit spent = gap_is ids next first last (nat_lt first next) refl i h
+  under_is (Some ids) next (gap_fill first last) i h fit spent = gap_is ids next first last (nat_lt first next) refl i h
 
-  under_is : (o : Option CompIds) (next : ℕ) (m : MessageContent) → IdsFit o → next ≤ 1000000000 → FitsContent m → spent_under o next m ≡ false → IsOne (text_under stamp o next m)
-  under_is None next m i h fit spent = no_row
-  under_is (Some ids) next m i h fit spent = content_is ids next m i h fit spent
-
-  next_small : (o : Option CompIds) (next : ℕ) (m : MessageContent) → next ≤ 1000000000 → spent_under o next m ≡ false → next_under o next m ≤ 1000000000
+  next_small : (o : Option CompIds) (next : ℕ) (m : MessageContent) → next ≤ 1000000000 → needs_number_above_limit o next m ≡ false → next_after o next m ≤ 1000000000
   next_small None next m h spent = h
   next_small (Some ids) next (numbered kind fields) h spent =
       let small : next ≤ 999999999 = not_below 999999999 next spent in
       omega (arith, small)
   next_small (Some ids) next (gap_fill first last) h spent = h
 
-  for_is : (s : ℕ) (out : OutboundSession) (m : AddressedMessage) → OutboundFits out → FitsAddressed m → spent_for s out m ≡ false → IsOne (text_for stamp s out m) × OutboundFits (outbound_for s out m)
+  for_is : (s : ℕ) (out : OutboundSession) (m : AddressedMessage) → OutboundFits out → FitsAddressed m → needs_number_for s out m ≡ false → IsOne (bytes_for stamp s out m) × OutboundFits (outbound_for s out m)
   for_is s out m h fit =
-      elim (m.to == s) as (λ b. b && spent_under out.comp_ids out.next m.content ≡ false
-      → IsOne (if b then text_under stamp out.comp_ids out.next m.content else []) × OutboundFits (if b then record { next = next_under out.comp_ids out.next m.content; comp_ids = out.comp_ids } else out)) [
+      elim (m.to == s) as (λ b. b && needs_number_above_limit out.comp_ids out.next m.content ≡ false
+      → IsOne (if b then message_bytes stamp out.comp_ids out.next m.content else []) × OutboundFits (if b then record { next = next_after out.comp_ids out.next m.content; comp_ids = out.comp_ids } else out)) [
         | true ↦ λ spent. (under_is out.comp_ids out.next m.content h.ids h.next fit spent, record { next = next_small out.comp_ids out.next m.content h.next spent; ids = h.ids })
         | false ↦ λ spent. (no_row, h)
       ]
@@ -105,12 +102,12 @@ module _ (stamp : List ℕ) (stamp_id : is_id stamp ≡ true) where
   or_second true b e = cc
   or_second false b e = e
 
-  to_is : (s : ℕ) (out : OutboundSession) (ms : List AddressedMessage) → OutboundFits out → AllByRecursion FitsAddressed ms → spends s out ms ≡ false → IsRow (texts_to stamp s out ms) (bytes_to stamp s out ms) × OutboundFits (outbound_after s out ms)
+  to_is : (s : ℕ) (out : OutboundSession) (ms : List AddressedMessage) → OutboundFits out → AllByRecursion FitsAddressed ms → spends s out ms ≡ false → IsRow (texts_to stamp s out ms) (messages_bytes stamp s out ms) × OutboundFits (outbound_after s out ms)
   to_is s out [] h fit spent = (no_row, h)
   to_is s out (m ∷ ms) h fit spent =
-      let first = for_is s out m h fit.0 (or_first (spent_for s out m) (spends s (outbound_for s out m) ms) spent) in
-      let rest = to_is s (outbound_for s out m) ms first.1 fit.1 (or_second (spent_for s out m) (spends s (outbound_for s out m) ms) spent) in
-      (rows_both (as_message (text_for stamp s out m)) (texts_to stamp s (outbound_for s out m) ms) (text_for stamp s out m) (bytes_to stamp s (outbound_for s out m) ms) first.0 rest.0, rest.1)
+      let first = for_is s out m h fit.0 (or_first (needs_number_for s out m) (spends s (outbound_for s out m) ms) spent) in
+      let rest = to_is s (outbound_for s out m) ms first.1 fit.1 (or_second (needs_number_for s out m) (spends s (outbound_for s out m) ms) spent) in
+      (rows_both (as_message (bytes_for stamp s out m)) (texts_to stamp s (outbound_for s out m) ms) (bytes_for stamp s out m) (messages_bytes stamp s (outbound_for s out m) ms) first.0 rest.0, rest.1)
 
   -- ---- entries
 
@@ -129,10 +126,10 @@ module _ (stamp : List ℕ) (stamp_id : is_id stamp ≡ true) where
   opened s out session (Close reason) h fit = h
 
   module _ (rules : Rules) (names : AreNames rules) (s : ℕ) where
-    pub from_is : (out : OutboundSession) (ws : List WorkedEntry) → OutboundFits out → AllByRecursion (EntryInRange rules) ws → spends_from rules s out ws ≡ false → IsRow (texts_from stamp rules s out ws) (bytes_from stamp rules s out ws)
+    pub from_is : (out : OutboundSession) (ws : List AppliedEntry) → OutboundFits out → AllByRecursion (EntryInRange rules) ws → spends_from rules s out ws ≡ false → IsRow (texts_from stamp rules s out ws) (journal_bytes stamp rules s out ws)
     from_is out [] h fit spent = no_row
     from_is out (w ∷ ws) h fit spent =
         let first = to_is s (outbound_at_entry s out w.entry.session w.entry.event) (entry_messages rules w) (opened s out w.entry.session w.entry.event h fit.0.event) (entry_fits rules names w fit.0)
         (or_first (entry_spends rules s out w) (spends_from rules s (entry_outbound rules s out w) ws) spent) in
-        rows_both (entry_texts stamp rules s out w) (texts_from stamp rules s (entry_outbound rules s out w) ws) (entry_bytes stamp rules s out w) (bytes_from stamp rules s (entry_outbound rules s out w) ws) first.0
+        rows_both (entry_texts stamp rules s out w) (texts_from stamp rules s (entry_outbound rules s out w) ws) (entry_bytes stamp rules s out w) (journal_bytes stamp rules s (entry_outbound rules s out w) ws) first.0
         (from_is (entry_outbound rules s out w) ws first.1 fit.1 (or_second (entry_spends rules s out w) (spends_from rules s (entry_outbound rules s out w) ws) spent))

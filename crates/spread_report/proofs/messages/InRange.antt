@@ -20,8 +20,13 @@ use Rattle.spread_rules.specs.declared.event.Event.{Event}
 use Rattle.spread_rules.specs.declared.event.Event.TheVariants.{Logon, New, Cancel, TestReply, Gap, Resend, Reject, Close}
 use Rattle.spread_rules.specs.declared.outcome.Outcome.{Outcome}
 use Rattle.spread_rules.specs.declared.outcome.Outcome.TheVariants.{Rested, Filled, Ended, Cancelled, Refused, CancelRefused, Session}
-use Rattle.spread_report.specs.EntryMessages.{MessageContent, numbered, gap_fill, AddressedMessage, text, number, price, pair, side_code, Traded, ExecutionReport, original_field, reason_field, last_fields, legs_field, report_fields, numbered_message, report, new_report, rejected_report, ended_report, cancelled_report, fill_status, fill_report, report_count, reports_by, fill_reports, fills_reports, reports_of, new_messages, place_field, cancel_messages, close_messages, event_messages}
-use Rattle.spread_report.specs.Outgoing.{WorkedEntry, entry_messages}
+use Rattle.spread_report.specs.EntryMessages.{MessageContent, numbered, gap_fill, AddressedMessage, text_field, number_field, price_field, pair_field, ReportedTrade, ExecutionReport, original_field, reason_field, last_fields, legs_field, report_fields, numbered_message, report, new_report, rejected_report, ended_report, cancelled_report, fill_report, report_count, reports_by, fill_reports, fills_reports, reports_of, new_messages, place_field, cancel_messages, close_messages, event_messages}
+use Rattle.spread_report.specs.Codes.{side_code, ord_status_code, multi_leg_code}
+use Rattle.spread_report.specs.declared.codes.OrdStatus.{OrdStatus}
+use Rattle.spread_report.specs.declared.codes.OrdStatus.TheVariants as status
+use Rattle.spread_report.specs.declared.codes.MultiLegReportingType.{MultiLegReportingType}
+use Rattle.spread_report.specs.declared.codes.MultiLegReportingType.TheVariants.{SingleSecurity, IndividualLeg, MultiLegSecurity}
+use Rattle.spread_report.specs.Outgoing.{AppliedEntry, entry_messages}
 use Rattle.spread_report.specs.Ranges.{AreNames, FillInRange, OutcomeInRange, EntryInRange}
 use Rattle.spread_report.proofs.frames.BodyLengths.{FitsReport}
 use Rattle.spread_report.proofs.messages.SymbolIds.{joined_id}
@@ -52,16 +57,16 @@ FitsContent (gap_fill first last) = Unit {0}
 abbrev pub FitsAddressed : AddressedMessage → Type 0
 FitsAddressed m = FitsContent m.content
 
-text_fits : (tag : ℕ) (id : List ℕ) → 1 ≤ tag → tag < 1000000000 → is_id id ≡ true → FitsReport (text tag id)
+text_fits : (tag : ℕ) (id : List ℕ) → 1 ≤ tag → tag < 1000000000 → is_id id ≡ true → FitsReport (text_field tag id)
 text_fits tag id low high e = record { fits = (low, high, id_plain id e); short = id_short id e }
 
-number_fits : (tag n : ℕ) → 1 ≤ tag → tag < 1000000000 → n < 2 ^ 64 → FitsReport (number tag n)
+number_fits : (tag n : ℕ) → 1 ≤ tag → tag < 1000000000 → n < 2 ^ 64 → FitsReport (number_field tag n)
 number_fits tag n low high h = record { fits = (low, high, h); short = tt }
 
-price_fits : (tag : ℕ) (z : ℤ) → 1 ≤ tag → tag < 1000000000 → unsigned_abs z < 2 ^ 64 → FitsReport (price tag z)
+price_fits : (tag : ℕ) (z : ℤ) → 1 ≤ tag → tag < 1000000000 → unsigned_abs z < 2 ^ 64 → FitsReport (price_field tag z)
 price_fits tag z low high h = record { fits = (low, high, h); short = tt }
 
-pair_fits : (tag a b : ℕ) → 1 ≤ tag → tag < 1000000000 → a < 2 ^ 64 → b < 2 ^ 64 → FitsReport (pair tag a b)
+pair_fits : (tag a b : ℕ) → 1 ≤ tag → tag < 1000000000 → a < 2 ^ 64 → b < 2 ^ 64 → FitsReport (pair_field tag a b)
 pair_fits tag a b low high h k = record { fits = (low, high, (h, k)); short = tt }
 
 fits_append : (fs gs : List Field) → AllByRecursion FitsReport fs → AllByRecursion FitsReport gs → AllByRecursion FitsReport (fs ++ gs)
@@ -82,23 +87,34 @@ abbrev OptionalNumber : Option ℕ → Type 0
 OptionalNumber None = Unit {0}
 OptionalNumber (Some n) = n < 2 ^ 64
 
-abbrev TradedFits : Option Traded → Type 0
+abbrev TradedFits : Option ReportedTrade → Type 0
 TradedFits None = Unit {0}
-TradedFits (Some t) = (t.quantity < 2 ^ 64) × (unsigned_abs t.price < 2 ^ 64) × (t.legs < 2 ^ 64)
+TradedFits (Some t) = (t.last_shares < 2 ^ 64) × (unsigned_abs t.last_px < 2 ^ 64)
 
 record ReportFits (r : ExecutionReport) : Type 0 where
-  order : r.order < 2 ^ 64
-  id : is_id r.id ≡ true
-  original : OptionalId r.original
+  order : r.order_id < 2 ^ 64
+  id : is_id r.cl_ord_id ≡ true
+  original : OptionalId r.orig_cl_ord_id
   place : r.place < 2 ^ 64
   index : r.index < 2 ^ 64
-  status : r.status < 2 ^ 64
-  reason : OptionalNumber r.reason
+  reason : OptionalNumber r.ord_rej_reason
   symbol : is_id r.symbol ≡ true
-  quantity : r.quantity < 2 ^ 64
+  quantity : r.order_qty < 2 ^ 64
   traded : TradedFits r.traded
-  leaves : r.leaves < 2 ^ 64
-  filled : r.filled < 2 ^ 64
+  leaves : r.leaves_qty < 2 ^ 64
+  filled : r.cum_qty < 2 ^ 64
+
+status_small : (s : OrdStatus) → ord_status_code s < 2 ^ 64
+status_small status.New = omega arith
+status_small status.PartiallyFilled = omega arith
+status_small status.Filled = omega arith
+status_small status.Canceled = omega arith
+status_small status.Rejected = omega arith
+
+legs_small : (l : MultiLegReportingType) → multi_leg_code l < 2 ^ 64
+legs_small SingleSecurity = omega arith
+legs_small IndividualLeg = omega arith
+legs_small MultiLegSecurity = omega arith
 
 original_fits : (o : Option (List ℕ)) → OptionalId o → AllByRecursion FitsReport (original_field o)
 original_fits None h = tt
@@ -108,13 +124,13 @@ reason_fits : (o : Option ℕ) → OptionalNumber o → AllByRecursion FitsRepor
 reason_fits None h = tt
 reason_fits (Some n) h = (number_fits 103 n (omega arith) (omega arith) h, tt)
 
-last_fit : (o : Option Traded) → TradedFits o → AllByRecursion FitsReport (last_fields o)
+last_fit : (o : Option ReportedTrade) → TradedFits o → AllByRecursion FitsReport (last_fields o)
 last_fit None h = tt
-last_fit (Some t) h = (number_fits 32 t.quantity (omega arith) (omega arith) h.0, (price_fits 31 t.price (omega arith) (omega arith) h.1, tt))
+last_fit (Some t) h = (number_fits 32 t.last_shares (omega arith) (omega arith) h.0, (price_fits 31 t.last_px (omega arith) (omega arith) h.1, tt))
 
-legs_fits : (o : Option Traded) → TradedFits o → AllByRecursion FitsReport (legs_field o)
+legs_fits : (o : Option ReportedTrade) → TradedFits o → AllByRecursion FitsReport (legs_field o)
 legs_fits None h = tt
-legs_fits (Some t) h = (number_fits 442 t.legs (omega arith) (omega arith) h.2, tt)
+legs_fits (Some t) h = (number_fits 442 (multi_leg_code t.multi_leg) (omega arith) (omega arith) (legs_small t.multi_leg), tt)
 
 original_length : (o : Option (List ℕ)) → length (original_field o) ≤ 1
 original_length None = omega arith
@@ -124,11 +140,11 @@ reason_length : (o : Option ℕ) → length (reason_field o) ≤ 1
 reason_length None = omega arith
 reason_length (Some n) = omega arith
 
-last_length : (o : Option Traded) → length (last_fields o) ≤ 2
+last_length : (o : Option ReportedTrade) → length (last_fields o) ≤ 2
 last_length None = omega arith
 last_length (Some t) = omega arith
 
-legs_length : (o : Option Traded) → length (legs_field o) ≤ 1
+legs_length : (o : Option ReportedTrade) → length (legs_field o) ≤ 1
 legs_length None = omega arith
 legs_length (Some t) = omega arith
 
@@ -138,29 +154,29 @@ side_small Sell = omega arith
 
 module _ (r : ExecutionReport) where
   abbrev tail : List Field
-  tail = number 151 r.leaves ∷ number 14 r.filled ∷ number 6 0 ∷ legs_field r.traded
+  tail = number_field 151 r.leaves_qty ∷ number_field 14 r.cum_qty ∷ number_field 6 0 ∷ legs_field r.traded
 
   abbrev order_part : List Field
-  order_part = text 55 r.symbol ∷ number 54 (side_code r.side) ∷ number 38 r.quantity ∷ (last_fields r.traded ++ tail)
+  order_part = text_field 55 r.symbol ∷ number_field 54 (side_code r.side) ∷ number_field 38 r.order_qty ∷ (last_fields r.traded ++ tail)
 
   abbrev status_part : List Field
-  status_part = pair 17 r.place r.index ∷ number 20 0 ∷ number 150 r.status ∷ number 39 r.status ∷ (reason_field r.reason ++ order_part)
+  status_part = pair_field 17 r.place r.index ∷ number_field 20 0 ∷ number_field 150 (ord_status_code r.ord_status) ∷ number_field 39 (ord_status_code r.ord_status) ∷ (reason_field r.ord_rej_reason ++ order_part)
 
   report_fit : ReportFits r → AllByRecursion FitsReport (report_fields r)
   report_fit h =
-      let tail_fits : AllByRecursion FitsReport tail = (number_fits 151 r.leaves (omega arith) (omega arith) h.leaves, (number_fits 14 r.filled (omega arith) (omega arith) h.filled, (number_fits 6 0 (omega arith) (omega arith) (omega arith), legs_fits r.traded h.traded))) in
+      let tail_fits : AllByRecursion FitsReport tail = (number_fits 151 r.leaves_qty (omega arith) (omega arith) h.leaves, (number_fits 14 r.cum_qty (omega arith) (omega arith) h.filled, (number_fits 6 0 (omega arith) (omega arith) (omega arith), legs_fits r.traded h.traded))) in
       let order_fits : AllByRecursion FitsReport order_part =
-      (text_fits 55 r.symbol (omega arith) (omega arith) h.symbol, (number_fits 54 (side_code r.side) (omega arith) (omega arith) (side_small r.side), (number_fits 38 r.quantity (omega arith) (omega arith) h.quantity, fits_append (last_fields r.traded) tail (last_fit r.traded h.traded) tail_fits))) in
+      (text_fits 55 r.symbol (omega arith) (omega arith) h.symbol, (number_fits 54 (side_code r.side) (omega arith) (omega arith) (side_small r.side), (number_fits 38 r.order_qty (omega arith) (omega arith) h.quantity, fits_append (last_fields r.traded) tail (last_fit r.traded h.traded) tail_fits))) in
       let status_fits : AllByRecursion FitsReport status_part =
-      (pair_fits 17 r.place r.index (omega arith) (omega arith) h.place h.index, (number_fits 20 0 (omega arith) (omega arith) (omega arith), (number_fits 150 r.status (omega arith) (omega arith) h.status, (number_fits 39 r.status (omega arith) (omega arith) h.status, fits_append (reason_field r.reason) order_part (reason_fits r.reason h.reason) order_fits)))) in
-      (number_fits 37 r.order (omega arith) (omega arith) h.order, (text_fits 11 r.id (omega arith) (omega arith) h.id, fits_append (original_field r.original) status_part (original_fits r.original h.original) status_fits))
+      (pair_fits 17 r.place r.index (omega arith) (omega arith) h.place h.index, (number_fits 20 0 (omega arith) (omega arith) (omega arith), (number_fits 150 (ord_status_code r.ord_status) (omega arith) (omega arith) (status_small r.ord_status), (number_fits 39 (ord_status_code r.ord_status) (omega arith) (omega arith) (status_small r.ord_status), fits_append (reason_field r.ord_rej_reason) order_part (reason_fits r.ord_rej_reason h.reason) order_fits)))) in
+      (number_fits 37 r.order_id (omega arith) (omega arith) h.order, (text_fits 11 r.cl_ord_id (omega arith) (omega arith) h.id, fits_append (original_field r.orig_cl_ord_id) status_part (original_fits r.orig_cl_ord_id h.original) status_fits))
 
   report_length : length (report_fields r) ≤ 18
   report_length =
-      let a : length (original_field r.original ++ status_part) ≡ length (original_field r.original) + length status_part = length-append (original_field r.original) status_part in
-      let b : length (reason_field r.reason ++ order_part) ≡ length (reason_field r.reason) + length order_part = length-append (reason_field r.reason) order_part in
+      let a : length (original_field r.orig_cl_ord_id ++ status_part) ≡ length (original_field r.orig_cl_ord_id) + length status_part = length-append (original_field r.orig_cl_ord_id) status_part in
+      let b : length (reason_field r.ord_rej_reason ++ order_part) ≡ length (reason_field r.ord_rej_reason) + length order_part = length-append (reason_field r.ord_rej_reason) order_part in
       let d : length (last_fields r.traded ++ tail) ≡ length (last_fields r.traded) + length tail = length-append (last_fields r.traded) tail in
-      omega (arith, a, b, d, original_length r.original, reason_length r.reason, last_length r.traded, legs_length r.traded)
+      omega (arith, a, b, d, original_length r.orig_cl_ord_id, reason_length r.ord_rej_reason, last_length r.traded, legs_length r.traded)
 
   report_in_range : (to : ℕ) → ReportFits r → FitsAddressed (report to r)
   report_in_range to h = (omega arith, report_fit h, report_length)
@@ -180,33 +196,29 @@ module _ (rules : Rules) (names : AreNames rules) where
 
   -- ---- fills
 
-  status_small : (leaves : ℕ) → fill_status leaves < 2 ^ 64
-  status_small leaves = elim (leaves == 0) as (λ b. (if b then 2 else 1) < 2 ^ 64) [ true ↦ omega arith | false ↦ omega arith ]
-
-  fill_fits : (place index : ℕ) (f : Fill) (symbol : List ℕ) (side : Side) (z : ℤ) (legs : ℕ) → FillInRange rules f → place < 2 ^ 64 → index < 2 ^ 64 → is_id symbol ≡ true → unsigned_abs z < 2 ^ 64 → legs < 2 ^ 64
+  fill_fits : (place index : ℕ) (f : Fill) (symbol : List ℕ) (side : Side) (z : ℤ) (legs : MultiLegReportingType) → FillInRange rules f → place < 2 ^ 64 → index < 2 ^ 64 → is_id symbol ≡ true → unsigned_abs z < 2 ^ 64
       → FitsAddressed (report f.session (fill_report place index f symbol side z legs))
-  fill_fits place index f symbol side z legs h p i s hz hl = report_in_range (fill_report place index f symbol side z legs) f.session (record {
+  fill_fits place index f symbol side z legs h p i s hz = report_in_range (fill_report place index f symbol side z legs) f.session (record {
     order = h.order;
     id = h.id;
     original = tt;
     place = p;
     index = i;
-    status = status_small f.leaves;
     reason = tt;
     symbol = s;
     quantity = h.total;
-    traded = (h.quantity, hz, hl);
+    traded = (h.quantity, hz);
     leaves = h.leaves;
     filled = omega (arith, h.total);
   })
 
   reports_fit : (k : Instrument) (place index : ℕ) (f : Fill) → IsListed rules k → FillInRange rules f → place < 2 ^ 64 → index + 3 < 2 ^ 64 → AllByRecursion FitsAddressed (reports_by k rules place index f)
-  reports_fit (Outright m) place index f listed h p i = (fill_fits place index f (symbol_of rules f.instrument) f.side f.price 1 h p (omega (arith, i)) (symbol_fits f.instrument h.listed) h.price (omega arith), tt)
+  reports_fit (Outright m) place index f listed h p i = (fill_fits place index f (symbol_of rules f.instrument) f.side f.price SingleSecurity h p (omega (arith, i)) (symbol_fits f.instrument h.listed) h.price, tt)
   reports_fit (Spread a b) place index f listed h p i = (
-    fill_fits place index f (symbol_of rules f.instrument) f.side f.price 3 h p (omega (arith, i)) (symbol_fits f.instrument h.listed) h.price (omega arith),
+    fill_fits place index f (symbol_of rules f.instrument) f.side f.price MultiLegSecurity h p (omega (arith, i)) (symbol_fits f.instrument h.listed) h.price,
     (
-      fill_fits place (index + 1) f (symbol_of rules (Outright a)) f.side f.near 2 h p (omega (arith, i)) (symbol_fits (Outright a) (near_listed a b listed)) h.near (omega arith),
-      (fill_fits place (index + 1 + 1) f (symbol_of rules (Outright b)) (other_side f.side) f.far 2 h p (omega (arith, i)) (symbol_fits (Outright b) listed.1) h.far (omega arith), tt),
+      fill_fits place (index + 1) f (symbol_of rules (Outright a)) f.side f.near IndividualLeg h p (omega (arith, i)) (symbol_fits (Outright a) (near_listed a b listed)) h.near,
+      (fill_fits place (index + 1 + 1) f (symbol_of rules (Outright b)) (other_side f.side) f.far IndividualLeg h p (omega (arith, i)) (symbol_fits (Outright b) listed.1) h.far, tt),
     ),
   )
 
@@ -234,7 +246,6 @@ module _ (rules : Rules) (names : AreNames rules) where
     original = tt;
     place = p;
     index = omega arith;
-    status = omega arith;
     reason = tt;
     symbol = h.symbol;
     quantity = omega (arith, h.quantity);
@@ -250,7 +261,6 @@ module _ (rules : Rules) (names : AreNames rules) where
     original = tt;
     place = p;
     index = omega arith;
-    status = omega arith;
     reason = n;
     symbol = h.symbol;
     quantity = omega (arith, h.quantity);
@@ -266,7 +276,6 @@ module _ (rules : Rules) (names : AreNames rules) where
     original = tt;
     place = p;
     index = i;
-    status = omega arith;
     reason = tt;
     symbol = h.symbol;
     quantity = omega (arith, h.quantity);
@@ -283,7 +292,6 @@ module _ (rules : Rules) (names : AreNames rules) where
     original = d;
     place = p;
     index = omega arith;
-    status = omega arith;
     reason = tt;
     symbol = symbol_fits o.instrument listed;
     quantity = oq;
@@ -309,7 +317,7 @@ module _ (rules : Rules) (names : AreNames rules) where
   news_fit place session t Session fs p h o few fits = tt
 
   place_fits : (of : ℕ) → of < 2 ^ 64 → FitsReport (place_field of)
-  place_fits of h = elim (of == 0) as (λ b. FitsReport (if b then text 37 (codes "NONE") else number 37 of)) [ true ↦ text_fits 37 (codes "NONE") (omega arith) (omega arith) refl | false ↦ number_fits 37 of (omega arith) (omega arith) h ]
+  place_fits of h = elim (of == 0) as (λ b. FitsReport (if b then text_field 37 (codes "NONE") else number_field 37 of)) [ true ↦ text_fits 37 (codes "NONE") (omega arith) (omega arith) refl | false ↦ number_fits 37 of (omega arith) (omega arith) h ]
 
   cancels_fit : (place session : ℕ) (id original : List ℕ) (outcome : Outcome) → place < 2 ^ 64 → is_id id ≡ true → is_id original ≡ true → OutcomeInRange rules outcome
       → AllByRecursion FitsAddressed (cancel_messages rules place session id original outcome)
@@ -324,11 +332,11 @@ module _ (rules : Rules) (names : AreNames rules) where
 
   close_fits : (session reason : ℕ) → AllByRecursion FitsAddressed (close_messages session reason)
   close_fits session reason =
-      elim (reason == 1) as (λ a. AllByRecursion FitsAddressed (if a then numbered_message session 53 [] ∷ [] else if reason == 2 then numbered_message session 53 (text 58 (codes "MsgSeqNum too low") ∷ []) ∷ [] else if reason == 4 then numbered_message session 53 (text 58 (codes "CompID") ∷ []) ∷ [] else [])) [
+      elim (reason == 1) as (λ a. AllByRecursion FitsAddressed (if a then numbered_message session 53 [] ∷ [] else if reason == 2 then numbered_message session 53 (text_field 58 (codes "MsgSeqNum too low") ∷ []) ∷ [] else if reason == 4 then numbered_message session 53 (text_field 58 (codes "CompID") ∷ []) ∷ [] else [])) [
         | true ↦ ((omega arith, tt, omega arith), tt)
-        | false ↦ elim (reason == 2) as (λ b. AllByRecursion FitsAddressed (if b then numbered_message session 53 (text 58 (codes "MsgSeqNum too low") ∷ []) ∷ [] else if reason == 4 then numbered_message session 53 (text 58 (codes "CompID") ∷ []) ∷ [] else [])) [
+        | false ↦ elim (reason == 2) as (λ b. AllByRecursion FitsAddressed (if b then numbered_message session 53 (text_field 58 (codes "MsgSeqNum too low") ∷ []) ∷ [] else if reason == 4 then numbered_message session 53 (text_field 58 (codes "CompID") ∷ []) ∷ [] else [])) [
           | true ↦ ((omega arith, (text_fits 58 (codes "MsgSeqNum too low") (omega arith) (omega arith) refl, tt), omega arith), tt)
-          | false ↦ elim (reason == 4) as (λ d. AllByRecursion FitsAddressed (if d then numbered_message session 53 (text 58 (codes "CompID") ∷ []) ∷ [] else [])) [
+          | false ↦ elim (reason == 4) as (λ d. AllByRecursion FitsAddressed (if d then numbered_message session 53 (text_field 58 (codes "CompID") ∷ []) ∷ [] else [])) [
             | true ↦ ((omega arith, (text_fits 58 (codes "CompID") (omega arith) (omega arith) refl, tt), omega arith), tt)
             | false ↦ tt
           ]
@@ -349,5 +357,5 @@ module _ (rules : Rules) (names : AreNames rules) where
   event_fits place session (Reject n reason) outcome fs p h o few fits = ((omega arith, (number_fits 45 n (omega arith) (omega arith) (omega (arith, h.0.1)), (number_fits 373 reason (omega arith) (omega arith) (small_reason reason h.1), tt)), omega arith), tt)
   event_fits place session (Close reason) outcome fs p h o few fits = close_fits session reason
 
-  pub entry_fits : (w : WorkedEntry) → EntryInRange rules w → AllByRecursion FitsAddressed (entry_messages rules w)
+  pub entry_fits : (w : AppliedEntry) → EntryInRange rules w → AllByRecursion FitsAddressed (entry_messages rules w)
   entry_fits w h = event_fits w.place w.entry.session w.entry.event w.outcome w.fills h.place h.event h.outcome h.few h.fills

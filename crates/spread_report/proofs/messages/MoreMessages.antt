@@ -8,30 +8,32 @@ use Rattle.std.specs.Prelude.{if◌then◌else◌}
 use Rattle.spread_report.specs.declared.fault.DeskFault.{DeskFault}
 use Rattle.spread_report.specs.declared.fault.DeskFault.TheVariants.{NoMemory, NumbersSpent}
 use Rattle.spread_report.specs.EntryMessages.{AddressedMessage}
-use Rattle.spread_report.specs.Outgoing.{next_under, bytes_to, outbound_after, spends, text_for, outbound_for, spent_for}
+use Rattle.spread_report.specs.Outgoing.{next_after, messages_bytes, outbound_after, spends, bytes_for, outbound_for, needs_number_for}
 use Rattle.spread_report.specs.Messages.{IsRow, as_message, texts_to}
 use Rattle.spread_report.proofs.frames.FrameRows.{rows_both}
-use Rattle.spread_report.specs.Desk.{DeskState, Sends}
-use Rattle.spread_report.specs.Sessions.{bytes_of, outbound_at, Sent, OnlyAppended, NumbersRunOut, SendResult}
+use Rattle.spread_report.specs.Desk.{DeskState}
+use Rattle.spread_report.specs.code.Sending.{Sends}
+use Rattle.spread_report.specs.Sessions.{bytes_of, outbound_at}
+use Rattle.spread_report.specs.code.Sending.{Sent, OnlyAppended, NumbersRunOut, SendResult}
 
 pub outbound_after-append : (s : ℕ) (l : OutboundSession) (xs ys : List AddressedMessage) → outbound_after s l (xs ++ ys) ≡ outbound_after s (outbound_after s l xs) ys
 outbound_after-append s l [] ys = refl
 outbound_after-append s l (m ∷ ms) ys = outbound_after-append s (outbound_for s l m) ms ys
 
-pub bytes_to-append : (stamp : List ℕ) (s : ℕ) (l : OutboundSession) (xs ys : List AddressedMessage) → bytes_to stamp s l (xs ++ ys) ≡ bytes_to stamp s l xs ++ bytes_to stamp s (outbound_after s l xs) ys
-bytes_to-append stamp s l [] ys = refl
-bytes_to-append stamp s l (m ∷ ms) ys =
-    ap (λ (t : List ℕ). text_for stamp s l m ++ t) (bytes_to-append stamp s (outbound_for s l m) ms ys)
-    ∙ sym (append_assoc (text_for stamp s l m) (bytes_to stamp s (outbound_for s l m) ms) (bytes_to stamp s (outbound_after s (outbound_for s l m) ms) ys))
+pub messages_bytes-append : (stamp : List ℕ) (s : ℕ) (l : OutboundSession) (xs ys : List AddressedMessage) → messages_bytes stamp s l (xs ++ ys) ≡ messages_bytes stamp s l xs ++ messages_bytes stamp s (outbound_after s l xs) ys
+messages_bytes-append stamp s l [] ys = refl
+messages_bytes-append stamp s l (m ∷ ms) ys =
+    ap (λ (t : List ℕ). bytes_for stamp s l m ++ t) (messages_bytes-append stamp s (outbound_for s l m) ms ys)
+    ∙ sym (append_assoc (bytes_for stamp s l m) (messages_bytes stamp s (outbound_for s l m) ms) (messages_bytes stamp s (outbound_after s (outbound_for s l m) ms) ys))
 
 pub texts_to-append : (stamp : List ℕ) (s : ℕ) (l : OutboundSession) (xs ys : List AddressedMessage) → texts_to stamp s l (xs ++ ys) ≡ texts_to stamp s l xs ++ texts_to stamp s (outbound_after s l xs) ys
 texts_to-append stamp s l [] ys = refl
 texts_to-append stamp s l (m ∷ ms) ys =
-    ap (λ (t : List (List ℕ)). as_message (text_for stamp s l m) ++ t) (texts_to-append stamp s (outbound_for s l m) ms ys)
-    ∙ sym (append_assoc (as_message (text_for stamp s l m)) (texts_to stamp s (outbound_for s l m) ms) (texts_to stamp s (outbound_after s (outbound_for s l m) ms) ys))
+    ap (λ (t : List (List ℕ)). as_message (bytes_for stamp s l m) ++ t) (texts_to-append stamp s (outbound_for s l m) ms ys)
+    ∙ sym (append_assoc (as_message (bytes_for stamp s l m)) (texts_to stamp s (outbound_for s l m) ms) (texts_to stamp s (outbound_after s (outbound_for s l m) ms) ys))
 
 abbrev chosen : Bool → ℕ → OutboundSession → AddressedMessage → OutboundSession
-chosen b s l m = if b then record { next = next_under l.comp_ids l.next m.content; comp_ids = l.comp_ids } else l
+chosen b s l m = if b then record { next = next_after l.comp_ids l.next m.content; comp_ids = l.comp_ids } else l
 
 for_ids : (s : ℕ) (l : OutboundSession) (m : AddressedMessage) → (outbound_for s l m).comp_ids ≡ l.comp_ids
 for_ids s l m = elim (m.to == s) as (λ b. (chosen b s l m).comp_ids ≡ l.comp_ids) [ true ↦ refl | false ↦ refl ]
@@ -41,10 +43,10 @@ ids_after s l [] = refl
 ids_after s l (m ∷ ms) = ids_after s (outbound_for s l m) ms ∙ for_ids s l m
 
 pub row-append : (stamp : List ℕ) (s : ℕ) (l k : OutboundSession) (xs ys : List AddressedMessage) → k ≡ outbound_after s l xs
-    → IsRow (texts_to stamp s l xs) (bytes_to stamp s l xs) → IsRow (texts_to stamp s k ys) (bytes_to stamp s k ys) → IsRow (texts_to stamp s l (xs ++ ys)) (bytes_to stamp s l (xs ++ ys))
+    → IsRow (texts_to stamp s l xs) (messages_bytes stamp s l xs) → IsRow (texts_to stamp s k ys) (messages_bytes stamp s k ys) → IsRow (texts_to stamp s l (xs ++ ys)) (messages_bytes stamp s l (xs ++ ys))
 row-append stamp s l k xs ys e p q =
-    let after : IsRow (texts_to stamp s (outbound_after s l xs) ys) (bytes_to stamp s (outbound_after s l xs) ys) = subst (λ (j : OutboundSession). IsRow (texts_to stamp s j ys) (bytes_to stamp s j ys)) e q in
-    rw (texts_to-append stamp s l xs ys, bytes_to-append stamp s l xs ys) (rows_both (texts_to stamp s l xs) (texts_to stamp s (outbound_after s l xs) ys) (bytes_to stamp s l xs) (bytes_to stamp s (outbound_after s l xs) ys) p after)
+    let after : IsRow (texts_to stamp s (outbound_after s l xs) ys) (messages_bytes stamp s (outbound_after s l xs) ys) = subst (λ (j : OutboundSession). IsRow (texts_to stamp s j ys) (messages_bytes stamp s j ys)) e q in
+    rw (texts_to-append stamp s l xs ys, messages_bytes-append stamp s l xs ys) (rows_both (texts_to stamp s l xs) (texts_to stamp s (outbound_after s l xs) ys) (messages_bytes stamp s l xs) (messages_bytes stamp s (outbound_after s l xs) ys) p after)
 
 or_assoc : (a b d : Bool) → a || (b || d) ≡ (a || b) || d
 or_assoc true b d = refl
@@ -53,8 +55,8 @@ or_assoc false b d = refl
 pub spends-append : (s : ℕ) (l : OutboundSession) (xs ys : List AddressedMessage) → spends s l (xs ++ ys) ≡ spends s l xs || spends s (outbound_after s l xs) ys
 spends-append s l [] ys = refl
 spends-append s l (m ∷ ms) ys =
-    ap (λ (t : Bool). spent_for s l m || t) (spends-append s (outbound_for s l m) ms ys)
-    ∙ or_assoc (spent_for s l m) (spends s (outbound_for s l m) ms) (spends s (outbound_after s (outbound_for s l m) ms) ys)
+    ap (λ (t : Bool). needs_number_for s l m || t) (spends-append s (outbound_for s l m) ms ys)
+    ∙ or_assoc (needs_number_for s l m) (spends s (outbound_for s l m) ms) (spends s (outbound_after s (outbound_for s l m) ms) ys)
 
 or_left : (a b : Bool) → a ≡ true → a || b ≡ true
 or_left a b e = rw e refl
@@ -80,10 +82,10 @@ module _ {A : Type 0} (stamp : List ℕ) (a b d : List OutboundSession) (x y z :
     lists = q.lists ∙ p.lists;
     bytes = λ s below.
         q.bytes s below
-        ∙ (ap (λ (t : List ℕ). t ++ bytes_to stamp s (outbound_at b s) ns) (p.bytes s below)
-        ∙ (append_assoc (bytes_of x s) (bytes_to stamp s (outbound_at a s) ms) (bytes_to stamp s (outbound_at b s) ns)
+        ∙ (ap (λ (t : List ℕ). t ++ messages_bytes stamp s (outbound_at b s) ns) (p.bytes s below)
+        ∙ (append_assoc (bytes_of x s) (messages_bytes stamp s (outbound_at a s) ms) (messages_bytes stamp s (outbound_at b s) ns)
         ∙ ap (λ (t : List ℕ). bytes_of x s ++ t)
-        (ap (λ (l : OutboundSession). bytes_to stamp s (outbound_at a s) ms ++ bytes_to stamp s l ns) (p.outbound s below) ∙ sym (bytes_to-append stamp s (outbound_at a s) ms ns))));
+        (ap (λ (l : OutboundSession). messages_bytes stamp s (outbound_at a s) ms ++ messages_bytes stamp s l ns) (p.outbound s below) ∙ sym (messages_bytes-append stamp s (outbound_at a s) ms ns))));
     outbound = λ s below. q.outbound s below ∙ (ap (λ (l : OutboundSession). outbound_after s l ns) (p.outbound s below) ∙ sym (outbound_after-append s (outbound_at a s) ms ns));
     unspent = λ s below.
         spends-append s (outbound_at a s) ms ns
@@ -97,7 +99,7 @@ module _ {A : Type 0} (stamp : List ℕ) (a b d : List OutboundSession) (x y z :
     sessions = q.sessions ∙ p.sessions;
     lists = q.lists ∙ p.lists;
     comp_ids = λ s below. q.comp_ids s below ∙ (ap (λ (l : OutboundSession). l.comp_ids) (p.outbound s below) ∙ ids_after s (outbound_at a s) ms);
-    begins = λ s below. begins_both (bytes_of x s) (bytes_to stamp s (outbound_at a s) ms) (bytes_of y s) (bytes_of z s) (p.bytes s below) (q.begins s below);
+    begins = λ s below. begins_both (bytes_of x s) (messages_bytes stamp s (outbound_at a s) ms) (bytes_of y s) (bytes_of z s) (p.bytes s below) (q.begins s below);
   }
 
   spends_after : Sent stamp a b x y ms → NumbersRunOut b ns → NumbersRunOut a (ms ++ ns)

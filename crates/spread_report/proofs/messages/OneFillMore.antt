@@ -3,7 +3,8 @@ use Rattle.std.proofs.Common.{◌≡◌, ℕ, ◌+◌, ◌<◌, List, [], ◌∷
 use Rattle.std.proofs.lemmas.List.{take_more, take-append-drop}
 use Rattle.std.specs.declared.vec.Vec.{Vec}
 use Rattle.spread_report.specs.declared.fault.DeskFault.{DeskFault}
-use Rattle.spread_report.specs.Desk.{DeskState, Sends}
+use Rattle.spread_report.specs.Desk.{DeskState}
+use Rattle.spread_report.specs.code.Sending.{Sends}
 use Rattle.spread_report.proofs.messages.MoreMessages.{all_sent, sends_after, sends_no_more}
 use Rattle.spread_rules.specs.declared.fill.Fill.{Fill}
 use Rattle.spread_rules.specs.Rulebook.{Rules}

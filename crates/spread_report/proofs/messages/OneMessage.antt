@@ -7,12 +7,13 @@ use Rattle.std.specs.declared.vec.Vec.{Vec}
 use Rattle.spread_report.specs.declared.outbound.OutboundSession.{OutboundSession}
 use Rattle.spread_report.specs.declared.outbound.CompIds.{CompIds}
 use Rattle.spread_report.specs.declared.fault.DeskFault.{DeskFault}
-use Rattle.spread_report.specs.EntryMessages.{AddressedMessage, MessageContent, gap_fill, text, number, place_field}
-use Rattle.spread_report.specs.Outgoing.{bytes_to, outbound_after, spends, text_under, next_under, spent_under, content_text, next_after, is_spent, outbound_before_logon, new_seq_no, head_of}
+use Rattle.spread_report.specs.EntryMessages.{AddressedMessage, MessageContent, gap_fill, text_field, number_field, place_field}
+use Rattle.spread_report.specs.Outgoing.{messages_bytes, outbound_after, spends, message_bytes, next_after, needs_number_above_limit, outbound_before_logon, new_seq_no, head_of}
 use Rattle.fix_wire.specs.Layout.{message_text}
 use Rattle.spread_report.specs.Messages.{IsRow, as_message, texts_to}
 use Rattle.spread_report.proofs.frames.FrameRows.{no_row}
-use Rattle.spread_report.specs.Sessions.{bytes_of, outbound_at, Sent, OnlyAppended, NumbersRunOut, SendResult}
+use Rattle.spread_report.specs.Sessions.{bytes_of, outbound_at}
+use Rattle.spread_report.specs.code.Sending.{Sent, OnlyAppended, NumbersRunOut, SendResult}
 
 -- the message
 abbrev pub one : ℕ → MessageContent → List AddressedMessage
@@ -38,26 +39,26 @@ or_false false = refl
 
 -- what one message does to its own session, and to another
 module _ (stamp : List ℕ) (l : OutboundSession) (content : MessageContent) where
-  pub bytes_same : (i : ℕ) → bytes_to stamp i l (one i content) ≡ text_under stamp l.comp_ids l.next content
-  bytes_same i = rw (eq-eqb i i refl) (append-nil (text_under stamp l.comp_ids l.next content))
+  pub bytes_same : (i : ℕ) → messages_bytes stamp i l (one i content) ≡ message_bytes stamp l.comp_ids l.next content
+  bytes_same i = rw (eq-eqb i i refl) (append-nil (message_bytes stamp l.comp_ids l.next content))
 
-  pub bytes_other : (i s : ℕ) → s ≢ i → bytes_to stamp s l (one i content) ≡ []
+  pub bytes_other : (i s : ℕ) → s ≢ i → messages_bytes stamp s l (one i content) ≡ []
   bytes_other i s apart = rw (ne_eqb i s (λ h. apart (sym h))) refl
 
-  pub texts_same : (i : ℕ) → texts_to stamp i l (one i content) ≡ as_message (text_under stamp l.comp_ids l.next content)
-  texts_same i = rw (eq-eqb i i refl) (append-nil (as_message (text_under stamp l.comp_ids l.next content)))
+  pub texts_same : (i : ℕ) → texts_to stamp i l (one i content) ≡ as_message (message_bytes stamp l.comp_ids l.next content)
+  texts_same i = rw (eq-eqb i i refl) (append-nil (as_message (message_bytes stamp l.comp_ids l.next content)))
 
   pub texts_other : (i s : ℕ) → s ≢ i → texts_to stamp s l (one i content) ≡ []
   texts_other i s apart = rw (ne_eqb i s (λ h. apart (sym h))) refl
 
-  pub line_same : (i : ℕ) → outbound_after i l (one i content) ≡ record { next = next_under l.comp_ids l.next content; comp_ids = l.comp_ids }
+  pub line_same : (i : ℕ) → outbound_after i l (one i content) ≡ record { next = next_after l.comp_ids l.next content; comp_ids = l.comp_ids }
   line_same i = rw (eq-eqb i i refl) refl
 
   pub line_other : (i s : ℕ) → s ≢ i → outbound_after s l (one i content) ≡ l
   line_other i s apart = rw (ne_eqb i s (λ h. apart (sym h))) refl
 
-  pub spends_same : (i : ℕ) → spends i l (one i content) ≡ spent_under l.comp_ids l.next content
-  spends_same i = rw (eq-eqb i i refl) (or_false (spent_under l.comp_ids l.next content))
+  pub spends_same : (i : ℕ) → spends i l (one i content) ≡ needs_number_above_limit l.comp_ids l.next content
+  spends_same i = rw (eq-eqb i i refl) (or_false (needs_number_above_limit l.comp_ids l.next content))
 
   pub spends_other : (i s : ℕ) → s ≢ i → spends s l (one i content) ≡ false
   spends_other i s apart = rw (ne_eqb i s (λ h. apart (sym h))) refl
@@ -65,10 +66,10 @@ module _ (stamp : List ℕ) (l : OutboundSession) (content : MessageContent) whe
 module _ {A : Type 0} (stamp : List ℕ) (a : List OutboundSession) (x : List (Vec ℕ A)) (i : ℕ) (content : MessageContent) where
   -- the session's list got the text, and its outbound state went on
   pub sent_at : (v : Vec ℕ A) (l : OutboundSession) → i < length a → i < length x
-      → v.items ≡ bytes_of x i ++ text_under stamp (outbound_at a i).comp_ids (outbound_at a i).next content
-      → l ≡ record { next = next_under (outbound_at a i).comp_ids (outbound_at a i).next content; comp_ids = (outbound_at a i).comp_ids }
-      → spent_under (outbound_at a i).comp_ids (outbound_at a i).next content ≡ false
-      → IsRow (as_message (text_under stamp (outbound_at a i).comp_ids (outbound_at a i).next content)) (text_under stamp (outbound_at a i).comp_ids (outbound_at a i).next content)
+      → v.items ≡ bytes_of x i ++ message_bytes stamp (outbound_at a i).comp_ids (outbound_at a i).next content
+      → l ≡ record { next = next_after (outbound_at a i).comp_ids (outbound_at a i).next content; comp_ids = (outbound_at a i).comp_ids }
+      → needs_number_above_limit (outbound_at a i).comp_ids (outbound_at a i).next content ≡ false
+      → IsRow (as_message (message_bytes stamp (outbound_at a i).comp_ids (outbound_at a i).next content)) (message_bytes stamp (outbound_at a i).comp_ids (outbound_at a i).next content)
       → Sent stamp a (set a i l) x (set x i v) (one i content)
   sent_at v l in_a in_x text line spent row = record {
     sessions = length-set a i l;
@@ -96,8 +97,8 @@ module _ {A : Type 0} (stamp : List ℕ) (a : List OutboundSession) (x : List (V
   }
 
   -- nothing was to be sent
-  pub sent_quiet : text_under stamp (outbound_at a i).comp_ids (outbound_at a i).next content ≡ [] → next_under (outbound_at a i).comp_ids (outbound_at a i).next content ≡ (outbound_at a i).next
-      → spent_under (outbound_at a i).comp_ids (outbound_at a i).next content ≡ false → Sent stamp a a x x (one i content)
+  pub sent_quiet : message_bytes stamp (outbound_at a i).comp_ids (outbound_at a i).next content ≡ [] → next_after (outbound_at a i).comp_ids (outbound_at a i).next content ≡ (outbound_at a i).next
+      → needs_number_above_limit (outbound_at a i).comp_ids (outbound_at a i).next content ≡ false → Sent stamp a a x x (one i content)
   sent_quiet text next spent = record {
     sessions = refl;
     lists = refl;
@@ -152,8 +153,8 @@ module _ {A : Type 0} (stamp : List ℕ) (a : List OutboundSession) (x : List (V
   row_is below = get_or-map (λ (v : Vec ℕ A). v.items) x i w [] below
 
   pub sent_line : (v : Vec ℕ A) (n : ℕ) → length a ≡ 16 → length x ≡ 16 → i < 16 → r ≡ get_or a i r → r.comp_ids ≡ Some ids
-      → v.items ≡ (get_or x i w).items ++ content_text stamp ids r.next content → n ≡ next_after r.next content → is_spent r.next content ≡ false
-      → IsRow (as_message (content_text stamp ids r.next content)) (content_text stamp ids r.next content)
+      → v.items ≡ (get_or x i w).items ++ message_bytes stamp (Some ids) r.next content → n ≡ next_after (Some ids) r.next content → needs_number_above_limit (Some ids) r.next content ≡ false
+      → IsRow (as_message (message_bytes stamp (Some ids) r.next content)) (message_bytes stamp (Some ids) r.next content)
       → Sent stamp a (set a i (record { next = n; comp_ids = Some ids })) x (set x i v) (one i content)
   sent_line v n in_a in_x below is_r is_ids text next unspent row =
       let here : outbound_at a i ≡ r = line_is is_r (rw in_a below) in
@@ -162,7 +163,7 @@ module _ {A : Type 0} (stamp : List ℕ) (a : List OutboundSession) (x : List (V
       (rw (here, there, is_ids) text) (rw (here, is_ids, next) refl) (rw (here, is_ids) unspent) (rw (here, is_ids) row)
 
 module _ (stamp : List ℕ) (a : List OutboundSession) (i : ℕ) (content : MessageContent) (r : OutboundSession) (ids : CompIds) where
-  pub spent_line : length a ≡ 16 → i < 16 → r ≡ get_or a i r → r.comp_ids ≡ Some ids → is_spent r.next content ≡ true → NumbersRunOut a (one i content)
+  pub spent_line : length a ≡ 16 → i < 16 → r ≡ get_or a i r → r.comp_ids ≡ Some ids → needs_number_above_limit (Some ids) r.next content ≡ true → NumbersRunOut a (one i content)
   spent_line in_a below is_r is_ids spent =
       let here : outbound_at a i ≡ r = get_or_default a i (outbound_before_logon 1) r (rw in_a below) ∙ sym is_r in
       record { session = i; below = below; spent = spends_same stamp (outbound_at a i) content i ∙ rw (here, is_ids) spent }
@@ -174,7 +175,7 @@ module _ {A : Type 0} (a : List OutboundSession) (x : List (Vec ℕ A)) (i : ℕ
 module _ {A : Type 0} (stamp : List ℕ) (a : List OutboundSession) (x : List (Vec ℕ A)) (i : ℕ) (first last : ℕ) (r : OutboundSession) (w : Vec ℕ A) (ids : CompIds) where
   -- a gap fill leaves the outbound state as it was
   pub gap_line : (v : Vec ℕ A) (t : List ℕ) → length a ≡ 16 → length x ≡ 16 → i < 16 → r ≡ get_or a i r → r.comp_ids ≡ Some ids
-      → v.items ≡ (get_or x i w).items ++ t → t ≡ content_text stamp ids r.next (gap_fill first last) → IsRow (as_message t) t
+      → v.items ≡ (get_or x i w).items ++ t → t ≡ message_bytes stamp (Some ids) r.next (gap_fill first last) → IsRow (as_message t) t
       → Sent stamp a a x (set x i v) (one i (gap_fill first last))
   gap_line v t in_a in_x below is_r is_ids text is_t row =
       let kept : set a i (record { next = r.next; comp_ids = Some ids }) ≡ a =
@@ -183,19 +184,19 @@ module _ {A : Type 0} (stamp : List ℕ) (a : List OutboundSession) (x : List (V
       (sent_line stamp a x i (gap_fill first last) r w ids v r.next in_a in_x below is_r is_ids (text ∙ ap (λ (u : List ℕ). (get_or x i w).items ++ u) is_t) refl refl (subst (λ (u : List ℕ). IsRow (as_message u) u) is_t row))
 
 pub gap_text : (stamp : List ℕ) (ids : CompIds) (next first last n m l : ℕ) (y : List ℕ) → n ≡ first → m ≡ new_seq_no next l → l ≡ last → y ≡ codes "Y" → nat_lt n next ≡ true
-    → message_text (head_of stamp ids 52 n true) (number 36 m ∷ text 123 y ∷ []) ≡ content_text stamp ids next (gap_fill first last)
+    → message_text (head_of stamp ids 52 n true) (number_field 36 m ∷ text_field 123 y ∷ []) ≡ message_bytes stamp (Some ids) next (gap_fill first last)
 gap_text stamp ids next first last n m l y en em el ey lt =
     let there : nat_lt first next ≡ true = rw (sym en) lt in
-    ap (λ (k : ℕ). message_text (head_of stamp ids 52 k true) (number 36 m ∷ text 123 y ∷ [])) en
-    ∙ (ap (λ (k : ℕ). message_text (head_of stamp ids 52 first true) (number 36 k ∷ text 123 y ∷ [])) (em ∙ ap (λ (k : ℕ). new_seq_no next k) el)
-    ∙ (ap (λ (k : List ℕ). message_text (head_of stamp ids 52 first true) (number 36 (new_seq_no next last) ∷ text 123 k ∷ [])) ey
+    ap (λ (k : ℕ). message_text (head_of stamp ids 52 k true) (number_field 36 m ∷ text_field 123 y ∷ [])) en
+    ∙ (ap (λ (k : ℕ). message_text (head_of stamp ids 52 first true) (number_field 36 k ∷ text_field 123 y ∷ [])) (em ∙ ap (λ (k : ℕ). new_seq_no next k) el)
+    ∙ (ap (λ (k : List ℕ). message_text (head_of stamp ids 52 first true) (number_field 36 (new_seq_no next last) ∷ text_field 123 k ∷ [])) ey
     ∙ rw there refl))
 
 -- the order that a cancel rules
-pub named_none : (p : ℕ) → p ≡ 0 → place_field p ≡ text 37 (codes "NONE")
+pub named_none : (p : ℕ) → p ≡ 0 → place_field p ≡ text_field 37 (codes "NONE")
 named_none p e = rw e refl
 
-pub named_place : (p : ℕ) → p ≢ 0 → place_field p ≡ number 37 p
+pub named_place : (p : ℕ) → p ≢ 0 → place_field p ≡ number_field 37 p
 named_place p h = rw (ne_eqb p 0 h) refl
 
 -- messages that are the same

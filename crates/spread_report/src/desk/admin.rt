@@ -1,16 +1,22 @@
 //! The session's own messages, one method for each kind.
 ghost use Rattle.std.specs.Prelude.{◌≡◌, ◌<◌, ◌≤◌, ◌∷◌, [], length};
-ghost use Rattle.spread_report.specs.Desk.{Sends};
-ghost use Rattle.spread_report.specs.EntryMessages.{numbered_message, text, number, gap_fill};
-ghost use Rattle.spread_report.specs.EntryMessages.{close_messages, place_field};
+ghost use Rattle.spread_report.specs.code.Sending.{Sends};
+ghost use Rattle.fix_wire.specs.declared.msg_types.TheConstants.{HEARTBEAT, RESEND_REQUEST, REJECT, ORDER_CANCEL_REJECT, LOGON};
+ghost use Rattle.spread_report.specs.EntryMessages.{numbered_message, gap_fill};
+ghost use Rattle.spread_report.specs.EntryMessages.{logon_fields, heartbeat_fields, reject_fields};
+ghost use Rattle.spread_report.specs.EntryMessages.{resend_request_fields, close_messages};
+ghost use Rattle.spread_report.specs.EntryMessages.{cancel_reject_fields};
 ghost use Rattle.spread_report.specs.Outgoing as outgoing;
 
 use super::Desk;
 use super::entry::CancelRequest;
+use crate::codes::{CXL_REJ_RESPONSE_TO_CANCEL, ENCRYPT_METHOD_NONE};
 use crate::fault::DeskFault;
 use crate::symbol::known_id;
-use fix_wire::{Field, Head, Value, write_message};
+use fix_wire::{Field, Head, Value, msg_types, tags, write_message};
 use host_base::Id;
+use host_base::limits::SESSIONS;
+use spread_rules::codes::close_reason;
 use std::alloc::Allocator;
 
 impl Desk {
@@ -21,13 +27,16 @@ impl Desk {
         session: u8,
         beat: u32,
     ) -> Result<(), DeskFault>
-        requires lists { length lists.old ≡ 16 }
-        requires session { session < 16 }
+        requires lists { length lists.old ≡ SESSIONS }
+        requires session { session < SESSIONS }
         ensures { Sends self.old self.new lists.old lists.new
-            (numbered_message session 65 (number 98 0 ∷ number 108 beat ∷ []) ∷ []) result }
+            (numbered_message session LOGON (logon_fields beat) ∷ []) result }
     {
-        let fields = [number_field!(98, 0), number_field!(108, beat as u64)];
-        self.send(lists, session, b'A', &fields)
+        let fields = [
+            number_field!(tags::ENCRYPT_METHOD, ENCRYPT_METHOD_NONE),
+            number_field!(tags::HEART_BT_INT, beat as u64),
+        ];
+        self.send(lists, session, msg_types::LOGON, &fields)
     }
 
     /// Answers a TestRequest.
@@ -37,13 +46,13 @@ impl Desk {
         session: u8,
         answer: &Id,
     ) -> Result<(), DeskFault>
-        requires lists { length lists.old ≡ 16 }
-        requires session { session < 16 }
+        requires lists { length lists.old ≡ SESSIONS }
+        requires session { session < SESSIONS }
         ensures { Sends self.old self.new lists.old lists.new
-            (numbered_message session 48 (text 112 answer.now ∷ []) ∷ []) result }
+            (numbered_message session HEARTBEAT (heartbeat_fields answer.now) ∷ []) result }
     {
-        let fields = [text_field!(112, *answer)];
-        self.send(lists, session, b'0', &fields)
+        let fields = [text_field!(tags::TEST_REQ_ID, *answer)];
+        self.send(lists, session, msg_types::HEARTBEAT, &fields)
     }
 
     /// Asks for what is missing.
@@ -53,13 +62,16 @@ impl Desk {
         session: u8,
         first: u32,
     ) -> Result<(), DeskFault>
-        requires lists { length lists.old ≡ 16 }
-        requires session { session < 16 }
+        requires lists { length lists.old ≡ SESSIONS }
+        requires session { session < SESSIONS }
         ensures { Sends self.old self.new lists.old lists.new
-            (numbered_message session 50 (number 7 first ∷ number 16 0 ∷ []) ∷ []) result }
+            (numbered_message session RESEND_REQUEST (resend_request_fields first) ∷ []) result }
     {
-        let fields = [number_field!(7, first as u64), number_field!(16, 0)];
-        self.send(lists, session, b'2', &fields)
+        let fields = [
+            number_field!(tags::BEGIN_SEQ_NO, first as u64),
+            number_field!(tags::END_SEQ_NO, 0),
+        ];
+        self.send(lists, session, msg_types::RESEND_REQUEST, &fields)
     }
 
     /// Refuses a message.
@@ -70,39 +82,38 @@ impl Desk {
         refused: u32,
         reason: u8,
     ) -> Result<(), DeskFault>
-        requires lists { length lists.old ≡ 16 }
-        requires session { session < 16 }
+        requires lists { length lists.old ≡ SESSIONS }
+        requires session { session < SESSIONS }
         ensures { Sends self.old self.new lists.old lists.new
-            (numbered_message session 51 (number 45 refused ∷ number 373 reason ∷ []) ∷ [])
-            result }
+            (numbered_message session REJECT (reject_fields refused reason) ∷ []) result }
     {
         let fields = [
-            number_field!(45, refused as u64),
-            number_field!(373, reason as u64),
+            number_field!(tags::REF_SEQ_NUM, refused as u64),
+            number_field!(tags::SESSION_REJECT_REASON, reason as u64),
         ];
-        self.send(lists, session, b'3', &fields)
+        self.send(lists, session, msg_types::REJECT, &fields)
     }
 
-    /// Takes leave, where the session closed by 1, 2 or 4.
+    /// Sends a Logout, where the session closed by a Logout, by a number too low or by another CompID.
     pub(super) fn logout<A: Allocator + Copy>(
         &mut self,
         lists: &mut [Vec<u8, A>],
         session: u8,
         reason: u8,
     ) -> Result<(), DeskFault>
-        requires lists { length lists.old ≡ 16 }
-        requires session { session < 16 }
+        requires lists { length lists.old ≡ SESSIONS }
+        requires session { session < SESSIONS }
         ensures { Sends self.old self.new lists.old lists.new
             (close_messages session reason) result }
     {
-        if reason == 1 {
-            self.send(lists, session, b'5', &[])
-        } else if reason == 2 {
-            let fields = [text_field!(58, known_id(b"MsgSeqNum too low"))];
-            self.send(lists, session, b'5', &fields)
-        } else if reason == 4 {
-            let fields = [text_field!(58, known_id(b"CompID"))];
-            self.send(lists, session, b'5', &fields)
+        if reason == close_reason::LOGOUT {
+            self.send(lists, session, msg_types::LOGOUT, &[])
+        } else if reason == close_reason::MSG_SEQ_NUM_TOO_LOW {
+            let fields = [text_field!(tags::TEXT, known_id(b"MsgSeqNum too low"))];
+            self.send(lists, session, msg_types::LOGOUT, &fields)
+        } else if reason == close_reason::COMP_ID {
+            let fields = [text_field!(tags::TEXT, known_id(b"CompID"))];
+            self.send(lists, session, msg_types::LOGOUT, &fields)
         } else {
             Ok(())
         }
@@ -116,8 +127,8 @@ impl Desk {
         first: u32,
         last: u32,
     ) -> Result<(), DeskFault>
-        requires lists { length lists.old ≡ 16 }
-        requires session { session < 16 }
+        requires lists { length lists.old ≡ SESSIONS }
+        requires session { session < SESSIONS }
         ensures { Sends self.old self.new lists.old lists.new
             (record { to = session; content = gap_fill first last } ∷ []) result }
     {
@@ -132,7 +143,7 @@ impl Desk {
                     return Ok(());
                 }
                 let head = Head {
-                    kind: b'4',
+                    kind: msg_types::SEQUENCE_RESET,
                     number,
                     duplicate: true,
                     sender: ids.host,
@@ -140,7 +151,10 @@ impl Desk {
                     stamp: self.stamp,
                 };
                 let next = new_seq_no(outbound.next, u64::from(last));
-                let fields = [number_field!(36, next), text_field!(123, known_id(b"Y"))];
+                let fields = [
+                    number_field!(tags::NEW_SEQ_NO, next),
+                    text_field!(tags::GAP_FILL_FLAG, known_id(b"Y")),
+                ];
                 write_message(&mut lists[at], &head, &fields)?;
                 Ok(())
             }
@@ -156,13 +170,12 @@ impl Desk {
         place: u64,
         status: u8,
     ) -> Result<(), DeskFault>
-        requires lists { length lists.old ≡ 16 }
-        requires session { request.now.session < 16 }
+        requires lists { length lists.old ≡ SESSIONS }
+        requires session { request.now.session < SESSIONS }
         ensures { Sends self.old self.new lists.old lists.new
-            (numbered_message request.now.session 57 (place_field place ∷ text 11 request.now.id
-            ∷ text 41 request.now.original ∷ number 39 status ∷ number 434 1
-            ∷ number 102 reason ∷ [])
-            ∷ []) result }
+            (numbered_message request.now.session ORDER_CANCEL_REJECT
+            (cancel_reject_fields request.now.id request.now.original reason place status) ∷ [])
+            result }
     {
         let named = if place == 0 {
             Value::Text(known_id(b"NONE"))
@@ -171,16 +184,21 @@ impl Desk {
         };
         let fields = [
             Field {
-                tag: 37,
+                tag: tags::ORDER_ID,
                 value: named,
             },
-            text_field!(11, request.id),
-            text_field!(41, request.original),
-            number_field!(39, status as u64),
-            number_field!(434, 1),
-            number_field!(102, reason as u64),
+            text_field!(tags::CL_ORD_ID, request.id),
+            text_field!(tags::ORIG_CL_ORD_ID, request.original),
+            number_field!(tags::ORD_STATUS, status as u64),
+            number_field!(tags::CXL_REJ_RESPONSE_TO, CXL_REJ_RESPONSE_TO_CANCEL),
+            number_field!(tags::CXL_REJ_REASON, reason as u64),
         ];
-        self.send(lists, request.session, b'9', &fields)
+        self.send(
+            lists,
+            request.session,
+            msg_types::ORDER_CANCEL_REJECT,
+            &fields,
+        )
     }
 }
 

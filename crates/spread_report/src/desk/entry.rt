@@ -2,8 +2,9 @@
 ghost use Rattle.std.specs.Prelude.{◌≡◌, ℕ, ◌<◌, ◌+◌, ◌∷◌, length, IfOk};
 ghost use Rattle.spread_rules.specs.declared.fill.Fill.{Fill};
 ghost use Rattle.spread_rules.specs.Ranges.{FitsCancel, FitsNew, FitsOutcome, FitFills};
-ghost use Rattle.spread_report.specs.Desk.{Sends};
-ghost use Rattle.spread_report.specs.EntryMessages.{messages_of, new_messages, cancel_messages, report, new_report, fills_reports, reports_of};
+ghost use Rattle.spread_report.specs.code.Sending.{Sends};
+ghost use Rattle.spread_report.specs.EntryMessages.{event_messages, new_messages, cancel_messages};
+ghost use Rattle.spread_report.specs.EntryMessages.{accepted_messages, reports_of};
 ghost use Rattle.spread_report.specs.Outgoing.{outbound_at_entry};
 ghost use Rattle.spread_report.specs.Sessions.{outbound_at};
 
@@ -12,6 +13,7 @@ use crate::fault::DeskFault;
 use crate::outbound::CompIds;
 use crate::symbol::symbol_of;
 use host_base::Id;
+use host_base::limits::SESSIONS;
 use spread_rules::{Entry, Event, Fill, Outcome, Rulebook, Ticket};
 use std::alloc::Allocator;
 
@@ -46,9 +48,10 @@ pub struct CancelRequest {
 impl Desk {
     /// Notes the CompIDs that a Logon brings.
     pub(super) fn note_comp_ids(&mut self, entry: &Entry)
-        requires { entry.now.session < 16 }
+        requires { entry.now.session < SESSIONS }
         ensures stamp { self.new.stamp ≡ self.old.stamp }
-        ensures noted { (s : ℕ) → s < 16 → outbound_at self.new.sessions s ≡ outbound_at_entry s
+        ensures noted { (s : ℕ) → s < SESSIONS
+            → outbound_at self.new.sessions s ≡ outbound_at_entry s
             (outbound_at self.old.sessions s) entry.now.session entry.now.event }
     {
         if let Event::Logon { client, host, .. } = entry.event {
@@ -63,14 +66,14 @@ impl Desk {
         rules: &Rulebook,
         applied: &AppliedEntry,
     ) -> Result<(), DeskFault>
-        requires lists { length lists.old ≡ 16 }
-        requires session { applied.now.entry.now.session < 16 }
+        requires lists { length lists.old ≡ SESSIONS }
+        requires session { applied.now.entry.now.session < SESSIONS }
         requires outcome { FitsOutcome rules.now applied.now.entry.now.event
             applied.now.outcome.now }
         requires fills { FitFills rules.now applied.now.fills.now }
         ensures { Sends self.old self.new lists.old lists.new
-            (messages_of rules.now applied.now.place applied.now.entry.now
-            applied.now.outcome.now applied.now.fills.now) result }
+            (event_messages rules.now applied.now.place applied.now.entry.now.session
+            applied.now.entry.now.event applied.now.outcome.now applied.now.fills.now) result }
     {
         let place = applied.place;
         let session = applied.entry.session;
@@ -110,8 +113,8 @@ impl Desk {
         outcome: &Outcome,
         fills: &[Fill],
     ) -> Result<(), DeskFault>
-        requires lists { length lists.old ≡ 16 }
-        requires session { order.now.session < 16 }
+        requires lists { length lists.old ≡ SESSIONS }
+        requires session { order.now.session < SESSIONS }
         requires outcome { FitsNew order.now.ticket.quantity outcome.now }
         requires fills { FitFills rules.now fills.now }
         ensures { Sends self.old self.new lists.old lists.new
@@ -140,12 +143,12 @@ impl Desk {
         order: &NewOrder,
         fills: &[Fill],
     ) -> Result<u64, DeskFault>
-        requires lists { length lists.old ≡ 16 }
-        requires session { order.now.session < 16 }
+        requires lists { length lists.old ≡ SESSIONS }
+        requires session { order.now.session < SESSIONS }
         requires fills { FitFills rules.now fills.now }
         ensures sent { Sends self.old self.new lists.old lists.new
-            (report order.now.session (new_report order.now.place order.now.ticket)
-            ∷ fills_reports rules.now order.now.place 2 fills.now) result }
+            (accepted_messages rules.now order.now.place order.now.session order.now.ticket
+            fills.now) result }
         ensures index { IfOk result (λ i. i ≡ 2 + reports_of fills.now) }
     {
         self.accepted(lists, order)?;
@@ -160,8 +163,8 @@ impl Desk {
         request: &CancelRequest,
         outcome: &Outcome,
     ) -> Result<(), DeskFault>
-        requires lists { length lists.old ≡ 16 }
-        requires session { request.now.session < 16 }
+        requires lists { length lists.old ≡ SESSIONS }
+        requires session { request.now.session < SESSIONS }
         requires outcome { FitsCancel rules.now outcome.now }
         ensures { Sends self.old self.new lists.old lists.new
             (cancel_messages rules.now request.now.place request.now.session request.now.id

@@ -5,15 +5,18 @@ ghost use Rattle.spread_rules.specs.Legs.{other_side};
 ghost use Rattle.spread_rules.specs.Rulebook.{month_count};
 ghost use Rattle.spread_rules.specs.declared.fill.Fill.{Fill};
 ghost use Rattle.spread_rules.specs.Ranges.{FitFills, FitsFill};
-ghost use Rattle.spread_report.specs.Desk.{Sends};
+ghost use Rattle.spread_report.specs.code.Sending.{Sends};
 ghost use Rattle.spread_report.specs.EntryMessages.{report, new_report, rejected_report, ended_report, cancelled_report, fill_report, leg_reports, fill_reports, fills_reports, reports_of, fill_status, report_count};
 
 use super::Desk;
 use super::entry::{CancelRequest, NewOrder};
 use super::report_body::{CancelReport, ExecId, FillReport, OrderReport, RejectReport};
+use crate::codes::{MultiLegReportingType, OrdStatus};
 use crate::fault::DeskFault;
 use crate::symbol::symbol_of;
+use fix_wire::msg_types;
 use host_base::Id;
+use host_base::limits::SESSIONS;
 use spread_rules::{Fill, Instrument, Order, Rulebook, Side};
 use std::alloc::Allocator;
 
@@ -24,8 +27,7 @@ pub struct ReportedPart {
     pub side: Side,
     /// In hundredths.
     pub price: i64,
-    /// MultiLegReportingType (tag 442): 1 an outright, 2 a leg, 3 the spread.
-    pub legs: u8,
+    pub multi_leg: MultiLegReportingType,
 }
 
 impl Desk {
@@ -35,8 +37,8 @@ impl Desk {
         lists: &mut [Vec<u8, A>],
         order: &NewOrder,
     ) -> Result<(), DeskFault>
-        requires lists { length lists.old ≡ 16 }
-        requires session { order.now.session < 16 }
+        requires lists { length lists.old ≡ SESSIONS }
+        requires session { order.now.session < SESSIONS }
         ensures { Sends self.old self.new lists.old lists.new
             (report order.now.session (new_report order.now.place order.now.ticket) ∷ []) result }
     {
@@ -48,14 +50,14 @@ impl Desk {
                 place: order.place,
                 index: 1,
             },
-            ord_status: 0,
+            ord_status: OrdStatus::New,
             symbol: ticket.symbol,
             side: ticket.side,
             order_qty: ticket.quantity as u64,
             leaves_qty: ticket.quantity as u64,
             cum_qty: 0,
         };
-        self.send_body(lists, order.session, b'8', &report)
+        self.send_body(lists, order.session, msg_types::EXECUTION_REPORT, &report)
     }
 
     /// Reports that a new order is refused.
@@ -65,8 +67,8 @@ impl Desk {
         order: &NewOrder,
         reason: u8,
     ) -> Result<(), DeskFault>
-        requires lists { length lists.old ≡ 16 }
-        requires session { order.now.session < 16 }
+        requires lists { length lists.old ≡ SESSIONS }
+        requires session { order.now.session < SESSIONS }
         ensures { Sends self.old self.new lists.old lists.new
             (report order.now.session (rejected_report order.now.place order.now.ticket reason)
             ∷ []) result }
@@ -80,7 +82,7 @@ impl Desk {
                     place: order.place,
                     index: 1,
                 },
-                ord_status: 8,
+                ord_status: OrdStatus::Rejected,
                 symbol: ticket.symbol,
                 side: ticket.side,
                 order_qty: ticket.quantity as u64,
@@ -89,7 +91,7 @@ impl Desk {
             },
             reason: reason as u64,
         };
-        self.send_body(lists, order.session, b'8', &report)
+        self.send_body(lists, order.session, msg_types::EXECUTION_REPORT, &report)
     }
 
     /// Reports that what is left of an immediate order is cancelled.
@@ -100,8 +102,8 @@ impl Desk {
         index: u64,
         left: u32,
     ) -> Result<(), DeskFault>
-        requires lists { length lists.old ≡ 16 }
-        requires session { order.now.session < 16 }
+        requires lists { length lists.old ≡ SESSIONS }
+        requires session { order.now.session < SESSIONS }
         requires left { left ≤ order.now.ticket.quantity }
         ensures { Sends self.old self.new lists.old lists.new
             (report order.now.session (ended_report order.now.place index order.now.ticket left)
@@ -116,14 +118,14 @@ impl Desk {
                 place: order.place,
                 index,
             },
-            ord_status: 4,
+            ord_status: OrdStatus::Canceled,
             symbol: ticket.symbol,
             side: ticket.side,
             order_qty: ticket.quantity as u64,
             leaves_qty: 0,
             cum_qty: filled as u64,
         };
-        self.send_body(lists, order.session, b'8', &report)
+        self.send_body(lists, order.session, msg_types::EXECUTION_REPORT, &report)
     }
 
     /// Reports a cancelled order to who cancelled it.
@@ -134,8 +136,8 @@ impl Desk {
         order: &Order,
         symbol: &Id,
     ) -> Result<(), DeskFault>
-        requires lists { length lists.old ≡ 16 }
-        requires session { request.now.session < 16 }
+        requires lists { length lists.old ≡ SESSIONS }
+        requires session { request.now.session < SESSIONS }
         requires left { order.now.leaves ≤ order.now.quantity }
         ensures { Sends self.old self.new lists.old lists.new
             (report request.now.session (cancelled_report symbol.now request.now.place
@@ -150,7 +152,7 @@ impl Desk {
                     place: request.place,
                     index: 1,
                 },
-                ord_status: 4,
+                ord_status: OrdStatus::Canceled,
                 symbol: *symbol,
                 side: order.side,
                 order_qty: order.quantity as u64,
@@ -159,7 +161,7 @@ impl Desk {
             },
             original: request.original,
         };
-        self.send_body(lists, request.session, b'8', &report)
+        self.send_body(lists, request.session, msg_types::EXECUTION_REPORT, &report)
     }
 
     /// One report of a fill.
@@ -170,13 +172,13 @@ impl Desk {
         fill: &Fill,
         part: &ReportedPart,
     ) -> Result<(), DeskFault>
-        requires lists { length lists.old ≡ 16 }
-        requires session { fill.now.session < 16 }
+        requires lists { length lists.old ≡ SESSIONS }
+        requires session { fill.now.session < SESSIONS }
         requires left { fill.now.leaves ≤ fill.now.total }
         requires price { FitsSigned w64 part.now.price }
         ensures { Sends self.old self.new lists.old lists.new
             (report fill.now.session (fill_report exec_id.place exec_id.index fill.now
-            part.now.symbol part.now.side part.now.price part.now.legs) ∷ []) result }
+            part.now.symbol part.now.side part.now.price part.now.multi_leg) ∷ []) result }
     {
         let filled = fill.total - fill.leaves;
         let report = FillReport {
@@ -193,9 +195,9 @@ impl Desk {
             },
             last_shares: fill.quantity as u64,
             last_px: part.price,
-            legs: part.legs as u64,
+            multi_leg: part.multi_leg,
         };
-        self.send_body(lists, fill.session, b'8', &report)
+        self.send_body(lists, fill.session, msg_types::EXECUTION_REPORT, &report)
     }
 
     /// Reports the legs of a spread's fill, in the near and in the far month.
@@ -207,7 +209,7 @@ impl Desk {
         fill: &Fill,
         months: (u8, u8),
     ) -> Result<(), DeskFault>
-        requires lists { length lists.old ≡ 16 }
+        requires lists { length lists.old ≡ SESSIONS }
         requires near { months.0 < month_count rules.now }
         requires far { months.1 < month_count rules.now }
         requires fits { FitsFill rules.now fill.now }
@@ -220,14 +222,14 @@ impl Desk {
             symbol: rules.name_id(months.0),
             side: fill.side,
             price: near_of(fill),
-            legs: 2,
+            multi_leg: MultiLegReportingType::IndividualLeg,
         };
         self.fill_part(lists, exec_id, fill, &near)?;
         let far = ReportedPart {
             symbol: rules.name_id(months.1),
             side: other_side(fill.side),
             price: far_of(fill),
-            legs: 2,
+            multi_leg: MultiLegReportingType::IndividualLeg,
         };
         self.fill_part(lists, next(exec_id), fill, &far)
     }
@@ -240,7 +242,7 @@ impl Desk {
         exec_id: ExecId,
         fill: &Fill,
     ) -> Result<(), DeskFault>
-        requires lists { length lists.old ≡ 16 }
+        requires lists { length lists.old ≡ SESSIONS }
         requires fits { FitsFill rules.now fill.now }
         requires index { exec_id.index < 18446744073709551613 }
         ensures { Sends self.old self.new lists.old lists.new
@@ -253,7 +255,7 @@ impl Desk {
                     symbol,
                     side: fill.side,
                     price: price_of(fill),
-                    legs: 1,
+                    multi_leg: MultiLegReportingType::SingleSecurity,
                 };
                 self.fill_part(lists, exec_id, fill, &part)
             }
@@ -262,7 +264,7 @@ impl Desk {
                     symbol,
                     side: fill.side,
                     price: price_of(fill),
-                    legs: 3,
+                    multi_leg: MultiLegReportingType::MultiLegSecurity,
                 };
                 self.fill_part(lists, exec_id, fill, &part)?;
                 self.fill_legs(lists, rules, next(exec_id), fill, (near, far))
@@ -278,7 +280,7 @@ impl Desk {
         place: u64,
         fills: &[Fill],
     ) -> Result<u64, DeskFault>
-        requires lists { length lists.old ≡ 16 }
+        requires lists { length lists.old ≡ SESSIONS }
         requires fills { FitFills rules.now fills.now }
         ensures sent { Sends self.old self.new lists.old lists.new
             (fills_reports rules.now place 2 fills.now) result }
@@ -315,11 +317,15 @@ fn report_count(instrument: Instrument) -> u64
     }
 }
 
-/// OrdStatus (tag 39) of a fill's report: 2 filled, 1 partially filled.
-fn fill_status(leaves: u32) -> u64
+/// The status of an order of which that many lots are left.
+fn fill_status(leaves: u32) -> OrdStatus
     ensures { result ≡ fill_status leaves }
 {
-    if leaves == 0 { 2 } else { 1 }
+    if leaves == 0 {
+        OrdStatus::Filled
+    } else {
+        OrdStatus::PartiallyFilled
+    }
 }
 
 /// The other side.

@@ -3,12 +3,12 @@ ghost use Rattle.std.specs.Prelude.{◌≡◌, ◌++◌, ◌≤◌, ◌+◌, Fit
 ghost use Rattle.std.specs.Int.{w64};
 ghost use Rattle.std.specs.List.{flat_map, AllByRecursion};
 ghost use Rattle.fix_wire.specs.Layout.{field_text, field_of_given, FitsValueOf};
-ghost use Rattle.spread_report.specs.EntryMessages.{side_code};
-ghost use Rattle.spread_report.specs.ReportBodies.{order_fields, event_fields, terms_fields};
-ghost use Rattle.spread_report.specs.ReportBodies.{left_fields, last_fields, fields_of_order};
-ghost use Rattle.spread_report.specs.ReportBodies.{fields_of_reject, fields_of_cancel, fields_of_fill};
+ghost use Rattle.spread_report.specs.code.ReportBodies.{order_fields, event_fields, terms_fields};
+ghost use Rattle.spread_report.specs.code.ReportBodies.{left_fields, last_fields, fields_of_order};
+ghost use Rattle.spread_report.specs.code.ReportBodies.{fields_of_reject, fields_of_cancel, fields_of_fill};
 
-use fix_wire::{Body, Field, Value, put_field};
+use crate::codes::{EXEC_TRANS_TYPE_NEW, MultiLegReportingType, OrdStatus, side_code};
+use fix_wire::{Body, Field, Value, put_field, tags};
 use host_base::Id;
 use spread_rules::Side;
 
@@ -28,7 +28,7 @@ pub struct OrderReport {
     pub cl_ord_id: Id,
     pub exec_id: ExecId,
     /// ExecType and OrdStatus (tags 150 and 39).
-    pub ord_status: u64,
+    pub ord_status: OrdStatus,
     pub symbol: Id,
     pub side: Side,
     /// OrderQty (tag 38).
@@ -64,18 +64,7 @@ pub struct FillReport {
     /// LastPx (tag 31), in hundredths.
     pub last_px: i64,
     /// MultiLegReportingType (tag 442).
-    pub legs: u64,
-}
-
-/// Side (tag 54): 1 buy, 2 sell.
-#[inline(always)]
-fn side_code(side: Side) -> u64
-    ensures { result ≡ side_code side }
-{
-    match side {
-        Side::Buy => 1,
-        Side::Sell => 2,
-    }
+    pub multi_leg: MultiLegReportingType,
 }
 
 #[inline(always)]
@@ -87,8 +76,8 @@ fn put_order(room: &mut [u8], at: usize, report: &OrderReport) -> usize
     ensures values { AllByRecursion FitsValueOf (order_fields report.now) }
     ensures size { length room.new ≡ length room.old }
 {
-    let at = put_field(room, at, &number_field!(37, report.order_id));
-    put_field(room, at, &text_field!(11, report.cl_ord_id))
+    let at = put_field(room, at, &number_field!(tags::ORDER_ID, report.order_id));
+    put_field(room, at, &text_field!(tags::CL_ORD_ID, report.cl_ord_id))
 }
 
 #[inline(always)]
@@ -101,10 +90,19 @@ fn put_event(room: &mut [u8], at: usize, report: &OrderReport) -> usize
     ensures size { length room.new ≡ length room.old }
 {
     let exec_id = report.exec_id;
-    let at = put_field(room, at, &pair_field!(17, exec_id.place, exec_id.index));
-    let at = put_field(room, at, &number_field!(20, 0));
-    let at = put_field(room, at, &number_field!(150, report.ord_status));
-    put_field(room, at, &number_field!(39, report.ord_status))
+    let ord_status = report.ord_status.code();
+    let at = put_field(
+        room,
+        at,
+        &pair_field!(tags::EXEC_ID, exec_id.place, exec_id.index),
+    );
+    let at = put_field(
+        room,
+        at,
+        &number_field!(tags::EXEC_TRANS_TYPE, EXEC_TRANS_TYPE_NEW),
+    );
+    let at = put_field(room, at, &number_field!(tags::EXEC_TYPE, ord_status));
+    put_field(room, at, &number_field!(tags::ORD_STATUS, ord_status))
 }
 
 #[inline(always)]
@@ -116,9 +114,9 @@ fn put_terms(room: &mut [u8], at: usize, report: &OrderReport) -> usize
     ensures values { AllByRecursion FitsValueOf (terms_fields report.now) }
     ensures size { length room.new ≡ length room.old }
 {
-    let at = put_field(room, at, &text_field!(55, report.symbol));
-    let at = put_field(room, at, &number_field!(54, side_code(report.side)));
-    put_field(room, at, &number_field!(38, report.order_qty))
+    let at = put_field(room, at, &text_field!(tags::SYMBOL, report.symbol));
+    let at = put_field(room, at, &number_field!(tags::SIDE, side_code(report.side)));
+    put_field(room, at, &number_field!(tags::ORDER_QTY, report.order_qty))
 }
 
 #[inline(always)]
@@ -130,9 +128,13 @@ fn put_left(room: &mut [u8], at: usize, report: &OrderReport) -> usize
     ensures values { AllByRecursion FitsValueOf (left_fields report.now) }
     ensures size { length room.new ≡ length room.old }
 {
-    let at = put_field(room, at, &number_field!(151, report.leaves_qty));
-    let at = put_field(room, at, &number_field!(14, report.cum_qty));
-    put_field(room, at, &number_field!(6, 0))
+    let at = put_field(
+        room,
+        at,
+        &number_field!(tags::LEAVES_QTY, report.leaves_qty),
+    );
+    let at = put_field(room, at, &number_field!(tags::CUM_QTY, report.cum_qty));
+    put_field(room, at, &number_field!(tags::AVG_PX, 0))
 }
 
 #[inline(always)]
@@ -144,8 +146,8 @@ fn put_last(room: &mut [u8], at: usize, quantity: u64, price: i64) -> usize
     ensures values { AllByRecursion FitsValueOf (last_fields quantity price) }
     ensures size { length room.new ≡ length room.old }
 {
-    let at = put_field(room, at, &number_field!(32, quantity));
-    put_field(room, at, &price_field!(31, price))
+    let at = put_field(room, at, &number_field!(tags::LAST_SHARES, quantity));
+    put_field(room, at, &price_field!(tags::LAST_PX, price))
 }
 
 /// The price that a report tells.
@@ -182,7 +184,7 @@ impl Body for RejectReport {
     fn put(&self, room: &mut [u8], at: usize) -> usize {
         let at = put_order(room, at, &self.order);
         let at = put_event(room, at, &self.order);
-        let at = put_field(room, at, &number_field!(103, self.reason));
+        let at = put_field(room, at, &number_field!(tags::ORD_REJ_REASON, self.reason));
         let at = put_terms(room, at, &self.order);
         put_left(room, at, &self.order)
     }
@@ -197,7 +199,7 @@ impl Body for CancelReport {
 
     fn put(&self, room: &mut [u8], at: usize) -> usize {
         let at = put_order(room, at, &self.order);
-        let at = put_field(room, at, &text_field!(41, self.original));
+        let at = put_field(room, at, &text_field!(tags::ORIG_CL_ORD_ID, self.original));
         let at = put_event(room, at, &self.order);
         let at = put_terms(room, at, &self.order);
         put_left(room, at, &self.order)
@@ -217,6 +219,10 @@ impl Body for FillReport {
         let at = put_terms(room, at, &self.order);
         let at = put_last(room, at, self.last_shares, price_of(self));
         let at = put_left(room, at, &self.order);
-        put_field(room, at, &number_field!(442, self.legs))
+        put_field(
+            room,
+            at,
+            &number_field!(tags::MULTI_LEG_REPORTING_TYPE, self.multi_leg.code()),
+        )
     }
 }

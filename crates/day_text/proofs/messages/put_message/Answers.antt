@@ -1,6 +1,6 @@
 use Rattle.std.proofs.Common.{◌≡◌, ◌++◌, ◌∷◌, [], List, map, subst, sym, ◌∙◌, append_assoc}
-use Rattle.day_text.specs.Messages.{shown, outgoing_line}
-use Rattle.day_text.specs.Pieces.{IsPut}
+use Rattle.day_text.specs.Messages.{shown_byte, outgoing_line}
+use Rattle.day_text.specs.code.Pieces.{IsPut}
 use Rattle.day_text.proofs.PiecesInTurn.{put_none, put_after, put_fails, on_err_any, on_err, on_ok, line_of_three}
 use Rattle.day_text.proofs.messages.put_message.Goals as goal
 
@@ -9,8 +9,8 @@ returns-in_err-put_shown-clause-front g c =
     let told = λ (k : _). g.K.Sink.written k in
     let old = c.args.piece.now.items in
     let line = outgoing_line c.args.session c.args.message.now in
-    let lead = map shown c.lead.result.now in
-    let rest = map shown c.args.message.now ++ 10 ∷ [] in
+    let lead = map shown_byte c.lead.result.now in
+    let rest = map shown_byte c.args.message.now ++ 10 ∷ [] in
     let parts : line ≡ lead ++ rest = line_of_three c.args.session c.args.message.now lead (c.lead.ensures.shown ∙ c.lead.ensures.text) in
     on_err_any c.from_residual.result
     (put_fails (told c.args.sink.now) (told c.args.sink.now) (told c.put_shown.new.sink) old old [] lead rest line (put_none (told c.args.sink.now) old) c.in_err-put_shown.ensures.front parts)
@@ -20,8 +20,8 @@ returns-in_err-put_shown-2-clause-front g c =
     let told = λ (k : _). g.K.Sink.written k in
     let old = c.args.piece.now.items in
     let line = outgoing_line c.args.session c.args.message.now in
-    let lead = map shown c.lead.result.now in
-    let message = map shown c.args.message.now in
+    let lead = map shown_byte c.lead.result.now in
+    let message = map shown_byte c.args.message.now in
     let parts : line ≡ lead ++ (message ++ 10 ∷ []) = line_of_three c.args.session c.args.message.now lead (c.lead.ensures.shown ∙ c.lead.ensures.text) in
     let put_1 : IsPut (told c.args.sink.now) (told c.put_shown.new.sink) c.put_shown.new.piece.items (old ++ lead) = put_after (told c.args.sink.now) (told c.args.sink.now) (told c.put_shown.new.sink) old old c.put_shown.new.piece.items [] lead (put_none (told c.args.sink.now) old) c.in_ok-put_shown.ensures.put in
     on_err_any c.from_residual-in_err-put_shown-2.result
@@ -32,8 +32,8 @@ returns-clause-put g c =
     let told = λ (k : _). g.K.Sink.written k in
     let old = c.args.piece.now.items in
     let line = outgoing_line c.args.session c.args.message.now in
-    let lead = map shown c.lead.result.now in
-    let message = map shown c.args.message.now in
+    let lead = map shown_byte c.lead.result.now in
+    let message = map shown_byte c.args.message.now in
     let parts : line ≡ lead ++ (message ++ 10 ∷ []) = line_of_three c.args.session c.args.message.now lead (c.lead.ensures.shown ∙ c.lead.ensures.text) in
     let put_1 : IsPut (told c.args.sink.now) (told c.put_shown.new.sink) c.put_shown.new.piece.items (old ++ lead) = put_after (told c.args.sink.now) (told c.args.sink.now) (told c.put_shown.new.sink) old old c.put_shown.new.piece.items [] lead (put_none (told c.args.sink.now) old) c.in_ok-put_shown.ensures.put in
     let put_2 : IsPut (told c.args.sink.now) (told c.put_shown-2.new.sink) c.put_shown-2.new.piece.items (old ++ (lead ++ message)) = put_after (told c.args.sink.now) (told c.put_shown.new.sink) (told c.put_shown-2.new.sink) old c.put_shown.new.piece.items c.put_shown-2.new.piece.items lead message put_1 c.in_ok-put_shown-2.ensures.put in
@@ -47,8 +47,8 @@ returns-clause-front g c =
     let told = λ (k : _). g.K.Sink.written k in
     let old = c.args.piece.now.items in
     let line = outgoing_line c.args.session c.args.message.now in
-    let lead = map shown c.lead.result.now in
-    let message = map shown c.args.message.now in
+    let lead = map shown_byte c.lead.result.now in
+    let message = map shown_byte c.args.message.now in
     let parts : line ≡ lead ++ (message ++ 10 ∷ []) = line_of_three c.args.session c.args.message.now lead (c.lead.ensures.shown ∙ c.lead.ensures.text) in
     let put_1 : IsPut (told c.args.sink.now) (told c.put_shown.new.sink) c.put_shown.new.piece.items (old ++ lead) = put_after (told c.args.sink.now) (told c.args.sink.now) (told c.put_shown.new.sink) old old c.put_shown.new.piece.items [] lead (put_none (told c.args.sink.now) old) c.in_ok-put_shown.ensures.put in
     let put_2 : IsPut (told c.args.sink.now) (told c.put_shown-2.new.sink) c.put_shown-2.new.piece.items (old ++ (lead ++ message)) = put_after (told c.args.sink.now) (told c.put_shown.new.sink) (told c.put_shown-2.new.sink) old c.put_shown.new.piece.items c.put_shown-2.new.piece.items lead message put_1 c.in_ok-put_shown-2.ensures.put in

@@ -1,7 +1,7 @@
 use Rattle.std.proofs.Common.{◌≡◌, ◌<◌, ℕ, List, ◌++◌, length, vec_capacity, false}
 use Rattle.fix_wire.specs.Frames.{IsFrameRow}
 use Rattle.day_text.specs.Messages.{outgoing_lines}
-use Rattle.day_text.specs.Pieces.{IsPut}
+use Rattle.day_text.specs.code.Pieces.{IsPut}
 use Rattle.day_text.proofs.messages.put_outgoing.Given as goal
 
 -- what was put and the lines of the rest are all lines

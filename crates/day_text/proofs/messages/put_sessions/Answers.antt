@@ -3,7 +3,7 @@ use Rattle.std.proofs.lemmas.List.{length-map, get_or-map}
 use Rattle.std.proofs.lemmas.List.Elements.{All-get_or}
 use Rattle.fix_wire.specs.Frames.{IsFrameRow}
 use Rattle.day_text.specs.Messages.{outgoing_lines, outgoing_lines_from}
-use Rattle.day_text.specs.Pieces.{IsPut}
+use Rattle.day_text.specs.code.Pieces.{IsPut}
 use Rattle.day_text.proofs.SessionLines.{sessions_next_of, sessions_rest}
 use Rattle.day_text.proofs.PiecesInTurn.{put_after, put_fails, on_err_any}
 use Rattle.day_text.proofs.messages.put_sessions.Goals as goal

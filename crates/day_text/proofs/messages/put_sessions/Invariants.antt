@@ -1,6 +1,6 @@
 use Rattle.std.proofs.Common.{◌≡◌, ◌<◌, ◌++◌, map, take, vec_capacity, false}
 use Rattle.day_text.specs.Messages.{outgoing_lines_from}
-use Rattle.day_text.specs.Pieces.{IsPut}
+use Rattle.day_text.specs.code.Pieces.{IsPut}
 use Rattle.day_text.proofs.messages.put_sessions.Given as goal
 
 abbrev pub invariant-loop-session : goal.invariant-loop-session

@@ -1,7 +1,7 @@
 use Rattle.std.proofs.Common.{rules, ◌≡◌, ◌++◌, [], List, ℕ, map, sym, ap, subst, ◌∙◌, append_assoc}
 use Rattle.std.proofs.lemmas.List.{map-append}
-use Rattle.day_text.specs.Messages.{shown}
-use Rattle.day_text.specs.Pieces.{IsPut}
+use Rattle.day_text.specs.Messages.{shown_byte}
+use Rattle.day_text.specs.code.Pieces.{IsPut}
 use Rattle.day_text.proofs.PiecesInTurn.{put_fails, put_more, put_after, front_of_more, on_err_any}
 use Rattle.day_text.proofs.messages.put_shown.Goals as goal
 
@@ -11,9 +11,9 @@ returns-in_err-make_room-clause-front g c =
     let so_far = c.loop-rest.invariant.0 in
     let old = c.args.piece.now.items in
     let mid = c.loop-rest.piece.items in
-    let split = ap (λ (t : List ℕ). map shown t) so_far.2 ∙ map-append shown so_far.0 c.loop-rest.rest.now in
+    let split = ap (λ (t : List ℕ). map shown_byte t) so_far.2 ∙ map-append shown_byte so_far.0 c.loop-rest.rest.now in
     on_err_any c.from_residual.result
-    (put_fails (told c.args.sink.now) (told c.loop-rest.sink) (told c.make_room.new.sink) old mid (map shown so_far.0) [] (map shown c.loop-rest.rest.now) (map shown c.args.bytes.now)
+    (put_fails (told c.args.sink.now) (told c.loop-rest.sink) (told c.make_room.new.sink) old mid (map shown_byte so_far.0) [] (map shown_byte c.loop-rest.rest.now) (map shown_byte c.args.bytes.now)
     so_far.1 (front_of_more (told c.loop-rest.sink) (told c.make_room.new.sink) mid [] c.in_err-make_room.ensures.front) split)
 
 pub loop-rest-preserved : goal.loop-rest-preserved
@@ -23,14 +23,14 @@ loop-rest-preserved g c =
     let done = so_far.0 in
     let now = c.split_at.result.0.now in
     let later = c.split_at.result.1.now in
-    let put = put_more (told c.loop-rest.sink) (told c.make_room.new.sink) c.make_room.new.piece.items c.append_shown.new.piece.items c.loop-rest.piece.items (map shown now)
+    let put = put_more (told c.loop-rest.sink) (told c.make_room.new.sink) c.make_room.new.piece.items c.append_shown.new.piece.items c.loop-rest.piece.items (map shown_byte now)
     c.in_ok-make_room.ensures.put c.append_shown.ensures.items in
-    let all = put_after (told c.args.sink.now) (told c.loop-rest.sink) (told c.make_room.new.sink) c.args.piece.now.items c.loop-rest.piece.items c.append_shown.new.piece.items (map shown done) (map shown now)
+    let all = put_after (told c.args.sink.now) (told c.loop-rest.sink) (told c.make_room.new.sink) c.args.piece.now.items c.loop-rest.piece.items c.append_shown.new.piece.items (map shown_byte done) (map shown_byte now)
     so_far.1 put in
     let parts : c.loop-rest.rest.now ≡ now ++ later = search rules in (
       (
         done ++ now,
-        subst (λ (t : List ℕ). IsPut (told c.args.sink.now) (told c.make_room.new.sink) c.append_shown.new.piece.items (c.args.piece.now.items ++ t)) (sym (map-append shown done now)) all,
+        subst (λ (t : List ℕ). IsPut (told c.args.sink.now) (told c.make_room.new.sink) c.append_shown.new.piece.items (c.args.piece.now.items ++ t)) (sym (map-append shown_byte done now)) all,
         so_far.2 ∙ (ap (λ (t : List ℕ). done ++ t) parts ∙ sym (append_assoc done now later)),
       ),
       search rules,

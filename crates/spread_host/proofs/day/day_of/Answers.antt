@@ -4,7 +4,7 @@ use Rattle.spread_rules.specs.declared.fill.Fill.{Fill}
 use Rattle.spread_rules.specs.Meaning.{meaning_of_journal}
 use Rattle.spread_report.specs.Messages.{IsRow, messages_to}
 use Rattle.spread_report.specs.Sessions.{bytes_of}
-use Rattle.day_apply.specs.Applied.{outgoing_bytes, worked_entries}
+use Rattle.day_apply.specs.Applied.{outgoing_bytes, applied_entries}
 use Rattle.day_text.specs.DayText.{AreShown}
 use Rattle.spread_host.specs.Days.{texts_below}
 use Rattle.spread_host.specs.Headline.{HasFills}
@@ -51,8 +51,8 @@ returns-clause-day g c =
       totals = holds.totals;
       shown = subst (λ (fs : List Fill). AreShown rules fs) (sym are) (shown_of rules (meaning_of_journal rules journal).fills (c.ranges-2.ensures.fills rules journal c.months.ensures.lawful c.requires.fits));
       lists = c.in_ok-applied.ensures.lists;
-      whole_frames = λ s h. subst (λ (es : List Entry). IsRow (messages_to rules stamp (worked_entries rules es) s) (bytes_of out s)) same (c.in_ok-applied.ensures.whole s h);
+      whole_frames = λ s h. subst (λ (es : List Entry). IsRow (messages_to rules stamp (applied_entries rules es) s) (bytes_of out s)) same (c.in_ok-applied.ensures.whole s h);
       texts = all_texts out rules stamp c.deref.result.now c.in_ok-applied.ensures.lists c.in_ok-applied.ensures.out
           ∙ ap (λ (es : List Entry). texts_below 16 rules stamp es) same;
-      rows = all_rows out (messages_to rules stamp (worked_entries rules c.deref.result.now)) c.in_ok-applied.ensures.lists c.in_ok-applied.ensures.whole;
+      rows = all_rows out (messages_to rules stamp (applied_entries rules c.deref.result.now)) c.in_ok-applied.ensures.lists c.in_ok-applied.ensures.whole;
     }

@@ -3,13 +3,13 @@ use Rattle.std.specs.List.{AllByRecursion}
 use Rattle.fix_wire.specs.Frames.{frames}
 use Rattle.host_base.specs.Ids.{is_id}
 use Rattle.spread_rules.specs.Rulebook.{Rules}
-use Rattle.spread_report.specs.Outgoing.{WorkedEntry, outgoing_starting, spends_from, outbound_before_logon}
+use Rattle.spread_report.specs.Outgoing.{AppliedEntry, outgoing_starting, spends_from, outbound_before_logon}
 use Rattle.spread_report.specs.Ranges.{AreNames, EntryInRange}
 use Rattle.spread_report.specs.Messages.{IsRow, messages_starting}
 use Rattle.spread_report.proofs.frames.ReadBack.{from_is}
 use Rattle.spread_report.proofs.laws.read_back.Goals as goal
 
-row : (next : ℕ) (rules : Rules) (stamp : List ℕ) (worked : List WorkedEntry) (s : ℕ) → next ≤ 999999999 → (e : is_id stamp ≡ true) → AreNames rules → AllByRecursion (EntryInRange rules) worked → spends_from rules s (outbound_before_logon next) worked ≡ false
+row : (next : ℕ) (rules : Rules) (stamp : List ℕ) (worked : List AppliedEntry) (s : ℕ) → next ≤ 999999999 → (e : is_id stamp ≡ true) → AreNames rules → AllByRecursion (EntryInRange rules) worked → spends_from rules s (outbound_before_logon next) worked ≡ false
     → IsRow (messages_starting next rules stamp worked s) (outgoing_starting next rules stamp worked s)
 row next rules stamp worked s few e names fits unspent = from_is stamp e rules names s (outbound_before_logon next) worked (record { next = omega (arith, few); ids = tt }) fits unspent
 

@@ -1,7 +1,7 @@
 use Rattle.std.proofs.Common.{◌≡◌, List, ℕ, [], ◌∷◌, ap, sym, ◌∙◌}
 use Rattle.fix_wire.specs.declared.writer.Field.{Field}
 use Rattle.fix_wire.specs.declared.writer.Value.{Value}
-use Rattle.spread_report.specs.EntryMessages.{numbered_message, text, number, place_field}
+use Rattle.spread_report.specs.EntryMessages.{numbered_message, text_field, number_field, place_field}
 use Rattle.spread_report.proofs.messages.MoreMessages.{sends_same}
 use Rattle.spread_report.proofs.messages.OneMessage.{named_none, named_place}
 use Rattle.spread_report.proofs.desk.Desk.cancel_reject.Goals.{then-place-eq0, else-place-eq0}
@@ -14,10 +14,10 @@ pub returns : goal.returns
 returns g c =
     let named : with_37 c.if-place-eq0.named ≡ place_field c.args.place =
     elim c.if-place-eq0.branch [
-      | then-place-eq0 w ↦ ap with_37 w.named-is ∙ (ap (λ (t : List ℕ). text 37 t) w.known_id.ensures ∙ sym (named_none c.args.place w.if-place-eq0.true))
+      | then-place-eq0 w ↦ ap with_37 w.named-is ∙ (ap (λ (t : List ℕ). text_field 37 t) w.known_id.ensures ∙ sym (named_none c.args.place w.if-place-eq0.true))
       | else-place-eq0 w ↦ ap with_37 w.named-is ∙ sym (named_place c.args.place w.if-place-eq0.false)
     ] in
     let q = c.args.request.now in
-    let message = λ (f : Field). numbered_message q.session 57 (f ∷ text 11 q.id ∷ text 41 q.original ∷ number 39 c.args.status ∷ number 434 1 ∷ number 102 c.args.reason ∷ []) ∷ [] in
+    let message = λ (f : Field). numbered_message q.session 57 (f ∷ text_field 11 q.id ∷ text_field 41 q.original ∷ number_field 39 c.args.status ∷ number_field 434 1 ∷ number_field 102 c.args.reason ∷ []) ∷ [] in
     sends_same c.args.self.now c.send.new.self c.args.lists.now c.send.new.lists
     (message (with_37 c.if-place-eq0.named)) (message (place_field c.args.place)) c.send.result (ap message named) c.send.ensures

@@ -4,6 +4,7 @@ use Rattle.std.proofs.lemmas.Int.{to_z-of_z}
 use Rattle.spread_rules.specs.declared.order.Instrument.{Instrument}
 use Rattle.spread_rules.specs.declared.order.Instrument.TheVariants.{Outright, Spread}
 use Rattle.spread_report.specs.EntryMessages.{report, fill_report, leg_reports, reports_by}
+use Rattle.spread_report.specs.declared.codes.MultiLegReportingType.TheVariants.{MultiLegSecurity}
 use Rattle.spread_rules.specs.Rulebook.{symbol_of}
 use Rattle.spread_report.proofs.messages.MoreMessages.{sends_after, sends_same}
 use Rattle.spread_report.proofs.desk.Desk.fill.Goals as goal
@@ -24,7 +25,7 @@ returns-in_ok-fill_part-in-Spread g c =
     let one = rw (c.symbol_of-symbol.ensures, c.price_of-in-Spread.ensures.value, to_z-of_z w64 f.price c.price_of-in-Spread.ensures.fits) at c.in_ok-fill_part-in-Spread.ensures in
     let two = rw c.next.ensures at c.fill_legs.ensures in
     let all = sends_after c.args.self.now c.fill_part-in-Spread.new.self c.fill_legs.new.self c.args.lists.now c.fill_part-in-Spread.new.lists c.fill_legs.new.lists
-    (report f.session (fill_report id.place id.index f (symbol_of c.args.rules.now f.instrument) f.side f.price 3) ∷ [])
+    (report f.session (fill_report id.place id.index f (symbol_of c.args.rules.now f.instrument) f.side f.price MultiLegSecurity) ∷ [])
     (leg_reports c.in-Spread.near c.in-Spread.far c.args.rules.now id.place (id.index + 1) f) tt c.fill_legs.result one two in
     sends_same c.args.self.now c.fill_legs.new.self c.args.lists.now c.fill_legs.new.lists
     (reports (Spread c.in-Spread.near c.in-Spread.far)) (reports f.instrument) c.fill_legs.result (ap reports (sym c.in-Spread.is)) all

@@ -2,7 +2,7 @@ use Rattle.std.proofs.Common.{◌≡◌, [], ◌∷◌, true, false, nat_lt, get
 use Rattle.std.proofs.lemmas.Result.{err_from_is_err_and}
 use Rattle.spread_report.specs.declared.outbound.OutboundSession.{OutboundSession}
 use Rattle.spread_report.proofs.messages.OneMessage.{gap_line, gap_text, gap_none, appended_line, sent_off}
-use Rattle.spread_report.specs.EntryMessages.{number, text, gap_fill}
+use Rattle.spread_report.specs.EntryMessages.{number_field, text_field, gap_fill}
 use Rattle.spread_report.specs.Outgoing.{head_of}
 use Rattle.spread_report.proofs.frames.FrameRows.{written_row}
 use Rattle.spread_report.proofs.desk.Desk.fill_gap.Goals as goal
@@ -32,7 +32,7 @@ returns-in_ok-write_message-in-Some g c =
           c.in_ok-write_message-in-Some.ensures.ok
           (gap_text i.stamp c.in-Some.ids r.next c.args.first c.args.last c.from-number.result c.new_seq_no-next.result c.from.result c.known_id.result
           c.from-number.ensures c.new_seq_no-next.ensures c.from.ensures c.known_id.ensures below)
-          (written_row (head_of i.stamp c.in-Some.ids 52 c.from-number.result true) (number 36 c.new_seq_no-next.result ∷ text 123 c.known_id.result ∷ []) (omega arith) refl (omega arith) c.in_ok-write_message-in-Some.ensures.short c.in_ok-write_message-in-Some.ensures.lawful);
+          (written_row (head_of i.stamp c.in-Some.ids 52 c.from-number.result true) (number_field 36 c.new_seq_no-next.result ∷ text_field 123 c.known_id.result ∷ []) (omega arith) refl (omega arith) c.in_ok-write_message-in-Some.ensures.short c.in_ok-write_message-in-Some.ensures.lawful);
     })
 
 pub returns-in_err-write_message-in-Some : goal.returns-in_err-write_message-in-Some

@@ -4,19 +4,19 @@ use Rattle.std.proofs.lemmas.List.{get_or_default}
 use Rattle.std.proofs.lemmas.Result.{err_from_is_err_and}
 use Rattle.spread_report.specs.declared.outbound.OutboundSession.{OutboundSession}
 use Rattle.spread_report.specs.declared.outbound.CompIds.{CompIds}
-use Rattle.spread_report.specs.Sessions.{Sent}
+use Rattle.spread_report.specs.code.Sending.{Sent}
 use Rattle.spread_report.specs.EntryMessages.{numbered}
 use Rattle.spread_report.proofs.messages.OneMessage.{one, sent_off, sent_line, spent_line, appended_line, appended_none}
 use Rattle.spread_report.specs.Outgoing.{head_of}
 use Rattle.spread_report.proofs.frames.FrameRows.{written_row}
 use Rattle.spread_report.proofs.desk.Desk.send_body.Goals as goal
 
-pub returns-then-outbound-gt-MAX_MSG_SEQ_NUM : goal.returns-then-outbound-gt-MAX_MSG_SEQ_NUM
-returns-then-outbound-gt-MAX_MSG_SEQ_NUM g c =
+pub returns-then-outbound-from : goal.returns-then-outbound-from
+returns-then-outbound-from g c =
     let i = c.self.inside in
     let r = get_or i.sessions c.args.session c.index-self-at.result in
     let is_r = ap (λ (d : OutboundSession). get_or i.sessions c.args.session d) c.index-self-at.is in
-    let spent : nat_lt 999999999 r.next ≡ true = search (rules, c.if-outbound-gt-MAX_MSG_SEQ_NUM.true) in
+    let spent : nat_lt 999999999 r.next ≡ true = search (rules, rw c.from.ensures at c.if-outbound-from.true) in
     rw (← c.self.view_is) (record {
       stamp = refl;
       result = (
@@ -32,7 +32,7 @@ returns-in_ok-write_body-in-Some g c =
     let r = get_or i.sessions c.args.session c.index-self-at.result in
     let is_r = ap (λ (d : OutboundSession). get_or i.sessions c.args.session d) c.index-self-at.is in
     let message = numbered c.args.kind (g.B.Body.fields c.args.body.now) in
-    let unspent : nat_lt 999999999 r.next ≡ false = search (rules, c.if-outbound-gt-MAX_MSG_SEQ_NUM.false) in
+    let unspent : nat_lt 999999999 r.next ≡ false = search (rules, rw c.from.ensures at c.if-outbound-from.false) in
     let there : c.args.session < length i.sessions = omega (arith, c.self.invariant.count, c.requires.session) in
     let kept : (get_or i.sessions c.args.session c.index-self-at-in-Some.result).comp_ids ≡ Some c.in-Some.ids =
     ap (λ (l : OutboundSession). l.comp_ids) (get_or_default i.sessions c.args.session c.index-self-at-in-Some.result c.index-self-at.result there) ∙ c.in-Some.is in

@@ -1,8 +1,9 @@
 use Rattle.std.proofs.Common.{◌++◌, take}
 use Rattle.std.specs.Int.{w64}
 use Rattle.std.proofs.lemmas.Int.{to_z-of_z}
-use Rattle.spread_report.specs.EntryMessages.{number}
-use Rattle.spread_report.specs.ReportBodies.{order_fields, event_fields, terms_fields, last_fields, left_fields}
+use Rattle.spread_report.specs.Codes.{multi_leg_code}
+use Rattle.spread_report.specs.EntryMessages.{number_field}
+use Rattle.spread_report.specs.code.ReportBodies.{order_fields, event_fields, terms_fields, last_fields, left_fields}
 use Rattle.spread_report.proofs.frames.FieldsInTurn.{more, next}
 use Rattle.spread_report.proofs.desk.report_body.FillReportBody.put.Goals as goal
 
@@ -16,4 +17,4 @@ returns-clause-text c =
     let terms = more o _ _ (order_fields a ++ event_fields a) (terms_fields a) c.put_terms-at.ensures.text event in
     let last = more o _ _ ((order_fields a ++ event_fields a) ++ terms_fields a) (last_fields r.last_shares r.last_px) traded terms in
     let left = more o _ _ (((order_fields a ++ event_fields a) ++ terms_fields a) ++ last_fields r.last_shares r.last_px) (left_fields a) c.put_left-at.ensures.text last in
-    next o _ _ ((((order_fields a ++ event_fields a) ++ terms_fields a) ++ last_fields r.last_shares r.last_px) ++ left_fields a) (number 442 r.legs) c.put_field.ensures.text left
+    next o _ _ ((((order_fields a ++ event_fields a) ++ terms_fields a) ++ last_fields r.last_shares r.last_px) ++ left_fields a) (number_field 442 (multi_leg_code r.multi_leg)) (rw c.code.ensures at c.put_field.ensures.text) left

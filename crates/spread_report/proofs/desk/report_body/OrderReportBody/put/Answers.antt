@@ -1,5 +1,5 @@
 use Rattle.std.proofs.Common.{◌++◌, take}
-use Rattle.spread_report.specs.ReportBodies.{order_fields, event_fields, terms_fields, left_fields}
+use Rattle.spread_report.specs.code.ReportBodies.{order_fields, event_fields, terms_fields, left_fields}
 use Rattle.spread_report.proofs.frames.FieldsInTurn.{more}
 use Rattle.spread_report.proofs.desk.report_body.OrderReportBody.put.Goals as goal
 

@@ -1,4 +1,5 @@
 -- Bytes on their way to a sink in pieces.
+-- Words of the code alone.
 use Rattle.std.specs.Prelude.{◌≡◌, ℕ, List, ◌++◌, Option}
 use Rattle.std.specs.Io.KnownBytes.{Appends}
 
