@@ -24,7 +24,8 @@ fn write_out<K: Sink, A: Allocator>(piece: &mut Vec<u8, A>, sink: &mut K) -> Res
     ensures room { vec_capacity piece.new ≡ vec_capacity piece.old }
     ensures sound { OnOk result (K.has_failed sink.new ≡ false) }
     ensures failed { OnErr result (K.has_failed sink.new ≡ true) }
-    ensures front { OnErr result (AppendsPrefix (K.written sink.old) (K.written sink.new) piece.old.items) }
+    ensures front { OnErr result
+        (AppendsPrefix (K.written sink.old) (K.written sink.new) piece.old.items) }
 {
     write_all(sink, piece)?;
     piece.clear();
@@ -40,7 +41,8 @@ fn make_room<K: Sink, A: Allocator>(piece: &mut Vec<u8, A>, sink: &mut K) -> Res
     ensures room { OnOk result (vec_len piece.new < vec_capacity piece.new) }
     ensures sound { OnOk result (K.has_failed sink.new ≡ false) }
     ensures failed { OnErr result (K.has_failed sink.new ≡ true) }
-    ensures front { OnErr result (AppendsPrefix (K.written sink.old) (K.written sink.new) piece.old.items) }
+    ensures front { OnErr result
+        (AppendsPrefix (K.written sink.old) (K.written sink.new) piece.old.items) }
 {
     if piece.len() == piece.capacity() {
         return write_out(piece, sink);

@@ -1,8 +1,7 @@
 //! The desk: what each session is sent next.
 ghost use Rattle.std.specs.Prelude.{◌≡◌, ◌≢◌, ℕ, ◌<◌, ◌≤◌, ◌++◌, ◌∷◌, [], true, false, length, take, slice_index_or, OnOk, OnErr, IsErrOf, ◌==◌, if◌then◌else◌};
 ghost use Rattle.std.specs.List.{list_all};
-ghost use Rattle.spread_rules.specs.declared.fill.Fill.{Fill};
-ghost use Rattle.spread_rules.specs.Ranges.{FitsOutcome, FitsFill};
+ghost use Rattle.spread_rules.specs.Ranges.{FitsOutcome, FitFills};
 ghost use Rattle.spread_report.specs.Desk.{desk_starting, desk_at};
 ghost use Rattle.spread_report.specs.code.Sending.{Sends};
 ghost use Rattle.spread_report.specs.EntryMessages.{numbered_message, has_tag};
@@ -36,7 +35,7 @@ pub struct Desk {
 
 impl Model for Desk {
     ghost use Rattle.spread_report.specs.Desk.{DeskState};
-ghost use Rattle.spread_report.specs.code.Sending.{state_of, IsDesk};
+    ghost use Rattle.spread_report.specs.code.Sending.{state_of, IsDesk};
 
     ghost Value = { DeskState };
 
@@ -60,8 +59,8 @@ impl Desk {
         }
     }
 
-    /// The same, each session's first message bearing this number. None where it is not 1 to
-    /// 999,999,999.
+    /// The same, each session's first message bearing this number. None where it is 0 or above the
+    /// limit.
     pub fn starting(stamp: Id, next: u32) -> Option<Desk>
         ensures { result ≡ desk_at stamp next }
     {
@@ -92,9 +91,9 @@ impl Desk {
         requires lists { length lists.old ≡ SESSIONS }
         requires session { entry.now.session < SESSIONS }
         requires outcome { FitsOutcome rules.now entry.now.event outcome.now }
-        requires fills { (k : ℕ) (d : Fill) → k < length fills.now
-            → FitsFill rules.now (slice_index_or fills.now k d) }
-        ensures bytes { OnOk result ((s : ℕ) → s < SESSIONS → bytes_of lists.new s ≡ bytes_of lists.old s
+        requires fills { FitFills rules.now fills.now }
+        ensures bytes { OnOk result ((s : ℕ) → s < SESSIONS → bytes_of lists.new s
+            ≡ bytes_of lists.old s
             ++ entry_bytes self.old.stamp rules.now s (outbound_at self.old.sessions s)
             (applied_at place entry.now outcome.now fills.now)) }
         ensures outbound { OnOk result ((s : ℕ) → s < SESSIONS → outbound_at self.new.sessions s

@@ -11,7 +11,7 @@ pub enum DeskFault {
     /// A request for memory was refused.
     #[error("no memory")]
     NoMemory,
-    /// A message would have to bear a number above 999,999,999.
+    /// A message would have to bear a number above the limit.
     #[error("numbers spent")]
     NumbersSpent,
 }

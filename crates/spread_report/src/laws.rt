@@ -14,18 +14,21 @@ ghost use Rattle.spread_report.specs.Ranges.{AreNames, EntryInRange};
 
 /// What a session is sent is a row of whole frames, and is read back as exactly the messages that were written.
 pub fn read_back()
-    ensures joined { (next : ℕ) (rules : Rules) (stamp : List ℕ) (applied : List AppliedEntry) (s : ℕ) →
+    ensures joined { (next : ℕ) (rules : Rules) (stamp : List ℕ)
+        (applied : List AppliedEntry) (s : ℕ) →
         next ≤ MAX_MSG_SEQ_NUM → is_id stamp ≡ true → AreNames rules →
         AllByRecursion (EntryInRange rules) applied →
         spends_from rules s (outbound_before_logon next) applied ≡ false →
         outgoing_starting next rules stamp applied s
         ≡ concat (messages_starting next rules stamp applied s) }
-    ensures whole { (next : ℕ) (rules : Rules) (stamp : List ℕ) (applied : List AppliedEntry) (s : ℕ) →
+    ensures whole { (next : ℕ) (rules : Rules) (stamp : List ℕ)
+        (applied : List AppliedEntry) (s : ℕ) →
         next ≤ MAX_MSG_SEQ_NUM → is_id stamp ≡ true → AreNames rules →
         AllByRecursion (EntryInRange rules) applied →
         spends_from rules s (outbound_before_logon next) applied ≡ false →
         AllByRecursion IsFrame (messages_starting next rules stamp applied s) }
-    ensures read { (next : ℕ) (rules : Rules) (stamp : List ℕ) (applied : List AppliedEntry) (s : ℕ) →
+    ensures read { (next : ℕ) (rules : Rules) (stamp : List ℕ)
+        (applied : List AppliedEntry) (s : ℕ) →
         next ≤ MAX_MSG_SEQ_NUM → is_id stamp ≡ true → AreNames rules →
         AllByRecursion (EntryInRange rules) applied →
         spends_from rules s (outbound_before_logon next) applied ≡ false →
