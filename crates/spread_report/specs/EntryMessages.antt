@@ -1,4 +1,4 @@
--- Which messages an entry of the journal sends, and their fields.
+-- Which messages an entry of the journal sends, field by field: execution reports, OrderCancelRejects and session messages.
 use Rattle.std.specs.Prelude.{ℕ, ◌+◌, ◌-◌, ◌==◌, nat_le, ◌&&◌, Bool, ℤ, if◌then◌else◌, List, [], ◌∷◌, ◌++◌, codes, Option, Some, None}
 use Rattle.fix_wire.specs.declared.msg_types.TheConstants as msg_types
 use Rattle.fix_wire.specs.declared.tags.TheConstants as tags
@@ -36,6 +36,7 @@ pub record AddressedMessage : Type 0 where
 
 -- ---- fields
 
+-- a field with a text, a number, a price in hundredths, or two numbers
 abbrev pub text_field : ℕ → List ℕ → Field
 text_field tag bytes = record { tag = tag; value = Text bytes }
 
@@ -55,7 +56,7 @@ has_tag f = nat_le 1 f.tag && nat_le f.tag 999999999
 -- ---- execution reports
 
 -- What a fill's report tells of the trade.
-pub record Traded : Type 0 where
+pub record ReportedTrade : Type 0 where
   pub last_shares : ℕ
   pub last_px : ℤ
   pub multi_leg : MultiLegReportingType
@@ -72,7 +73,7 @@ pub record ExecutionReport : Type 0 where
   pub symbol : List ℕ
   pub side : Side
   pub order_qty : ℕ
-  pub traded : Option Traded
+  pub traded : Option ReportedTrade
   pub leaves_qty : ℕ
   pub cum_qty : ℕ
 
@@ -87,13 +88,13 @@ reason_field None = []
 reason_field (Some n) = number_field tags.ORD_REJ_REASON n ∷ []
 
 -- LastShares and LastPx, in a fill's report alone
-abbrev pub last_fields : Option Traded → List Field
+abbrev pub last_fields : Option ReportedTrade → List Field
 last_fields None = []
-last_fields (Some t) = number_field tags.LAST_SHARES t.last_shares
-    ∷ price_field tags.LAST_PX t.last_px ∷ []
+last_fields (Some t) =
+    number_field tags.LAST_SHARES t.last_shares ∷ price_field tags.LAST_PX t.last_px ∷ []
 
 -- MultiLegReportingType, in a fill's report alone
-abbrev pub legs_field : Option Traded → List Field
+abbrev pub legs_field : Option ReportedTrade → List Field
 legs_field None = []
 legs_field (Some t) = number_field tags.MULTI_LEG_REPORTING_TYPE (multi_leg_code t.multi_leg) ∷ []
 
@@ -117,9 +118,11 @@ report_fields r =
     ∷ number_field tags.AVG_PX 0
     ∷ legs_field r.traded)))
 
+-- a message that bears the session's next number
 abbrev pub numbered_message : ℕ → ℕ → List Field → AddressedMessage
 numbered_message to kind fields = record { to = to; content = numbered kind fields }
 
+-- an ExecutionReport to that session
 abbrev pub report : ℕ → ExecutionReport → AddressedMessage
 report to r = numbered_message to msg_types.EXECUTION_REPORT (report_fields r)
 
@@ -173,6 +176,7 @@ cancelled_report symbol place id original o = record {
   cum_qty = o.quantity - o.leaves;
 }
 
+-- a fill leaves an order filled, or partially filled
 abbrev pub fill_status : ℕ → OrdStatus
 fill_status leaves = if leaves == 0 then status.Filled else status.PartiallyFilled
 
@@ -220,6 +224,7 @@ reports_by (Spread i j) rules place index f =
     part_report rules place index f f.instrument f.side f.price MultiLegSecurity
     ∷ leg_reports i j rules place (index + 1) f
 
+-- the reports of a fill, the first with this index
 abbrev pub fill_reports : Rules → ℕ → ℕ → Fill → List AddressedMessage
 fill_reports rules place index f = reports_by f.instrument rules place index f
 
@@ -275,37 +280,44 @@ cancel_reject_fields id original reason place ord_status =
 abbrev pub cancel_messages : Rules → ℕ → ℕ → List ℕ → List ℕ → Outcome → List AddressedMessage
 cancel_messages rules place session id original (outcomes.Cancelled o) =
     report session (cancelled_report (symbol_of rules o.instrument) place id original o) ∷ []
-cancel_messages rules place session id original (outcomes.CancelRefused reason of ord_status) =
+cancel_messages rules place session id original (outcomes.CancelRefused reason named ord_status) =
     numbered_message session msg_types.ORDER_CANCEL_REJECT
-    (cancel_reject_fields id original reason of ord_status) ∷ []
+    (cancel_reject_fields id original reason named ord_status) ∷ []
 cancel_messages rules place session id original _ = []
 
+-- a Logout with these fields
 abbrev pub logout : ℕ → List Field → List AddressedMessage
 logout session fields = numbered_message session msg_types.LOGOUT fields ∷ []
+
+-- a Logout that says why
+abbrev pub logout_saying : ℕ → List ℕ → List AddressedMessage
+logout_saying session words = logout session (text_field tags.TEXT words ∷ [])
 
 -- a Logout, where the session closed by a Logout, by a number too low or by another CompID
 abbrev pub close_messages : ℕ → ℕ → List AddressedMessage
 close_messages session reason =
     if reason == close_reason.LOGOUT then logout session []
-    else if reason == close_reason.MSG_SEQ_NUM_TOO_LOW then logout session
-    (text_field tags.TEXT (codes "MsgSeqNum too low") ∷ [])
-    else if reason == close_reason.COMP_ID then logout session
-    (text_field tags.TEXT (codes "CompID") ∷ [])
+    else if reason == close_reason.MSG_SEQ_NUM_TOO_LOW
+    then logout_saying session (codes "MsgSeqNum too low")
+    else if reason == close_reason.COMP_ID
+    then logout_saying session (codes "CompID")
     else []
 
--- the session's own messages and their fields
+-- the answer to a Logon
 abbrev pub logon_fields : ℕ → List Field
 logon_fields beat =
     number_field tags.ENCRYPT_METHOD ENCRYPT_METHOD_NONE ∷ number_field tags.HEART_BT_INT beat ∷ []
 
+-- the answer to a TestRequest
 abbrev pub heartbeat_fields : List ℕ → List Field
 heartbeat_fields answer = text_field tags.TEST_REQ_ID answer ∷ []
 
--- an EndSeqNo of 0 asks for all that was sent
+-- an EndSeqNo of 0 asks for all that was sent from the first number on
 abbrev pub resend_request_fields : ℕ → List Field
-resend_request_fields first = number_field tags.BEGIN_SEQ_NO first ∷ number_field tags.END_SEQ_NO 0
-    ∷ []
+resend_request_fields first =
+    number_field tags.BEGIN_SEQ_NO first ∷ number_field tags.END_SEQ_NO 0 ∷ []
 
+-- a message that is refused, by its number, and why
 abbrev pub reject_fields : ℕ → ℕ → List Field
 reject_fields n reason =
     number_field tags.REF_SEQ_NUM n ∷ number_field tags.SESSION_REJECT_REASON reason ∷ []

@@ -22,6 +22,7 @@ use Rattle.spread_report.specs.EntryMessages.{MessageContent, numbered, gap_fill
 abbrev pub new_seq_no : ℕ → ℕ → ℕ
 new_seq_no next last = if last == 0 || nat_lt next (last + 2) then next else last + 1
 
+-- the standard header's fields
 abbrev pub head_of : List ℕ → CompIds → ℕ → ℕ → Bool → Head
 head_of stamp ids kind n duplicate = record {
   kind = kind;
@@ -56,6 +57,7 @@ next_after None next c = next
 next_after (Some ids) next (numbered kind fields) = next + 1
 next_after (Some ids) next (gap_fill first last) = next
 
+-- it would bear a number above the greatest MsgSeqNum
 abbrev pub needs_number_above_limit : Option CompIds → ℕ → MessageContent → Bool
 needs_number_above_limit None next c = false
 needs_number_above_limit (Some ids) next (numbered kind fields) = nat_lt MAX_MSG_SEQ_NUM next
@@ -63,6 +65,7 @@ needs_number_above_limit (Some ids) next (gap_fill first last) = false
 
 -- ---- what session s is sent of some messages, from this outbound state on
 
+-- what one of them sends session s, the state after it, and whether it needs a number above the limit
 abbrev pub bytes_for : List ℕ → ℕ → OutboundSession → AddressedMessage → List ℕ
 bytes_for stamp s out m =
     if m.to == s then message_bytes stamp out.comp_ids out.next m.content else []
@@ -75,11 +78,13 @@ abbrev pub needs_number_for : ℕ → OutboundSession → AddressedMessage → B
 needs_number_for s out m =
     m.to == s && needs_number_above_limit out.comp_ids out.next m.content
 
+-- what these messages send session s
 abbrev pub messages_bytes : List ℕ → ℕ → OutboundSession → List AddressedMessage → List ℕ
 messages_bytes stamp s out [] = []
 messages_bytes stamp s out (m ∷ ms) =
     bytes_for stamp s out m ++ messages_bytes stamp s (outbound_for s out m) ms
 
+-- the outbound state of session s after them
 abbrev pub outbound_after : ℕ → OutboundSession → List AddressedMessage → OutboundSession
 outbound_after s out [] = out
 outbound_after s out (m ∷ ms) = outbound_after s (outbound_for s out m) ms
@@ -118,6 +123,7 @@ applied_at place entry outcome fills = record {
 abbrev pub outbound_before : ℕ → OutboundSession → AppliedEntry → OutboundSession
 outbound_before s out w = outbound_at_entry s out w.entry.session w.entry.event
 
+-- its messages, to whichever session
 abbrev pub entry_messages : Rules → AppliedEntry → List AddressedMessage
 entry_messages rules w =
     event_messages rules w.place w.entry.session w.entry.event w.outcome w.fills
@@ -137,15 +143,18 @@ entry_spends rules s out w = spends s (outbound_before s out w) (entry_messages 
 
 -- ---- a journal
 
+-- what its entries send session s
 abbrev pub journal_bytes : List ℕ → Rules → ℕ → OutboundSession → List AppliedEntry → List ℕ
 journal_bytes stamp rules s out [] = []
 journal_bytes stamp rules s out (w ∷ ws) =
     entry_bytes stamp rules s out w ++ journal_bytes stamp rules s (entry_outbound rules s out w) ws
 
+-- the outbound state of session s after them
 abbrev pub outbound_from : Rules → ℕ → OutboundSession → List AppliedEntry → OutboundSession
 outbound_from rules s out [] = out
 outbound_from rules s out (w ∷ ws) = outbound_from rules s (entry_outbound rules s out w) ws
 
+-- a message that one of them sends session s needs a number above the limit
 abbrev pub spends_from : Rules → ℕ → OutboundSession → List AppliedEntry → Bool
 spends_from rules s out [] = false
 spends_from rules s out (w ∷ ws) =

@@ -30,8 +30,8 @@ abbrev pub OutcomeInRange : Rules → Outcome → Type 0
 OutcomeInRange rules (Refused reason) = reason < 2 ^ 64
 OutcomeInRange rules (Cancelled o) =
     IsListed rules o.instrument × (o.place < 2 ^ 64) × (o.quantity < 2 ^ 64)
-OutcomeInRange rules (CancelRefused reason of status) =
-    (reason < 2 ^ 64) × (of < 2 ^ 64) × (status < 2 ^ 64)
+OutcomeInRange rules (CancelRefused reason named status) =
+    (reason < 2 ^ 64) × (named < 2 ^ 64) × (status < 2 ^ 64)
 OutcomeInRange rules Rested = Unit {0}
 OutcomeInRange rules Filled = Unit {0}
 OutcomeInRange rules (Ended left) = Unit {0}

@@ -20,7 +20,7 @@ use Rattle.spread_rules.specs.declared.event.Event.{Event}
 use Rattle.spread_rules.specs.declared.event.Event.TheVariants.{Logon, New, Cancel, TestReply, Gap, Resend, Reject, Close}
 use Rattle.spread_rules.specs.declared.outcome.Outcome.{Outcome}
 use Rattle.spread_rules.specs.declared.outcome.Outcome.TheVariants.{Rested, Filled, Ended, Cancelled, Refused, CancelRefused, Session}
-use Rattle.spread_report.specs.EntryMessages.{MessageContent, numbered, gap_fill, AddressedMessage, text_field, number_field, price_field, pair_field, Traded, ExecutionReport, original_field, reason_field, last_fields, legs_field, report_fields, numbered_message, report, new_report, rejected_report, ended_report, cancelled_report, fill_report, report_count, reports_by, fill_reports, fills_reports, reports_of, new_messages, place_field, cancel_messages, close_messages, event_messages}
+use Rattle.spread_report.specs.EntryMessages.{MessageContent, numbered, gap_fill, AddressedMessage, text_field, number_field, price_field, pair_field, ReportedTrade, ExecutionReport, original_field, reason_field, last_fields, legs_field, report_fields, numbered_message, report, new_report, rejected_report, ended_report, cancelled_report, fill_report, report_count, reports_by, fill_reports, fills_reports, reports_of, new_messages, place_field, cancel_messages, close_messages, event_messages}
 use Rattle.spread_report.specs.Codes.{side_code, ord_status_code, multi_leg_code}
 use Rattle.spread_report.specs.declared.codes.OrdStatus.{OrdStatus}
 use Rattle.spread_report.specs.declared.codes.OrdStatus.TheVariants as status
@@ -87,7 +87,7 @@ abbrev OptionalNumber : Option ℕ → Type 0
 OptionalNumber None = Unit {0}
 OptionalNumber (Some n) = n < 2 ^ 64
 
-abbrev TradedFits : Option Traded → Type 0
+abbrev TradedFits : Option ReportedTrade → Type 0
 TradedFits None = Unit {0}
 TradedFits (Some t) = (t.last_shares < 2 ^ 64) × (unsigned_abs t.last_px < 2 ^ 64)
 
@@ -124,11 +124,11 @@ reason_fits : (o : Option ℕ) → OptionalNumber o → AllByRecursion FitsRepor
 reason_fits None h = tt
 reason_fits (Some n) h = (number_fits 103 n (omega arith) (omega arith) h, tt)
 
-last_fit : (o : Option Traded) → TradedFits o → AllByRecursion FitsReport (last_fields o)
+last_fit : (o : Option ReportedTrade) → TradedFits o → AllByRecursion FitsReport (last_fields o)
 last_fit None h = tt
 last_fit (Some t) h = (number_fits 32 t.last_shares (omega arith) (omega arith) h.0, (price_fits 31 t.last_px (omega arith) (omega arith) h.1, tt))
 
-legs_fits : (o : Option Traded) → TradedFits o → AllByRecursion FitsReport (legs_field o)
+legs_fits : (o : Option ReportedTrade) → TradedFits o → AllByRecursion FitsReport (legs_field o)
 legs_fits None h = tt
 legs_fits (Some t) h = (number_fits 442 (multi_leg_code t.multi_leg) (omega arith) (omega arith) (legs_small t.multi_leg), tt)
 
@@ -140,11 +140,11 @@ reason_length : (o : Option ℕ) → length (reason_field o) ≤ 1
 reason_length None = omega arith
 reason_length (Some n) = omega arith
 
-last_length : (o : Option Traded) → length (last_fields o) ≤ 2
+last_length : (o : Option ReportedTrade) → length (last_fields o) ≤ 2
 last_length None = omega arith
 last_length (Some t) = omega arith
 
-legs_length : (o : Option Traded) → length (legs_field o) ≤ 1
+legs_length : (o : Option ReportedTrade) → length (legs_field o) ≤ 1
 legs_length None = omega arith
 legs_length (Some t) = omega arith
 

@@ -1,4 +1,4 @@
--- What sending some messages does to the sessions and to their lists.
+-- What sending some messages does to the sessions, `a` before and `b` after, and to their lists, `x` before and `y` after.
 -- Words of the code alone.
 use Rattle.std.specs.Prelude.{◌≡◌, ℕ, ◌<◌, true, false, List, ◌++◌, length, take, Result, Ok, Err}
 use Rattle.std.specs.declared.vec.Vec.{Vec}
