@@ -1,4 +1,4 @@
-use Rattle.std.proofs.Common.{List, ℕ, [], ◌∷◌, ap}
+use Rattle.std.proofs.Common.{List, ℕ, ap}
 use Rattle.spread_report.specs.EntryMessages.{close_messages, logout_saying}
 use Rattle.spread_report.proofs.messages.MoreMessages.{sends_same}
 use Rattle.spread_report.proofs.desk.Desk.logout.Goals as goal
