@@ -32,5 +32,6 @@ fill_line rules f =
     ++ legs_text f.instrument f.near f.far
     ++ newline ∷ []
 
+-- a line for each fill, in order
 abbrev pub fill_lines : Rules → List Fill → List ℕ
 fill_lines rules fills = flat_map (fill_line rules) fills

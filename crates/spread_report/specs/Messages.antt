@@ -12,6 +12,7 @@ abbrev pub as_message : List ℕ → List (List ℕ)
 as_message [] = []
 as_message (b ∷ bs) = (b ∷ bs) ∷ []
 
+-- the messages that these come to for session s
 abbrev pub texts_to : List ℕ → ℕ → OutboundSession → List AddressedMessage → List (List ℕ)
 texts_to stamp s out [] = []
 texts_to stamp s out (m ∷ ms) =
@@ -22,6 +23,7 @@ abbrev pub entry_texts : List ℕ → Rules → ℕ → OutboundSession → Appl
 entry_texts stamp rules s out w =
     texts_to stamp s (outbound_before s out w) (entry_messages rules w)
 
+-- the messages that these entries send session s
 abbrev pub texts_from : List ℕ → Rules → ℕ → OutboundSession → List AppliedEntry → List (List ℕ)
 texts_from stamp rules s out [] = []
 texts_from stamp rules s out (w ∷ ws) =

@@ -111,6 +111,7 @@ pub record AppliedEntry : Type 0 where
   pub outcome : Outcome
   pub fills : List Fill
 
+-- the entry of that place, with its outcome and its fills
 abbrev pub applied_at : ℕ → Entry → Outcome → List Fill → AppliedEntry
 applied_at place entry outcome fills = record {
   place = place;

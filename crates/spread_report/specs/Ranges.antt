@@ -6,7 +6,7 @@ use Rattle.spread_rules.specs.Rulebook.{Rules, IsListed, month_count, names_of}
 use Rattle.spread_rules.specs.Journal.{FitsEvent}
 use Rattle.spread_rules.specs.declared.fill.Fill.{Fill}
 use Rattle.spread_rules.specs.declared.outcome.Outcome.{Outcome}
-use Rattle.spread_rules.specs.declared.outcome.Outcome.TheVariants.{Rested, Filled, Ended, Cancelled, Refused, CancelRefused, Session}
+use Rattle.spread_rules.specs.declared.outcome.Outcome.TheVariants.{Cancelled, Refused, CancelRefused}
 use Rattle.spread_report.specs.Outgoing.{AppliedEntry}
 
 -- each month's name is an id of at most 15 bytes
@@ -26,17 +26,16 @@ pub record FillInRange (rules : Rules) (f : Fill) : Type 0 where
   pub near : unsigned_abs f.near < 2 ^ 64
   pub far : unsigned_abs f.far < 2 ^ 64
 
+-- numbers of 64 bits, and a listed instrument
 abbrev pub OutcomeInRange : Rules → Outcome → Type 0
 OutcomeInRange rules (Refused reason) = reason < 2 ^ 64
 OutcomeInRange rules (Cancelled o) =
     IsListed rules o.instrument × (o.place < 2 ^ 64) × (o.quantity < 2 ^ 64)
 OutcomeInRange rules (CancelRefused reason named status) =
     (reason < 2 ^ 64) × (named < 2 ^ 64) × (status < 2 ^ 64)
-OutcomeInRange rules Rested = Unit {0}
-OutcomeInRange rules Filled = Unit {0}
-OutcomeInRange rules (Ended left) = Unit {0}
-OutcomeInRange rules Session = Unit {0}
+OutcomeInRange rules _ = Unit {0}
 
+-- an entry in the range of its type, with an outcome and fills in range
 pub record EntryInRange (rules : Rules) (w : AppliedEntry) : Type 0 where
   pub place : w.place < 2 ^ 64
   pub event : FitsEvent w.entry.event

@@ -10,6 +10,7 @@ use Rattle.spread_report.specs.Outgoing.{AppliedEntry, entry_spends, outbound_be
 abbrev pub texts_of : {A : Type 0} → List (Vec ℕ A) → List (List ℕ)
 texts_of {A} lists = map (λ (v : Vec ℕ A). v.items) lists
 
+-- the text of session s
 abbrev pub session_text : List (List ℕ) → ℕ → List ℕ
 session_text texts s = slice_index_or texts s []
 

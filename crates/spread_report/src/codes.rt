@@ -13,7 +13,7 @@ pub const EXEC_TRANS_TYPE_NEW: u64 = 0;
 pub const CXL_REJ_RESPONSE_TO_CANCEL: u64 = 1;
 
 /// ExecType and OrdStatus (tags 150 and 39): what became of an order.
-#[derive(Clone, Copy, Debug, PartialEq, Eq)]
+#[derive(Clone, Copy)]
 pub enum OrdStatus {
     New,
     PartiallyFilled,
@@ -23,7 +23,7 @@ pub enum OrdStatus {
 }
 
 /// MultiLegReportingType (tag 442): which part of a fill a report tells.
-#[derive(Clone, Copy, Debug, PartialEq, Eq)]
+#[derive(Clone, Copy)]
 pub enum MultiLegReportingType {
     /// An outright's fill.
     SingleSecurity,

@@ -23,6 +23,7 @@ empty_month = record { bought = 0; sold = 0; paid = pos 0; received = pos 0 }
 abbrev pub empty_months : List MonthTotals
 empty_months = replicate MAX_MONTHS empty_month
 
+-- the months' sums with one more leg, or with the legs of one more fill
 abbrev pub with_leg : List MonthTotals → Leg → List MonthTotals
 with_leg totals l =
     set totals l.month (plus_leg l.side l.quantity l.price (get_or totals l.month empty_month))

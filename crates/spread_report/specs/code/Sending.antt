@@ -13,9 +13,11 @@ use Rattle.spread_report.specs.Messages.{IsRow, texts_to}
 use Rattle.spread_report.specs.Outgoing.{messages_bytes, outbound_after, spends}
 use Rattle.spread_report.specs.Sessions.{bytes_of, outbound_at}
 
+-- what callers see of a desk
 abbrev pub state_of : Inside → DeskState
 state_of d = record { stamp = d.stamp; sessions = d.sessions }
 
+-- a desk has a state for each session
 pub record IsDesk (d : Inside) : Type 0 where
   pub count : length d.sessions ≡ SESSIONS
 
