@@ -1,9 +1,10 @@
 -- The streams of a day in threads, and why it has no journal.
-use Rattle.std.specs.Prelude.{◌≡◌, ℕ, ◌<◌, List, length, Vec}
+use Rattle.std.specs.Prelude.{◌≡◌, ℕ, ◌<◌, ◌≤◌, List, length, Vec}
+use Rattle.host_base.specs.declared.limits.TheConstants.{SESSIONS, MAX_RING, MAX_JOURNAL_ENTRIES}
 use Rattle.spread_rules.specs.declared.event.Event.{Event}
 use Rattle.fix_session.specs.Streams.{whole}
 use Rattle.gate_link.specs.Counts.{sum_over}
-use Rattle.gate_link.specs.Opening.{IsRefusal}
+use Rattle.gate_link.specs.Opening.{Between, IsRefusal}
 use Rattle.gate_link.specs.Rows.{row}
 use Rattle.day_threads.specs.declared.fault.ThreadsFault.{ThreadsFault}
 use Rattle.day_threads.specs.declared.fault.ThreadsFault.TheVariants.{Link, Spawn, JournalFull, NoMemory}
@@ -19,6 +20,11 @@ whole_at streams s = row whole_stream streams s
 -- how many events all streams have together
 abbrev pub all_events : {A : Type 0} → List (Vec ℕ A) → ℕ
 all_events streams = sum_over (λ s. length (whole_at streams s)) (length streams)
+
+-- this many sessions, a ring of this size and a journal of this size are within the limits
+abbrev pub IsWithinLimits : ℕ → ℕ → ℕ → Type 0
+IsWithinLimits sessions ring journal =
+    Between 1 SESSIONS sessions × Between 1 MAX_RING ring × (journal ≤ MAX_JOURNAL_ENTRIES)
 
 -- why threads gave no journal of these streams, over rings and with a journal of these sizes: a full journal comes only
 -- where there are more events than it has room for

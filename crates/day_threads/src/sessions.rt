@@ -1,12 +1,12 @@
 //! A thread for each session, and the sequencer in the caller's.
-ghost use Rattle.std.specs.Prelude.{◌≡◌, ◌<◌, ◌≤◌, ℕ, length, IfOk, IfErr, IfNone, IfSome, vec_len, vec_capacity};
+ghost use Rattle.std.specs.Prelude.{◌≡◌, ◌<◌, ◌≤◌, ℕ, length, IfOk, IfErr, IfNone, IfSome, OnOk, vec_len, vec_capacity};
 ghost use Rattle.spread_rules.specs.Journal.{restricted, IsLawful};
 ghost use Rattle.host_base.specs.declared.limits.TheConstants.{SESSIONS};
 ghost use Rattle.gate_link.specs.declared.gateway.Gateway.{Gateway};
 ghost use Rattle.gate_link.specs.Links.{IsLinkOf, room_of};
 ghost use Rattle.gate_link.specs.Opening.{AreFresh};
 ghost use Rattle.day_threads.specs.code.Handing.{AreStarted, AreKept};
-ghost use Rattle.day_threads.specs.Streams.{whole_at, IsThreadsFault};
+ghost use Rattle.day_threads.specs.Streams.{whole_at, IsWithinLimits, IsThreadsFault};
 
 use crate::fault::ThreadsFault;
 use crate::turns::take_turns;
@@ -153,6 +153,8 @@ pub fn run_sessions<'r, R: Threads + Wait + Sync, G: Gate, A: Allocator + Copy +
     ensures journal { IfOk result (λ j. (s : ℕ) → restricted s j.items ≡ whole_at streams.items s) }
     ensures size { IfOk result (λ j. length j.items ≤ caps.journal) }
     ensures lawful { IfOk result (λ j. IsLawful j.items) }
+    ensures limits { OnOk result
+        (IsWithinLimits (length streams.items) caps.ring caps.journal) }
     ensures fault { IfErr result (λ f. IsThreadsFault streams.items caps.ring caps.journal f) }
 {
     let (gateways, sequencer) = match link(alloc, streams.len(), caps.ring, caps.journal) {

@@ -1,6 +1,7 @@
 //! A day in threads: one for each session, and the sequencer in the caller's.
-ghost use Rattle.std.specs.Prelude.{◌≡◌, ◌<◌, ◌≤◌, ℕ, [], length, IfOk, IfErr};
+ghost use Rattle.std.specs.Prelude.{◌≡◌, ◌<◌, ◌≤◌, ℕ, [], length, IfOk, IfErr, OnOk};
 ghost use Rattle.host_base.specs.declared.limits.TheConstants.{SESSIONS};
+ghost use Rattle.day_threads.specs.Streams.{IsWithinLimits};
 ghost use Rattle.spread_report.specs.Sessions.{bytes_of};
 ghost use Rattle.spread_host.specs.Headline.{IsJournalOfStreams, HasFills, HasOutgoing, BoughtIsSold, PaidIsReceived, IsAlwaysQuiet, IsDayOf};
 ghost use Rattle.spread_host.specs.LiveDays.{IsRunDayFault};
@@ -42,6 +43,8 @@ pub fn run_day<R: Threads + Wait + Sync, G: Gate, A: Allocator + Copy + Send>(
     // What else is true of the day.
     ensures day { IfOk result (λ day.
         IsDayOf rulebook.now stamp day.journal.items day.fills.items day.out.items) }
+    ensures limits { OnOk result
+        (IsWithinLimits (length streams.items) caps.ring caps.journal) }
     ensures size { IfOk result (λ day. length day.journal.items ≤ caps.journal) }
     ensures no_stream { IfOk result (λ day. (s : ℕ) → s < SESSIONS → length streams.items ≤ s
         → bytes_of day.out.items s ≡ []) }
