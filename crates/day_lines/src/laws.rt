@@ -10,7 +10,7 @@ ghost use Rattle.fix_session.specs.Steps.{events_said, events_at_end};
 ghost use Rattle.fix_session.specs.Streams.{events, stays_open};
 ghost use Rattle.spread_rules.specs.Journal.{restricted, IsLawful};
 ghost use Rattle.day_lines.specs.LineText.{DayLine};
-ghost use Rattle.day_lines.specs.DayLines.{new_events, journal_of, read_on};
+ghost use Rattle.day_lines.specs.DayLines.{new_events, journal_of_lines, read_on};
 ghost use Rattle.day_lines.specs.JournalParts.{AreOfSessions, part_of};
 
 use fix_session::laws::{closed_after, judged, said_after};
@@ -37,9 +37,9 @@ pub fn day_lines()
 /// a stream. A journal of at most 1,000,000 entries is lawful: every entry is in range, and each session's part in order.
 pub fn day_journal()
     ensures part { (session : ℕ) (lines : List DayLine) → AreOfSessions lines →
-        restricted session (journal_of lines) ≡ part_of session lines }
+        restricted session (journal_of_lines lines) ≡ part_of session lines }
     ensures grows { (stream text : List ℕ) →
         events (stream ++ text) ≡ events stream ++ new_events stream text }
     ensures lawful { (lines : List DayLine) → AreOfSessions lines →
-        length (journal_of lines) ≤ MAX_JOURNAL_ENTRIES → IsLawful (journal_of lines) }
+        length (journal_of_lines lines) ≤ MAX_JOURNAL_ENTRIES → IsLawful (journal_of_lines lines) }
 {}

@@ -69,7 +69,8 @@ pub(crate) fn run_gateway<R: Wait, G: Gate, A: Allocator>(
 fn put_bytes<A: Allocator>(gateway: &mut Gateway<A>, stream: &[u8], put: usize) -> usize
     requires { put ≤ length stream.now }
     ensures within { result ≤ length stream.now }
-    ensures kept { SameEvents gateway.old (drop put stream.now) gateway.new (drop result stream.now) }
+    ensures kept { SameEvents gateway.old (drop put stream.now) gateway.new
+        (drop result stream.now) }
 {
     put + gateway.put(&stream[put..])
 }

@@ -6,21 +6,21 @@ use Rattle.fix_session.specs.View.{MessageView, view}
 use Rattle.fix_session.specs.Places as places
 
 -- the messages of frames: those whose number can be read
-abbrev pub messages_of : List (List ℕ) → List MessageView
-messages_of fs = filter_map view fs
+abbrev pub messages_in : List (List ℕ) → List MessageView
+messages_in fs = filter_map view fs
 
 abbrev pub events_of : List (List ℕ) → List Event
-events_of fs = places.message_events (messages_of fs)
+events_of fs = places.message_events (messages_in fs)
 
 abbrev pub whole_of : List (List ℕ) → List Event
-whole_of fs = places.message_events_and_close (messages_of fs)
+whole_of fs = places.message_events_and_close (messages_in fs)
 
 abbrev pub stays_open_of : List (List ℕ) → Bool
-stays_open_of fs = places.none_closes (messages_of fs)
+stays_open_of fs = places.none_closes (messages_in fs)
 
 -- the messages of a stream
 abbrev pub messages : List ℕ → List MessageView
-messages stream = messages_of (frames stream)
+messages stream = messages_in (frames stream)
 
 -- the events of a stream
 abbrev pub events : List ℕ → List Event

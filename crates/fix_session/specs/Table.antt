@@ -30,8 +30,8 @@ abbrev pub required_text : Option (List ℕ) → Result (List ℕ) ℕ
 required_text None = Err reject.REQUIRED_TAG_MISSING
 required_text (Some text) = if nat_lt 0 (length text) then Ok text else Err reject.TAG_WITHOUT_VALUE
 
-abbrev pub text_at : ℕ → List ℕ → Result (List ℕ) ℕ
-text_at tag message = required_text (get tag message)
+abbrev pub value_at : ℕ → List ℕ → Result (List ℕ) ℕ
+value_at tag message = required_text (get tag message)
 
 -- a value that is not allowed is out of range
 abbrev pub or_out_of_range : Option (List ℕ) → Result (List ℕ) ℕ
@@ -39,7 +39,7 @@ or_out_of_range None = Err reject.VALUE_OUT_OF_RANGE
 or_out_of_range (Some id) = Ok id
 
 abbrev pub id_at : ℕ → List ℕ → Result (List ℕ) ℕ
-id_at tag message = text_at tag message >>= λ text. or_out_of_range (id_of text)
+id_at tag message = value_at tag message >>= λ text. or_out_of_range (id_of text)
 
 -- why a value that can't be read is rejected
 abbrev pub reason_of : Unread → ℕ
@@ -51,13 +51,13 @@ or_reason (Ok x) = Ok x
 or_reason (Err fault) = Err (reason_of fault)
 
 abbrev pub number_at : ℕ → List ℕ → Result ℕ ℕ
-number_at tag message = text_at tag message >>= λ text. or_reason (number_in text)
+number_at tag message = value_at tag message >>= λ text. or_reason (number_in text)
 
 abbrev pub quantity_at : ℕ → List ℕ → Result ℕ ℕ
-quantity_at tag message = text_at tag message >>= λ text. or_reason (quantity_in text)
+quantity_at tag message = value_at tag message >>= λ text. or_reason (quantity_in text)
 
 abbrev pub price_at : ℕ → List ℕ → Result ℤ ℕ
-price_at tag message = text_at tag message >>= λ text. or_reason (price_in text)
+price_at tag message = value_at tag message >>= λ text. or_reason (price_in text)
 
 -- one of the bytes that are allowed, and nothing else
 abbrev pub one_of : List ℕ → List ℕ → Result ℕ ℕ
@@ -67,7 +67,7 @@ one_of allowed (b ∷ []) =
 one_of allowed (b ∷ c ∷ cs) = Err reject.VALUE_OUT_OF_RANGE
 
 abbrev pub choice_at : List ℕ → ℕ → List ℕ → Result ℕ ℕ
-choice_at allowed tag message = text_at tag message >>= λ text. one_of allowed text
+choice_at allowed tag message = value_at tag message >>= λ text. one_of allowed text
 
 -- a value that is allowed, where the test holds
 abbrev pub allowed_if : Bool → ℕ → Result ℕ ℕ
@@ -96,17 +96,17 @@ gap_fill_flag_of (Some text) = required_text (Some text) >>= λ t. one_of (codes
 
 -- a Heartbeat, and a Reject
 abbrev pub passed_over : List ℕ → Result Meaning ℕ
-passed_over m = text_at tags.SENDING_TIME m >>= λ stamp. Ok Nothing
+passed_over m = value_at tags.SENDING_TIME m >>= λ stamp. Ok Nothing
 
 unfoldable pub test_request : List ℕ → Result Meaning ℕ
 test_request m = do
-  stamp ← text_at tags.SENDING_TIME m
+  stamp ← value_at tags.SENDING_TIME m
   text ← id_at tags.TEST_REQ_ID m
   Ok (Gives (events.TestReply text))
 
 unfoldable pub resend_request : List ℕ → Result Meaning ℕ
 resend_request m = do
-  stamp ← text_at tags.SENDING_TIME m
+  stamp ← value_at tags.SENDING_TIME m
   begin ← number_at tags.BEGIN_SEQ_NO m
   first ← allowed_if (nat_le FIRST_MSG_SEQ_NUM begin) begin
   end ← number_at tags.END_SEQ_NO m
@@ -117,7 +117,7 @@ resend_request m = do
 -- a gap fill of the message with number n
 unfoldable pub sequence_reset : List ℕ → ℕ → Result Meaning ℕ
 sequence_reset m n = do
-  stamp ← text_at tags.SENDING_TIME m
+  stamp ← value_at tags.SENDING_TIME m
   new ← number_at tags.NEW_SEQ_NO m
   next ← allowed_if (nat_lt n new) new
   flag ← gap_fill_flag_of (get tags.GAP_FILL_FLAG m)
@@ -125,12 +125,12 @@ sequence_reset m n = do
 
 unfoldable pub new_order : List ℕ → Result Ticket ℕ
 new_order m = do
-  stamp ← text_at tags.SENDING_TIME m
+  stamp ← value_at tags.SENDING_TIME m
   id ← id_at tags.CL_ORD_ID m
   handling ← choice_at (codes "123") tags.HANDL_INST m
   symbol ← id_at tags.SYMBOL m
   side ← side_at m
-  time ← text_at tags.TRANSACT_TIME m
+  time ← value_at tags.TRANSACT_TIME m
   quantity ← quantity_at tags.ORDER_QTY m
   type ← choice_at (codes "2") tags.ORD_TYPE m
   price ← price_at tags.PRICE m
@@ -146,12 +146,12 @@ new_order m = do
 
 unfoldable pub cancel_request : List ℕ → Result Meaning ℕ
 cancel_request m = do
-  stamp ← text_at tags.SENDING_TIME m
+  stamp ← value_at tags.SENDING_TIME m
   original ← id_at tags.ORIG_CL_ORD_ID m
   id ← id_at tags.CL_ORD_ID m
   symbol ← id_at tags.SYMBOL m
   side ← side_at m
-  time ← text_at tags.TRANSACT_TIME m
+  time ← value_at tags.TRANSACT_TIME m
   Ok (Gives (events.Cancel id original))
 
 -- ---- the table

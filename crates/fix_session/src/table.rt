@@ -6,7 +6,7 @@ ghost use Rattle.std.specs.Option.{option_copied};
 ghost use Rattle.std.specs.List.{list_any};
 ghost use Rattle.fix_wire.specs.Messages.{get};
 ghost use Rattle.fix_wire.specs.declared.tags.TheConstants as tags;
-ghost use Rattle.fix_session.specs.Table.{text_at, id_at, number_at, quantity_at, price_at, choice_at, one_of, side_at, time_in_force_of, gap_fill_flag_of, passed_over, test_request, resend_request, sequence_reset, new_order, cancel_request, meaning_of_kind, meaning_of_message, reason_of};
+ghost use Rattle.fix_session.specs.Table.{value_at, id_at, number_at, quantity_at, price_at, choice_at, one_of, side_at, time_in_force_of, gap_fill_flag_of, passed_over, test_request, resend_request, sequence_reset, new_order, cancel_request, meaning_of_kind, meaning_of_message, reason_of};
 ghost use Rattle.fix_session.specs.code.Shown.{bytes_behind};
 
 use fix_wire::{
@@ -29,8 +29,8 @@ pub enum Meaning {
 }
 
 /// The text of a tag that has to stand and hold something.
-fn text_at<'a>(message: &Message<'a>, tag: u32) -> Result<&'a [u8], u8>
-    ensures { bytes_behind result ≡ text_at tag message.now.frame.now }
+fn value_at<'a>(message: &Message<'a>, tag: u32) -> Result<&'a [u8], u8>
+    ensures { bytes_behind result ≡ value_at tag message.now.frame.now }
 {
     match message.get(tag) {
         None => Err(session_reject_reason::REQUIRED_TAG_MISSING),
@@ -42,7 +42,7 @@ fn text_at<'a>(message: &Message<'a>, tag: u32) -> Result<&'a [u8], u8>
 fn id_at(message: &Message, tag: u32) -> Result<Id, u8>
     ensures { result ≡ id_at tag message.now.frame.now }
 {
-    match Id::new(text_at(message, tag)?) {
+    match Id::new(value_at(message, tag)?) {
         Some(id) => Ok(id),
         None => Err(session_reject_reason::VALUE_OUT_OF_RANGE),
     }
@@ -61,7 +61,7 @@ fn reason_of(fault: Unread) -> u8
 fn number_at(message: &Message, tag: u32) -> Result<u32, u8>
     ensures { result ≡ number_at tag message.now.frame.now }
 {
-    match read_number(text_at(message, tag)?) {
+    match read_number(value_at(message, tag)?) {
         Ok(number) => Ok(number),
         Err(fault) => Err(reason_of(fault)),
     }
@@ -70,7 +70,7 @@ fn number_at(message: &Message, tag: u32) -> Result<u32, u8>
 fn quantity_at(message: &Message, tag: u32) -> Result<u32, u8>
     ensures { result ≡ quantity_at tag message.now.frame.now }
 {
-    match read_quantity(text_at(message, tag)?) {
+    match read_quantity(value_at(message, tag)?) {
         Ok(quantity) => Ok(quantity),
         Err(fault) => Err(reason_of(fault)),
     }
@@ -79,7 +79,7 @@ fn quantity_at(message: &Message, tag: u32) -> Result<u32, u8>
 fn price_at(message: &Message, tag: u32) -> Result<i64, u8>
     ensures { result ≡ price_at tag message.now.frame.now }
 {
-    match read_price(text_at(message, tag)?) {
+    match read_price(value_at(message, tag)?) {
         Ok(price) => Ok(price),
         Err(fault) => Err(reason_of(fault)),
     }
@@ -109,7 +109,7 @@ fn one_of(allowed: &[u8], text: &[u8]) -> Result<u8, u8>
 fn choice_at(message: &Message, tag: u32, allowed: &[u8]) -> Result<u8, u8>
     ensures { result ≡ choice_at allowed.now tag message.now.frame.now }
 {
-    one_of(allowed, text_at(message, tag)?)
+    one_of(allowed, value_at(message, tag)?)
 }
 
 /// Side.
@@ -148,7 +148,7 @@ fn gap_fill_flag_at(message: &Message) -> Result<u8, u8>
 fn passed_over(message: &Message) -> Result<Meaning, u8>
     ensures { result ≡ passed_over message.now.frame.now }
 {
-    text_at(message, tags::SENDING_TIME)?;
+    value_at(message, tags::SENDING_TIME)?;
     Ok(Meaning::Nothing)
 }
 
@@ -156,7 +156,7 @@ fn passed_over(message: &Message) -> Result<Meaning, u8>
 fn test_request(message: &Message) -> Result<Meaning, u8>
     ensures { result ≡ test_request message.now.frame.now }
 {
-    text_at(message, tags::SENDING_TIME)?;
+    value_at(message, tags::SENDING_TIME)?;
     let text = id_at(message, tags::TEST_REQ_ID)?;
     Ok(Meaning::Gives(Event::TestReply { text }))
 }
@@ -165,7 +165,7 @@ fn test_request(message: &Message) -> Result<Meaning, u8>
 fn resend_request(message: &Message) -> Result<Meaning, u8>
     ensures { result ≡ resend_request message.now.frame.now }
 {
-    text_at(message, tags::SENDING_TIME)?;
+    value_at(message, tags::SENDING_TIME)?;
     let first = number_at(message, tags::BEGIN_SEQ_NO)?;
     if first < FIRST_MSG_SEQ_NUM {
         return Err(session_reject_reason::VALUE_OUT_OF_RANGE);
@@ -185,7 +185,7 @@ fn resend_request(message: &Message) -> Result<Meaning, u8>
 fn sequence_reset(message: &Message, number: u32) -> Result<Meaning, u8>
     ensures { result ≡ sequence_reset message.now.frame.now number }
 {
-    text_at(message, tags::SENDING_TIME)?;
+    value_at(message, tags::SENDING_TIME)?;
     let next = number_at(message, tags::NEW_SEQ_NO)?;
     if next <= number {
         return Err(session_reject_reason::VALUE_OUT_OF_RANGE);
@@ -198,12 +198,12 @@ fn sequence_reset(message: &Message, number: u32) -> Result<Meaning, u8>
 fn new_order(message: &Message) -> Result<Ticket, u8>
     ensures { result ≡ new_order message.now.frame.now }
 {
-    text_at(message, tags::SENDING_TIME)?;
+    value_at(message, tags::SENDING_TIME)?;
     let id = id_at(message, tags::CL_ORD_ID)?;
     let _handling = choice_at(message, tags::HANDL_INST, b"123")?;
     let symbol = id_at(message, tags::SYMBOL)?;
     let side = side_at(message)?;
-    text_at(message, tags::TRANSACT_TIME)?;
+    value_at(message, tags::TRANSACT_TIME)?;
     let quantity = quantity_at(message, tags::ORDER_QTY)?;
     let _limit_order = choice_at(message, tags::ORD_TYPE, b"2")?;
     let price = price_at(message, tags::PRICE)?;
@@ -222,12 +222,12 @@ fn new_order(message: &Message) -> Result<Ticket, u8>
 fn cancel_request(message: &Message) -> Result<Meaning, u8>
     ensures { result ≡ cancel_request message.now.frame.now }
 {
-    text_at(message, tags::SENDING_TIME)?;
+    value_at(message, tags::SENDING_TIME)?;
     let original = id_at(message, tags::ORIG_CL_ORD_ID)?;
     let id = id_at(message, tags::CL_ORD_ID)?;
     let _symbol = id_at(message, tags::SYMBOL)?;
     let _side = side_at(message)?;
-    text_at(message, tags::TRANSACT_TIME)?;
+    value_at(message, tags::TRANSACT_TIME)?;
     Ok(Meaning::Gives(Event::Cancel { id, original }))
 }
 

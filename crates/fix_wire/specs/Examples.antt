@@ -1,9 +1,10 @@
 -- Two messages and some values, read.
-use Rattle.std.specs.Prelude.{◌≡◌, ℕ, pos, negsuc, List, [], ◌∷◌, ◌++◌, Some, Ok, Err, refl, codes}
+use Rattle.std.specs.Prelude.{◌≡◌, ℕ, pos, negsuc, List, [], ◌∷◌, ◌++◌, length, Some, Ok, Err, refl, codes}
 use Rattle.fix_wire.specs.declared.values.Unread.TheVariants.{Range}
 use Rattle.fix_wire.specs.Texts.{with_soh}
 use Rattle.fix_wire.specs.Values.{quantity_in, price_in}
-use Rattle.fix_wire.specs.Frames.{frame_at, frames}
+use Rattle.fix_wire.specs.declared.frame.TheConstants.{BEGIN_BYTES, CHECKSUM_BYTES}
+use Rattle.fix_wire.specs.Frames.{begin_text, checksum_field, frame_at, frames}
 use Rattle.fix_wire.specs.Messages.{kind, number}
 
 abbrev pub logon : List ℕ
@@ -15,6 +16,13 @@ abbrev pub order : List ℕ
 order =
     with_soh (codes "8=FIX.4.2|9=104|35=D|34=2|49=C1|52=20260105-14:30:00|56=HOST|"
     ++ codes "11=a|21=1|55=H6|54=2|60=20260105-14:30:00|38=5|40=2|44=100|10=168|")
+
+-- the lengths that the code states are those of the texts
+pub begin_length_is : length begin_text ≡ BEGIN_BYTES
+begin_length_is = refl
+
+pub checksum_length_is : length (checksum_field 220) ≡ CHECKSUM_BYTES
+checksum_length_is = refl
 
 pub logon_is : frame_at logon ≡ Some 79
 logon_is = refl

@@ -17,7 +17,7 @@ use Rattle.fix_wire.specs.Values.{is_number, within, number_in, quantity_in, hun
 use Rattle.fix_wire.specs.Messages.{get, kind}
 use Rattle.fix_session.specs.declared.table.Meaning.{Meaning}
 use Rattle.fix_session.specs.declared.table.Meaning.TheVariants.{Nothing, Gives, Fills}
-use Rattle.fix_session.specs.Table.{◌>>=◌, required_text, text_at, or_out_of_range, id_at, or_reason, number_at, quantity_at, price_at, one_of, choice_at, allowed_if, side_at, side_of, time_in_force_of, gap_fill_flag_of, passed_over, test_request, resend_request, sequence_reset, new_order, cancel_request, meaning_of_kind, meaning_of_kind_text, meaning_of_message}
+use Rattle.fix_session.specs.Table.{◌>>=◌, required_text, value_at, or_out_of_range, id_at, or_reason, number_at, quantity_at, price_at, one_of, choice_at, allowed_if, side_at, side_of, time_in_force_of, gap_fill_flag_of, passed_over, test_request, resend_request, sequence_reset, new_order, cancel_request, meaning_of_kind, meaning_of_kind_text, meaning_of_message}
 
 -- a result of that kind, or a reason to reject
 abbrev pub Holds : {A : Type 0} → (A → Type 0) → Result A ℕ → Type 0
@@ -52,8 +52,8 @@ required_text_holds : (o : Option (List ℕ)) → Holds Any (required_text o)
 required_text_holds None = refl
 required_text_holds (Some text) = either Any (nat_lt 0 (length text)) (Ok text) (Err 4) tt refl
 
-text_holds : (tag : ℕ) (m : List ℕ) → Holds Any (text_at tag m)
-text_holds tag m = required_text_holds (get tag m)
+value_holds : (tag : ℕ) (m : List ℕ) → Holds Any (value_at tag m)
+value_holds tag m = required_text_holds (get tag m)
 
 abbrev IsId : List ℕ → Type 0
 IsId text = is_id text ≡ true
@@ -66,7 +66,7 @@ id_of_holds text = by_test (is_id text) refl
     by_test false e = refl
 
 id_holds : (tag : ℕ) (m : List ℕ) → Holds IsId (id_at tag m)
-id_holds tag m = chained Any IsId (text_at tag m) (λ text. or_out_of_range (id_of text)) (text_holds tag m) (λ text h. id_of_holds text)
+id_holds tag m = chained Any IsId (value_at tag m) (λ text. or_out_of_range (id_of text)) (value_holds tag m) (λ text h. id_of_holds text)
 
 within_holds : (most n : ℕ) → Holds (λ x. x ≤ most) (or_reason (within most n))
 within_holds most n = by_test (nat_le n most) refl
@@ -86,7 +86,7 @@ number_in_holds text = by_test (is_number text)
     by_test false = refl
 
 number_holds : (tag : ℕ) (m : List ℕ) → Holds IsShort (number_at tag m)
-number_holds tag m = chained Any IsShort (text_at tag m) (λ text. or_reason (number_in text)) (text_holds tag m) (λ text h. number_in_holds text)
+number_holds tag m = chained Any IsShort (value_at tag m) (λ text. or_reason (number_in text)) (value_holds tag m) (λ text h. number_in_holds text)
 
 quantity_in_holds : (text : List ℕ) → Holds IsShort (or_reason (quantity_in text))
 quantity_in_holds text = by_test (is_number (before_first is_point text) && list_all is_zero (after_first is_point text))
@@ -96,7 +96,7 @@ quantity_in_holds text = by_test (is_number (before_first is_point text) && list
     by_test false = refl
 
 quantity_holds : (tag : ℕ) (m : List ℕ) → Holds IsShort (quantity_at tag m)
-quantity_holds tag m = chained Any IsShort (text_at tag m) (λ text. or_reason (quantity_in text)) (text_holds tag m) (λ text h. quantity_in_holds text)
+quantity_holds tag m = chained Any IsShort (value_at tag m) (λ text. or_reason (quantity_in text)) (value_holds tag m) (λ text h. quantity_in_holds text)
 
 price_of : (negative : Bool) (n : ℕ) → n ≤ 1000000000 → IsOrderPrice (if negative then neg_ℤ (pos n) else pos n)
 price_of true n h = record { low = omega (arith, ints, h); high = omega (arith, ints, h) }
@@ -126,7 +126,7 @@ price_in_holds (b ∷ bs) = by_sign (b == 45)
     by_sign false = signed_holds false (hundredths_in (b ∷ bs)) (hundredths_holds (b ∷ bs))
 
 price_holds : (tag : ℕ) (m : List ℕ) → Holds IsOrderPrice (price_at tag m)
-price_holds tag m = chained Any IsOrderPrice (text_at tag m) (λ text. or_reason (price_in text)) (text_holds tag m) (λ text h. price_in_holds text)
+price_holds tag m = chained Any IsOrderPrice (value_at tag m) (λ text. or_reason (price_in text)) (value_holds tag m) (λ text h. price_in_holds text)
 
 one_of_holds : (allowed text : List ℕ) → Holds Any (one_of allowed text)
 one_of_holds allowed [] = refl
@@ -134,7 +134,7 @@ one_of_holds allowed (b ∷ []) = either Any (list_any (λ a. a == b) allowed) (
 one_of_holds allowed (b ∷ c ∷ cs) = refl
 
 choice_holds : (allowed : List ℕ) (tag : ℕ) (m : List ℕ) → Holds Any (choice_at allowed tag m)
-choice_holds allowed tag m = chained Any Any (text_at tag m) (λ text. one_of allowed text) (text_holds tag m) (λ text h. one_of_holds allowed text)
+choice_holds allowed tag m = chained Any Any (value_at tag m) (λ text. one_of allowed text) (value_holds tag m) (λ text h. one_of_holds allowed text)
 
 allowed_holds : (test : Bool) (n : ℕ) → Holds (λ x. (x ≡ n) × (test ≡ true)) (allowed_if test n)
 allowed_holds true n = (refl, refl)
@@ -156,12 +156,12 @@ gap_fill_flag_holds (Some text) = chained Any Any (required_text (Some text)) _ 
 -- ---- one kind
 
 passed_over_holds : (m : List ℕ) (n : ℕ) → Holds (FitsMeaning n) (passed_over m)
-passed_over_holds m n = chained Any (FitsMeaning n) (text_at 52 m) _ (text_holds 52 m) (λ stamp h. tt)
+passed_over_holds m n = chained Any (FitsMeaning n) (value_at 52 m) _ (value_holds 52 m) (λ stamp h. tt)
 
 test_request_holds : (m : List ℕ) (n : ℕ) → Holds (FitsMeaning n) (test_request m)
 unfolding test_request
 test_request_holds m n =
-    chained Any (FitsMeaning n) (text_at 52 m) _ (text_holds 52 m) (λ stamp h.
+    chained Any (FitsMeaning n) (value_at 52 m) _ (value_holds 52 m) (λ stamp h.
     chained IsId (FitsMeaning n) (id_at 112 m) _ (id_holds 112 m) (λ text id.
     record { fits = id; no_logon = refl; no_close = refl }))
 
@@ -176,7 +176,7 @@ last_number first end most e = by_test (end == 0) (nat_le first end) refl refl e
 resend_request_holds : (m : List ℕ) (n : ℕ) → Holds (FitsMeaning n) (resend_request m)
 unfolding resend_request
 resend_request_holds m n =
-    chained Any (FitsMeaning n) (text_at 52 m) _ (text_holds 52 m) (λ stamp h.
+    chained Any (FitsMeaning n) (value_at 52 m) _ (value_holds 52 m) (λ stamp h.
     chained IsShort (FitsMeaning n) (number_at 7 m) _ (number_holds 7 m) (λ begin short.
     chained (λ x. (x ≡ begin) × (nat_le 1 begin ≡ true)) (FitsMeaning n) (allowed_if (nat_le 1 begin) begin) _ (allowed_holds (nat_le 1 begin) begin) (λ first begins.
     chained IsShort (FitsMeaning n) (number_at 16 m) _ (number_holds 16 m) (λ end ends.
@@ -189,7 +189,7 @@ resend_request_holds m n =
 sequence_reset_holds : (m : List ℕ) (n : ℕ) → Holds (FitsMeaning n) (sequence_reset m n)
 unfolding sequence_reset
 sequence_reset_holds m n =
-    chained Any (FitsMeaning n) (text_at 52 m) _ (text_holds 52 m) (λ stamp h.
+    chained Any (FitsMeaning n) (value_at 52 m) _ (value_holds 52 m) (λ stamp h.
     chained IsShort (FitsMeaning n) (number_at 36 m) _ (number_holds 36 m) (λ new short.
     chained (λ x. (x ≡ new) × (nat_lt n new ≡ true)) (FitsMeaning n) (allowed_if (nat_lt n new) new) _ (allowed_holds (nat_lt n new) new) (λ next above.
     chained Any (FitsMeaning n) (gap_fill_flag_of (get 123 m)) _ (gap_fill_flag_holds (get 123 m)) (λ flag set.
@@ -199,12 +199,12 @@ sequence_reset_holds m n =
 new_order_holds : (m : List ℕ) → Holds FitsTicket (new_order m)
 unfolding new_order
 new_order_holds m =
-    chained Any FitsTicket (text_at 52 m) _ (text_holds 52 m) (λ stamp a.
+    chained Any FitsTicket (value_at 52 m) _ (value_holds 52 m) (λ stamp a.
     chained IsId FitsTicket (id_at 11 m) _ (id_holds 11 m) (λ id is_id.
     chained Any FitsTicket (choice_at (49 ∷ 50 ∷ 51 ∷ []) 21 m) _ (choice_holds (49 ∷ 50 ∷ 51 ∷ []) 21 m) (λ handling b.
     chained IsId FitsTicket (id_at 55 m) _ (id_holds 55 m) (λ symbol is_symbol.
     chained Any FitsTicket (side_at m) _ (side_holds m) (λ side c.
-    chained Any FitsTicket (text_at 60 m) _ (text_holds 60 m) (λ time d.
+    chained Any FitsTicket (value_at 60 m) _ (value_holds 60 m) (λ time d.
     chained IsShort FitsTicket (quantity_at 38 m) _ (quantity_holds 38 m) (λ quantity short.
     chained Any FitsTicket (choice_at (50 ∷ []) 40 m) _ (choice_holds (50 ∷ []) 40 m) (λ type e.
     chained IsOrderPrice FitsTicket (price_at 44 m) _ (price_holds 44 m) (λ price is_price.
@@ -214,12 +214,12 @@ new_order_holds m =
 cancel_request_holds : (m : List ℕ) (n : ℕ) → Holds (FitsMeaning n) (cancel_request m)
 unfolding cancel_request
 cancel_request_holds m n =
-    chained Any (FitsMeaning n) (text_at 52 m) _ (text_holds 52 m) (λ stamp a.
+    chained Any (FitsMeaning n) (value_at 52 m) _ (value_holds 52 m) (λ stamp a.
     chained IsId (FitsMeaning n) (id_at 41 m) _ (id_holds 41 m) (λ original is_original.
     chained IsId (FitsMeaning n) (id_at 11 m) _ (id_holds 11 m) (λ id is_id.
     chained IsId (FitsMeaning n) (id_at 55 m) _ (id_holds 55 m) (λ symbol b.
     chained Any (FitsMeaning n) (side_at m) _ (side_holds m) (λ side c.
-    chained Any (FitsMeaning n) (text_at 60 m) _ (text_holds 60 m) (λ time d.
+    chained Any (FitsMeaning n) (value_at 60 m) _ (value_holds 60 m) (λ time d.
     record { fits = (is_id, is_original); no_logon = refl; no_close = refl }))))))
 
 -- ---- the table

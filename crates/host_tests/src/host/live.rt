@@ -83,7 +83,7 @@ impl Gate for Open {
     fn before(&self, _session: u8, _message: u32) {}
 }
 
-/// RingWasFull until the flag is set, and says whether it came within ten million turns.
+/// Waits until the flag is set, and says whether it came within ten million turns.
 fn comes(flag: &AtomicU32) -> bool {
     for _ in 0..10_000_000 {
         if flag.load(Ordering::SeqCst) == 1 {
