@@ -1,8 +1,8 @@
 //! A source read to its end, and a text written whole.
 
-ghost use Rattle.std.specs.Prelude.{◌≡◌, ◌≤◌, ◌<◌, ◌⊎◌, length, true, false, IfOk, OnOk, OnErr, IfSome, IsErrOf, vec_len};
+ghost use Rattle.std.specs.Prelude.{◌≡◌, ◌≤◌, ◌<◌, ◌⊎◌, ◌+◌, length, true, false, IfOk, OnOk, OnErr, IfSome, IsErrOf, vec_len};
 ghost use Rattle.std.specs.Io.KnownBytes.{Appends, IsAtEnd};
-ghost use Rattle.host_base.specs.Ends.{AppendsPrefix};
+ghost use Rattle.host_base.specs.Ends.{AppendsPrefix, TakesAtMost};
 ghost use Rattle.host_base.specs.declared.whole.ReadFault.TheVariants.{NoMemory};
 
 use crate::limits::MAX_INPUT_BYTES;
@@ -11,7 +11,7 @@ use crate::source::{Failed, Source};
 use std::alloc::{AllocError, Allocator};
 
 /// How many bytes one read takes at most.
-const CHUNK_BYTES: usize = 4_096;
+pub const CHUNK_BYTES: usize = 4_096;
 
 /// Why a source could not be read whole.
 #[derive(Clone, Copy, Debug, PartialEq, Eq)]
@@ -40,6 +40,9 @@ pub fn read_all<S: Source, A: Allocator>(alloc: A, source: &mut S) -> Result<Vec
     ensures read { IsErrOf result ReadFault.Read →
         (S.has_failed source.new ≡ true)
         ⊎ IfSome (S.left source.old) (λ xs. MAX_INPUT_BYTES < length xs) }
+    // One read more than the limit, and no further.
+    ensures taken { IsErrOf result ReadFault.Read →
+        TakesAtMost (S.left source.old) (S.left source.new) (MAX_INPUT_BYTES + CHUNK_BYTES) }
 {
     let mut bytes = Vec::new(alloc);
     let mut piece = [0u8; CHUNK_BYTES];

@@ -33,7 +33,7 @@ texts_below (suc n) rules stamp journal =
 abbrev pub text_of_day : Bool → Rules → List ℕ → List Entry → List ℕ
 text_of_day journal_only rules stamp journal =
     day_text journal_only rules journal (meaning_of_journal rules journal).fills
-        (texts_below SESSIONS rules stamp journal)
+    (texts_below SESSIONS rules stamp journal)
 
 -- a prefix of the text of this input's day was written, and nothing else
 pub record IsPartOut (journal_only : Bool) (rules : Rules) (stamp input : List ℕ) (old new : Option (List ℕ)) : Type 0 where

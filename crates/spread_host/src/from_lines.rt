@@ -1,6 +1,8 @@
 //! A recorded day in one thread: day lines in, the day's text out.
-ghost use Rattle.std.specs.Prelude.{◌≡◌, ◌<◌, ◌⊎◌, ◌≢◌, IfOk, IfErr, IfSome, OnOk, IsErrOf, length, true, false, Ok};
+ghost use Rattle.std.specs.Prelude.{◌≡◌, ◌<◌, ◌⊎◌, ◌+◌, ◌≢◌, IfOk, IfErr, IfSome, OnOk, IsErrOf, length, true, false, Ok};
 ghost use Rattle.host_base.specs.declared.limits.TheConstants.{MAX_INPUT_BYTES};
+ghost use Rattle.host_base.specs.declared.whole.TheConstants.{CHUNK_BYTES};
+ghost use Rattle.host_base.specs.Ends.{TakesAtMost};
 ghost use Rattle.spread_journal.specs.JournalReading.{ReadsJournal};
 ghost use Rattle.spread_journal.specs.JournalText.{journal_text};
 ghost use Rattle.spread_host.specs.Headline.{IsJournalOfText, HasFills, HasOutgoing, BoughtIsSold, PaidIsReceived, IsAlwaysQuiet, IsDayOf};
@@ -58,6 +60,8 @@ pub fn replay<S: Source, K: Sink, A: Allocator + Copy>(
     // When each fault comes, and what is out then.
     ensures read { IsErrOf result HostFault.Read → (S.has_failed source.new ≡ true)
         ⊎ IfSome (S.left source.old) (λ input. MAX_INPUT_BYTES < length input) }
+    ensures taken { IsErrOf result HostFault.Read →
+        TakesAtMost (S.left source.old) (S.left source.new) (MAX_INPUT_BYTES + CHUNK_BYTES) }
     ensures write { IsErrOf result HostFault.Write → (K.has_failed sink.new ≡ true)
         × IfSome (S.left source.old) (λ input. IsPartOut journal_only rulebook.now stamp input
         (K.written sink.old) (K.written sink.new)) }
