@@ -20,7 +20,12 @@ fn written<K: Sink>(sink: &mut K) -> (Result<(), Failed>, Result<(), Failed>)
 #[test]
 fn sources_in_memory(rt: HostRuntime) -> Result<(), Fail> {
     let text = b"8=FIX.4.2";
-    let rows = [(0, None), (1, Some(ReadFault::Read)), (2, Some(ReadFault::Read)), (3, None)];
+    let rows = [
+        (0, None),
+        (1, Some(ReadFault::Read)),
+        (2, Some(ReadFault::Read)),
+        (3, None),
+    ];
     for (fail, want) in rows {
         let mut source = TestSource::new(Vec::from_slice(rt.alloc(), text)?, fail);
         match read_all(rt.alloc(), &mut source) {
