@@ -1,7 +1,7 @@
 //! What a caller reads off the contracts of `run_day` and `replay`, fact by fact: each of these calls is the call itself.
 ghost use Rattle.std.specs.Io.KnownBytes.{Appends, IsAtEnd};
 ghost use Rattle.std.specs.Prelude.{◌≡◌, ℕ, ◌<◌, ◌≤◌, ◌+◌, ◌⊎◌, ◌≢◌, Contains, IfOk, IfErr, IfSome, OnOk, IsErrOf, length, take, true, false, Ok, [], All};
-ghost use Rattle.host_base.specs.declared.whole.TheConstants.{LIMIT};
+ghost use Rattle.host_base.specs.declared.limits.TheConstants.{MAX_INPUT_BYTES};
 ghost use Rattle.fix_wire.specs.Frames.{IsFrameRow};
 ghost use Rattle.spread_rules.specs.Candidates.{all_on};
 ghost use Rattle.spread_rules.specs.Journal.{IsLawful, restricted};
@@ -115,7 +115,7 @@ pub fn day_of_lines<S: Source, K: Sink, A: Allocator + Copy>(
         Appends (K.written sink.old) (K.written sink.new) (text_of_day journal_only rulebook.now stamp day.journal.items)) }
     ensures write_sound { OnOk result (K.has_failed sink.new ≡ false) }
     ensures read { IsErrOf result HostFault.Read
-        → (S.has_failed source.new ≡ true) ⊎ IfSome (S.left source.old) (λ input. LIMIT < length input) }
+        → (S.has_failed source.new ≡ true) ⊎ IfSome (S.left source.old) (λ input. MAX_INPUT_BYTES < length input) }
     ensures write { IsErrOf result HostFault.Write
         → (K.has_failed sink.new ≡ true) × IfSome (S.left source.old) (λ input. IsPartOut journal_only rulebook.now stamp input (K.written sink.old) (K.written sink.new)) }
     ensures nothing_written { IfErr result (λ f. f ≢ HostFault.Write → sink.new ≡ sink.old) }

@@ -1,8 +1,10 @@
 //! Days in threads. Each ends by itself, whatever the schedule.
 ghost use Rattle.day_text.specs.DayText.{AreShown};
 
+use crate::headline::day_of_streams;
 use day_text::{Day, put_months};
 use day_threads::{Caps, Gate, run_sessions};
+use fix_wire::{Field, Head, Value, msg_types, tags, write_message};
 use gate_link::LinkFault;
 use spread_host::{HostFault, run_day};
 use spread_rules::{Entry, Event, Rulebook, Side, Ticket};
@@ -16,6 +18,9 @@ pub const USUAL: Caps = Caps {
     ring: 256,
     journal: 100_000,
 };
+
+const LOGON: &[u8] =
+    b"8=FIX.4.2\x019=57\x0135=A\x0134=1\x0149=C1\x0152=20260105-14:30:00\x0156=HOST\x0198=0\x01108=30\x0110=220\x01";
 
 fn order(text: &[u8], side: Side) -> Event {
     Event::New(Ticket {
@@ -159,7 +164,7 @@ impl Gate for InTurn {
 fn no_bytes(rt: HostRuntime) -> Result<(), Fail> {
     let rulebook = Rulebook::read(THREE_MONTHS)?;
     let streams = streams_of(rt.alloc(), 1, b"")?;
-    let day = run_day(&rt, rt.alloc(), &rulebook, stamp(), streams, &Open, USUAL)?;
+    let day = day_of_streams(&rt, rt.alloc(), &rulebook, stamp(), streams, &Open, USUAL)?;
     assert!(rt; day.journal.len() == 1);
     assert!(rt;
         day.journal[0]
@@ -228,6 +233,47 @@ fn each_message_once(rt: HostRuntime) -> Result<(), Fail> {
     assert!(rt; gate.wrong.load(Ordering::SeqCst) == 0);
     let events = part(rt.alloc(), &journal, 0)?;
     assert!(rt; events.as_slice() == first_trade().as_slice());
+    Ok(())
+}
+
+/// A Logon, then as many TestRequests, as one session's bytes.
+fn test_requests(alloc: Global, count: u32) -> Result<Vec<u8>, Fail> {
+    let mut stream = Vec::from_slice(alloc, LOGON)?;
+    let fields = [Field {
+        tag: tags::TEST_REQ_ID,
+        value: Value::Text(id(b"T")),
+    }];
+    for number in 2..u64::from(count) + 2 {
+        let head = Head {
+            kind: msg_types::TEST_REQUEST,
+            number,
+            duplicate: false,
+            sender: id(b"C1"),
+            target: id(b"HOST"),
+            stamp: stamp(),
+        };
+        write_message(&mut stream, &head, &fields)?;
+    }
+    Ok(stream)
+}
+
+/// The gate sees each message once also where the ring is full and a message has to be stepped on again.
+#[test]
+fn each_message_once_over_a_full_ring(rt: HostRuntime) -> Result<(), Fail> {
+    let gate = InTurn {
+        next: AtomicU32::new(0),
+        wrong: AtomicU32::new(0),
+    };
+    let mut streams = Vec::new(rt.alloc());
+    streams.push(test_requests(rt.alloc(), 300)?)?;
+    let caps = Caps {
+        ring: 1,
+        journal: 1_000,
+    };
+    let journal = run_sessions(&rt, rt.alloc(), streams, &gate, caps)?;
+    assert!(rt; journal.len() == 302);
+    assert!(rt; gate.next.load(Ordering::SeqCst) == 301);
+    assert!(rt; gate.wrong.load(Ordering::SeqCst) == 0);
     Ok(())
 }
 

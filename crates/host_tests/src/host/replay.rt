@@ -1,4 +1,5 @@
 //! Day lines cut anywhere, and the faults of `replay`.
+use crate::headline::day_of_lines;
 use host_base::{TestSink, TestSource};
 use spread_host::{HostFault, replay};
 use spread_rules::Rulebook;
@@ -14,7 +15,7 @@ fn text_of(alloc: Global, lines: &[u8], journal_only: bool) -> Result<TestSink, 
     let rules = Rulebook::read(THREE_MONTHS)?;
     let mut sink = TestSink::new(alloc, 4096, 0)?;
     let mut source = TestSource::new(Vec::from_slice(alloc, lines)?, 0);
-    replay(alloc, &rules, stamp(), &mut source, &mut sink, journal_only)?;
+    day_of_lines(alloc, &rules, stamp(), &mut source, &mut sink, journal_only)?;
     Ok(sink)
 }
 

@@ -4,6 +4,8 @@ ghost use Rattle.std.specs.Prelude.{◌≡◌, false};
 use host_base::{
     Failed, FromReader, ReadFault, Sink, TestSink, TestSource, ToWriter, read_all, write_all,
 };
+use std::io;
+use std::io::{ErrorKind, Read};
 use std::test::Fail;
 use test_support::Refusing;
 
@@ -83,4 +85,35 @@ fn ends_over_std(rt: HostRuntime) -> Result<(), Fail> {
         Err(_) => assert!(rt; false),
     }
     Ok(())
+}
+
+/// A reader that a signal interrupts twice, and that then gives one byte.
+#[derive(Drop)]
+struct Interrupting {
+    left: u32,
+}
+
+impl Read for Interrupting {
+    fn read(&mut self, buf: &mut [u8]) -> io::Result<usize> {
+        let left = self.left;
+        self.left = left.saturating_sub(1);
+        if left > 2 {
+            return Err(io::Error::from(ErrorKind::Interrupted));
+        }
+        if left < 2 || buf.is_empty() {
+            return Ok(0);
+        }
+        buf[0] = b'x';
+        Ok(1)
+    }
+}
+
+/// An interrupted read is asked again.
+#[test]
+fn interrupted_reads(rt: HostRuntime) {
+    let mut source = FromReader::new(Interrupting { left: 4 });
+    match read_all(rt.alloc(), &mut source) {
+        Ok(bytes) => assert!(rt; bytes.as_slice() == b"x".as_slice()),
+        Err(_) => assert!(rt; false),
+    }
 }
