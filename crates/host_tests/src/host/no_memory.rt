@@ -127,19 +127,19 @@ fn check_refused_memory(rt: HostRuntime) -> Result<(), Fail> {
     Ok(())
 }
 
-/// A day of two streams in which all memory is the allocator's.
+/// A day of one stream, whose order is the same in each run, in which all memory is the heap's.
 fn day_over<R: Threads + Wait + Sync, A: Allocator + Copy + Send>(
     rt: &R,
     heap: A,
     rulebook: &Rulebook,
 ) -> Result<Day<A>, HostFault> {
-    let Ok(streams) = streams_of(heap, 2, FIRST_TRADE) else {
+    let Ok(streams) = streams_of(heap, 1, FIRST_TRADE) else {
         return Err(HostFault::NoMemory(0));
     };
     run_day(rt, heap, rulebook, stamp(), streams, &Open, USUAL)
 }
 
-/// Of two streams of four events the places are 0 to 8; nothing is refused behind the last entry.
+/// Of a stream of four events the places are 0 to 4; nothing is refused behind the last entry.
 #[test]
 fn run_day_refused_memory(rt: HostRuntime) -> Result<(), Fail> {
     let rulebook = Rulebook::read(THREE_MONTHS)?;
@@ -148,8 +148,8 @@ fn run_day_refused_memory(rt: HostRuntime) -> Result<(), Fail> {
         let heap = Refusing::new(rt.alloc(), number);
         match day_over(&rt, &heap, &rulebook) {
             Ok(day) => {
-                assert!(rt; !heap.has_refused() && day.journal.len() == 8);
-                assert!(rt; places.seen[0] && places.last > 0 && places.last < 9);
+                assert!(rt; !heap.has_refused() && day.journal.len() == 4);
+                assert!(rt; places.seen[0] && places.seen[1] && places.last < 5);
                 return Ok(());
             }
             Err(HostFault::NoMemory(place)) => {
