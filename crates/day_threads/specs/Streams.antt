@@ -4,7 +4,8 @@ use Rattle.host_base.specs.declared.limits.TheConstants.{SESSIONS, MAX_RING, MAX
 use Rattle.spread_rules.specs.declared.event.Event.{Event}
 use Rattle.fix_session.specs.Streams.{whole}
 use Rattle.gate_link.specs.Counts.{sum_over}
-use Rattle.gate_link.specs.Opening.{Between, IsRefusal}
+use Rattle.gate_link.specs.Opening.{IsRefusal}
+use Rattle.stage_rings.specs.Faults.{Between}
 use Rattle.gate_link.specs.Rows.{row}
 use Rattle.day_threads.specs.declared.fault.ThreadsFault.{ThreadsFault}
 use Rattle.day_threads.specs.declared.fault.ThreadsFault.TheVariants.{Link, Spawn, JournalFull, NoMemory}

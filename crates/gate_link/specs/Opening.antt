@@ -1,11 +1,12 @@
 -- What `link` makes, and what it refuses.
-use Rattle.std.specs.Prelude.{◌≡◌, ℕ, ◌<◌, ◌≤◌, List, [], length, slice_index_or, ◌⊎◌}
+use Rattle.std.specs.Prelude.{◌≡◌, ℕ, ◌<◌, ◌≤◌, List, [], length, slice_index_or}
 use Rattle.host_base.specs.declared.limits.TheConstants.{SESSIONS, MAX_RING, MAX_JOURNAL_ENTRIES}
 use Rattle.fix_session.specs.Steps.{new_session}
 use Rattle.gate_link.specs.Gateways.{session_number, events_sent, free_slots, session_state, bytes_held}
 use Rattle.gate_link.specs.declared.gateway.Gateway.{Gateway}
-use Rattle.gate_link.specs.declared.open.LinkFault.{LinkFault}
-use Rattle.gate_link.specs.declared.open.LinkFault.TheVariants.{Sessions, Ring, NoMemory, Journal}
+use Rattle.stage_rings.specs.Faults.{Between, Outside}
+use Rattle.stage_rings.specs.declared.fault.LinkFault.{LinkFault}
+use Rattle.stage_rings.specs.declared.fault.LinkFault.TheVariants.{Sessions, Ring, NoMemory, Journal}
 
 -- a gateway that has done nothing, over a ring with this much room
 pub record IsFresh {A : Type 0} (ring s : ℕ) (g : Gateway A) : Type 0 where
@@ -17,18 +18,6 @@ pub record IsFresh {A : Type 0} (ring s : ℕ) (g : Gateway A) : Type 0 where
 
 abbrev pub AreFresh : {A : Type 0} → ℕ → List (Gateway A) → Type 0
 AreFresh ring gs = (s : ℕ) (g : Gateway _) → s < length gs → IsFresh ring s (slice_index_or gs s g)
-
-abbrev pub fault_number : LinkFault → ℕ
-fault_number Sessions = 1
-fault_number Ring = 2
-fault_number NoMemory = 3
-fault_number Journal = 4
-
-abbrev pub Between : ℕ → ℕ → ℕ → Type 0
-Between low high n = (low ≤ n) × (n ≤ high)
-
-abbrev pub Outside : ℕ → ℕ → ℕ → Type 0
-Outside low high n = (n < low) ⊎ (high < n)
 
 -- why a link was refused
 abbrev pub IsRefusal : LinkFault → ℕ → ℕ → ℕ → Type 0

@@ -3,7 +3,8 @@ ghost use Rattle.std.specs.Prelude.{◌≡◌, ◌≤◌, ◌<◌, ℕ, [], IfOk
 ghost use Rattle.gate_link.specs.Rows.{row};
 ghost use Rattle.gate_link.specs.Inboxes.{taken, ArePairs};
 ghost use Rattle.gate_link.specs.Links.{IsLinkOf, journal_of, room_of, session_count};
-ghost use Rattle.gate_link.specs.Opening.{AreFresh, Between, IsRefusal, fault_number};
+ghost use Rattle.gate_link.specs.Opening.{AreFresh, IsRefusal};
+ghost use Rattle.stage_rings.specs.Faults.{Between};
 
 use crate::gateway::Gateway;
 use crate::inbox::Inbox;
@@ -11,35 +12,8 @@ use crate::sequencer::Sequencer;
 use host_base::limits::{MAX_JOURNAL_ENTRIES, MAX_RING, SESSIONS};
 use rtrb::RingBuffer;
 use spread_rules::Entry;
+use stage_rings::LinkFault;
 use std::alloc::{AllocError, Allocator};
-use thiserror::Error;
-
-/// Why no link was made.
-#[derive(Clone, Copy, PartialEq, Eq, Debug, Error)]
-pub enum LinkFault {
-    #[error("not 1 to 16 sessions")]
-    Sessions,
-    #[error("a ring of not 1 to 4,096 events")]
-    Ring,
-    #[error("no memory")]
-    NoMemory,
-    #[error("a journal of more than 1,000,000 entries")]
-    Journal,
-}
-
-impl LinkFault {
-    /// Its number, 1 to 4.
-    pub fn number(&self) -> u8
-        ensures { result ≡ fault_number self.now }
-    {
-        match self {
-            LinkFault::Sessions => 1,
-            LinkFault::Ring => 2,
-            LinkFault::NoMemory => 3,
-            LinkFault::Journal => 4,
-        }
-    }
-}
 
 /// The gateways of 1 to 16 sessions in their order, over rings of 1 to 4,096 events, and their sequencer, whose journal has
 /// room for at most 1,000,000 entries, all of it reserved here. The faults are judged in the order 1, 2, 4, 3.

@@ -1,0 +1,58 @@
+-- Entries and the end mark among the items of the ring to the thread that matches.
+use Rattle.std.proofs.Common.{◌≡◌, ◌∙◌, sym, ap, refl, Bool, true, false, ℕ, List, [], ◌∷◌, ◌++◌, map, append-nil, append_assoc, subst}
+use mathlib.Core.List.{IsPrefix}
+use Rattle.spread_rules.specs.declared.event.Entry.{Entry}
+use Rattle.stage_rings.specs.declared.feed.Fed.{Fed}
+use Rattle.stage_rings.specs.declared.feed.Fed.TheVariants.{Entry as Item, End}
+use Rattle.stage_rings.specs.Feeds.{entries, is_end}
+use Rattle.stage_rings.specs.Feeding.{Agrees}
+use Rattle.stage_rings.specs.Marks.{ends}
+use Rattle.stage_rings.proofs.Marks.{ends_more, ends_mark, all_taken}
+
+-- these entries as items
+abbrev pub items_of : List Entry → List Fed
+items_of es = map (λ (e : Entry). Item e) es
+
+pub entries-append : (xs ys : List Fed) → entries (xs ++ ys) ≡ entries xs ++ entries ys
+entries-append [] ys = refl
+entries-append (Item e ∷ xs) ys = ap (λ t. e ∷ t) (entries-append xs ys)
+entries-append (End ∷ xs) ys = entries-append xs ys
+
+entries_items : (es : List Entry) → entries (items_of es) ≡ es
+entries_items [] = refl
+entries_items (e ∷ es) = ap (λ t. e ∷ t) (entries_items es)
+
+-- entries that are pushed come last
+entries_more : (xs : List Fed) (es : List Entry) → entries (xs ++ items_of es) ≡ entries xs ++ es
+entries_more xs es = entries-append xs (items_of es) ∙ ap (λ t. entries xs ++ t) (entries_items es)
+
+ends_items : (xs : List Fed) (es : List Entry) → ends is_end xs false ≡ true → ends is_end (xs ++ items_of es) false ≡ true
+ends_items xs [] h = subst (λ t. ends is_end t false ≡ true) (sym (append-nil xs)) h
+ends_items xs (e ∷ es) h =
+    subst (λ t. ends is_end t false ≡ true) (append_assoc xs (Item e ∷ []) (items_of es)) (ends_items (xs ++ Item e ∷ []) es (ends_more is_end xs (Item e) h refl))
+
+-- an entry more
+pub entry_more : (xs ys : List Fed) (x : Fed) (e : Entry) (b : Bool) → ends is_end xs b ≡ true → b ≡ false → ys ≡ xs ++ x ∷ [] → x ≡ Item e
+    → (ends is_end ys b ≡ true) × (entries ys ≡ entries xs ++ e ∷ [])
+entry_more xs ys x e true was not all is = absurd (cc not)
+entry_more xs ys x e false was not all is = rw (all, is) (ends_items xs (e ∷ []) was, entries_more xs (e ∷ []))
+
+-- the end mark
+pub end_more : (xs ys : List Fed) (x : Fed) (b : Bool) → ends is_end xs b ≡ true → b ≡ false → ys ≡ xs ++ x ∷ [] → x ≡ End
+    → (ends is_end ys true ≡ true) × (entries ys ≡ entries xs)
+end_more xs ys x true was not all is = absurd (cc not)
+end_more xs ys x false was not all is = rw (all, is) (ends_mark is_end xs End was refl, entries-append xs (End ∷ []) ∙ append-nil (entries xs))
+
+-- several entries more
+pub slice_more : (xs ys is : List Fed) (es : List Entry) (b : Bool) → ends is_end xs b ≡ true → b ≡ false → ys ≡ xs ++ is → is ≡ items_of es
+    → (ends is_end ys b ≡ true) × (entries ys ≡ entries xs ++ es)
+slice_more xs ys is es true was not all same = absurd (cc not)
+slice_more xs ys is es false was not all same = rw (all, same) (ends_items xs es was, entries_more xs es)
+
+-- what both ends say in one thread
+pub agreed : (xs ys known : List Fed) (over ended : Bool) → ends is_end xs over ≡ true → ends is_end ys ended ≡ true → xs ++ known ≡ ys
+    → Agrees over ended (entries ys) (entries xs)
+agreed xs ys known true ended was gave all =
+    let taken = all_taken is_end xs known ys ended was gave all in
+    (taken.0, ap entries taken.1)
+agreed xs ys known false ended was gave all = (entries known, sym (entries-append xs known) ∙ ap entries all)

@@ -1,0 +1,56 @@
+-- The bytes of pieces.
+use Rattle.std.proofs.Common.{◌≡◌, ◌∙◌, sym, ap, refl, Bool, true, false, ℕ, List, [], ◌∷◌, ◌++◌, append-nil, append_assoc, subst, take, arith, ◌<◌, ◌≤◌, nat_lt, ◌+◌, Result, Ok, Err, OnOk, IfErr}
+use Rattle.rtrb.specs.declared.errors.PushError.{PushError}
+use Rattle.rtrb.specs.declared.errors.PushError.TheVariants.{Full}
+use Rattle.std.proofs.lemmas.Bool.Decides.{nat_tests}
+use Rattle.stage_rings.specs.declared.post.Piece.{Piece}
+use Rattle.stage_rings.specs.declared.post.TheConstants.{PIECE_BYTES}
+use Rattle.stage_rings.specs.Marks.{ends}
+use Rattle.stage_rings.specs.Pieces.{is_mark, bytes_of_piece, bytes_in}
+use Rattle.stage_rings.specs.Posting.{Finishes}
+use Rattle.stage_rings.proofs.Marks.{ends_more, ends_mark, all_taken}
+
+pub bytes-append : (xs ys : List Piece) → bytes_in (xs ++ ys) ≡ bytes_in xs ++ bytes_in ys
+bytes-append [] ys = refl
+bytes-append (p ∷ ps) ys = ap (λ t. bytes_of_piece p ++ t) (bytes-append ps ys) ∙ sym (append_assoc (bytes_of_piece p) (bytes_in ps) (bytes_in ys))
+
+pub bytes_one : (xs : List Piece) (p : Piece) → bytes_in (xs ++ p ∷ []) ≡ bytes_in xs ++ bytes_of_piece p
+bytes_one xs p = bytes-append xs (p ∷ []) ∙ ap (λ t. bytes_in xs ++ t) (append-nil (bytes_of_piece p))
+
+-- a piece more
+pub piece_more : (xs ys : List Piece) (p : Piece) (bytes : List ℕ) (b : Bool) → ends is_mark xs b ≡ true → b ≡ false → ys ≡ xs ++ p ∷ [] → is_mark p ≡ false → bytes_of_piece p ≡ bytes
+    → (ends is_mark ys b ≡ true) × (bytes_in ys ≡ bytes_in xs ++ bytes)
+piece_more xs ys p bytes true was not all plain is = absurd (cc not)
+piece_more xs ys p bytes false was not all plain is = rw all (ends_more is_mark xs p was plain, bytes_one xs p ∙ ap (λ t. bytes_in xs ++ t) is)
+
+mark_has_none : (p : Piece) → is_mark p ≡ true → bytes_of_piece p ≡ []
+mark_has_none p h = rw h refl
+
+-- the end mark
+pub mark_more : (xs ys : List Piece) (p : Piece) (b : Bool) → ends is_mark xs b ≡ true → b ≡ false → ys ≡ xs ++ p ∷ [] → is_mark p ≡ true
+    → (ends is_mark ys true ≡ true) × (bytes_in ys ≡ bytes_in xs)
+mark_more xs ys p true was not all mark = absurd (cc not)
+mark_more xs ys p false was not all mark = rw all (ends_mark is_mark xs p was mark, bytes_one xs p ∙ (ap (λ t. bytes_in xs ++ t) (mark_has_none p mark) ∙ append-nil (bytes_in xs)))
+
+-- what both ends say in one thread
+pub finishes : (xs known ys : List Piece) (wrote : List ℕ) (over ended : Bool) → ends is_mark xs over ≡ true → ends is_mark ys ended ≡ true → wrote ≡ bytes_in xs → xs ++ known ≡ ys → Finishes over ended (bytes_in ys) wrote
+finishes xs known ys wrote true ended was gave same all =
+    let taken = all_taken is_mark xs known ys ended was gave all in
+    (taken.0, same ∙ ap bytes_in taken.1)
+finishes xs known ys wrote false ended was gave same all = (bytes_in known, ap (λ t. t ++ bytes_in known) same ∙ (sym (bytes-append xs known) ∙ ap bytes_in all))
+
+pub is_above : (n : ℕ) → PIECE_BYTES < n → nat_lt PIECE_BYTES n ≡ true
+is_above n h = grind (arith, nat_tests)
+
+pub is_within : (n : ℕ) → n ≤ PIECE_BYTES → nat_lt PIECE_BYTES n ≡ false
+is_within n h = grind (arith, nat_tests)
+
+-- the bytes of a piece that is no mark
+pub plain_bytes : (p : Piece) → is_mark p ≡ false → bytes_of_piece p ≡ take p.length p.bytes
+plain_bytes p h = rw h refl
+
+-- after a push, whatever came of it
+pub pushed_or_not : (r : Result (Unit {0}) (PushError Piece)) (xs ys : List Piece) (p : Piece) (b : Bool) (k m n : ℕ) → ends is_mark xs b ≡ true → b ≡ false → is_mark p ≡ false
+    → OnOk r ((ys ≡ xs ++ p ∷ []) × (k ≤ m + 1)) → IfErr r (λ e. (e ≡ Full p) × (ys ≡ xs) × (n ≡ 0)) → ends is_mark ys b ≡ true
+pushed_or_not (Ok u) xs ys p b k m n was not plain ok err = (piece_more xs ys p (bytes_of_piece p) b was not ok.0 plain refl).0
+pushed_or_not (Err e) xs ys p b k m n was not plain ok err = rw err.1 was

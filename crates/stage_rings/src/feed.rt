@@ -1,0 +1,155 @@
+//! The ring to the thread that matches: its items are the journal's entries, and one mark that ends them.
+ghost use Rattle.std.specs.Prelude.{◌≡◌, [], length, true};
+ghost use Rattle.rtrb.specs.Ring.{sent, received};
+ghost use Rattle.stage_rings.specs.Marks.{ends};
+ghost use Rattle.stage_rings.specs.Feeds.{entries, is_end};
+
+use rtrb::{Consumer, Producer};
+use spread_rules::Entry;
+use std::alloc::Allocator;
+
+/// How many entries are given at once at most.
+pub const SLICE: usize = 64;
+
+/// An item of the ring.
+#[derive(Clone, Copy)]
+pub(crate) enum Fed {
+    Entry(Entry),
+    End,
+}
+
+/// The end that gives entries. It may move to another thread.
+#[derive(Drop)]
+pub struct Feeder<A: Allocator> {
+    pub(crate) producer: Producer<Fed, A>,
+    count: usize,
+    ended: bool,
+    // The mark comes last, and only where it is ended.
+    ghost shape: { ends is_end (sent producer) ended ≡ true },
+    ghost counted: { count ≡ length (entries (sent producer)) },
+}
+
+/// The end that takes entries. It may move to another thread.
+#[derive(Drop)]
+pub struct Matcher<A: Allocator> {
+    pub(crate) consumer: Consumer<Fed, A>,
+    pub(crate) ended: bool,
+    ghost shape: { ends is_end (received consumer) ended ≡ true },
+}
+
+/// What giving did.
+#[derive(Clone, Copy, PartialEq, Eq, Debug)]
+pub enum Give {
+    /// So many entries were pushed as one slice.
+    Gave(usize),
+    /// The ring had no room for them.
+    Full,
+    /// Nothing is left of the journal.
+    Level,
+    /// The end mark was pushed before.
+    Ended,
+}
+
+/// What taking did.
+#[derive(Clone, Copy, PartialEq, Eq, Debug)]
+pub enum Taken {
+    Entry(Entry),
+    /// No item is there yet.
+    Empty,
+    /// The end mark was taken.
+    Ended,
+}
+
+impl<A: Allocator> Feeder<A> {
+    ghost use Rattle.std.specs.Prelude.{false};
+    ghost use mathlib.Core.List.{IsPrefix};
+    ghost use Rattle.stage_rings.specs.Feeding.{given, SameFeeder, Gives, EndGives};
+
+    pub(crate) fn new(producer: Producer<Fed, A>) -> Feeder<A>
+        requires { sent producer ≡ [] }
+        ensures { (result.producer ≡ producer) × (result.ended ≡ false) }
+    {
+        Feeder {
+            producer,
+            count: 0,
+            ended: false,
+        }
+    }
+
+    /// Gives the next entries of a journal, of which a beginning was given: as many as the ring, 64 and what is left allow,
+    /// all or none.
+    pub fn give(&mut self, journal: &[Entry]) -> Give
+        requires { IsPrefix (given self.old) journal.now }
+        ensures ring { SameFeeder self.old self.new }
+        ensures give { Gives result journal.now self.old self.new }
+        ensures prefix { IsPrefix (given self.new) journal.now }
+    {
+        if self.ended {
+            return Give::Ended;
+        }
+        if self.count == journal.len() {
+            return Give::Level;
+        }
+        let rest = &journal[self.count..];
+        let most = rest.len().min(SLICE).min(self.producer.capacity());
+        let mut items = [Fed::End; SLICE];
+        for i in 0..most {
+            items[i] = Fed::Entry(rest[i]);
+        }
+        let Ok(()) = self.producer.push_entire_slice(&items[..most]) else {
+            return Give::Full;
+        };
+        self.count += most;
+        Give::Gave(most)
+    }
+
+    /// Pushes the end mark, once: Gave(0), Full or Ended.
+    pub fn end(&mut self) -> Give
+        ensures ring { SameFeeder self.old self.new }
+        ensures end { EndGives result self.old self.new }
+    {
+        if self.ended {
+            return Give::Ended;
+        }
+        let Ok(()) = self.producer.push(Fed::End) else {
+            return Give::Full;
+        };
+        self.ended = true;
+        Give::Gave(0)
+    }
+}
+
+impl<A: Allocator> Matcher<A> {
+    ghost use Rattle.std.specs.Prelude.{false};
+    ghost use Rattle.stage_rings.specs.Feeding.{SameMatcher, Takes};
+
+    pub(crate) fn new(consumer: Consumer<Fed, A>) -> Matcher<A>
+        requires { received consumer ≡ [] }
+        ensures { (result.consumer ≡ consumer) × (result.ended ≡ false) }
+    {
+        Matcher {
+            consumer,
+            ended: false,
+        }
+    }
+
+    /// Takes the next entry, if one is there.
+    pub fn take(&mut self) -> Taken
+        ensures ring { SameMatcher self.old self.new }
+        ensures take { Takes result self.old self.new }
+    {
+        if self.ended {
+            return Taken::Ended;
+        }
+        let Ok(item) = self.consumer.pop() else {
+            return Taken::Empty;
+        };
+        match item {
+            Fed::Entry(entry) => Taken::Entry(entry),
+            Fed::End => {
+                self.ended = true;
+                Taken::Ended
+            }
+        }
+    }
+}

@@ -1,0 +1,188 @@
+//! A session's ring to the thread that writes its bytes: its items are pieces of bytes, and one mark that ends them.
+ghost use Rattle.std.specs.Prelude.{◌≡◌, [], true, false, length, ◌≤◌};
+ghost use Rattle.rtrb.specs.Ring.{sent, received};
+ghost use Rattle.stage_rings.specs.Marks.{ends};
+ghost use Rattle.stage_rings.specs.Pieces.{bytes_in, bytes_of_piece, is_mark};
+ghost use Rattle.stage_rings.specs.declared.post.TheConstants.{PIECE_BYTES};
+
+use host_base::NoMemory;
+use rtrb::{Consumer, Producer};
+use std::alloc::Allocator;
+
+/// How many bytes a piece has at most: with its length it fills 64 bytes.
+pub const PIECE_BYTES: usize = 63;
+
+/// The length of the end mark, which no piece has.
+const MARK: u8 = 64;
+
+/// An item of the ring: so many of its first bytes, or the end mark.
+#[derive(Clone, Copy)]
+pub(crate) struct Piece {
+    length: u8,
+    bytes: [u8; PIECE_BYTES],
+}
+
+/// The end that gives bytes. It may move to another thread.
+#[derive(Drop)]
+pub struct Poster<A: Allocator> {
+    pub(crate) producer: Producer<Piece, A>,
+    pub(crate) ended: bool,
+    // The mark comes last, and only where it is ended.
+    ghost shape: { ends is_mark (sent producer) ended ≡ true },
+}
+
+/// The end that takes bytes, and the list of those that it took. It may move to another thread.
+#[derive(Drop)]
+pub struct Writer<A: Allocator> {
+    pub(crate) consumer: Consumer<Piece, A>,
+    bytes: Vec<u8, A>,
+    pub(crate) ended: bool,
+    ghost shape: { ends is_mark (received consumer) ended ≡ true },
+    ghost whole: { bytes.items ≡ bytes_in (received consumer) },
+}
+
+/// What posting did.
+#[derive(Clone, Copy, PartialEq, Eq, Debug)]
+pub enum Post {
+    /// So many bytes from the first were pushed.
+    Posted(usize),
+    /// The ring had no room for them.
+    Full,
+    /// The end mark was pushed before.
+    Ended,
+}
+
+/// What taking did.
+#[derive(Clone, Copy, PartialEq, Eq, Debug)]
+pub enum Wrote {
+    /// So many bytes were taken into the list.
+    Bytes(usize),
+    /// No item is there yet.
+    Empty,
+    /// The end mark was taken.
+    Ended,
+}
+
+/// A piece of these bytes.
+fn piece_of(bytes: &[u8]) -> Piece
+    requires { length bytes.now ≤ PIECE_BYTES }
+    ensures bytes { bytes_of_piece result ≡ bytes.now }
+    ensures plain { is_mark result ≡ false }
+{
+    let mut piece = Piece {
+        length: bytes.len() as u8,
+        bytes: [0; PIECE_BYTES],
+    };
+    for i in 0..bytes.len() {
+        piece.bytes[i] = bytes[i];
+    }
+    piece
+}
+
+impl<A: Allocator> Poster<A> {
+    ghost use Rattle.stage_rings.specs.Posting.{SamePoster, Posts, EndPosts};
+
+    pub(crate) fn new(producer: Producer<Piece, A>) -> Poster<A>
+        requires { sent producer ≡ [] }
+        ensures { (result.producer ≡ producer) × (result.ended ≡ false) }
+    {
+        Poster {
+            producer,
+            ended: false,
+        }
+    }
+
+    /// Gives the first bytes, 63 at most, and says how many.
+    pub fn post(&mut self, bytes: &[u8]) -> Post
+        ensures ring { SamePoster self.old self.new }
+        ensures post { Posts result bytes.now self.old self.new }
+    {
+        if self.ended {
+            return Post::Ended;
+        }
+        if bytes.is_empty() {
+            return Post::Posted(0);
+        }
+        let n = bytes.len().min(PIECE_BYTES);
+        let piece = piece_of(&bytes[..n]);
+        let Ok(()) = self.producer.push(piece) else {
+            return Post::Full;
+        };
+        Post::Posted(n)
+    }
+
+    /// Pushes the end mark, once: Posted(0), Full or Ended.
+    pub fn end(&mut self) -> Post
+        ensures ring { SamePoster self.old self.new }
+        ensures end { EndPosts result self.old self.new }
+    {
+        if self.ended {
+            return Post::Ended;
+        }
+        let mark = Piece {
+            length: MARK,
+            bytes: [0; PIECE_BYTES],
+        };
+        let Ok(()) = self.producer.push(mark) else {
+            return Post::Full;
+        };
+        self.ended = true;
+        Post::Posted(0)
+    }
+}
+
+impl<A: Allocator> Writer<A> {
+    ghost use Rattle.std.specs.Prelude.{IfOk, OnErr};
+    ghost use Rattle.stage_rings.specs.Posting.{written, write_ended, SameWriter, Writes};
+
+    pub(crate) fn new(consumer: Consumer<Piece, A>, bytes: Vec<u8, A>) -> Writer<A>
+        requires { (received consumer ≡ []) × (bytes.items ≡ []) }
+        ensures { (result.consumer ≡ consumer) × (result.ended ≡ false) }
+    {
+        Writer {
+            consumer,
+            bytes,
+            ended: false,
+        }
+    }
+
+    /// Takes the next piece, if one is there. Its list grows first, so after NoMemory list and ring are as before.
+    pub fn take(&mut self) -> Result<Wrote, NoMemory>
+        ensures ring { SameWriter self.old self.new }
+        ensures take { IfOk result (λ w. Writes w self.old self.new) }
+        ensures refused { OnErr result ((written self.new ≡ written self.old)
+            × (write_ended self.new ≡ write_ended self.old)) }
+    {
+        if self.ended {
+            return Ok(Wrote::Ended);
+        }
+        if self.consumer.is_empty() {
+            return Ok(Wrote::Empty);
+        }
+        let piece = *self.consumer.peek_known();
+        let n = usize::from(piece.length);
+        if n > PIECE_BYTES {
+            self.consumer.pop_known();
+            self.ended = true;
+            return Ok(Wrote::Ended);
+        }
+        self.bytes.extend_from_slice(&piece.bytes[..n])?;
+        self.consumer.pop_known();
+        Ok(Wrote::Bytes(n))
+    }
+
+    /// The bytes so far.
+    pub fn bytes(&self) -> &[u8]
+        ensures { result.now ≡ written self.now }
+    {
+        self.bytes.as_slice()
+    }
+
+    /// The bytes alone.
+    pub fn into_bytes(self) -> Vec<u8, A>
+        ensures { result.items ≡ written self }
+    {
+        let Writer { bytes, .. } = self;
+        bytes
+    }
+}
