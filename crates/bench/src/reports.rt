@@ -28,7 +28,8 @@ fn fits_fill(rules: &Rulebook, fill: &Fill) -> bool
 }
 
 fn fit_fills(rules: &Rulebook, fills: &[Fill]) -> bool
-    ensures { OnTrue result ((k : ℕ) (d : Fill) → k < length fills.now → FitsFill rules.now (slice_index_or fills.now k d)) }
+    ensures { OnTrue result ((k : ℕ) (d : Fill) → k < length fills.now
+        → FitsFill rules.now (slice_index_or fills.now k d)) }
 {
     for fill in fills {
         if !fits_fill(rules, fill) {

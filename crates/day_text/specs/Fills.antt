@@ -6,7 +6,8 @@ use Rattle.spread_rules.specs.declared.order.Instrument.{Instrument}
 use Rattle.spread_rules.specs.declared.order.Instrument.TheVariants.{Outright, Spread}
 use Rattle.spread_rules.specs.declared.fill.Fill.{Fill}
 use Rattle.spread_rules.specs.Rulebook.{Rules, symbol_of}
-use Rattle.spread_journal.specs.JournalText.{space, newline, side_byte}
+use Rattle.host_base.specs.Ascii.{line_feed, space}
+use Rattle.spread_journal.specs.JournalText.{side_byte}
 
 -- the near and the far price of a spread's fill
 abbrev pub legs_text : Instrument → ℤ → ℤ → List ℕ
@@ -30,7 +31,7 @@ fill_line rules f =
     ++ symbol_of rules f.instrument
     ++ trade_text f
     ++ legs_text f.instrument f.near f.far
-    ++ newline ∷ []
+    ++ line_feed ∷ []
 
 -- a line for each fill, in order
 abbrev pub fill_lines : Rules → List Fill → List ℕ

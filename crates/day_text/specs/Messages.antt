@@ -1,12 +1,13 @@
--- The lines of outgoing messages: each session's frames, byte 1 shown as `|` (byte 124).
+-- The lines of outgoing messages: each session's frames, SOH shown as `|`.
 use Rattle.std.specs.Prelude.{ℕ, suc, ◌==◌, if◌then◌else◌, List, [], ◌∷◌, ◌++◌, map, codes, decimal}
 use Rattle.std.specs.List.{flat_map}
 use Rattle.fix_wire.specs.Frames.{frames}
-use Rattle.spread_journal.specs.JournalText.{newline}
+use Rattle.host_base.specs.Ascii.{line_feed, vertical_bar}
+use Rattle.host_base.specs.declared.bytes.TheConstants.{SOH}
 
--- byte 1 is shown as `|`
+-- SOH is shown as `|`
 abbrev pub shown_byte : ℕ → ℕ
-shown_byte b = if b == 1 then 124 else b
+shown_byte b = if b == SOH then vertical_bar else b
 
 -- `O S:`
 abbrev pub line_lead : ℕ → List ℕ
@@ -14,7 +15,7 @@ line_lead session = codes "O " ++ decimal session ++ codes ":"
 
 -- `O S:MESSAGE`
 abbrev pub outgoing_line : ℕ → List ℕ → List ℕ
-outgoing_line session message = line_lead session ++ map shown_byte message ++ newline ∷ []
+outgoing_line session message = line_lead session ++ map shown_byte message ++ line_feed ∷ []
 
 -- a session's outgoing messages
 abbrev pub outgoing_lines : ℕ → List ℕ → List ℕ

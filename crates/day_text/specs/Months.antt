@@ -3,7 +3,7 @@ use Rattle.std.specs.Prelude.{ℕ, suc, List, [], ◌∷◌, ◌++◌, codes, de
 use Rattle.std.specs.Fmt.{signed_decimal}
 use Rattle.spread_rules.specs.declared.fill.Fill.{Fill}
 use Rattle.spread_rules.specs.Rulebook.{Rules, names_of}
-use Rattle.spread_journal.specs.JournalText.{space, newline}
+use Rattle.host_base.specs.Ascii.{line_feed, space}
 use Rattle.day_text.specs.declared.months.MonthTotals.{MonthTotals}
 use Rattle.day_text.specs.Totals.{totals_of}
 
@@ -17,7 +17,7 @@ money_text t = space ∷ signed_decimal t.paid ++ space ∷ signed_decimal t.rec
 
 -- `M NAME BOUGHT SOLD PAID RECEIVED`
 abbrev pub totals_line : List ℕ → MonthTotals → List ℕ
-totals_line name t = codes "M " ++ name ++ lots_text t ++ money_text t ++ newline ∷ []
+totals_line name t = codes "M " ++ name ++ lots_text t ++ money_text t ++ line_feed ∷ []
 
 -- the line of the month with this number
 abbrev pub month_line : List ℕ → ℕ → List Fill → List ℕ

@@ -3,7 +3,7 @@ use Rattle.std.specs.Prelude.{◌≡◌, ◌≢◌, ℕ, ◌+◌, ◌/◌, ◌%�
 use Rattle.std.specs.List.{flat_map, AllByRecursion}
 use Rattle.host_base.specs.declared.bytes.TheConstants.{SOH}
 use Rattle.host_base.specs.declared.limits.TheConstants.{MAX_BODY_LENGTH}
-use Rattle.host_base.specs.Ascii.{equals, minus, point}
+use Rattle.host_base.specs.Ascii.{equals, hyphen_minus, point}
 use Rattle.host_base.specs.Ids.{is_plain}
 use Rattle.fix_wire.specs.declared.frame.TheConstants.{MAX_TAG_DIGITS}
 use Rattle.fix_wire.specs.declared.tags.TheConstants as tags
@@ -19,7 +19,7 @@ use Rattle.fix_wire.specs.Messages.{fields}
 -- a price: an optional `-`, the whole part, a point and two digits; 10000 is `100.00`, -5 is `-0.05`
 abbrev pub price_text : ℤ → List ℕ
 price_text z =
-    (if int_lt z (pos 0) then minus ∷ [] else [])
+    (if int_lt z (pos 0) then hyphen_minus ∷ [] else [])
     ++ (decimal (unsigned_abs z / 100) ++ (point ∷ two_digits (unsigned_abs z % 100)))
 
 -- what a field's value is written as; a pair is `a-b`
@@ -27,7 +27,7 @@ abbrev pub value_text : Value → List ℕ
 value_text (Text id) = id
 value_text (Number n) = decimal n
 value_text (Price z) = price_text z
-value_text (Pair a b) = decimal a ++ (minus ∷ decimal b)
+value_text (Pair a b) = decimal a ++ (hyphen_minus ∷ decimal b)
 
 -- a tag, `=`, a value and SOH
 abbrev pub field_text : TagValue → List ℕ

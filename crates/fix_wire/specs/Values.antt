@@ -2,7 +2,7 @@
 use Rattle.std.specs.Prelude.{ℕ, ℤ, pos, neg_ℤ, ◌+◌, ◌*◌, Bool, true, false, ◌&&◌, ◌==◌, nat_le, nat_lt, if◌then◌else◌, List, [], ◌∷◌, ◌++◌, Result, Ok, Err, length, take, drop}
 use Rattle.std.specs.Char.{is_ascii_digit}
 use Rattle.std.specs.List.{list_all, before_first, after_first}
-use Rattle.host_base.specs.Ascii.{digit_zero, minus}
+use Rattle.host_base.specs.Ascii.{digit_zero, hyphen_minus}
 use Rattle.fix_wire.specs.declared.values.TheConstants.{MAX_NUMBER, MAX_HUNDREDTHS}
 use Rattle.fix_wire.specs.declared.values.Unread.{Unread}
 use Rattle.fix_wire.specs.declared.values.Unread.TheVariants.{Format, Range}
@@ -53,4 +53,4 @@ signed negative (Err e) = Err e
 abbrev pub price_in : List ℕ → Result ℤ Unread
 price_in [] = Err Format
 price_in (b ∷ bs) =
-    if b == minus then signed true (hundredths_in bs) else signed false (hundredths_in (b ∷ bs))
+    if b == hyphen_minus then signed true (hundredths_in bs) else signed false (hundredths_in (b ∷ bs))

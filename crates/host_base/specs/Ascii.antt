@@ -1,13 +1,21 @@
 -- Bytes by the characters that they are in ASCII.
 use Rattle.std.specs.Prelude.{ℕ}
 
+-- the end of a line
+abbrev pub line_feed : ℕ
+line_feed = 10
+
+-- ` `
+abbrev pub space : ℕ
+space = 32
+
 -- `#`
 abbrev pub number_sign : ℕ
 number_sign = 35
 
 -- `-`
-abbrev pub minus : ℕ
-minus = 45
+abbrev pub hyphen_minus : ℕ
+hyphen_minus = 45
 
 -- `.`
 abbrev pub point : ℕ
@@ -28,7 +36,3 @@ equals = 61
 -- `|`
 abbrev pub vertical_bar : ℕ
 vertical_bar = 124
-
--- the end of a line
-abbrev pub line_feed : ℕ
-line_feed = 10

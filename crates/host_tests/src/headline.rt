@@ -1,7 +1,8 @@
-//! What a caller reads off the contracts of `run_day` and `replay`, fact by fact: each of these calls is the call itself.
+//! What a caller reads off the contracts of `run_day` and `replay`, fact by fact: each of these calls is the call
+//! itself.
 ghost use Rattle.std.specs.Io.KnownBytes.{Appends, IsAtEnd};
 ghost use Rattle.std.specs.Prelude.{◌≡◌, ℕ, ◌<◌, ◌≤◌, ◌+◌, ◌⊎◌, ◌≢◌, Contains, IfOk, IfErr, IfSome, OnOk, IsErrOf, length, take, true, false, Ok, [], All};
-ghost use Rattle.host_base.specs.declared.limits.TheConstants.{MAX_INPUT_BYTES};
+ghost use Rattle.host_base.specs.declared.limits.TheConstants.{MAX_INPUT_BYTES, SESSIONS};
 ghost use Rattle.fix_wire.specs.Frames.{IsFrameRow};
 ghost use Rattle.spread_rules.specs.Candidates.{all_on};
 ghost use Rattle.spread_rules.specs.Journal.{IsLawful, restricted};
@@ -46,30 +47,32 @@ pub fn day_of_streams<R: Threads + Wait + Sync, G: Gate, A: Allocator + Copy + S
     ensures lawful { IfOk result (λ day. IsLawful day.journal.items) }
     ensures fills { IfOk result (λ day.
         day.fills.items ≡ (meaning_of_journal rulebook.now day.journal.items).fills) }
-    ensures outgoing { IfOk result (λ day.
-        (s : ℕ) → s < 16 → bytes_of day.out.items s ≡ outgoing_bytes rulebook.now stamp day.journal.items s) }
-    ensures whole_frames { IfOk result (λ day.
-        (s : ℕ) → s < 16 → IsRow (messages_to rulebook.now stamp (applied_entries rulebook.now day.journal.items) s) (bytes_of day.out.items s)) }
+    ensures outgoing { IfOk result (λ day. (s : ℕ) → s < SESSIONS
+        → bytes_of day.out.items s ≡ outgoing_bytes rulebook.now stamp day.journal.items s) }
+    ensures whole_frames { IfOk result (λ day. (s : ℕ) → s < SESSIONS
+        → IsRow (messages_to rulebook.now stamp
+        (applied_entries rulebook.now day.journal.items) s) (bytes_of day.out.items s)) }
     ensures no_stream { IfOk result (λ day.
-        (s : ℕ) → s < 16 → length streams.items ≤ s → bytes_of day.out.items s ≡ []) }
-    ensures lists { IfOk result (λ day. length day.out.items ≡ 16) }
+        (s : ℕ) → s < SESSIONS → length streams.items ≤ s → bytes_of day.out.items s ≡ []) }
+    ensures lists { IfOk result (λ day. length day.out.items ≡ SESSIONS) }
     ensures texts { IfOk result (λ day.
-        texts_of day.out.items ≡ texts_below 16 rulebook.now stamp day.journal.items) }
+        texts_of day.out.items ≡ texts_below SESSIONS rulebook.now stamp day.journal.items) }
     ensures rows { IfOk result (λ day. All IsFrameRow (texts_of day.out.items)) }
     ensures shown { IfOk result (λ day. AreShown rulebook.now day.fills.items) }
     ensures bought_is_sold { IfOk result (λ day.
         (month : ℕ) → bought month day.fills.items ≡ sold month day.fills.items) }
     ensures paid_is_received { IfOk result (λ day.
         (month : ℕ) → paid month day.fills.items ≡ received month day.fills.items) }
-    ensures quiet { IfOk result (λ day.
-        (n : ℕ) → IsQuiet all_on (meaning_of_journal rulebook.now (take n day.journal.items)).orders) }
+    ensures quiet { IfOk result (λ day. (n : ℕ)
+        → IsQuiet all_on (meaning_of_journal rulebook.now (take n day.journal.items)).orders) }
     ensures limits { IfOk result (λ day.
         (f : Fill) → Contains day.fills.items f → KeepsOrder day.journal.items f) }
     ensures totals { IfOk result (λ day.
         (f : Fill) → Contains day.fills.items f → filled f.order day.fills.items ≤ f.total) }
     ensures journal_full { IsErrOf result HostFault.JournalFull
         → caps.journal < all_events streams.items }
-    ensures fault { IfErr result (λ f. IsRunDayFault rulebook.now streams.items caps.ring caps.journal f) }
+    ensures fault { IfErr result
+        (λ f. IsRunDayFault rulebook.now streams.items caps.ring caps.journal f) }
 {
     run_day(rt, alloc, rulebook, stamp, streams, gate, caps)
 }
@@ -96,28 +99,32 @@ pub fn day_of_lines<S: Source, K: Sink, A: Allocator + Copy>(
         ReadsJournal (journal_text day.journal.items) (Ok day.journal.items)) }
     ensures fills { IfOk result (λ day.
         day.fills.items ≡ (meaning_of_journal rulebook.now day.journal.items).fills) }
-    ensures outgoing { IfOk result (λ day.
-        (s : ℕ) → s < 16 → bytes_of day.out.items s ≡ outgoing_bytes rulebook.now stamp day.journal.items s) }
-    ensures whole_frames { IfOk result (λ day.
-        (s : ℕ) → s < 16 → IsRow (messages_to rulebook.now stamp (applied_entries rulebook.now day.journal.items) s) (bytes_of day.out.items s)) }
-    ensures lists { IfOk result (λ day. length day.out.items ≡ 16) }
+    ensures outgoing { IfOk result (λ day. (s : ℕ) → s < SESSIONS
+        → bytes_of day.out.items s ≡ outgoing_bytes rulebook.now stamp day.journal.items s) }
+    ensures whole_frames { IfOk result (λ day. (s : ℕ) → s < SESSIONS
+        → IsRow (messages_to rulebook.now stamp
+        (applied_entries rulebook.now day.journal.items) s) (bytes_of day.out.items s)) }
+    ensures lists { IfOk result (λ day. length day.out.items ≡ SESSIONS) }
     ensures bought_is_sold { IfOk result (λ day.
         (month : ℕ) → bought month day.fills.items ≡ sold month day.fills.items) }
     ensures paid_is_received { IfOk result (λ day.
         (month : ℕ) → paid month day.fills.items ≡ received month day.fills.items) }
-    ensures quiet { IfOk result (λ day.
-        (n : ℕ) → IsQuiet all_on (meaning_of_journal rulebook.now (take n day.journal.items)).orders) }
+    ensures quiet { IfOk result (λ day. (n : ℕ)
+        → IsQuiet all_on (meaning_of_journal rulebook.now (take n day.journal.items)).orders) }
     ensures limits { IfOk result (λ day.
         (f : Fill) → Contains day.fills.items f → KeepsOrder day.journal.items f) }
     ensures totals { IfOk result (λ day.
         (f : Fill) → Contains day.fills.items f → filled f.order day.fills.items ≤ f.total) }
     ensures written { IfOk result (λ day.
-        Appends (K.written sink.old) (K.written sink.new) (text_of_day journal_only rulebook.now stamp day.journal.items)) }
+        Appends (K.written sink.old) (K.written sink.new)
+        (text_of_day journal_only rulebook.now stamp day.journal.items)) }
     ensures write_sound { OnOk result (K.has_failed sink.new ≡ false) }
     ensures read { IsErrOf result HostFault.Read
-        → (S.has_failed source.new ≡ true) ⊎ IfSome (S.left source.old) (λ input. MAX_INPUT_BYTES < length input) }
+        → (S.has_failed source.new ≡ true)
+        ⊎ IfSome (S.left source.old) (λ input. MAX_INPUT_BYTES < length input) }
     ensures write { IsErrOf result HostFault.Write
-        → (K.has_failed sink.new ≡ true) × IfSome (S.left source.old) (λ input. IsPartOut journal_only rulebook.now stamp input (K.written sink.old) (K.written sink.new)) }
+        → (K.has_failed sink.new ≡ true) × IfSome (S.left source.old) (λ input. IsPartOut
+        journal_only rulebook.now stamp input (K.written sink.old) (K.written sink.new)) }
     ensures nothing_written { IfErr result (λ f. f ≢ HostFault.Write → sink.new ≡ sink.old) }
     ensures fault { IfErr result (IsReplayFault rulebook.now (S.left source.old)) }
 {

@@ -1,4 +1,3 @@
 -- Words of the code alone: no public promise needs them to be read.
 pub mod ReportBodies
 pub mod Sending
-pub mod Symbols

@@ -1,7 +1,7 @@
 //! Symbols and other short texts.
 ghost use Rattle.std.specs.Prelude.{◌≡◌, ◌≤◌, ◌<◌, ◌+◌, ◌++◌, ◌∷◌, true, length, take};
 ghost use Rattle.host_base.specs.Ids.{is_id};
-ghost use Rattle.spread_report.specs.code.Symbols.{dash};
+ghost use Rattle.host_base.specs.Ascii.{hyphen_minus};
 ghost use Rattle.spread_rules.specs.Rulebook.{IsListed, symbol_of};
 
 use host_base::Id;
@@ -22,7 +22,7 @@ pub fn known_id(text: &[u8]) -> Id
 /// Writes two names with a dash between to the front of the text, and tells how many bytes they are.
 fn write_joined(text: &mut [u8], first: &[u8], second: &[u8]) -> usize
     requires room { length first.now + length second.now < length text.old }
-    ensures written { take result text.new ≡ first.now ++ dash ∷ second.now }
+    ensures written { take result text.new ≡ first.now ++ hyphen_minus ∷ second.now }
     ensures within { result ≤ length text.old }
 {
     let dash = first.len();
@@ -36,7 +36,7 @@ fn write_joined(text: &mut [u8], first: &[u8], second: &[u8]) -> usize
 /// Two names with a dash between.
 fn joined(near: &Id, far: &Id) -> Id
     requires { length near.now + length far.now < MAX_ID_LENGTH }
-    ensures { result ≡ near.now ++ dash ∷ far.now }
+    ensures { result ≡ near.now ++ hyphen_minus ∷ far.now }
 {
     let mut text = [0; MAX_ID_LENGTH];
     let end = write_joined(&mut text, near.bytes(), far.bytes());

@@ -59,7 +59,8 @@ fn take_turns<A: Allocator>(sequencer: &mut Sequencer<A>)
 
 /// Two threads drive the gateways.
 fn drive_all<R: Threads + Sync>(rt: &R, gateways: &mut [Gateway<Global>])
-    ensures { (s : ℕ) (g : Gateway Global) → s < length gateways.old → SameGateway (slice_index_or gateways.old s g) (slice_index_or gateways.new s g) }
+    ensures { (s : ℕ) (g : Gateway Global) → s < length gateways.old
+        → SameGateway (slice_index_or gateways.old s g) (slice_index_or gateways.new s g) }
 {
     thread::for_each_mut(rt, gateways, 2, &|_, gateway| drive(gateway));
 }

@@ -1,5 +1,5 @@
 //! A rulebook read, and its faults.
-use spread_rules::laws::{least_in_rank, one_rulebook, quiet};
+use spread_rules::laws::{codes, least_in_rank, one_rulebook, quiet};
 use spread_rules::{Instrument, RuleFault, Rulebook};
 use std::test::Fail;
 
@@ -40,6 +40,7 @@ fn rulebook_read(rt: HostRuntime) -> Result<(), Fail> {
     one_rulebook();
     quiet();
     least_in_rank();
+    codes();
     Ok(())
 }
 

@@ -1,5 +1,5 @@
 //! Ids and their keys.
-use host_base::laws::one_key;
+use host_base::laws::{limits, one_key};
 use host_base::{Id, IdKey};
 
 #[test]
@@ -23,6 +23,7 @@ fn keys_of_ids(rt: HostRuntime) {
         }
     }
     one_key();
+    limits();
 }
 
 #[test]

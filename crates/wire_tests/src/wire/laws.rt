@@ -6,4 +6,6 @@ fn laws_are_called() {
     laws::scan();
     laws::frame_by_frame();
     laws::read_back();
+    laws::tags();
+    laws::msg_types();
 }
