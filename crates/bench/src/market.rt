@@ -6,8 +6,9 @@ use crate::fault::Fault;
 use crate::reports::{Applied, send_all};
 use crate::timing::{RUNS, nanos, tell};
 use crate::wire::{bytes_of, scanned};
-use day_apply::AppliedJournal;
+use spread_books::IndexBook;
 use spread_journal::read_journal;
+use spread_match::Market;
 use spread_rules::{Entry, Rulebook};
 use std::alloc::{AllocGlobal, Allocator};
 use std::time::CpuClock;
@@ -16,7 +17,26 @@ fn rulebook_of(text: &[u8]) -> Result<Rulebook, Fault> {
     Rulebook::read(text).map_err(|_| Fault::Input)
 }
 
-/// Applies the entries of a journal.
+/// Applies the entries of a journal, the fills of each in place of those before: tells how many there were.
+fn match_all<A: Allocator + Copy>(
+    alloc: A,
+    rulebook: &Rulebook,
+    journal: &[Entry],
+) -> Result<u64, Fault>
+    requires { All FitsEntry journal.now }
+{
+    let mut market = Market::new(alloc, rulebook, IndexBook::new(alloc));
+    let mut fills = Vec::new(alloc);
+    let mut count = 0u64;
+    for n in 0..journal.len() {
+        fills.clear();
+        market.apply(n as u64 + 1, &journal[n], &mut fills)?;
+        count = count.wrapping_add(fills.len() as u64);
+    }
+    Ok(count)
+}
+
+/// Applies the entries of a journal, and keeps what came of them.
 fn apply_all<A: Allocator + Copy>(
     alloc: A,
     rulebook: &Rulebook,
@@ -24,15 +44,14 @@ fn apply_all<A: Allocator + Copy>(
 ) -> Result<Applied<A>, Fault>
     requires { All FitsEntry journal.now }
 {
-    let mut applied = AppliedJournal::new(alloc, rulebook, journal);
+    let mut market = Market::new(alloc, rulebook, IndexBook::new(alloc));
+    let mut fills = Vec::new(alloc);
     let mut outcomes = Vec::new(alloc);
     for n in 0..journal.len() {
-        outcomes.push(applied.apply()?)?;
+        let outcome = market.apply(n as u64 + 1, &journal[n], &mut fills)?;
+        outcomes.push(outcome)?;
     }
-    Ok(Applied {
-        fills: applied.into_fills(),
-        outcomes,
-    })
+    Ok(Applied { fills, outcomes })
 }
 
 /// Applies the entries of a journal.
@@ -44,10 +63,10 @@ pub fn time_match(
     let rulebook = rulebook_of(rules)?;
     let journal = read_journal(rt.alloc(), text)?;
     let start = nanos(rt)?;
-    let applied = apply_all(rt.alloc(), &rulebook, &journal)?;
+    let fills = match_all(rt.alloc(), &rulebook, &journal)?;
     let used = nanos(rt)?.saturating_sub(start);
     tell(rt, "match", journal.len() as u64, "entries", used)?;
-    println!(rt; "# {} fills", applied.fills.len())?;
+    println!(rt; "# {} fills", fills)?;
     Ok(())
 }
 

@@ -4,7 +4,9 @@
 mod apply;
 mod fault;
 mod journal;
+mod report;
 
-pub use apply::AppliedJournal;
+pub use apply::AppliedEntries;
 pub use fault::ApplyFault;
-pub use journal::{FillsAndMessages, apply_journal, fills_of_journal};
+pub use journal::{apply_journal, fills_of_journal};
+pub use report::{FillsAndMessages, ReportedEntries};

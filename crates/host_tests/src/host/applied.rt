@@ -4,7 +4,7 @@ ghost use Rattle.spread_rules.specs.Journal.{FitsEntry};
 
 use super::check::DIRECT_BEFORE_IMPLIED;
 use super::read_again;
-use day_apply::{AppliedJournal, apply_journal, fills_of_journal};
+use day_apply::{AppliedEntries, apply_journal, fills_of_journal};
 use spread_books::Book;
 use spread_rules::{Entry, Rulebook};
 use std::alloc::Global;
@@ -22,10 +22,11 @@ fn expect_resting(
 ) -> Result<(), Fail>
     requires { All FitsEntry journal.now }
 {
-    let mut applied = AppliedJournal::new(alloc, rules, journal);
-    for n in 0..journal.len() {
-        applied.apply()?;
+    let mut applied = AppliedEntries::new(alloc, rules)?;
+    for entry in journal {
+        applied.apply(entry)?;
     }
+    assert!(rt; applied.count() == journal.len() as u64);
     let book = applied.book();
     assert!(rt; book.len() == want.len());
     for n in 0..want.len() {
