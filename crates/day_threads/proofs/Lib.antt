@@ -1,6 +1,8 @@
+pub mod ElementByElement
+pub mod FullJournal
+pub mod JoinedParts
+pub mod JoinedWorkers
+pub mod LawfulJournal
+pub mod RingEnds
 pub mod SentAndOwed
 pub mod StartedWorkers
-pub mod JoinedWorkers
-pub mod FullJournal
-pub mod ElementByElement
-pub mod LawfulJournal

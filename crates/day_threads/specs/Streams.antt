@@ -1,14 +1,23 @@
--- The streams of a day in threads, and why it has no journal.
-use Rattle.std.specs.Prelude.{◌≡◌, ℕ, ◌<◌, ◌≤◌, List, length, Vec}
+-- The streams of a day in threads, its day, and why it has none.
+use Rattle.std.specs.Prelude.{◌≡◌, ℕ, ◌<◌, ◌≤◌, ◌⊎◌, List, length, Vec}
+use mathlib.Core.List.{IsPrefix}
 use Rattle.host_base.specs.declared.limits.TheConstants.{SESSIONS, MAX_RING, MAX_JOURNAL_ENTRIES}
 use Rattle.spread_rules.specs.declared.event.Event.{Event}
+use Rattle.spread_rules.specs.declared.event.Entry.{Entry}
+use Rattle.spread_rules.specs.Journal.{restricted}
+use Rattle.spread_rules.specs.Meaning.{meaning_of_journal}
+use Rattle.spread_rules.specs.Rulebook.{Rules}
 use Rattle.fix_session.specs.Streams.{whole}
+use Rattle.spread_report.specs.Messages.{IsRow, messages_to}
+use Rattle.spread_report.specs.Sessions.{bytes_of}
+use Rattle.day_apply.specs.Applied.{SpendsAt, applied_entries, outgoing_bytes}
 use Rattle.gate_link.specs.Counts.{sum_over}
 use Rattle.gate_link.specs.Opening.{IsRefusal}
 use Rattle.stage_rings.specs.Faults.{Between}
 use Rattle.gate_link.specs.Rows.{row}
 use Rattle.day_threads.specs.declared.fault.ThreadsFault.{ThreadsFault}
-use Rattle.day_threads.specs.declared.fault.ThreadsFault.TheVariants.{Link, Spawn, JournalFull, NoMemory}
+use Rattle.day_threads.specs.declared.fault.ThreadsFault.TheVariants.{Link, Spawn, JournalFull, NoMemory, NumbersSpent}
+use Rattle.day_threads.specs.declared.conclude.SessionsDay.{SessionsDay}
 
 -- the events of a stream, its close included
 abbrev pub whole_stream : {A : Type 0} → Vec ℕ A → List Event
@@ -27,10 +36,39 @@ abbrev pub IsWithinLimits : ℕ → ℕ → ℕ → Type 0
 IsWithinLimits sessions ring journal =
     Between 1 SESSIONS sessions × Between 1 MAX_RING ring × (journal ≤ MAX_JOURNAL_ENTRIES)
 
--- why threads gave no journal of these streams, over rings and with a journal of these sizes: a full journal comes only
+-- of each session, the journal has a beginning of the events of its stream
+abbrev pub IsBeginningOf : {A : Type 0} → List (Vec ℕ A) → List Entry → Type 0
+IsBeginningOf streams journal = (s : ℕ) → IsPrefix (restricted s journal) (whole_at streams s)
+
+-- a place of such a journal
+pub record IsLivePlace {A : Type 0} (streams : List (Vec ℕ A)) (place : ℕ) : Type 0 where
+  pub journal : List Entry
+  pub parts : IsBeginningOf streams journal
+  pub within : place ≤ length journal
+
+-- at that place of such a journal a message would bear a number above 999,999,999
+pub record IsSpentLive {A : Type 0} (rules : Rules) (streams : List (Vec ℕ A)) (place : ℕ) : Type 0 where
+  pub journal : List Entry
+  pub parts : IsBeginningOf streams journal
+  pub spends : SpendsAt rules journal place
+
+-- why threads gave no day of these streams, over rings and with a journal of these sizes: a full journal comes only
 -- where there are more events than it has room for
-abbrev pub IsThreadsFault : {A : Type 0} → List (Vec ℕ A) → ℕ → ℕ → ThreadsFault → Type 0
-IsThreadsFault streams ring journal (Link fault) = IsRefusal fault (length streams) ring journal
-IsThreadsFault streams ring journal (Spawn session) = session < length streams
-IsThreadsFault streams ring journal JournalFull = journal < all_events streams
-IsThreadsFault streams ring journal NoMemory = Unit {0}
+abbrev pub IsThreadsFault : {A : Type 0} → Rules → List (Vec ℕ A) → ℕ → ℕ → ThreadsFault → Type 0
+IsThreadsFault rules streams ring journal (Link fault) = IsRefusal fault (length streams) ring journal
+IsThreadsFault rules streams ring journal (Spawn session) = session ≤ length streams
+IsThreadsFault rules streams ring journal JournalFull = journal < all_events streams
+IsThreadsFault rules streams ring journal (NoMemory place) = (place ≡ 0) ⊎ IsLivePlace streams place
+IsThreadsFault rules streams ring journal (NumbersSpent place) = IsSpentLive rules streams place
+
+-- The day of these streams: of each session the journal has exactly the events of its stream; the fills, and what each
+-- session is sent, are those of the journal.
+pub record IsDayOfSessions {A : Type 0} (rules : Rules) (stamp : List ℕ) (streams : List (Vec ℕ A)) (day : SessionsDay A) : Type 0 where
+  pub parts : (s : ℕ) → restricted s day.journal.items ≡ whole_at streams s
+  pub fills : day.applied.fills.items ≡ (meaning_of_journal rules day.journal.items).fills
+  pub lists : length day.applied.out.items ≡ SESSIONS
+  pub out : (s : ℕ) → s < SESSIONS
+      → bytes_of day.applied.out.items s ≡ outgoing_bytes rules stamp day.journal.items s
+  pub whole : (s : ℕ) → s < SESSIONS
+      → IsRow (messages_to rules stamp (applied_entries rules day.journal.items) s)
+      (bytes_of day.applied.out.items s)

@@ -1,19 +1,23 @@
-//! Why threads gave no journal.
+//! Why threads gave no day.
 use gate_link::LinkFault;
 use thiserror::Error;
 
-/// Why threads gave no journal.
+/// Why threads gave no day.
 #[derive(Clone, Copy, Debug, PartialEq, Eq, Error)]
 pub enum ThreadsFault {
     /// The link of gateways and sequencer was refused.
     #[error("link: {0}")]
     Link(LinkFault),
-    /// The thread of this session could not be started.
+    /// The thread of this session could not be started; the matching thread has the number behind the last session's.
     #[error("thread {0}")]
     Spawn(u8),
     /// The journal has its stated size, and there is more to enter.
     #[error("journal full")]
     JournalFull,
+    /// Memory ran out. The place is that of the first entry not worked through, 0 where none was begun.
     #[error("no memory")]
-    NoMemory,
+    NoMemory(u64),
+    /// A message of the entry of this place would bear a number above 999,999,999.
+    #[error("numbers spent")]
+    NumbersSpent(u64),
 }

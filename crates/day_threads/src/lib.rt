@@ -1,11 +1,16 @@
-//! A thread for each session's stream, and one journal of all their events.
+//! A thread for each session's stream, one journal of all their events, and a thread that applies it.
 #![tactic(auto)]
 
+mod conclude;
 mod fault;
+mod matching;
+mod range;
+mod sequence;
 mod sessions;
 mod turns;
 mod worker;
 
+pub use conclude::SessionsDay;
 pub use fault::ThreadsFault;
-pub use sessions::{Caps, run_sessions};
+pub use sessions::{Caps, DayRules, run_sessions};
 pub use worker::Gate;

@@ -1,18 +1,24 @@
-//! A thread for each session, and the sequencer in the caller's.
+//! A thread for each session, one that matches, and the sequencer in the caller's.
 ghost use Rattle.std.specs.Prelude.{◌≡◌, ◌<◌, ◌≤◌, ℕ, length, IfOk, IfErr, IfNone, IfSome, OnOk, vec_len, vec_capacity};
-ghost use Rattle.spread_rules.specs.Journal.{restricted, IsLawful};
+ghost use Rattle.spread_rules.specs.Journal.{IsLawful};
 ghost use Rattle.host_base.specs.declared.limits.TheConstants.{SESSIONS};
 ghost use Rattle.gate_link.specs.declared.gateway.Gateway.{Gateway};
-ghost use Rattle.gate_link.specs.Links.{IsLinkOf, room_of};
 ghost use Rattle.gate_link.specs.Opening.{AreFresh};
 ghost use Rattle.day_threads.specs.code.Handing.{AreStarted, AreKept};
-ghost use Rattle.day_threads.specs.Streams.{whole_at, IsWithinLimits, IsThreadsFault};
+ghost use Rattle.day_apply.specs.Sending.{sending_rules, stamp_of};
+ghost use Rattle.day_threads.specs.code.Concluding.{AreReady, IsMade, IsStagesFault};
+ghost use Rattle.day_threads.specs.Streams.{IsDayOfSessions, IsWithinLimits, IsThreadsFault};
+ghost use Rattle.day_threads.specs.declared.fault.ThreadsFault.TheVariants.{Spawn};
 
+use crate::conclude::{SessionsDay, conclude, of_apply};
 use crate::fault::ThreadsFault;
-use crate::turns::take_turns;
+use crate::matching::start_matching;
+use crate::sequence::{SequenceEnd, sequence};
 use crate::worker::{Gate, WorkerPromise, start};
-use gate_link::{Gateway, Sequencer, Settle, link};
-use spread_rules::Entry;
+use day_apply::ReportedEntries;
+use gate_link::{Feeder, Gateway, Matcher, Sequencer, feed_ring, link};
+use host_base::Id;
+use spread_rules::Rulebook;
 use std::alloc::Allocator;
 use std::sync::Wait;
 use std::sync::atomic::{AtomicBool, Ordering};
@@ -39,6 +45,33 @@ struct Shared<'r, 's, R, G> {
 struct Started<'s, A: Allocator> {
     handles: Vec<PromisedHandle<Gateway<A>, WorkerPromise<'s, A>>, A>,
     refused: Option<u8>,
+}
+
+/// The handles of all threads of sessions, and room for the gateways that they hand back.
+#[derive(Drop)]
+pub(crate) struct Workers<'s, A: Allocator> {
+    pub(crate) handles: Vec<PromisedHandle<Gateway<A>, WorkerPromise<'s, A>>, A>,
+    pub(crate) room: Vec<Gateway<A>, A>,
+}
+
+/// The rulebook of a day, and the SendingTime (tag 52) of all its messages.
+#[derive(Clone, Copy)]
+pub struct DayRules<'r> {
+    pub rulebook: &'r Rulebook,
+    pub stamp: Id,
+}
+
+/// What the threads of a day work with: the sessions' gateways and their sequencer, the ring that gives the journal on,
+/// and what applies it.
+#[derive(Drop)]
+pub(crate) struct Stages<'r, A: Allocator + Copy> {
+    pub(crate) gateways: Vec<Gateway<A>, A>,
+    pub(crate) sequencer: Sequencer<A>,
+    pub(crate) feeder: Feeder<A>,
+    pub(crate) matcher: Matcher<A>,
+    pub(crate) reported: ReportedEntries<'r, A>,
+    /// How many entries the journal has room for.
+    pub(crate) room: usize,
 }
 
 /// Starts a thread for each gateway, up to the first that is refused.
@@ -80,7 +113,7 @@ fn start_all<'r: 's, 's, E, R: Wait + Threads + Sync, G: Gate, A: Allocator + Se
 }
 
 /// Joins each thread.
-fn join_all<'s, R: Threads, A: Allocator>(
+pub(crate) fn join_all<'s, R: Threads, A: Allocator>(
     rt: &R,
     handles: Vec<PromisedHandle<Gateway<A>, WorkerPromise<'s, A>>, A>,
     joined: Vec<Gateway<A>, A>,
@@ -96,70 +129,137 @@ fn join_all<'s, R: Threads, A: Allocator>(
     joined
 }
 
-/// The sessions of a scope: a thread for each, and the sequencer's turns in this one.
+/// Tells the threads that run to stop, and joins them, since this one could not be started.
+fn stop_workers<R: Threads, G, A: Allocator>(
+    shared: &Shared<'_, '_, R, G>,
+    workers: Workers<'_, A>,
+    session: u8,
+) -> ThreadsFault
+    requires { (vec_len workers.room ≡ 0) × (vec_len workers.handles ≤ vec_capacity workers.room) }
+    ensures { result ≡ Spawn session }
+{
+    shared.stop.store(true, Ordering::SeqCst);
+    drop(join_all(shared.rt, workers.handles, workers.room));
+    ThreadsFault::Spawn(session)
+}
+
+/// The stages of a day that has not begun.
+fn stages_of<'r, A: Allocator + Copy>(
+    alloc: A,
+    rules: &DayRules<'r>,
+    sessions: usize,
+    caps: Caps,
+) -> Result<Stages<'r, A>, ThreadsFault>
+    ensures limits { OnOk result (IsWithinLimits sessions caps.ring caps.journal) }
+    ensures count { IfOk result (λ s. length s.gateways.items ≡ sessions) }
+    ensures ready { IfOk result (λ s. IsMade caps.ring s) }
+    ensures room { IfOk result (λ s. s.room ≡ caps.journal) }
+    ensures rules { IfOk result (λ s. sending_rules s.reported ≡ rules.now.rulebook.now) }
+    ensures stamp { IfOk result (λ s. stamp_of s.reported ≡ rules.now.stamp) }
+    ensures fault { IfErr result (IsStagesFault sessions caps.ring caps.journal) }
+{
+    let (gateways, sequencer) = match link(alloc, sessions, caps.ring, caps.journal) {
+        Ok(made) => made,
+        Err(fault) => return Err(ThreadsFault::Link(fault)),
+    };
+    let (feeder, matcher) = match feed_ring(alloc, caps.ring) {
+        Ok(made) => made,
+        Err(fault) => return Err(ThreadsFault::Link(fault)),
+    };
+    let reported = match ReportedEntries::new(alloc, rules.rulebook, rules.stamp) {
+        Ok(reported) => reported,
+        Err(fault) => return Err(of_apply(fault)),
+    };
+    Ok(Stages {
+        gateways,
+        sequencer,
+        feeder,
+        matcher,
+        reported,
+        room: caps.journal,
+    })
+}
+
+/// The sessions of a scope: a thread for each, one that matches, and the sequencer's turns in this one.
 fn sessions_in<'r: 's, 's, E, R: Wait + Threads + Sync, G: Gate, A: Allocator + Copy + Send + 's>(
     scope: &Scope<'s, E>,
     shared: &Shared<'r, 's, R, G>,
-    gateways: Vec<Gateway<A>, A>,
-    sequencer: Sequencer<A>,
+    stages: Stages<'s, A>,
     streams: &'s [Vec<u8, A>],
     alloc: A,
-) -> Result<Vec<Entry, A>, ThreadsFault>
-    requires fresh { (ring : ℕ) × AreFresh ring gateways.items }
-    requires pairs { IsLinkOf sequencer gateways.items }
-    requires streams { vec_len gateways ≡ length streams.now }
-    requires few { vec_len gateways ≤ SESSIONS }
-    ensures journal { IfOk result
-        (λ j. (s : ℕ) → restricted s j.items ≡ whole_at streams.entry.now s) }
-    ensures size { IfOk result (λ j. length j.items ≤ room_of sequencer) }
-    ensures fault { IfErr result
-        (λ f. (ring : ℕ) → IsThreadsFault streams.entry.now ring (room_of sequencer) f) }
+) -> Result<SessionsDay<A>, ThreadsFault>
+    requires { AreReady streams.now stages }
+    ensures day { IfOk result (IsDayOfSessions (sending_rules stages.entry.reported)
+        (stamp_of stages.entry.reported) streams.entry.now) }
+    ensures size { IfOk result (λ day. length day.journal.items ≤ stages.entry.room) }
+    ensures fault { IfErr result (λ f. (ring : ℕ)
+        → IsThreadsFault (sending_rules stages.entry.reported)
+        streams.entry.now ring stages.entry.room f) }
 {
-    let Ok(handles) = Vec::with_capacity(alloc, gateways.len()) else {
-        return Err(ThreadsFault::NoMemory);
+    let Stages {
+        gateways,
+        sequencer,
+        feeder,
+        matcher,
+        reported,
+        room: size,
+    } = stages;
+    let sessions = gateways.len();
+    let Ok(handles) = Vec::with_capacity(alloc, sessions) else {
+        return Err(ThreadsFault::NoMemory(0));
     };
-    let Ok(room) = Vec::with_capacity(alloc, gateways.len()) else {
-        return Err(ThreadsFault::NoMemory);
+    let Ok(room) = Vec::with_capacity(alloc, sessions) else {
+        return Err(ThreadsFault::NoMemory(0));
     };
-    let mut sequencer = sequencer;
-    let started = start_all(scope, shared, gateways, streams, handles);
-    if let Some(session) = started.refused {
+    let Started { handles, refused } = start_all(scope, shared, gateways, streams, handles);
+    let workers = Workers { handles, room };
+    if let Some(session) = refused {
+        return Err(stop_workers(shared, workers, session));
+    }
+    let Some(matching) = start_matching(
+        scope,
+        shared.rt,
+        shared.gate,
+        shared.stop,
+        matcher,
+        reported,
+    ) else {
+        return Err(stop_workers(shared, workers, sessions as u8));
+    };
+    let sequenced = sequence(shared.rt, shared.stop, sequencer, feeder, workers, streams);
+    if sequenced.end != SequenceEnd::Whole {
         shared.stop.store(true, Ordering::SeqCst);
-        drop(join_all(shared.rt, started.handles, room));
-        return Err(ThreadsFault::Spawn(session));
     }
-    let done = take_turns(shared.rt, &mut sequencer);
-    if !done {
-        shared.stop.store(true, Ordering::SeqCst);
-    }
-    let mut gateways = join_all(shared.rt, started.handles, room);
-    match sequencer.settle(gateways.as_mut_slice()) {
-        Settle::Settled => Ok(sequencer.into_journal()),
-        Settle::JournalFull => Err(ThreadsFault::JournalFull),
-        Settle::NotClosed(_) => Err(ThreadsFault::JournalFull),
-    }
+    let matched = matching.join(shared.rt);
+    conclude(sequenced, matched, streams, size)
 }
 
-/// Runs a thread for each of 1 to 16 streams, session 0 first, and the sequencer in the caller's. The journal has, of each
-/// session, exactly the events of its stream, its close included. Link and NoMemory come before any thread is started.
-/// After Spawn and JournalFull the threads that run are told to stop, and joined.
+/// Runs a thread for each of 1 to 16 streams, session 0 first, one that matches, and the sequencer in the caller's. The
+/// journal has, of each session, exactly the events of its stream, its close included; the fills, and what each session is
+/// sent, are those of the journal.
+///
+/// Link and NoMemory(0) come before any thread is started. After each later fault the threads that run are told to stop,
+/// and joined; of several faults the one with the least number is answered.
 pub fn run_sessions<'r, R: Threads + Wait + Sync, G: Gate, A: Allocator + Copy + Send>(
     rt: &'r R,
     alloc: A,
+    rules: &DayRules<'r>,
     streams: Vec<Vec<u8, A>, A>,
     gate: &'r G,
     caps: Caps,
-) -> Result<Vec<Entry, A>, ThreadsFault>
-    ensures journal { IfOk result (λ j. (s : ℕ) → restricted s j.items ≡ whole_at streams.items s) }
-    ensures size { IfOk result (λ j. length j.items ≤ caps.journal) }
-    ensures lawful { IfOk result (λ j. IsLawful j.items) }
+) -> Result<SessionsDay<A>, ThreadsFault>
+    ensures day { IfOk result
+        (IsDayOfSessions rules.now.rulebook.now rules.now.stamp streams.items) }
+    ensures size { IfOk result (λ day. length day.journal.items ≤ caps.journal) }
+    ensures lawful { IfOk result (λ day. IsLawful day.journal.items) }
     ensures limits { OnOk result
         (IsWithinLimits (length streams.items) caps.ring caps.journal) }
-    ensures fault { IfErr result (λ f. IsThreadsFault streams.items caps.ring caps.journal f) }
+    ensures fault { IfErr result
+        (IsThreadsFault rules.now.rulebook.now streams.items caps.ring caps.journal) }
 {
-    let (gateways, sequencer) = match link(alloc, streams.len(), caps.ring, caps.journal) {
-        Ok(made) => made,
-        Err(fault) => return Err(ThreadsFault::Link(fault)),
+    let stages = match stages_of(alloc, rules, streams.len(), caps) {
+        Ok(stages) => stages,
+        Err(fault) => return Err(fault),
     };
     let flag = AtomicBool::new(false);
     let shared = Shared {
@@ -171,15 +271,14 @@ pub fn run_sessions<'r, R: Threads + Wait + Sync, G: Gate, A: Allocator + Copy +
     thread::scope(
         thread::scope_env(),
         rt,
-        |scope| -> Result<Vec<Entry, A>, ThreadsFault>
-            requires { ((ring : ℕ) × AreFresh ring gateways.items)
-                × IsLinkOf sequencer gateways.items × (vec_len gateways ≡ length all.now)
-                × (vec_len gateways ≤ SESSIONS) }
-            ensures journal { IfOk result
-                (λ j. (s : ℕ) → restricted s j.items ≡ whole_at all.entry.now s) }
-            ensures size { IfOk result (λ j. length j.items ≤ room_of sequencer) }
-            ensures fault { IfErr result
-                (λ f. (ring : ℕ) → IsThreadsFault all.entry.now ring (room_of sequencer) f) }
-        { sessions_in(scope, &shared, gateways, sequencer, all, alloc) },
+        |scope| -> Result<SessionsDay<A>, ThreadsFault>
+            requires { AreReady all.now stages }
+            ensures day { IfOk result (IsDayOfSessions (sending_rules stages.entry.reported)
+                (stamp_of stages.entry.reported) all.entry.now) }
+            ensures size { IfOk result (λ day. length day.journal.items ≤ stages.entry.room) }
+            ensures fault { IfErr result (λ f. (ring : ℕ)
+                → IsThreadsFault (sending_rules stages.entry.reported)
+                all.entry.now ring stages.entry.room f) }
+        { sessions_in(scope, &shared, stages, all, alloc) },
     )
 }

@@ -13,10 +13,14 @@ use std::sync::atomic::{AtomicBool, Ordering};
 use std::thread;
 use std::thread::{Promise, PromisedHandle, Scope, Threads};
 
-/// Sees each message of each session before it is judged, and may hold its session's thread.
+/// Sees each message of each session before it is judged, and each entry after it was matched, and may hold the thread
+/// that it is called in.
 pub trait Gate: Sync {
     /// Called once before a session first steps on a message. Messages count from 0, and stay at the greatest u32.
     fn before(&self, session: u8, message: u32);
+
+    /// Called by the matching thread after the entry of that place was applied and reported.
+    fn matched(&self, _place: u64) {}
 }
 
 /// What a worker's thread gives back: its own gateway, with what it sent of its own stream.

@@ -1,0 +1,54 @@
+-- The ends of a day's rings, at its start and in one thread again.
+-- Words of the code alone.
+use Rattle.std.specs.Prelude.{◌≡◌, ℕ, ◌≤◌, List, [], length, Vec}
+use mathlib.Core.List.{IsPrefix}
+use Rattle.host_base.specs.declared.limits.TheConstants.{SESSIONS}
+use Rattle.gate_link.specs.Links.{IsLinkOf, room_of}
+use Rattle.gate_link.specs.Opening.{AreFresh, IsRefusal}
+use Rattle.stage_rings.specs.Feeding.{given, taken, AreFeedPair}
+use Rattle.day_apply.specs.declared.fault.ApplyFault.{ApplyFault}
+use Rattle.day_apply.specs.declared.fault.ApplyFault.TheVariants as apply
+use Rattle.day_threads.specs.Streams.{IsBeginningOf}
+use Rattle.day_threads.specs.code.Matching.{IsUnfed, MatchEnds}
+use Rattle.day_threads.specs.code.Sequencing.{SequenceEnds}
+use Rattle.day_threads.specs.declared.fault.ThreadsFault.{ThreadsFault}
+use Rattle.day_threads.specs.declared.fault.ThreadsFault.TheVariants.{Link, NoMemory, NumbersSpent}
+use Rattle.day_threads.specs.declared.matching.Matched.{Matched}
+use Rattle.day_threads.specs.declared.sequence.Sequenced.{Sequenced}
+use Rattle.day_threads.specs.declared.sessions.Stages.{Stages}
+
+-- the stages of a day that has not begun
+pub record IsMade {A : Type 0} (ring : ℕ) (stages : Stages A) : Type 0 where
+  pub fresh : AreFresh ring stages.gateways.items
+  pub pairs : IsLinkOf stages.sequencer stages.gateways.items
+  pub room : room_of stages.sequencer ≡ stages.room
+  pub feed : AreFeedPair stages.feeder stages.matcher
+  pub given_none : given stages.feeder ≡ []
+  pub unfed : IsUnfed stages.matcher stages.reported
+
+-- why there are none
+abbrev pub IsStagesFault : ℕ → ℕ → ℕ → ThreadsFault → Type 0
+IsStagesFault sessions ring journal (Link fault) = IsRefusal fault sessions ring journal
+IsStagesFault sessions ring journal (NoMemory place) = place ≡ 0
+IsStagesFault sessions ring journal _ = ⊥
+
+-- the same, for these streams
+pub record AreReady {A : Type 0} (streams : List (Vec ℕ A)) (stages : Stages A) : Type 0 where
+  pub ring : ℕ
+  pub made : IsMade ring stages
+  pub stream_count : length stages.gateways.items ≡ length streams
+  pub few : length streams ≤ SESSIONS
+
+-- both ends of the ring in one thread again, with what each part promised
+pub record AreJoined {A : Type 0} (room : ℕ) (streams : List (Vec ℕ A)) (q : Sequenced A) (m : Matched A) : Type 0 where
+  pub feed : AreFeedPair q.feeder m.matcher
+  pub given_on : IsPrefix (given q.feeder) q.journal.items
+  pub parts : IsBeginningOf streams q.journal.items
+  pub size : length q.journal.items ≤ room
+  pub sequenced : SequenceEnds q.end room streams q.journal.items q.feeder
+  pub matched : MatchEnds m.end (taken m.matcher) m.reported
+
+-- the fault of the day whose matching thread had this one
+abbrev pub of_apply : ApplyFault → ThreadsFault
+of_apply (apply.NoMemory place) = NoMemory place
+of_apply (apply.NumbersSpent place) = NumbersSpent place
