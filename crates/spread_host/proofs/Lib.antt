@@ -1,3 +1,4 @@
+pub mod DayOfParts
 pub mod SixteenTexts
 pub mod FillsShown
 pub mod LawfulJournals

@@ -40,7 +40,8 @@ abbrev pub of_threads : ThreadsFault → HostFault
 of_threads (threads.Link fault) = Link fault
 of_threads (threads.Spawn session) = Spawn session
 of_threads threads.JournalFull = JournalFull
-of_threads threads.NoMemory = NoMemory 0
+of_threads (threads.NoMemory place) = NoMemory place
+of_threads (threads.NumbersSpent place) = NumbersSpent place
 
 abbrev pub of_apply : ApplyFault → HostFault
 of_apply (apply.NoMemory place) = NoMemory place

@@ -1,31 +1,16 @@
 -- Why a day in threads was not handed out.
 use Rattle.std.specs.Prelude.{◌≡◌, ℕ, ◌<◌, ◌≤◌, ◌⊎◌, List, length}
 use Rattle.std.specs.declared.vec.Vec.{Vec}
-use Rattle.spread_rules.specs.declared.event.Entry.{Entry}
 use Rattle.spread_rules.specs.Rulebook.{Rules}
 use Rattle.gate_link.specs.Opening.{IsRefusal}
-use Rattle.day_threads.specs.Streams.{all_events}
-use Rattle.day_apply.specs.Applied.{SpendsAt}
-use Rattle.spread_host.specs.Headline.{IsJournalOfStreams}
+use Rattle.day_threads.specs.Streams.{all_events, IsLivePlace, IsSpentLive}
 use Rattle.spread_host.specs.declared.fault.HostFault.{HostFault}
 use Rattle.spread_host.specs.declared.fault.HostFault.TheVariants.{Link, Spawn, JournalFull, NoMemory, NumbersSpent}
-
--- a place of a journal that has, of each session, the events of its stream
-pub record IsLivePlace {A : Type 0} (streams : List (Vec ℕ A)) (place : ℕ) : Type 0 where
-  pub journal : List Entry
-  pub parts : IsJournalOfStreams streams journal
-  pub within : place ≤ length journal
-
--- at that place of such a journal a message would bear a number above 999,999,999
-pub record IsSpentLive {A : Type 0} (rules : Rules) (streams : List (Vec ℕ A)) (place : ℕ) : Type 0 where
-  pub journal : List Entry
-  pub parts : IsJournalOfStreams streams journal
-  pub spends : SpendsAt rules journal place
 
 -- why these streams gave no day, over rings and with a journal of these sizes
 abbrev pub IsRunDayFault : {A : Type 0} → Rules → List (Vec ℕ A) → ℕ → ℕ → HostFault → Type 0
 IsRunDayFault rules streams ring journal (Link fault) = IsRefusal fault (length streams) ring journal
-IsRunDayFault rules streams ring journal (Spawn session) = session < length streams
+IsRunDayFault rules streams ring journal (Spawn session) = session ≤ length streams
 IsRunDayFault rules streams ring journal JournalFull = journal < all_events streams
 IsRunDayFault rules streams ring journal (NoMemory place) = (place ≡ 0) ⊎ IsLivePlace streams place
 IsRunDayFault rules streams ring journal (NumbersSpent place) = IsSpentLive rules streams place

@@ -24,7 +24,7 @@ pub enum HostFault {
     /// The link of gateways and sequencer was refused.
     #[error("link: {0}")]
     Link(LinkFault),
-    /// The thread of this session could not be started.
+    /// The thread of this session could not be started; the matching thread has the number behind the last session's.
     #[error("thread {0}")]
     Spawn(u8),
     /// The journal has its stated size, and there is more to enter.
@@ -93,7 +93,6 @@ impl From<LinesFault> for HostFault {
     }
 }
 
-/// Want of memory for the threads comes before any entry is begun.
 impl From<ThreadsFault> for HostFault {
     ghost from_gives = { λ threads f. f ≡ of_threads threads };
 
@@ -102,7 +101,8 @@ impl From<ThreadsFault> for HostFault {
             ThreadsFault::Link(fault) => HostFault::Link(fault),
             ThreadsFault::Spawn(session) => HostFault::Spawn(session),
             ThreadsFault::JournalFull => HostFault::JournalFull,
-            ThreadsFault::NoMemory => HostFault::NoMemory(0),
+            ThreadsFault::NoMemory(place) => HostFault::NoMemory(place),
+            ThreadsFault::NumbersSpent(place) => HostFault::NumbersSpent(place),
         }
     }
 }

@@ -1,4 +1,4 @@
-//! A day in threads: one for each session, and the sequencer in the caller's.
+//! A day in threads: one for each session, one that matches, and the sequencer in the caller's.
 ghost use Rattle.std.specs.Prelude.{◌≡◌, ◌<◌, ◌≤◌, ℕ, [], length, IfOk, IfErr, OnOk};
 ghost use Rattle.host_base.specs.declared.limits.TheConstants.{SESSIONS};
 ghost use Rattle.day_threads.specs.Streams.{IsWithinLimits};
@@ -6,22 +6,23 @@ ghost use Rattle.spread_report.specs.Sessions.{bytes_of};
 ghost use Rattle.spread_host.specs.Headline.{IsJournalOfStreams, HasFills, HasOutgoing, BoughtIsSold, PaidIsReceived, IsAlwaysQuiet, IsDayOf};
 ghost use Rattle.spread_host.specs.LiveDays.{IsRunDayFault};
 
-use crate::day::day_of;
 use crate::fault::HostFault;
 use day_text::Day;
-use day_threads::{Caps, Gate, run_sessions};
+use day_threads::{Caps, DayRules, Gate, SessionsDay, run_sessions};
 use host_base::Id;
+use spread_match::laws::ranges;
 use spread_rules::Rulebook;
 use std::alloc::Allocator;
 use std::sync::Wait;
 use std::thread::Threads;
 
-/// Runs a day in threads: one for each of 1 to 16 streams, session 0 first, and the sequencer in the caller's, which applies
-/// the journal once all are joined.
+/// Runs a day in threads: one for each of 1 to 16 streams, session 0 first, one that applies the journal's entries while
+/// it grows, and the sequencer in the caller's.
 ///
 /// Faults: Link, where the number of streams or a cap is out of range, or its memory ran out; Spawn, naming the session
-/// whose thread could not be started; JournalFull; NoMemory, its place 0 where no entry was begun, else that of the first
-/// entry not worked through; NumbersSpent. After Spawn and JournalFull the threads that run are told to stop, and joined.
+/// whose thread could not be started, or for the matching thread the number of sessions; JournalFull; NoMemory, its place
+/// 0 where no entry was begun, else that of the first entry not worked through; NumbersSpent. After a fault the threads
+/// that run are told to stop, and joined; of several faults the one with the least number is answered.
 pub fn run_day<R: Threads + Wait + Sync, G: Gate, A: Allocator + Copy + Send>(
     rt: &R,
     alloc: A,
@@ -52,7 +53,14 @@ pub fn run_day<R: Threads + Wait + Sync, G: Gate, A: Allocator + Copy + Send>(
     // When each fault comes; JournalFull, where the streams have more events than the journal has room for.
     ensures fault { IfErr result (IsRunDayFault rulebook.now streams.items caps.ring caps.journal) }
 {
-    let journal = run_sessions(rt, alloc, streams, gate, caps)?;
-    let day = day_of(alloc, rulebook, stamp, journal)?;
-    Ok(day)
+    // Cites the ranges of a journal's fills, and that a rulebook is lawful.
+    ranges();
+    rulebook.months();
+    let rules = DayRules { rulebook, stamp };
+    let SessionsDay { journal, applied } = run_sessions(rt, alloc, &rules, streams, gate, caps)?;
+    Ok(Day {
+        journal,
+        fills: applied.fills,
+        out: applied.out,
+    })
 }

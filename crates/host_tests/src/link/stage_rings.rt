@@ -66,7 +66,7 @@ fn bytes_are_posted_in_pieces(rt: HostRuntime) -> Result<(), Fail> {
     assert!(rt; poster.end() == Post::Full);
     assert!(rt; writer.take() == Ok(Wrote::Bytes(37)));
     assert!(rt; writer.take() == Ok(Wrote::Empty));
-    assert!(rt; writer.bytes() == bytes);
+    assert!(rt; writer.bytes() == bytes.as_slice());
     Ok(())
 }
 
@@ -85,7 +85,7 @@ fn bytes_end_with_a_mark(rt: HostRuntime) -> Result<(), Fail> {
     assert!(rt; writer.take() == Ok(Wrote::Ended));
     assert!(rt; writer.take() == Ok(Wrote::Ended));
     assert!(rt; finished(&mut poster, &mut writer));
-    assert!(rt; writer.into_bytes().as_slice() == b"8=FIX");
+    assert!(rt; writer.into_bytes().as_slice() == b"8=FIX".as_slice());
     Ok(())
 }
 

@@ -1,15 +1,33 @@
-use Rattle.std.proofs.Common.{◌∙◌, ap}
-use Rattle.spread_rules.specs.Journal.{restricted}
+use Rattle.std.proofs.Common.{◌∙◌}
 use Rattle.gate_link.proofs.links.PartOfASession.{row_past}
 use Rattle.day_threads.specs.Streams.{whole_stream}
+use Rattle.spread_host.proofs.DayOfParts.{DayHolds, day_holds}
 use Rattle.spread_host.proofs.SessionsWithoutEntries.{silent}
 use Rattle.spread_host.proofs.from_sessions.run_day.Goals as goal
+use Rattle.spread_host.proofs.from_sessions.run_day.Goals.{In_ok-journal}
 
-pub returns-clause-journal : goal.returns-clause-journal
-returns-clause-journal g c s = ap (restricted s) c.in_ok-day.ensures.journal ∙ c.in_ok-journal.ensures.journal s
+holds : (g : _) (c : In_ok-journal g) → DayHolds c.args.rulebook.now c.args.stamp c.in_ok-journal.field-0.journal.items c.in_ok-journal.field-0.applied.fills.items c.in_ok-journal.field-0.applied.out.items
+holds g c =
+    let day = c.in_ok-journal.field-0 in
+    let e = c.in_ok-journal.ensures in
+    let rules = c.args.rulebook.now in
+    day_holds rules c.args.stamp day.journal.items day.applied.fills.items day.applied.out.items c.months.ensures.lawful e.lawful
+    (c.ranges-2.ensures.fills rules day.journal.items c.months.ensures.lawful e.lawful.fits) e.day.fills e.day.lists e.day.out e.day.whole
+
+pub returns-clause-bought_is_sold : goal.returns-clause-bought_is_sold
+returns-clause-bought_is_sold g c = (holds g c).bought_is_sold
+
+pub returns-clause-paid_is_received : goal.returns-clause-paid_is_received
+returns-clause-paid_is_received g c = (holds g c).paid_is_received
+
+pub returns-clause-quiet : goal.returns-clause-quiet
+returns-clause-quiet g c = (holds g c).quiet
+
+pub returns-clause-day : goal.returns-clause-day
+returns-clause-day g c = (holds g c).day
 
 -- a session without a stream has no entry, and is sent nothing
 pub returns-clause-no_stream : goal.returns-clause-no_stream
 returns-clause-no_stream g c s low past =
-    let none = ap (restricted s) c.in_ok-day.ensures.journal ∙ c.in_ok-journal.ensures.journal s ∙ row_past whole_stream c.args.streams.items s past in
-    c.in_ok-day.ensures.outgoing s low ∙ silent c.args.rulebook.now c.args.stamp c.in_ok-day.day.journal.items s none
+    let e = c.in_ok-journal.ensures in
+    e.day.out s low ∙ silent c.args.rulebook.now c.args.stamp c.in_ok-journal.field-0.journal.items s (e.day.parts s ∙ row_past whole_stream c.args.streams.items s past)
