@@ -128,7 +128,7 @@ def frame():
 
 
 def threads():
-    it = Picture(980, 390, "The threads of a day, and the rings between them")
+    it = Picture(1020, 390, "The threads of a day, and the rings between them")
     for n, name in enumerate(["0", "1", "15"]):
         y = 60 + 90 * n
         it.box(20, y, 130, 44, [f"bytes of session {name}"], size=13)
@@ -141,10 +141,13 @@ def threads():
     it.box(570, 140, 120, 64, ["Sequencer"], STRONG)
     it.box(760, 140, 190, 64, ["the journal:", "entries in one order"])
     it.arrow((690, 172), (760, 172))
-    it.arrow((855, 204), (855, 300))
-    it.box(600, 300, 350, 50, ["matching, messages, text: after the joins"])
+    it.arrow((855, 204), (855, 236))
+    it.box(800, 236, 110, 32, ["ring"])
+    it.arrow((855, 268), (855, 300))
+    it.box(760, 300, 190, 50, ["Market, Desk"], STRONG)
     it.lines(175, 30, ["a thread for each session"], size=13, colour=GREY)
     it.lines(760, 120, ["the thread that called run_day"], size=13, colour=GREY)
+    it.lines(855, 374, ["the matching thread; the text after the joins"], size=13, colour=GREY)
     it.lines(
         290,
         330,

@@ -3,7 +3,7 @@ ghost use Rattle.day_text.specs.DayText.{AreShown};
 
 use crate::headline::day_of_streams;
 use day_text::{Day, put_months};
-use day_threads::{Caps, Gate, run_sessions};
+use day_threads::{Caps, DayRules, Gate, run_sessions};
 use fix_wire::{Field, Head, Value, msg_types, tags, write_message};
 use gate_link::LinkFault;
 use spread_host::{HostFault, run_day};
@@ -143,6 +143,34 @@ impl Gate for Hold {
     }
 }
 
+/// The last message of a session and the match of its first entry wait for each other.
+#[derive(Drop)]
+struct MatchedMeanwhile {
+    come: AtomicU32,
+    matched: AtomicU32,
+    late: AtomicU32,
+}
+
+impl Gate for MatchedMeanwhile {
+    fn before(&self, _session: u8, message: u32) {
+        if message == 3 {
+            self.come.store(1, Ordering::SeqCst);
+            if !comes(&self.matched) {
+                self.late.store(1, Ordering::SeqCst);
+            }
+        }
+    }
+
+    fn matched(&self, place: u64) {
+        if place == 1 {
+            self.matched.store(1, Ordering::SeqCst);
+            if !comes(&self.come) {
+                self.late.store(1, Ordering::SeqCst);
+            }
+        }
+    }
+}
+
 /// Counts the messages of session 0, and notes any that comes out of turn.
 #[derive(Drop)]
 struct InTurn {
@@ -227,11 +255,17 @@ fn each_message_once(rt: HostRuntime) -> Result<(), Fail> {
         next: AtomicU32::new(0),
         wrong: AtomicU32::new(0),
     };
+    let rulebook = Rulebook::read(THREE_MONTHS)?;
+    let rules = DayRules {
+        rulebook: &rulebook,
+        stamp: stamp(),
+    };
     let streams = streams_of(rt.alloc(), 1, FIRST_TRADE)?;
-    let journal = run_sessions(&rt, rt.alloc(), streams, &gate, USUAL)?;
+    let day = run_sessions(&rt, rt.alloc(), &rules, streams, &gate, USUAL)?;
     assert!(rt; gate.next.load(Ordering::SeqCst) == 4);
     assert!(rt; gate.wrong.load(Ordering::SeqCst) == 0);
-    let events = part(rt.alloc(), &journal, 0)?;
+    assert!(rt; day.applied.fills.len() == 2);
+    let events = part(rt.alloc(), &day.journal, 0)?;
     assert!(rt; events.as_slice() == first_trade().as_slice());
     Ok(())
 }
@@ -270,8 +304,9 @@ fn each_message_once_over_a_full_ring(rt: HostRuntime) -> Result<(), Fail> {
         ring: 1,
         journal: 1_000,
     };
-    let journal = run_sessions(&rt, rt.alloc(), streams, &gate, caps)?;
-    assert!(rt; journal.len() == 302);
+    let rulebook = Rulebook::read(THREE_MONTHS)?;
+    let day = run_day(&rt, rt.alloc(), &rulebook, stamp(), streams, &gate, caps)?;
+    assert!(rt; day.journal.len() == 302);
     assert!(rt; gate.next.load(Ordering::SeqCst) == 301);
     assert!(rt; gate.wrong.load(Ordering::SeqCst) == 0);
     Ok(())
@@ -297,6 +332,29 @@ fn one_session_held(rt: HostRuntime) -> Result<(), Fail> {
         assert!(rt; day.journal.len() == 8);
         assert!(rt; day.journal[0].session != held);
         assert!(rt; day.journal[1].session != held);
+    }
+    Ok(())
+}
+
+/// The first entry is matched before the session has sent its last one, also over a ring of one event.
+#[test]
+fn matched_while_the_session_runs(rt: HostRuntime) -> Result<(), Fail> {
+    let rulebook = Rulebook::read(THREE_MONTHS)?;
+    for ring in [1, 256] {
+        let gate = MatchedMeanwhile {
+            come: AtomicU32::new(0),
+            matched: AtomicU32::new(0),
+            late: AtomicU32::new(0),
+        };
+        let caps = Caps {
+            ring,
+            journal: 100_000,
+        };
+        let streams = streams_of(rt.alloc(), 1, FIRST_TRADE)?;
+        let day = run_day(&rt, rt.alloc(), &rulebook, stamp(), streams, &gate, caps)?;
+        assert!(rt; gate.late.load(Ordering::SeqCst) == 0);
+        assert!(rt; day.journal.len() == 4);
+        assert!(rt; day.fills.len() == 2);
     }
     Ok(())
 }
@@ -358,11 +416,12 @@ fn long_stream(rt: HostRuntime) -> Result<(), Fail> {
         ring: 1,
         journal: 12,
     };
-    let journal = run_sessions(&rt, rt.alloc(), streams, &Open, caps)?;
-    assert!(rt; journal.len() == 12);
+    let rulebook = Rulebook::read(THREE_MONTHS)?;
+    let day = run_day(&rt, rt.alloc(), &rulebook, stamp(), streams, &Open, caps)?;
+    assert!(rt; day.journal.len() == 12);
     let want = first_trade();
     for session in 0..3u8 {
-        let events = part(rt.alloc(), &journal, session)?;
+        let events = part(rt.alloc(), &day.journal, session)?;
         assert!(rt; events.as_slice() == want.as_slice(), "{session}");
     }
     Ok(())
