@@ -7,11 +7,13 @@ ghost use Rattle.fix_wire.specs.Texts.{is_soh, strip_prefix, is_cut_short};
 ghost use Rattle.fix_wire.specs.Frames.{begin_text, header, header_after, body_at, is_body, is_intact, is_length_open, checksum_field, frame_length};
 ghost use Rattle.fix_wire.specs.Fields.{field_of_text};
 ghost use Rattle.fix_wire.specs.Held.{from_first_start};
+ghost use Rattle.fix_wire.specs.code.Marked.{IsMarked};
 ghost use Rattle.fix_wire.specs.code.Tabled.{IsTable, IsTableOf};
 ghost use Rattle.fix_wire.specs.declared.frame.Scan.TheVariants.{Frame};
 ghost use Rattle.std.specs.Bool.{OnTrue};
 ghost use Rattle.fix_wire.specs.code.Scans.{scan_front, first_field, leading_field_view, tag_view, is_header_open};
 
+use crate::marks::{Marks, next_soh};
 use crate::table::{FieldTable, are_fields};
 use crate::values::limited_digits;
 use host_base::bytes::SOH;
@@ -177,9 +179,8 @@ pub(crate) fn next_begin(text: &[u8]) -> usize
     1 + place_of(b'8', &text[1..])
 }
 
-/// The tag that the text of a field begins with, and how many digits spell it.
-#[inline(always)]
-fn leading_tag(text: &[u8]) -> Option<Tag>
+/// The tag that the text of a field begins with, and how many digits spell it: byte by byte.
+fn any_tag(text: &[u8]) -> Option<Tag>
     ensures field { option_map (tag_view text.now) result ≡ field_of_text text.now }
     ensures within { IfSome result (λ t. t.digits < length text.now) }
 {
@@ -202,6 +203,31 @@ fn leading_tag(text: &[u8]) -> Option<Tag>
     None
 }
 
+/// The same. Most tags have one or two digits, and those are read without a loop.
+#[inline(always)]
+fn leading_tag(text: &[u8]) -> Option<Tag>
+    ensures field { option_map (tag_view text.now) result ≡ field_of_text text.now }
+    ensures within { IfSome result (λ t. t.digits < length text.now) }
+{
+    if text.len() < 3 || !text[0].is_ascii_digit() || text[0] == b'0' {
+        return any_tag(text);
+    }
+    let first = u32::from(text[0] - b'0');
+    if text[1] == b'=' {
+        return Some(Tag {
+            number: first,
+            digits: 1,
+        });
+    }
+    if !text[1].is_ascii_digit() || text[2] != b'=' {
+        return any_tag(text);
+    }
+    Some(Tag {
+        number: first * 10 + u32::from(text[1] - b'0'),
+        digits: 2,
+    })
+}
+
 /// The first field of a body.
 #[inline(always)]
 pub(crate) fn first_field(body: &[u8]) -> Option<LeadingField>
@@ -222,13 +248,50 @@ pub(crate) fn first_field(body: &[u8]) -> Option<LeadingField>
     })
 }
 
-/// Whether a text is a body, and if so, its table.
-fn is_body(body: &[u8], table: &mut FieldTable) -> bool
-    requires { length body.now ≤ MAX_BODY_LENGTH }
-    ensures body { result ≡ is_body body.now }
-    ensures table { OnTrue result (IsTable body.now table.new) }
+/// The field of a body from a place on, which the marks are those from. The body is the first bytes of the text, of that
+/// number.
+#[inline(always)]
+pub(crate) fn next_field(
+    text: &[u8],
+    count: usize,
+    from: usize,
+    marks: &mut Marks,
+) -> Option<LeadingField>
+    requires short { length text.now < 2 ^ 32 }
+    requires within { count ≤ length text.now }
+    requires from { from < count }
+    requires marks { IsMarked text.now from marks.old }
+    ensures field { option_map (leading_field_view (take count text.now)) result
+        ≡ first_field (drop from (take count text.now)) }
+    ensures order { IfSome result (λ p. p.start ≤ p.end) }
+    ensures start { IfSome result (λ p. 0 < p.start) }
+    ensures past { IfSome result (λ p. from ≤ p.end) }
+    ensures within { IfSome result (λ p. p.end < count) }
+    ensures marks { IfSome result (λ p. IsMarked text.now (p.end + 1) marks.new) }
 {
-    body.starts_with(b"35=") && are_fields(body, table)
+    let end = next_soh(text, from, marks);
+    if end >= count {
+        return None;
+    }
+    let tag = leading_tag(&text[from..end])?;
+    Some(LeadingField {
+        tag: tag.number,
+        start: from + tag.digits + 1,
+        end,
+    })
+}
+
+/// Whether the first bytes of a text, of that number, are a body, and if so, its table.
+#[inline(always)]
+fn is_body(text: &[u8], count: usize, table: &mut FieldTable) -> bool
+    requires short { length text.now < 2 ^ 32 }
+    requires count { count ≤ MAX_BODY_LENGTH }
+    requires within { count ≤ length text.now }
+    ensures body { result ≡ is_body (take count text.now) }
+    ensures table { OnTrue result (IsTable (take count text.now) table.new) }
+{
+    let body = &text[..count];
+    body.starts_with(b"35=") && are_fields(text, count, table)
 }
 
 /// The sum of bytes, modulo 256.
@@ -269,12 +332,13 @@ fn is_intact(text: &[u8], header: FrameHeader, table: &mut FieldTable) -> bool
     requires start { header.body_start ≤ BEGIN_BYTES + MAX_LENGTH_DIGITS + 1 }
     requires size { header.body_length ≤ MAX_BODY_LENGTH }
     requires whole { frame_length header ≤ length text.now }
+    requires short { length text.now < 2 ^ 32 }
     ensures intact { result ≡ is_intact text.now header }
     ensures table { OnTrue result (IsTable (body_at text.now header) table.new) }
 {
     let end = header.body_start + header.body_length;
     is_trailer(&text[end..end + CHECKSUM_BYTES], checksum(&text[..end]))
-        && is_body(&text[header.body_start..end], table)
+        && is_body(&text[header.body_start..], header.body_length, table)
 }
 
 /// What stands at the front of a text, and the table of a frame that does.

@@ -1,82 +1,136 @@
--- A table of fields, one place after another.
-use Rattle.std.proofs.Common.{is_some, true, false, eqb, subst, unwrap_or, ◌≡◌, ℕ, zero, suc, ◌+◌, ◌-◌, ◌<◌, ◌≤◌, List, ◌++◌, Some, set, get_or, length, take, drop, refl, sym, ap, ◌∙◌, arith, add-one, ◌⊎◌, inl, inr}
-use Rattle.std.specs.List.{between}
-use Rattle.std.proofs.lemmas.List.{take-append-drop, drop-take, take-take, drop-drop, length-drop, length-set, get_or-set_same, get_or-set_other, drop-append-le, take-append-le}
-use Rattle.std.proofs.lemmas.Bool.{cases_lt, eqb-false}
+-- A table of fields, one field after another.
+use Rattle.std.proofs.Common.{is_some, true, false, cond, eqb, subst, unwrap_or, ◌≡◌, ◌≢◌, ℕ, zero, suc, ◌+◌, ◌<◌, ◌≤◌, Bool, List, ◌++◌, Option, Some, None, set, get_or, length, take, drop, refl, sym, ap, ◌∙◌, arith}
+use Rattle.std.specs.Prelude.{slice_range}
+use Rattle.std.specs.List.{position_or_len}
+use Rattle.std.proofs.lemmas.List.{drop_all, drop-take, take-take, length-drop, length-set, get_or-set_same, get_or-set_other, drop-append-le, take-append-le, take-append-drop}
+use Rattle.std.proofs.lemmas.List.Sums.{passes_at_first}
+use Rattle.std.proofs.lemmas.Simd.{get_or-replicate}
+use Rattle.std.proofs.lemmas.Bool.{eqb-true, eqb-false}
+use Rattle.std.proofs.lemmas.Bool.Decides.{nat_tests}
 use Rattle.fix_wire.specs.declared.frame.LeadingField.{LeadingField}
 use Rattle.fix_wire.specs.declared.table.FieldPlace.{FieldPlace}
 use Rattle.fix_wire.specs.declared.table.FieldTable.{FieldTable}
 use Rattle.fix_wire.specs.Fields.{fields_of_body}
-use Rattle.fix_wire.proofs.fields.RowOfFields.{row_some, value_behind, first_some}
+use Rattle.fix_wire.proofs.fields.RowOfFields.{row_some, value_step, first_some}
+use Rattle.fix_wire.proofs.texts.FirstPlace.{same, differs}
 use Rattle.fix_wire.specs.code.Scans.{value_of, first_field, leading_field_view}
-use Rattle.fix_wire.specs.code.Tabled.{nowhere, place_at, start_of, field_at, leading_at, IsPlaced, IsTable, IsBlank, IsTableOf}
+use Rattle.fix_wire.specs.code.Tabled.{tabled_tags, is_same, index_of, nowhere, no_places, place_at, value_at, with_field, IsWithin, IsTable, IsTableOf}
 use Rattle.fix_wire.specs.Frames.{frame_at, header, frame_length}
 use Rattle.fix_wire.proofs.framing.FrontStays.{frame_parts, header_stays}
 
-between_drop : (xs : List ℕ) (from start end : ℕ) → between start end (drop from xs) ≡ between (from + start) (from + end) xs
-between_drop xs from start end =
-    let e : (from + end) - (from + start) ≡ end - start = omega arith in
-    ap (λ t. take (end - start) t) (drop-drop start from xs) ∙ sym (ap (λ n. take n (drop (from + start) xs)) e)
+-- a tag that is tabled stands at its index
+tag_at : (tag : ℕ) → index_of tag < 23 → get_or tabled_tags (index_of tag) 0 ≡ tag
+tag_at tag l = eqb-true _ _ (passes_at_first (is_same tag) tabled_tags 0 l)
 
-start_kept : (places : List FieldPlace) (n : ℕ) (p : FieldPlace) (i : ℕ) → i ≤ n → start_of (set places n p) i ≡ start_of places i
-start_kept places n p zero l = refl
-start_kept places n p (suc i) l = ap (λ (q : FieldPlace). q.end + 1) (get_or-set_other places n i p nowhere (omega arith))
+-- so no two tags have one index
+same_tag : (a b : ℕ) → index_of a ≡ index_of b → index_of b < 23 → a ≡ b
+same_tag a b e l = sym (tag_at a (omega (arith, e, l))) ∙ ap (λ i. get_or tabled_tags i 0) e ∙ tag_at b l
 
--- the place, in the body, of a field that stands in front of what follows `rest`
-abbrev pub moved : ℕ → LeadingField → FieldPlace
-moved rest f = record { start = rest + f.start; end = rest + f.end }
+abbrev or_else : Option (List ℕ) → Option (List ℕ) → Option (List ℕ)
+or_else None o = o
+or_else (Some v) o = Some v
 
-moved_first : (body : List ℕ) (rest : ℕ) (f : LeadingField) → Some (leading_field_view (drop rest body) f) ≡ first_field (drop rest body) → f.start ≤ f.end → f.end < length (drop rest body) → IsPlaced body rest f.tag (moved rest f)
-moved_first body rest f e order within =
-    let len = length-drop rest body in
-    let value = between_drop body rest f.start f.end in
-    let next = drop-drop (f.end + 1) rest body in
-    let sum : rest + (f.end + 1) ≡ (rest + f.end) + 1 = omega arith in
+other_tag : (a b : ℕ) → eqb (index_of b) (index_of a) ≡ false → eqb a b ≡ false
+other_tag a b d = differs a b (λ z. eqb-false _ _ d (ap index_of (sym z)))
+
+-- Of each tabled tag, the place of its first field before the rest, where there is one.
+pub record IsTabled (body : List ℕ) (places : List FieldPlace) (rest : ℕ) : Type 0 where
+  pub size : length places ≡ 24
+  pub near : rest ≤ length body
+  pub within : (i : ℕ) → i < 24 → IsWithin body (place_at places i)
+  pub row : is_some (fields_of_body (drop rest body)) ≡ is_some (fields_of_body body)
+  pub value : is_some (fields_of_body body) ≡ true → (tag : ℕ) → index_of tag < 23
+      → or_else (value_at body (place_at places (index_of tag))) (value_of tag (drop rest body)) ≡ value_of tag body
+
+pub none_tabled : (body : List ℕ) → IsTabled body no_places 0
+none_tabled body = record {
+  size = refl;
+  near = omega arith;
+  within = λ i l. subst (IsWithin body) (sym (get_or-replicate 24 i nowhere nowhere l)) (record { order = omega arith; end = omega arith });
+  row = refl;
+  value = λ whole tag l. ap (λ p. or_else (value_at body p) (value_of tag body)) (get_or-replicate 24 (index_of tag) nowhere nowhere (omega (arith, l)));
+}
+
+no_value : (body : List ℕ) (p : FieldPlace) → eqb p.start 0 ≡ true → value_at body p ≡ None
+no_value body p e = ap (λ b. cond b None (Some (slice_range body p.start p.end))) e
+
+a_value : (body : List ℕ) (p : FieldPlace) → eqb p.start 0 ≡ false → value_at body p ≡ Some (slice_range body p.start p.end)
+a_value body p e = ap (λ b. cond b None (Some (slice_range body p.start p.end))) e
+
+abbrev pub placed : LeadingField → FieldPlace
+placed f = record { start = f.start; end = f.end }
+
+-- what a field changes in the value of a tag
+noted : (body : List ℕ) (places : List FieldPlace) (f : LeadingField) (tag : ℕ) (w : Option (List ℕ)) → length places ≡ 24 → index_of f.tag < 24 → eqb f.start 0 ≡ false → index_of tag < 23 →
+    (b c : Bool) → eqb (place_at places (index_of f.tag)).start 0 ≡ b → eqb (index_of tag) (index_of f.tag) ≡ c →
+    or_else (value_at body (place_at (cond b (set places (index_of f.tag) (placed f)) places) (index_of tag))) w ≡ or_else (value_at body (place_at places (index_of tag))) (cond (eqb f.tag tag) (Some (slice_range body f.start f.end)) w)
+noted body places f tag w size few some l true true e d =
+    let i = eqb-true _ _ d in
+    let k = index_of f.tag in
+    let tags = same f.tag tag (same_tag f.tag tag (sym i) l) in
+    ap (λ j. or_else (value_at body (place_at (set places k (placed f)) j)) w) i
+    ∙ ap (λ p. or_else (value_at body p) w) (get_or-set_same places k (placed f) nowhere (omega (arith, size, few)))
+    ∙ ap (λ v. or_else v w) (a_value body (placed f) some)
+    ∙ sym (ap (λ b. or_else (value_at body (place_at places (index_of tag))) (cond b (Some (slice_range body f.start f.end)) w)) tags
+    ∙ ap (λ j. or_else (value_at body (place_at places j)) (Some (slice_range body f.start f.end))) i
+    ∙ ap (λ v. or_else v (Some (slice_range body f.start f.end))) (no_value body (place_at places k) e))
+noted body places f tag w size few some l true false e d =
+    let other = other_tag f.tag tag d in
+    ap (λ p. or_else (value_at body p) w) (get_or-set_other places (index_of f.tag) (index_of tag) (placed f) nowhere (λ z. eqb-false _ _ d z))
+    ∙ sym (ap (λ b. or_else (value_at body (place_at places (index_of tag))) (cond b (Some (slice_range body f.start f.end)) w)) other)
+noted body places f tag w size few some l false true e d =
+    let i = eqb-true _ _ d in
+    let held = ap (λ j. value_at body (place_at places j)) i ∙ a_value body (place_at places (index_of f.tag)) e in
+    ap (λ v. or_else v w) held ∙ sym (ap (λ v. or_else v (cond (eqb f.tag tag) (Some (slice_range body f.start f.end)) w)) held)
+noted body places f tag w size few some l false false e d =
+    sym (ap (λ b. or_else (value_at body (place_at places (index_of tag))) (cond b (Some (slice_range body f.start f.end)) w)) (other_tag f.tag tag d))
+
+pub tabled_more : (body : List ℕ) (places : List FieldPlace) (rest : ℕ) (f : LeadingField) → IsTabled body places rest → Some (leading_field_view body f) ≡ first_field (drop rest body) → f.start ≤ f.end → 0 < f.start → f.end < length body → index_of f.tag < 24 →
+    IsTabled body (with_field places f) (f.end + 1)
+tabled_more body places rest f t e order start within index =
+    let first = first_some (drop rest body) (leading_field_view body f) e in
+    let some : eqb f.start 0 ≡ false = grind (arith, nat_tests) in
     record {
-      order = omega arith;
-      within = omega (arith, len);
-      is_first =
-          sym e ∙ ap (λ v. Some (record { tag = f.tag; value = v }, drop (f.end + 1) (drop rest body))) value
-          ∙ ap (λ r. Some (field_at body f.tag (moved rest f), r)) (next ∙ ap (λ n. drop n body) sum);
-    }
-
-pub table_more : (body tags : List ℕ) (places : List FieldPlace) (count rest : ℕ) (f : LeadingField) → IsTable body (record { tags = tags; places = places; count = count; rest = rest }) → count < 24 →
-    Some (leading_field_view (drop rest body) f) ≡ first_field (drop rest body) → f.start ≤ f.end → f.end < length (drop rest body) →
-    IsTable body (record { tags = set tags count f.tag; places = set places count (moved rest f); count = count + 1; rest = rest + f.end + 1 })
-table_more body tags places count rest f t room e order within =
-    let p = moved rest f in
-    let len = length-drop rest body in
-    let here : get_or (set places count p) count nowhere ≡ p = get_or-set_same places count p nowhere (omega (arith, t.size.1, room)) in
-    let tagged : get_or (set tags count f.tag) count 0 ≡ f.tag = get_or-set_same tags count f.tag 0 (omega (arith, t.size.0, room)) in
-    let first = moved_first body rest f e order within in
-    record {
-      size = (length-set tags count f.tag ∙ t.size.0, length-set places count p ∙ t.size.1);
-      few = omega (arith, room);
-      within = omega (arith, len, within);
-      rest = sym (ap (start_of (set places count p)) (add-one count) ∙ ap (λ (q : FieldPlace). q.end + 1) here);
-      placed = λ i l. by_index i l (cases_lt i count) here tagged first;
+      size = size_kept (eqb (place_at places (index_of f.tag)).start 0);
+      near = omega (arith, within);
+      within = λ i l. within_kept i l (eqb (place_at places (index_of f.tag)).start 0) (eqb i (index_of f.tag)) refl;
+      row = row_some (drop rest body) (leading_field_view body f) first e ∙ t.row;
+      value = λ whole tag l.
+          noted body places f tag (value_of tag (drop (f.end + 1) body)) t.size index some l _ _ refl refl
+          ∙ ap (or_else (value_at body (place_at places (index_of tag)))) (sym (value_step tag (drop rest body) (leading_field_view body f) first e (t.row ∙ whole)))
+          ∙ t.value whole tag l;
     }
   where
-    by_index : (i : ℕ) → i < count + 1 → (i < count) ⊎ (count ≤ i) → get_or (set places count (moved rest f)) count nowhere ≡ moved rest f → get_or (set tags count f.tag) count 0 ≡ f.tag → IsPlaced body rest f.tag (moved rest f) →
-        IsPlaced body (start_of (set places count (moved rest f)) i) (get_or (set tags count f.tag) i 0) (place_at (set places count (moved rest f)) i)
-    by_index i l (inl less) here tagged first =
-        rw (start_kept places count (moved rest f) i (omega arith), get_or-set_other places count i (moved rest f) nowhere (omega arith), get_or-set_other tags count i f.tag 0 (omega arith)) (t.placed i less)
-    by_index i l (inr more) here tagged first =
-        let same : i ≡ count = omega arith in
-        rw (same, here, tagged, start_kept places count (moved rest f) count (omega arith), sym t.rest) first
+    size_kept : (b : Bool) → length (cond b (set places (index_of f.tag) (placed f)) places) ≡ 24
+    size_kept true = length-set places (index_of f.tag) (placed f) ∙ t.size
+    size_kept false = t.size
 
--- where the tags before an index are others, the value is that of what follows their fields
-pub value_from : (body : List ℕ) (t : FieldTable) (tag : ℕ) → IsTable body t → is_some (fields_of_body body) ≡ true → (i : ℕ) → i ≤ t.count → ((j : ℕ) → j < i → eqb (get_or t.tags j 0) tag ≡ false) →
-    (is_some (fields_of_body (drop (start_of t.places i) body)) ≡ true) × (value_of tag (drop (start_of t.places i) body) ≡ value_of tag body)
-value_from body t tag table row zero l before = (row, refl)
-value_from body t tag table row (suc i) l before =
-    let here = value_from body t tag table row i (omega arith) (λ j less. before j (omega arith)) in
-    let xs = drop (start_of t.places i) body in
-    let p = leading_at body (get_or t.tags i 0) (place_at t.places i) in
-    let e = sym (table.placed i (omega arith)).is_first in
-    let some = first_some xs p e in (
-      row_some xs p some e ∙ here.0,
-      sym (value_behind tag xs p some e here.0 (eqb-false (get_or t.tags i 0) tag (before i (omega arith)))) ∙ here.1,
+    within_kept : (i : ℕ) → i < 24 → (b c : Bool) → eqb i (index_of f.tag) ≡ c → IsWithin body (place_at (cond b (set places (index_of f.tag) (placed f)) places) i)
+    within_kept i l false c d = t.within i l
+    within_kept i l true true d =
+        let here = ap (place_at (set places (index_of f.tag) (placed f))) (eqb-true _ _ d) ∙ get_or-set_same places (index_of f.tag) (placed f) nowhere (omega (arith, t.size, index)) in
+        subst (IsWithin body) (sym here) (record { order = order; end = omega (arith, within) })
+    within_kept i l true false d =
+        subst (IsWithin body) (sym (get_or-set_other places (index_of f.tag) i (placed f) nowhere (λ z. eqb-false _ _ d z))) (t.within i l)
+
+or_none : (o : Option (List ℕ)) → or_else o None ≡ o
+or_none None = refl
+or_none (Some v) = refl
+
+-- the table once no field is left
+pub all_tabled : (body : List ℕ) (t : FieldTable) (rest : ℕ) → IsTabled body t.places rest → length body ≤ rest → (is_some (fields_of_body body) ≡ true) × IsTable body t
+all_tabled body t rest tabled past =
+    let none = drop_all rest body past in
+    let whole = sym tabled.row ∙ ap (λ x. is_some (fields_of_body x)) none in (
+      whole,
+      record {
+        size = tabled.size;
+        within = λ i l. tabled.within i (omega (arith, l));
+        value = λ tag l.
+            sym (or_none (value_at body (place_at t.places (index_of tag))))
+            ∙ sym (ap (λ x. or_else (value_at body (place_at t.places (index_of tag))) (value_of tag x)) none)
+            ∙ tabled.value whole tag l;
+      },
     )
 
 -- the table of a text is that of the frame at its front
@@ -101,13 +155,3 @@ table_stays text more n t e known h claims =
     let body = ap (λ x. take h.body_length x) (drop-append-le h.body_start text more (omega (arith, size)))
     ∙ take-append-le h.body_length (drop h.body_start text) more (omega (arith, size, left)) in
     subst (λ (x : List ℕ). IsTable x t) (sym body) (known h (head ∙ ap Some same)))
-
--- a table of no field serves every text
-pub table_blank : (text : List ℕ) (t : FieldTable) → IsBlank t → IsTableOf text t
-table_blank text t blank h claims = record {
-  size = blank.size;
-  few = omega (arith, blank.none);
-  within = omega (arith, blank.start);
-  rest = blank.start ∙ sym (ap (start_of t.places) blank.none);
-  placed = λ i l. absurd (omega (arith, blank.none, l));
-}

@@ -7,9 +7,9 @@ use Rattle.fix_wire.specs.declared.framer.Framer.TheInside.{Inside}
 use Rattle.fix_wire.specs.code.FramerFields.{held_of, IsKept}
 use Rattle.fix_wire.specs.Frames.{frame_at}
 use Rattle.fix_wire.specs.declared.table.FieldTable.{FieldTable}
-use Rattle.fix_wire.specs.code.Tabled.{IsBlank, IsTableOf}
+use Rattle.fix_wire.specs.code.Tabled.{IsTableOf}
 use Rattle.fix_wire.proofs.framing.FrontStays.{frame_stays}
-use Rattle.fix_wire.proofs.fields.TableOfFields.{table_stays, table_blank}
+use Rattle.fix_wire.proofs.fields.TableOfFields.{table_stays}
 use Rattle.std.proofs.lemmas.Bool.{cases_lt}
 
 -- it still knows it when bytes were put
@@ -36,16 +36,7 @@ put_kept f i buffer text taken kept order room same table held len put =
       room = room;
       known = knows_put text (held_of f) i.front_length _ now known;
       tabled = table_put text (held_of f) i.front_length i.table _ now known (λ some. subst (λ (t : FieldTable). IsTableOf (held_of f) t) (sym table) (kept.tabled (λ none. some (same ∙ none))));
-      blank = λ none. subst (λ (t : FieldTable). IsBlank t) (sym table) (kept.blank (sym same ∙ none));
     }
-
--- the table is that of the frame at the front, found or not
-pub knows_table : (f : Inside) → IsKept f → IsTableOf (held_of f) f.table
-knows_table f kept = by_found (cases_lt 0 f.front_length)
-  where
-    by_found : (0 < f.front_length) ⊎ (f.front_length ≤ 0) → IsTableOf (held_of f) f.table
-    by_found (inl some) = kept.tabled (λ none. absurd (omega (arith, some, none)))
-    by_found (inr none) = table_blank (held_of f) f.table (kept.blank (omega (arith, none)))
 
 range_length : (xs : List ℕ) (start end : ℕ) → end ≤ length xs → length (between start end xs) ≡ end - start
 range_length xs start end l = length-take-le (end - start) (drop start xs) (omega (arith, length-drop start xs))
