@@ -10,7 +10,8 @@ use std::simd::prelude::*;
 /// How many bytes are looked at at once.
 const BLOCK_BYTES: usize = 64;
 
-/// The SOHs of a text from some place up to `next`: bit k is set where the byte k places on is one.
+/// The SOHs of a text from some place up to `next`, of the block that ends there: bit k is set where byte k of the block
+/// is one.
 #[derive(Clone, Copy)]
 pub(crate) struct Marks {
     pub bits: u64,
@@ -71,7 +72,7 @@ pub(crate) fn next_soh(text: &[u8], from: usize, marks: &mut Marks) -> usize
         };
         marks.next = at + BLOCK_BYTES;
     }
-    let run = marks.bits.trailing_zeros();
-    marks.bits = (marks.bits >> run) >> 1;
-    at + run as usize
+    let end = marks.next + marks.bits.trailing_zeros() as usize - BLOCK_BYTES;
+    marks.bits &= marks.bits - 1;
+    end
 }

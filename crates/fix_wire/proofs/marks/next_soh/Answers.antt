@@ -1,14 +1,15 @@
-use Rattle.std.proofs.Common.{◌≡◌, ◌+◌, ◌-◌, take, drop, length, ap, ◌∙◌, sym, arith}
+use Rattle.std.proofs.Common.{◌≡◌, ◌+◌, ◌-◌, ◌++◌, take, drop, length, ap, ◌∙◌, sym, arith}
 use Rattle.std.proofs.lemmas.List.{take_rest, take_all, length-drop}
-use Rattle.fix_wire.specs.code.Marked.{marks_of, IsMarked}
-use Rattle.fix_wire.proofs.texts.MarkedPlaces.{none_to_end, none_up_to, first_of_marks, marked_behind}
+use Rattle.fix_wire.specs.code.Marked.{marks_of, zeros, IsMarked}
+use Rattle.fix_wire.proofs.texts.MarkedPlaces.{none_marked_from, none_to_end, none_up_to, first_of_marks, marked_behind}
 use Rattle.fix_wire.proofs.marks.next_soh.Goals as goal
 use Rattle.fix_wire.proofs.marks.next_soh.Goals.{then-text-at-ge-BLOCK_BYTES, else-text-at-ge-BLOCK_BYTES}
 
 pub returns-then-marks-text-clause-place : goal.returns-then-marks-text-clause-place
 returns-then-marks-text-clause-place c =
     let l = c.loop-marks in
-    none_to_end c.args.text.now l.at l.marks.next l.invariant.0 c.if-marks-text.true (sym l.invariant.1.bits ∙ c.loop-marks-test.true) ∙ l.invariant.2
+    let none = none_marked_from (l.at + 64 - l.marks.next) _ (sym l.invariant.1.bits ∙ c.loop-marks-test.true) in
+    none_to_end c.args.text.now l.at l.marks.next l.invariant.0 c.if-marks-text.true none ∙ l.invariant.2
 
 pub loop-marks-preserved : goal.loop-marks-preserved
 loop-marks-preserved c =
@@ -16,6 +17,8 @@ loop-marks-preserved c =
     let text = c.args.text.now in
     let at = c.loop-marks.marks.next in
     let size : (c.loop-marks.marks.next + 64) - c.loop-marks.marks.next ≡ 64 = omega arith in
+    let front : c.loop-marks.marks.next + 64 - (c.loop-marks.marks.next + 64) ≡ 0 = omega arith in
+    let none = none_marked_from (l.at + 64 - l.marks.next) _ (sym l.invariant.1.bits ∙ c.loop-marks-test.true) in
     let block : c.if-text-at-ge-BLOCK_BYTES.marks ≡ marks_of (take 64 (drop c.loop-marks.marks.next c.args.text.now)) = elim c.if-text-at-ge-BLOCK_BYTES.branch [
       | then-text-at-ge-BLOCK_BYTES w ↦ w.marks-is ∙ w.marks_at-marks.ensures
       | else-text-at-ge-BLOCK_BYTES w ↦
@@ -26,15 +29,22 @@ loop-marks-preserved c =
       record {
         order = omega arith;
         few = omega arith;
-        bits = block ∙ ap (λ n. marks_of (take n (drop l.marks.next text))) (sym size);
+        bits = block ∙ ap (λ n. marks_of (take n (drop at text))) (sym size) ∙ ap (λ z. marks_of (zeros z ++ take ((at + 64) - at) (drop at text))) (sym front);
       },
-      none_up_to text l.at l.marks.next l.invariant.1.order (omega (arith, c.if-marks-text.false)) (sym l.invariant.1.bits ∙ c.loop-marks-test.true) ∙ l.invariant.2,
+      none_up_to text l.at l.marks.next l.invariant.1.order (omega (arith, c.if-marks-text.false)) none ∙ l.invariant.2,
     )
+
+pub overflow_sub-end : goal.overflow_sub-end
+overflow_sub-end c =
+    let l = c.loop-marks in
+    let first = first_of_marks c.args.text.now l.at l.marks.next l.marks.bits l.invariant.1.order l.invariant.1.few l.invariant.1.bits (omega (arith, c.loop-marks-test.false)) in
+    omega (arith, first.0)
 
 pub returns-clause-place : goal.returns-clause-place
 returns-clause-place c =
     let l = c.loop-marks in
-    (first_of_marks c.args.text.now l.at l.marks.next l.marks.bits l.invariant.1.order l.invariant.1.few l.invariant.1.bits (omega (arith, c.loop-marks-test.false))).0 ∙ l.invariant.2
+    let first = first_of_marks c.args.text.now l.at l.marks.next l.marks.bits l.invariant.1.order l.invariant.1.few l.invariant.1.bits (omega (arith, c.loop-marks-test.false)) in
+    omega (arith, first.0, l.invariant.2)
 
 pub returns-clause-marks : goal.returns-clause-marks
 returns-clause-marks c below =
@@ -42,7 +52,7 @@ returns-clause-marks c below =
     let text = c.args.text.now in
     let first = first_of_marks c.args.text.now l.at l.marks.next l.marks.bits l.invariant.1.order l.invariant.1.few l.invariant.1.bits (omega (arith, c.loop-marks-test.false)) in
     record {
-      order = omega (arith, first.1);
-      few = omega (arith, l.invariant.1.few);
-      bits = marked_behind text l.at l.marks.next _ l.marks.bits l.invariant.1.bits first.1;
+      order = omega (arith, first.0, first.1);
+      few = omega (arith, first.0, l.invariant.1.few);
+      bits = marked_behind text l.at l.marks.next l.marks.bits _ l.invariant.1.order l.invariant.1.few l.invariant.1.bits (omega (arith, c.loop-marks-test.false)) (omega (arith, first.0)) (omega (arith, first.0, first.1));
     }

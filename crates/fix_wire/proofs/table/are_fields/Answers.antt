@@ -1,7 +1,7 @@
-use Rattle.std.proofs.Common.{◌+◌, ◌-◌, ◌<◌, List, is_some, take, drop, length, sym, ap, subst, ◌∙◌, arith}
+use Rattle.std.proofs.Common.{◌+◌, ◌-◌, ◌++◌, ◌<◌, List, is_some, take, drop, length, sym, ap, subst, ◌∙◌, arith}
 use Rattle.std.proofs.lemmas.List.{length-drop, length-take-le}
 use Rattle.fix_wire.specs.declared.table.FieldPlace.{FieldPlace}
-use Rattle.fix_wire.specs.code.Marked.{marks_of}
+use Rattle.fix_wire.specs.code.Marked.{marks_of, zeros}
 use Rattle.fix_wire.proofs.fields.RowOfFields.{row_none}
 use Rattle.fix_wire.proofs.fields.TableOfFields.{IsTabled, none_tabled, tabled_more, all_tabled}
 use Rattle.fix_wire.proofs.texts.TagIndexes.{index_within}
@@ -15,7 +15,7 @@ loop-rest-init c =
       record {
         order = omega arith;
         few = omega (arith, c.new-marks.ensures.next);
-        bits = c.new-marks.ensures.bits ∙ sym (ap (λ n. marks_of (take (n - 0) text)) c.new-marks.ensures.next);
+        bits = c.new-marks.ensures.bits ∙ sym (ap (λ n. marks_of (zeros (64 - n) ++ take (n - 0) text)) c.new-marks.ensures.next);
       },
       subst (λ (places : List FieldPlace). IsTabled body places 0) (sym c.empty.ensures) (none_tabled body),
     )
