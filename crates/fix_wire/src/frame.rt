@@ -1,6 +1,6 @@
 //! What stands at the front of a text.
-ghost use Rattle.std.specs.Prelude.{◌≡◌, ℕ, ◌+◌, ◌%◌, ◌≤◌, ◌<◌, ◌^◌, length, take, drop, sum, option_map, option_and_then, is_some, true, IfSome, nat_le, ◌&&◌};
-ghost use Rattle.std.specs.List.{position_or_len};
+ghost use Rattle.std.specs.Prelude.{◌≡◌, ℕ, ◌+◌, ◌%◌, ◌≤◌, ◌<◌, ◌^◌, length, take, drop, sum, option_map, option_and_then, is_some, true, IfSome, nat_eq, nat_le, ◌&&◌};
+ghost use Rattle.std.specs.List.{position_or_len, starts_with};
 ghost use Rattle.std.specs.Str.{bytes_eq};
 ghost use Rattle.memchr.specs.Find.{is_byte};
 ghost use Rattle.fix_wire.specs.Texts.{is_soh, strip_prefix, is_cut_short};
@@ -121,6 +121,22 @@ fn field_end(text: &[u8]) -> usize
     at + near_place_of(SOH, &text[at..])
 }
 
+/// Whether the text begins with that word. A word of known length is compared without a loop or a call.
+#[inline(always)]
+fn has_front(text: &[u8], word: &[u8]) -> bool
+    ensures { result ≡ starts_with nat_eq text.now word.now }
+{
+    if text.len() < word.len() {
+        return false;
+    }
+    for i in 0..word.len() {
+        if text[i] != word[i] {
+            return false;
+        }
+    }
+    true
+}
+
 /// Whether a body may have this length.
 fn is_body_length(length: usize) -> bool
     ensures { result ≡ nat_le MIN_BODY_LENGTH length && nat_le length MAX_BODY_LENGTH }
@@ -150,7 +166,7 @@ pub(crate) fn header_of(text: &[u8]) -> Option<FrameHeader>
     requires { length text.now < 2 ^ 32 }
     ensures { result ≡ header text.now }
 {
-    if text.starts_with(&BEGIN_TEXT) {
+    if has_front(text, &BEGIN_TEXT) {
         header_after(&text[BEGIN_BYTES..])
     } else {
         None
@@ -291,7 +307,7 @@ fn is_body(text: &[u8], count: usize, table: &mut FieldTable) -> bool
     ensures table { OnTrue result (IsTable (take count text.now) table.new) }
 {
     let body = &text[..count];
-    body.starts_with(b"35=") && are_fields(text, count, table)
+    has_front(body, b"35=") && are_fields(text, count, table)
 }
 
 /// The sum of bytes, modulo 256.
@@ -321,10 +337,12 @@ pub(crate) fn checksum_digits(sum: u8) -> [u8; CHECKSUM_BYTES]
 }
 
 /// Whether the last bytes are the CheckSum field.
+#[inline(always)]
 fn is_trailer(tail: &[u8], sum: u8) -> bool
+    requires { length tail.now ≡ CHECKSUM_BYTES }
     ensures { result ≡ bytes_eq tail.now (checksum_field sum) }
 {
-    tail == checksum_digits(sum).as_slice()
+    has_front(tail, &checksum_digits(sum))
 }
 
 /// Whether the text has what its header announces, and if so, the table of its body.

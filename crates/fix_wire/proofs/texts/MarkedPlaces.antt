@@ -168,7 +168,7 @@ marked_behind text from next bits end l few e some is within =
     let size : next - from ≡ (position_or_len is_soh (take (next - from) (drop from text)) + 1) + (next - (end + 1)) = omega (arith, here, is, within) in
     let place : from + (position_or_len is_soh (take (next - from) (drop from text)) + 1) ≡ end + 1 = omega (arith, here, is) in
     let behind : drop (q + 1) ys ≡ take m (drop (end + 1) text) =
-        ap (λ n. drop (q + 1) (take n xs)) size ∙ drop-take (q + 1) m xs ∙ ap (take m) (drop-drop (q + 1) from text ∙ ap (λ n. drop n text) place) in
+    ap (λ n. drop (q + 1) (take n xs)) size ∙ drop-take (q + 1) m xs ∙ ap (take m) (drop-drop (q + 1) from text ∙ ap (λ n. drop n text) place) in
     ap (λ n. bit_and n (n - 1)) e
     ∙ cleared_marks (zeros z ++ ys) (omega (arith, e, some))
     ∙ unmarked_behind z ys marked
