@@ -6,14 +6,14 @@ ghost use Rattle.fix_wire.specs.Fields.{fields_of_body};
 ghost use Rattle.fix_wire.specs.Frames.{is_body};
 ghost use Rattle.fix_wire.specs.Messages.{first_value};
 ghost use Rattle.fix_wire.specs.code.Scans.{value_of};
-ghost use Rattle.fix_wire.specs.code.Tabled.{IsTable, index_of, no_places, with_field};
+ghost use Rattle.fix_wire.specs.code.Tabled.{IsTable, index_of, with_field};
 
 use crate::frame::{LeadingField, first_field, next_field};
 use crate::marks::Marks;
 use crate::tags;
 use host_base::limits::MAX_BODY_LENGTH;
 
-/// Where the value of a field of a body stands: from start to end, where its SOH is. No value starts at 0.
+/// Where the value of a field of a body stands: from start to end, where its SOH is.
 #[derive(Clone, Copy)]
 pub struct FieldPlace {
     pub start: u16,
@@ -40,28 +40,31 @@ static TAG_INDEXES: [u8; 128] = [
 #[derive(Clone, Copy)]
 pub struct FieldTable {
     pub places: [FieldPlace; PLACES],
+    /// Bit i is set where the tag with index i has a place.
+    pub present: u64,
 }
 
 impl FieldTable {
     /// A table of no field, to be filled.
     pub(crate) fn empty() -> FieldTable
-        ensures { result.places ≡ no_places }
+        ensures { result.present ≡ 0 }
     {
         FieldTable {
             places: [FieldPlace { start: 0, end: 0 }; PLACES],
+            present: 0,
         }
     }
 
     /// Notes a field of a body, unless one with its tag was noted before.
     #[inline(always)]
     fn note(&mut self, field: LeadingField)
-        requires size { length self.old.places ≡ PLACES }
         requires start { field.start < 2 ^ 16 }
         requires end { field.end < 2 ^ 16 }
-        ensures { self.new.places ≡ with_field self.old.places field }
+        ensures { self.new ≡ with_field self.old field }
     {
         let i = index_of(field.tag);
-        if self.places[i].start == 0 {
+        if (self.present >> i) & 1 == 0 {
+            self.present |= 1 << i;
             self.places[i] = FieldPlace {
                 start: field.start as u16,
                 end: field.end as u16,
@@ -92,7 +95,7 @@ pub(crate) fn are_fields(text: &[u8], count: usize, table: &mut FieldTable) -> b
     ensures row { result ≡ is_some (fields_of_body (take count text.now)) }
     ensures table { OnTrue result (IsTable (take count text.now) table.new) }
 {
-    *table = FieldTable::empty();
+    table.present = 0;
     let mut marks = Marks::new();
     let mut rest = 0;
     while rest < count {
@@ -129,10 +132,10 @@ pub(crate) fn value_of<'a>(body: &'a [u8], table: &FieldTable, tag: u32) -> Opti
     if i == TABLED_TAGS {
         return value_in(body, tag);
     }
-    let place = table.places[i];
-    if place.start == 0 {
+    if (table.present >> i) & 1 == 0 {
         return None;
     }
+    let place = table.places[i];
     Some(&body[place.start as usize..place.end as usize])
 }
 

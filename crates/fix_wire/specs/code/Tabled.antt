@@ -1,6 +1,8 @@
 -- A table of the fields of a body.
 -- Words of the code alone.
-use Rattle.std.specs.Prelude.{Bool, ◌==◌, ◌≡◌, ℕ, ◌<◌, ◌≤◌, if◌then◌else◌, List, [], ◌∷◌, Option, Some, None, get_or, set, replicate, length, slice_range}
+use Rattle.std.specs.Prelude.{Bool, ◌==◌, ◌≡◌, ℕ, ◌<◌, ◌≤◌, if◌then◌else◌, List, [], ◌∷◌, Option, Some, None, get_or, set, true, ◌^◌, length, slice_range}
+use Rattle.std.specs.Int.{bit_at}
+use Rattle.std.specs.Int.RustNames.{bit_or}
 use Rattle.std.specs.List.{position_or_len}
 use Rattle.fix_wire.specs.declared.frame.FrameHeader.{FrameHeader}
 use Rattle.fix_wire.specs.declared.frame.LeadingField.{LeadingField}
@@ -31,23 +33,28 @@ index_of tag = position_or_len (is_same tag) tabled_tags
 abbrev pub nowhere : FieldPlace
 nowhere = record { start = 0; end = 0 }
 
--- those of no field
-abbrev pub no_places : List FieldPlace
-no_places = replicate PLACES nowhere
-
 -- the place with this index
 abbrev pub place_at : List FieldPlace → ℕ → FieldPlace
 place_at places i = get_or places i nowhere
 
--- the value that stands at a place of a body, if one does
-abbrev pub value_at : List ℕ → FieldPlace → Option (List ℕ)
-value_at body p = if p.start == 0 then None else Some (slice_range body p.start p.end)
+-- the tag with this index has a place
+abbrev pub has_place : ℕ → ℕ → Bool
+has_place present i = bit_at present i == 1
 
--- the places, and that of a field where there was none of its tag
-abbrev pub with_field : List FieldPlace → LeadingField → List FieldPlace
-with_field places f =
-    if (place_at places (index_of f.tag)).start == 0
-    then set places (index_of f.tag) (record { start = f.start; end = f.end }) else places
+-- the value that stands at the place with this index, if there is one
+abbrev pub value_at : List ℕ → FieldTable → ℕ → Option (List ℕ)
+value_at body t i =
+    if has_place t.present i
+    then Some (slice_range body (place_at t.places i).start (place_at t.places i).end) else None
+
+-- the table, and the place of a field where there was none of its tag
+abbrev pub with_field : FieldTable → LeadingField → FieldTable
+with_field t f =
+    if has_place t.present (index_of f.tag) then t
+    else record {
+      places = set t.places (index_of f.tag) (record { start = f.start; end = f.end });
+      present = bit_or t.present (2 ^ index_of f.tag);
+    }
 
 pub record IsWithin (body : List ℕ) (p : FieldPlace) : Type 0 where
   pub order : p.start ≤ p.end
@@ -56,9 +63,9 @@ pub record IsWithin (body : List ℕ) (p : FieldPlace) : Type 0 where
 -- Each place is that of the first field of the body with its tag.
 pub record IsTable (body : List ℕ) (t : FieldTable) : Type 0 where
   pub size : length t.places ≡ PLACES
-  pub within : (i : ℕ) → i < TABLED_TAGS → IsWithin body (place_at t.places i)
+  pub within : (i : ℕ) → has_place t.present i ≡ true → IsWithin body (place_at t.places i)
   pub value : (tag : ℕ) → index_of tag < TABLED_TAGS
-      → value_at body (place_at t.places (index_of tag)) ≡ value_of tag body
+      → value_at body t (index_of tag) ≡ value_of tag body
 
 -- A table of the body of a text that has a header.
 abbrev pub IsTableOf : List ℕ → FieldTable → Type 0

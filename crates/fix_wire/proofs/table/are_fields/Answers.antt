@@ -1,6 +1,6 @@
-use Rattle.std.proofs.Common.{◌+◌, ◌-◌, ◌++◌, ◌<◌, List, is_some, take, drop, length, sym, ap, subst, ◌∙◌, arith}
+use Rattle.std.proofs.Common.{rules, ◌+◌, ◌-◌, ◌++◌, ◌<◌, List, is_some, take, drop, length, refl, sym, ap, subst, ◌∙◌, arith}
 use Rattle.std.proofs.lemmas.List.{length-drop, length-take-le}
-use Rattle.fix_wire.specs.declared.table.FieldPlace.{FieldPlace}
+use Rattle.fix_wire.specs.declared.table.FieldTable.{FieldTable}
 use Rattle.fix_wire.specs.code.Marked.{marks_of, zeros}
 use Rattle.fix_wire.proofs.fields.RowOfFields.{row_none}
 use Rattle.fix_wire.proofs.fields.TableOfFields.{IsTabled, none_tabled, tabled_more, all_tabled}
@@ -17,7 +17,7 @@ loop-rest-init c =
         few = omega (arith, c.new-marks.ensures.next);
         bits = c.new-marks.ensures.bits ∙ sym (ap (λ n. marks_of (zeros (64 - n) ++ take (n - 0) text)) c.new-marks.ensures.next);
       },
-      subst (λ (places : List FieldPlace). IsTabled body places 0) (sym c.empty.ensures) (none_tabled body),
+      none_tabled body (record c.args.table.now { present = 0 }) (search rules) refl,
     )
 
 pub returns-in_default-clause-row : goal.returns-in_default-clause-row
@@ -37,8 +37,8 @@ loop-rest-preserved c =
     let index = index_within f.tag in (
       omega (arith, e.within),
       e.marks,
-      subst (λ (places : List FieldPlace). IsTabled body places (f.end + 1)) (sym c.note.ensures)
-          (tabled_more body c.loop-rest.table.places c.loop-rest.rest f c.loop-rest.invariant.2 e.field e.order e.start (omega (arith, long, e.within)) (omega (arith, index))),
+      subst (λ (t : FieldTable). IsTabled body t (f.end + 1)) (sym c.note.ensures)
+          (tabled_more body c.loop-rest.table c.loop-rest.rest f c.loop-rest.invariant.2 e.field e.order (omega (arith, long, e.within)) (omega (arith, index))),
     )
 
 pub returns-clause-row : goal.returns-clause-row
