@@ -7,9 +7,10 @@ ghost use Rattle.fix_wire.specs.Held.{first_frame, from_first_start};
 ghost use Rattle.fix_wire.specs.Pieces.{IsDrained};
 ghost use Rattle.fix_session.specs.Steps.{judge, ended, is_closed};
 ghost use Rattle.fix_session.specs.Reading.{ReaderState, new_reader, with_more, first_message, first_verdict, after_skipping, after_passing, Fed};
+ghost use Rattle.fix_session.specs.code.Changes.{judgement_of};
 ghost use Rattle.fix_session.specs.code.ReaderFields.{IsKept};
 
-use crate::session::{Session, Verdict};
+use crate::session::{Change, Session, Verdict};
 use fix_wire::{Framer, Next};
 use host_base::NoMemory;
 use spread_rules::Entry;
@@ -21,8 +22,8 @@ use std::marker::Model;
 pub struct Reader {
     framer: Framer,
     session: Session,
-    // What the first message says and the session after it, once that message was looked at.
-    due: Option<(Verdict, Session)>,
+    // What the first message says and changes in the session, once that message was looked at.
+    due: Option<(Verdict, Change)>,
 }
 
 impl Model for Reader {
@@ -36,22 +37,26 @@ impl Model for Reader {
     ghost invariant = { IsKept };
 }
 
-/// What the first message says, if one stands, and the session after it. Bytes at which no frame stands are skipped.
-fn judge_first(framer: &mut Framer, session: &Session) -> Option<(Verdict, Session)>
-    ensures verdict { result ≡ option_map (judge session.now) (first_frame (frames framer.old)) }
+/// What the first message says, if one stands, and what it changes in the session. Bytes at which no frame stands are
+/// skipped.
+#[inline(always)]
+fn judge_first(framer: &mut Framer, session: &Session) -> Option<(Verdict, Change)>
+    ensures verdict { option_map (judgement_of session.now) result
+        ≡ option_map (judge session.now) (first_frame (frames framer.old)) }
     ensures held { framer.new ≡ from_first_start framer.old }
 {
     match framer.next() {
-        Next::Message(message) => Some(session.judge(&message)),
+        Next::Message(message) => Some(session.judged(&message)),
         Next::Need => None,
     }
 }
 
 /// Finds what the first message says, unless it was found before: a message is judged once, however often it is asked for.
 #[inline(always)]
-fn find_due(framer: &mut Framer, session: &Session, due: &mut Option<(Verdict, Session)>)
+fn find_due(framer: &mut Framer, session: &Session, due: &mut Option<(Verdict, Change)>)
     requires kept { IsKept (record { framer = framer.old; session = session.now; due = due.old }) }
-    ensures found { due.new ≡ option_map (judge session.now) (first_frame (frames framer.old)) }
+    ensures found { option_map (judgement_of session.now) due.new
+        ≡ option_map (judge session.now) (first_frame (frames framer.old)) }
     ensures held { framer.new ≡ from_first_start framer.old }
 {
     if due.is_none() {
@@ -112,11 +117,11 @@ impl Reader {
         ensures passed { self.new ≡ after_passing self.old }
     {
         find_due(&mut self.framer, &self.session, &mut self.due);
-        let Some((_, after)) = self.due else {
+        let Some((verdict, change)) = &self.due else {
             return false;
         };
+        self.session.change(verdict, *change);
         self.framer.pass();
-        self.session = after;
         self.due = None;
         true
     }

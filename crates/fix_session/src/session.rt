@@ -1,8 +1,11 @@
 //! A session, message by message: which number is due, and what each message says.
-ghost use Rattle.std.specs.Prelude.{◌≡◌, ◌≤◌, ◌+◌, ℕ, List, Option, Some};
+ghost use Rattle.std.specs.Prelude.{◌≡◌, ◌≤◌, ◌+◌, ℕ, List, Option, Some, false};
 ghost use Rattle.fix_wire.specs.Messages.{kind, number};
 ghost use Rattle.fix_session.specs.Table.{meaning_of_message};
 ghost use Rattle.fix_session.specs.View.{given_id, given_number, is_opening, logon_of, is_duplicate, is_logout, comp_ids, are_same, view_with, event_of_accepted, due_after_accepted};
+ghost use Rattle.fix_session.specs.declared.session.Session.{Session};
+ghost use Rattle.fix_session.specs.declared.session.Running.{Running};
+ghost use Rattle.fix_session.specs.code.Changes.{changed, judgement_in, judgement_of};
 ghost use Rattle.fix_session.specs.Steps.{new_session, running, closes, opens, step_below, step_above, step_due, step_running, verdict_of, judge, ended, is_closed};
 
 use crate::table::{Meaning, meaning_of_message};
@@ -52,6 +55,17 @@ pub struct Session {
     state: State,
 }
 
+/// What a message changes in a session.
+#[derive(Clone, Copy)]
+pub enum Change {
+    Nothing,
+    /// It opens, between the ids of the Logon that it says.
+    Opens,
+    /// This number is due, and whether the missing messages from it on were asked for.
+    Due { number: u32, gap_asked: bool },
+    Closes,
+}
+
 impl Session {
     /// A session before its Logon.
     pub fn new() -> Session
@@ -66,16 +80,49 @@ impl Session {
     pub fn judge(&self, message: &Message) -> (Verdict, Session)
         ensures { result ≡ judge self.now message.now.frame.now }
     {
+        let (verdict, change) = self.judged(message);
+        let mut after = *self;
+        after.change(&verdict, change);
+        (verdict, after)
+    }
+
+    /// The same, with what the message changes in place of the session after it.
+    #[inline(always)]
+    pub(crate) fn judged(&self, message: &Message) -> (Verdict, Change)
+        ensures { judgement_of self.now result ≡ judge self.now message.now.frame.now }
+    {
         let Some(number) = message.number() else {
-            return (Verdict::Nothing, *self);
+            return (Verdict::Nothing, Change::Nothing);
         };
-        match self.state {
-            State::Closed => (Verdict::Nothing, *self),
+        match &self.state {
+            State::Closed => (Verdict::Nothing, Change::Nothing),
             State::Before => match logon_of(message, number) {
                 Some(logon) => opened(logon),
-                None => closed(close_reason::NO_LOGON),
+                None => closes(close_reason::NO_LOGON),
             },
             State::Running(running) => judge_running(running, message, number),
+        }
+    }
+
+    /// Makes the change that a message with this verdict makes.
+    #[inline(always)]
+    pub(crate) fn change(&mut self, verdict: &Verdict, change: Change)
+        ensures { self.new ≡ changed self.old verdict.now change }
+    {
+        match change {
+            Change::Nothing => {}
+            Change::Opens => {
+                if let Verdict::Event(Event::Logon { client, host, .. }) = *verdict {
+                    self.state = State::Running(begun(client, host));
+                }
+            }
+            Change::Due { number, gap_asked } => {
+                if let State::Running(running) = &mut self.state {
+                    running.due = number;
+                    running.gap_asked = gap_asked;
+                }
+            }
+            Change::Closes => self.state = State::Closed,
         }
     }
 
@@ -83,9 +130,15 @@ impl Session {
     pub fn end(&self) -> (Verdict, Session)
         ensures { result ≡ ended self.now }
     {
+        let reason = close_reason::STREAM_ENDED;
         match self.state {
             State::Closed => (Verdict::Nothing, *self),
-            _ => closed(close_reason::STREAM_ENDED),
+            _ => (
+                Verdict::Event(Event::Close { reason }),
+                Session {
+                    state: State::Closed,
+                },
+            ),
         }
     }
 
@@ -94,17 +147,6 @@ impl Session {
         ensures { result ≡ is_closed self.now }
     {
         matches!(self.state, State::Closed)
-    }
-}
-
-impl Running {
-    /// The session goes on so.
-    fn session(self) -> Session
-        ensures { result ≡ running self }
-    {
-        Session {
-            state: State::Running(self),
-        }
     }
 }
 
@@ -156,28 +198,32 @@ fn logon_of(message: &Message, number: u32) -> Option<Logon>
 }
 
 /// The session is over.
-fn closed(reason: u8) -> (Verdict, Session)
-    ensures { result ≡ closes reason }
+fn closes(reason: u8) -> (Verdict, Change)
+    ensures { (s : Session) → judgement_of s result ≡ closes reason }
 {
-    let session = Session {
-        state: State::Closed,
-    };
-    (Verdict::Event(Event::Close { reason }), session)
+    (Verdict::Event(Event::Close { reason }), Change::Closes)
 }
 
-fn opened(logon: Logon) -> (Verdict, Session)
-    ensures { result ≡ opens (FIRST_MSG_SEQ_NUM + 1) (Some logon) }
+/// A session right after its Logon.
+fn begun(client: Id, host: Id) -> Running
+    ensures { result
+        ≡ record { client = client; host = host; due = FIRST_MSG_SEQ_NUM + 1; gap_asked = false } }
 {
-    let Logon { client, host, beat } = logon;
-    let running = Running {
+    Running {
         client,
         host,
         due: FIRST_MSG_SEQ_NUM + 1,
         gap_asked: false,
-    };
+    }
+}
+
+fn opened(logon: Logon) -> (Verdict, Change)
+    ensures { (s : Session) → judgement_of s result ≡ opens (FIRST_MSG_SEQ_NUM + 1) (Some logon) }
+{
+    let Logon { client, host, beat } = logon;
     (
         Verdict::Event(Event::Logon { client, host, beat }),
-        running.session(),
+        Change::Opens,
     )
 }
 
@@ -208,70 +254,75 @@ fn is_duplicate(message: &Message) -> bool
 fn is_logout(message: &Message) -> bool
     ensures { result ≡ is_logout message.now.frame.now }
 {
-    message.kind() == [msg_types::LOGOUT].as_slice()
+    matches!(message.kind(), [msg_types::LOGOUT])
 }
 
 /// A message after the Logon.
-fn judge_running(running: Running, message: &Message, number: u32) -> (Verdict, Session)
+#[inline(always)]
+fn judge_running(running: &Running, message: &Message, number: u32) -> (Verdict, Change)
     requires { number ≤ MAX_MSG_SEQ_NUM }
-    ensures { result ≡ step_running running (view_with message.now.frame.now number) }
+    ensures { judgement_in running.now result
+        ≡ step_running running.now (view_with message.now.frame.now number) }
 {
-    if !has_comp_ids(&running, message) {
-        return closed(close_reason::COMP_ID);
+    if !has_comp_ids(running, message) {
+        return closes(close_reason::COMP_ID);
     }
     if number < running.due {
-        return judge_below(running, message);
+        return judge_below(message);
     }
     if running.due < number {
         return judge_above(running);
     }
-    judge_due(running, message, number)
+    judge_due(message, number)
 }
 
 /// A number below the due one: a duplicate is dropped.
-fn judge_below(running: Running, message: &Message) -> (Verdict, Session)
-    ensures { result ≡ step_below running (is_duplicate message.now.frame.now) }
+fn judge_below(message: &Message) -> (Verdict, Change)
+    ensures { (r : Running) → judgement_in r result
+        ≡ step_below r (is_duplicate message.now.frame.now) }
 {
     if is_duplicate(message) {
-        (Verdict::Nothing, running.session())
+        (Verdict::Nothing, Change::Nothing)
     } else {
-        closed(close_reason::MSG_SEQ_NUM_TOO_LOW)
+        closes(close_reason::MSG_SEQ_NUM_TOO_LOW)
     }
 }
 
 /// A number above the due one: the message is discarded, and the missing ones are asked for once.
-fn judge_above(running: Running) -> (Verdict, Session)
-    ensures { result ≡ step_above running }
+fn judge_above(running: &Running) -> (Verdict, Change)
+    ensures { judgement_in running.now result ≡ step_above running.now }
 {
     if running.gap_asked {
-        return (Verdict::Nothing, running.session());
+        return (Verdict::Nothing, Change::Nothing);
     }
     let first = running.due;
-    let asked = Running {
+    let asked = Change::Due {
+        number: first,
         gap_asked: true,
-        ..running
     };
-    (Verdict::Event(Event::Gap { first }), asked.session())
+    (Verdict::Event(Event::Gap { first }), asked)
 }
 
 /// The due number: the message is accepted.
-fn judge_due(running: Running, message: &Message, number: u32) -> (Verdict, Session)
+#[inline(always)]
+fn judge_due(message: &Message, number: u32) -> (Verdict, Change)
     requires { number ≤ MAX_MSG_SEQ_NUM }
-    ensures { result ≡ step_due running (view_with message.now.frame.now number) }
+    ensures { (r : Running) → judgement_in r result
+        ≡ step_due r (view_with message.now.frame.now number) }
 {
     if is_logout(message) {
-        return closed(close_reason::LOGOUT);
+        return closes(close_reason::LOGOUT);
     }
     let (verdict, due) = accepted(message, number);
-    let next = Running {
-        due,
+    let next = Change::Due {
+        number: due,
         gap_asked: false,
-        ..running
     };
-    (verdict, next.session())
+    (verdict, next)
 }
 
 /// What an accepted message gives, and the number due after it. A message that is rejected uses up its number.
+#[inline(always)]
 fn accepted(message: &Message, number: u32) -> (Verdict, u32)
     requires { number ≤ MAX_MSG_SEQ_NUM }
     ensures verdict { result.0
