@@ -1,5 +1,5 @@
 //! What stands at the front of a text.
-ghost use Rattle.std.specs.Prelude.{◌≡◌, ℕ, ◌+◌, ◌%◌, ◌≤◌, ◌<◌, ◌^◌, length, take, drop, sum, option_map, option_and_then, is_some, true, IfSome, nat_eq, nat_le, ◌&&◌};
+ghost use Rattle.std.specs.Prelude.{◌≡◌, ℕ, ◌+◌, ◌%◌, ◌≤◌, ◌<◌, ◌^◌, length, take, drop, sum, option_map, option_and_then, is_some, Some, true, IfSome, nat_eq, nat_le, ◌&&◌};
 ghost use Rattle.std.specs.List.{position_or_len, starts_with};
 ghost use Rattle.std.specs.Str.{bytes_eq};
 ghost use Rattle.memchr.specs.Find.{is_byte};
@@ -196,6 +196,7 @@ pub(crate) fn next_begin(text: &[u8]) -> usize
 }
 
 /// The tag that the text of a field begins with, and how many digits spell it: byte by byte.
+#[inline(always)]
 fn any_tag(text: &[u8]) -> Option<Tag>
     ensures field { option_map (tag_view text.now) result ≡ field_of_text text.now }
     ensures within { IfSome result (λ t. t.digits < length text.now) }
@@ -219,14 +220,14 @@ fn any_tag(text: &[u8]) -> Option<Tag>
     None
 }
 
-/// The same. Most tags have one or two digits, and those are read without a loop.
+/// The tag of one or two digits that the text of a field begins with, if it does.
 #[inline(always)]
-fn leading_tag(text: &[u8]) -> Option<Tag>
-    ensures field { option_map (tag_view text.now) result ≡ field_of_text text.now }
+fn short_tag(text: &[u8]) -> Option<Tag>
+    ensures field { IfSome result (λ t. Some (tag_view text.now t) ≡ field_of_text text.now) }
     ensures within { IfSome result (λ t. t.digits < length text.now) }
 {
     if text.len() < 3 || !text[0].is_ascii_digit() || text[0] == b'0' {
-        return any_tag(text);
+        return None;
     }
     let first = u32::from(text[0] - b'0');
     if text[1] == b'=' {
@@ -236,12 +237,24 @@ fn leading_tag(text: &[u8]) -> Option<Tag>
         });
     }
     if !text[1].is_ascii_digit() || text[2] != b'=' {
-        return any_tag(text);
+        return None;
     }
     Some(Tag {
         number: first * 10 + u32::from(text[1] - b'0'),
         digits: 2,
     })
+}
+
+/// The tag that the text of a field begins with. Most have one or two digits, and those are read without a loop.
+#[inline(always)]
+fn leading_tag(text: &[u8]) -> Option<Tag>
+    ensures field { option_map (tag_view text.now) result ≡ field_of_text text.now }
+    ensures within { IfSome result (λ t. t.digits < length text.now) }
+{
+    match short_tag(text) {
+        Some(tag) => Some(tag),
+        None => any_tag(text),
+    }
 }
 
 /// The first field of a body.

@@ -54,23 +54,25 @@ impl FieldTable {
             present: 0,
         }
     }
+}
 
-    /// Notes a field of a body, unless one with its tag was noted before.
-    #[inline(always)]
-    fn note(&mut self, field: LeadingField)
-        requires start { field.start < 2 ^ 16 }
-        requires end { field.end < 2 ^ 16 }
-        ensures { self.new ≡ with_field self.old field }
-    {
-        let i = index_of(field.tag);
-        if (self.present >> i) & 1 == 0 {
-            self.present |= 1 << i;
-            self.places[i] = FieldPlace {
-                start: field.start as u16,
-                end: field.end as u16,
-            };
-        }
+/// Notes a field of a body, unless one with its tag was noted before, and tells which tags have a place then.
+#[inline(always)]
+fn with_place(places: &mut [FieldPlace; PLACES], present: u64, field: LeadingField) -> u64
+    requires start { field.start < 2 ^ 16 }
+    requires end { field.end < 2 ^ 16 }
+    ensures { (record { places = places.new; present = result })
+        ≡ with_field (record { places = places.old; present = present }) field }
+{
+    let i = index_of(field.tag);
+    if (present >> i) & 1 != 0 {
+        return present;
     }
+    places[i] = FieldPlace {
+        start: field.start as u16,
+        end: field.end as u16,
+    };
+    present | (1 << i)
 }
 
 /// The index of a tag in a table.
@@ -95,16 +97,17 @@ pub(crate) fn are_fields(text: &[u8], count: usize, table: &mut FieldTable) -> b
     ensures row { result ≡ is_some (fields_of_body (take count text.now)) }
     ensures table { OnTrue result (IsTable (take count text.now) table.new) }
 {
-    table.present = 0;
     let mut marks = Marks::new();
+    let mut present = 0;
     let mut rest = 0;
     while rest < count {
         let Some(field) = next_field(text, count, rest, &mut marks) else {
             return false;
         };
-        table.note(field);
+        present = with_place(&mut table.places, present, field);
         rest = field.end + 1;
     }
+    table.present = present;
     true
 }
 

@@ -37,18 +37,18 @@ loop-rest-preserved c =
     let index = index_within f.tag in (
       omega (arith, e.within),
       e.marks,
-      subst (λ (t : FieldTable). IsTabled body t (f.end + 1)) (sym c.note.ensures)
-          (tabled_more body c.loop-rest.table c.loop-rest.rest f c.loop-rest.invariant.2 e.field e.order (omega (arith, long, e.within)) (omega (arith, index))),
+      subst (λ (t : FieldTable). IsTabled body t (f.end + 1)) (sym c.with_place-present.ensures)
+          (tabled_more body (record { places = c.loop-rest.table.places; present = c.loop-rest.present }) c.loop-rest.rest f c.loop-rest.invariant.2 e.field e.order (omega (arith, long, e.within)) (omega (arith, index))),
     )
 
 pub returns-clause-row : goal.returns-clause-row
 returns-clause-row c =
     let body = take c.args.count c.args.text.now in
     let long = length-take-le c.args.count c.args.text.now c.requires.within in
-    sym (all_tabled body c.loop-rest.table c.loop-rest.rest c.loop-rest.invariant.2 (omega (arith, long, c.loop-rest-test.false))).0
+    sym (all_tabled body (record { places = c.loop-rest.table.places; present = c.loop-rest.present }) c.loop-rest.rest c.loop-rest.invariant.2 (omega (arith, long, c.loop-rest-test.false))).0
 
 pub returns-clause-table : goal.returns-clause-table
 returns-clause-table c =
     let body = take c.args.count c.args.text.now in
     let long = length-take-le c.args.count c.args.text.now c.requires.within in
-    (all_tabled body c.loop-rest.table c.loop-rest.rest c.loop-rest.invariant.2 (omega (arith, long, c.loop-rest-test.false))).1
+    (all_tabled body (record { places = c.loop-rest.table.places; present = c.loop-rest.present }) c.loop-rest.rest c.loop-rest.invariant.2 (omega (arith, long, c.loop-rest-test.false))).1

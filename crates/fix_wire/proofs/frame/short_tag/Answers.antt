@@ -1,6 +1,6 @@
 use Rattle.std.proofs.Common.{sym, ◌∙◌, arith}
 use Rattle.fix_wire.proofs.fields.ShortTags.{one_digit, two_digits}
-use Rattle.fix_wire.proofs.frame.leading_tag.Goals as goal
+use Rattle.fix_wire.proofs.frame.short_tag.Goals as goal
 
 pub returns-then-text-eq61-clause-field : goal.returns-then-text-eq61-clause-field
 returns-then-text-eq61-clause-field c =
