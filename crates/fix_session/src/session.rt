@@ -8,7 +8,7 @@ ghost use Rattle.fix_session.specs.declared.session.Running.{Running};
 ghost use Rattle.fix_session.specs.code.Changes.{changed, judgement_in, judgement_of};
 ghost use Rattle.fix_session.specs.Steps.{new_session, running, closes, opens, step_below, step_above, step_due, step_running, verdict_of, judge, ended, is_closed};
 
-use crate::table::{Meaning, meaning_of_message};
+use crate::table::{Meaning, meaning_of_message, new_order};
 use fix_wire::{Message, msg_types, read_number, tags};
 use host_base::Id;
 use host_base::limits::{FIRST_MSG_SEQ_NUM, MAX_MSG_SEQ_NUM};
@@ -80,27 +80,29 @@ impl Session {
     pub fn judge(&self, message: &Message) -> (Verdict, Session)
         ensures { result ≡ judge self.now message.now.frame.now }
     {
-        let (verdict, change) = self.judged(message);
+        let mut verdict = Verdict::Nothing;
+        let change = self.judged(message, &mut verdict);
         let mut after = *self;
         after.change(&verdict, change);
         (verdict, after)
     }
 
-    /// The same, with what the message changes in place of the session after it.
+    /// The same: it sets the verdict, and tells what the message changes in place of the session after it.
     #[inline(always)]
-    pub(crate) fn judged(&self, message: &Message) -> (Verdict, Change)
-        ensures { judgement_of self.now result ≡ judge self.now message.now.frame.now }
+    pub(crate) fn judged(&self, message: &Message, verdict: &mut Verdict) -> Change
+        ensures { judgement_of self.now (verdict.new, result) ≡ judge self.now message.now.frame.now }
     {
+        *verdict = Verdict::Nothing;
         let Some(number) = message.number() else {
-            return (Verdict::Nothing, Change::Nothing);
+            return Change::Nothing;
         };
         match &self.state {
-            State::Closed => (Verdict::Nothing, Change::Nothing),
+            State::Closed => Change::Nothing,
             State::Before => match logon_of(message, number) {
-                Some(logon) => opened(logon),
-                None => closes(close_reason::NO_LOGON),
+                Some(logon) => opened(logon, verdict),
+                None => closes(close_reason::NO_LOGON, verdict),
             },
-            State::Running(running) => judge_running(running, message, number),
+            State::Running(running) => judge_running(running, message, number, verdict),
         }
     }
 
@@ -198,10 +200,11 @@ fn logon_of(message: &Message, number: u32) -> Option<Logon>
 }
 
 /// The session is over.
-fn closes(reason: u8) -> (Verdict, Change)
-    ensures { (s : Session) → judgement_of s result ≡ closes reason }
+fn closes(reason: u8, verdict: &mut Verdict) -> Change
+    ensures { (s : Session) → judgement_of s (verdict.new, result) ≡ closes reason }
 {
-    (Verdict::Event(Event::Close { reason }), Change::Closes)
+    *verdict = Verdict::Event(Event::Close { reason });
+    Change::Closes
 }
 
 /// A session right after its Logon.
@@ -217,14 +220,13 @@ fn begun(client: Id, host: Id) -> Running
     }
 }
 
-fn opened(logon: Logon) -> (Verdict, Change)
-    ensures { (s : Session) → judgement_of s result ≡ opens (FIRST_MSG_SEQ_NUM + 1) (Some logon) }
+fn opened(logon: Logon, verdict: &mut Verdict) -> Change
+    ensures { (s : Session) → judgement_of s (verdict.new, result)
+        ≡ opens (FIRST_MSG_SEQ_NUM + 1) (Some logon) }
 {
     let Logon { client, host, beat } = logon;
-    (
-        Verdict::Event(Event::Logon { client, host, beat }),
-        Change::Opens,
-    )
+    *verdict = Verdict::Event(Event::Logon { client, host, beat });
+    Change::Opens
 }
 
 /// Whether a message has the CompIDs of the Logon.
@@ -259,81 +261,101 @@ fn is_logout(message: &Message) -> bool
 
 /// A message after the Logon.
 #[inline(always)]
-fn judge_running(running: &Running, message: &Message, number: u32) -> (Verdict, Change)
+fn judge_running(running: &Running, message: &Message, number: u32, verdict: &mut Verdict) -> Change
     requires { number ≤ MAX_MSG_SEQ_NUM }
-    ensures { judgement_in running.now result
+    ensures { judgement_in running.now (verdict.new, result)
         ≡ step_running running.now (view_with message.now.frame.now number) }
 {
     if !has_comp_ids(running, message) {
-        return closes(close_reason::COMP_ID);
+        return closes(close_reason::COMP_ID, verdict);
     }
     if number < running.due {
-        return judge_below(message);
+        return judge_below(message, verdict);
     }
     if running.due < number {
-        return judge_above(running);
+        return judge_above(running, verdict);
     }
-    judge_due(message, number)
+    judge_due(message, number, verdict)
 }
 
 /// A number below the due one: a duplicate is dropped.
-fn judge_below(message: &Message) -> (Verdict, Change)
-    ensures { (r : Running) → judgement_in r result
+fn judge_below(message: &Message, verdict: &mut Verdict) -> Change
+    ensures { (r : Running) → judgement_in r (verdict.new, result)
         ≡ step_below r (is_duplicate message.now.frame.now) }
 {
     if is_duplicate(message) {
-        (Verdict::Nothing, Change::Nothing)
-    } else {
-        closes(close_reason::MSG_SEQ_NUM_TOO_LOW)
+        *verdict = Verdict::Nothing;
+        return Change::Nothing;
     }
+    closes(close_reason::MSG_SEQ_NUM_TOO_LOW, verdict)
 }
 
 /// A number above the due one: the message is discarded, and the missing ones are asked for once.
-fn judge_above(running: &Running) -> (Verdict, Change)
-    ensures { judgement_in running.now result ≡ step_above running.now }
+fn judge_above(running: &Running, verdict: &mut Verdict) -> Change
+    ensures { judgement_in running.now (verdict.new, result) ≡ step_above running.now }
 {
     if running.gap_asked {
-        return (Verdict::Nothing, Change::Nothing);
+        *verdict = Verdict::Nothing;
+        return Change::Nothing;
     }
     let first = running.due;
-    let asked = Change::Due {
+    *verdict = Verdict::Event(Event::Gap { first });
+    Change::Due {
         number: first,
         gap_asked: true,
-    };
-    (Verdict::Event(Event::Gap { first }), asked)
+    }
 }
 
 /// The due number: the message is accepted.
 #[inline(always)]
-fn judge_due(message: &Message, number: u32) -> (Verdict, Change)
+fn judge_due(message: &Message, number: u32, verdict: &mut Verdict) -> Change
     requires { number ≤ MAX_MSG_SEQ_NUM }
-    ensures { (r : Running) → judgement_in r result
+    ensures { (r : Running) → judgement_in r (verdict.new, result)
         ≡ step_due r (view_with message.now.frame.now number) }
 {
     if is_logout(message) {
-        return closes(close_reason::LOGOUT);
+        return closes(close_reason::LOGOUT, verdict);
     }
-    let (verdict, due) = accepted(message, number);
-    let next = Change::Due {
+    let due = accepted(message, number, verdict);
+    Change::Due {
         number: due,
         gap_asked: false,
-    };
-    (verdict, next)
+    }
 }
 
 /// What an accepted message gives, and the number due after it. A message that is rejected uses up its number.
 #[inline(always)]
-fn accepted(message: &Message, number: u32) -> (Verdict, u32)
+fn accepted(message: &Message, number: u32, verdict: &mut Verdict) -> u32
     requires { number ≤ MAX_MSG_SEQ_NUM }
-    ensures verdict { result.0
+    ensures verdict { verdict.new
         ≡ verdict_of (event_of_accepted number (meaning_of_message message.now.frame.now number)) }
-    ensures due { result.1
+    ensures due { result
         ≡ due_after_accepted number (meaning_of_message message.now.frame.now number) }
 {
-    match meaning_of_message(message, number) {
+    if let [msg_types::NEW_ORDER_SINGLE] = message.kind() {
+        *verdict = match new_order(message) {
+            Ok(ticket) => Verdict::Event(Event::New(ticket)),
+            Err(reason) => Verdict::Event(Event::Reject { number, reason }),
+        };
+        return number + 1;
+    }
+    accepted_other(message, number, verdict)
+}
+
+/// The same of any kind: orders are most of the messages, and are not copied so often.
+fn accepted_other(message: &Message, number: u32, verdict: &mut Verdict) -> u32
+    requires { number ≤ MAX_MSG_SEQ_NUM }
+    ensures verdict { verdict.new
+        ≡ verdict_of (event_of_accepted number (meaning_of_message message.now.frame.now number)) }
+    ensures due { result
+        ≡ due_after_accepted number (meaning_of_message message.now.frame.now number) }
+{
+    let (said, due) = match meaning_of_message(message, number) {
         Ok(Meaning::Nothing) => (Verdict::Nothing, number + 1),
         Ok(Meaning::Gives(event)) => (Verdict::Event(event), number + 1),
         Ok(Meaning::Fills(next)) => (Verdict::Nothing, next),
         Err(reason) => (Verdict::Event(Event::Reject { number, reason }), number + 1),
-    }
+    };
+    *verdict = said;
+    due
 }

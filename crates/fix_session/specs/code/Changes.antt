@@ -38,3 +38,7 @@ judgement_of s d = (d.0, changed s d.0 d.1)
 -- the same of a session that runs
 abbrev pub judgement_in : Running → Verdict × Change → Verdict × Session
 judgement_in r d = judgement_of (running r) d
+
+-- the same of a verdict and a change
+abbrev pub judgement_with : Session → Verdict → Change → Verdict × Session
+judgement_with s v c = judgement_of s (v, c)
