@@ -19,7 +19,6 @@ use crate::values::limited_digits;
 use host_base::bytes::SOH;
 use host_base::limits::{MAX_BODY_LENGTH, MIN_BODY_LENGTH};
 use memchr::memchr;
-use std::simd::prelude::*;
 
 /// How many bytes BeginString and the tag of BodyLength have.
 pub const BEGIN_BYTES: usize = 12;
@@ -89,36 +88,6 @@ fn near_place_of(byte: u8, text: &[u8]) -> usize
         }
     }
     text.len()
-}
-
-/// How many of the sixteen bytes at a place come before the first SOH among them.
-fn run_at(text: &[u8], at: usize) -> usize
-    requires { at + 16 ≤ length text.now }
-    ensures { result ≡ position_or_len is_soh (take 16 (drop at text.now)) }
-{
-    let ends = u8x16::from_slice(&text[at..])
-        .simd_eq(u8x16::splat(SOH))
-        .to_bitmask();
-    if ends == 0 {
-        16
-    } else {
-        ends.trailing_zeros() as usize
-    }
-}
-
-/// The place of the first SOH, or the length: sixteen bytes at a time, since few fields are longer.
-fn field_end(text: &[u8]) -> usize
-    ensures { result ≡ position_or_len is_soh text.now }
-{
-    let mut at = 0;
-    while text.len() - at >= 16 {
-        let run = run_at(text, at);
-        if run < 16 {
-            return at + run;
-        }
-        at += 16;
-    }
-    at + near_place_of(SOH, &text[at..])
 }
 
 /// Whether the text begins with that word. A word of known length is compared without a loop or a call.
@@ -257,26 +226,6 @@ fn leading_tag(text: &[u8]) -> Option<Tag>
     }
 }
 
-/// The first field of a body.
-#[inline(always)]
-pub(crate) fn first_field(body: &[u8]) -> Option<LeadingField>
-    ensures field { option_map (leading_field_view body.now) result ≡ first_field body.now }
-    ensures order { IfSome result (λ p. p.start ≤ p.end) }
-    ensures within { IfSome result (λ p. p.end < length body.now) }
-    ensures range { IfSome result (λ p. p.end + 1 < 2 ^ 64) }
-{
-    let end = field_end(body);
-    if end == body.len() {
-        return None;
-    }
-    let tag = leading_tag(&body[..end])?;
-    Some(LeadingField {
-        tag: tag.number,
-        start: tag.digits + 1,
-        end,
-    })
-}
-
 /// The field of a body from a place on, which the marks are those from. The body is the first bytes of the text, of that
 /// number.
 #[inline(always)]
@@ -286,7 +235,6 @@ pub(crate) fn next_field(
     from: usize,
     marks: &mut Marks,
 ) -> Option<LeadingField>
-    requires short { length text.now < 2 ^ 32 }
     requires within { count ≤ length text.now }
     requires from { from < count }
     requires marks { IsMarked text.now from marks.old }
@@ -313,7 +261,6 @@ pub(crate) fn next_field(
 /// Whether the first bytes of a text, of that number, are a body, and if so, its table.
 #[inline(always)]
 fn is_body(text: &[u8], count: usize, table: &mut FieldTable) -> bool
-    requires short { length text.now < 2 ^ 32 }
     requires count { count ≤ MAX_BODY_LENGTH }
     requires within { count ≤ length text.now }
     ensures body { result ≡ is_body (take count text.now) }
@@ -363,7 +310,6 @@ fn is_intact(text: &[u8], header: FrameHeader, table: &mut FieldTable) -> bool
     requires start { header.body_start ≤ BEGIN_BYTES + MAX_LENGTH_DIGITS + 1 }
     requires size { header.body_length ≤ MAX_BODY_LENGTH }
     requires whole { frame_length header ≤ length text.now }
-    requires short { length text.now < 2 ^ 32 }
     ensures intact { result ≡ is_intact text.now header }
     ensures table { OnTrue result (IsTable (body_at text.now header) table.new) }
 {

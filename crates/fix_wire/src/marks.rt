@@ -1,5 +1,5 @@
 //! Where the SOHs of a text stand, found a block of bytes at a time.
-ghost use Rattle.std.specs.Prelude.{◌≡◌, ◌+◌, ◌≤◌, ◌<◌, ◌^◌, length, take, drop};
+ghost use Rattle.std.specs.Prelude.{◌≡◌, ◌+◌, ◌≤◌, ◌<◌, length, take, drop};
 ghost use Rattle.std.specs.List.{position_or_len};
 ghost use Rattle.fix_wire.specs.Texts.{is_soh};
 ghost use Rattle.fix_wire.specs.code.Marked.{marks_of, IsMarked};
@@ -18,15 +18,8 @@ pub(crate) struct Marks {
     pub next: usize,
 }
 
-impl Marks {
-    /// Those of no byte yet.
-    pub(crate) fn new() -> Marks
-        ensures bits { result.bits ≡ 0 }
-        ensures next { result.next ≡ 0 }
-    {
-        Marks { bits: 0, next: 0 }
-    }
-}
+/// Those of no byte yet.
+pub(crate) const NO_MARKS: Marks = Marks { bits: 0, next: 0 };
 
 /// The SOHs of a whole block.
 #[inline(always)]
@@ -53,7 +46,6 @@ fn marks_of_rest(rest: &[u8]) -> u64
 /// The place of the first SOH from a place on, or the length where there is none; and the marks behind it.
 #[inline(always)]
 pub(crate) fn next_soh(text: &[u8], from: usize, marks: &mut Marks) -> usize
-    requires short { length text.now < 2 ^ 32 }
     requires within { from ≤ length text.now }
     requires marks { IsMarked text.now from marks.old }
     ensures place { result ≡ from + position_or_len is_soh (drop from text.now) }

@@ -8,8 +8,8 @@ ghost use Rattle.fix_wire.specs.Messages.{first_value};
 ghost use Rattle.fix_wire.specs.code.Scans.{value_of};
 ghost use Rattle.fix_wire.specs.code.Tabled.{IsTable, index_of, with_field};
 
-use crate::frame::{LeadingField, first_field, next_field};
-use crate::marks::Marks;
+use crate::frame::{LeadingField, next_field};
+use crate::marks::NO_MARKS;
 use crate::tags;
 use host_base::limits::MAX_BODY_LENGTH;
 
@@ -91,13 +91,12 @@ fn index_of(tag: u32) -> usize
 /// Whether the first bytes of a text, of that number, are a row of fields, and if so, their table.
 #[inline(always)]
 pub(crate) fn are_fields(text: &[u8], count: usize, table: &mut FieldTable) -> bool
-    requires short { length text.now < 2 ^ 32 }
     requires count { count ≤ MAX_BODY_LENGTH }
     requires within { count ≤ length text.now }
     ensures row { result ≡ is_some (fields_of_body (take count text.now)) }
     ensures table { OnTrue result (IsTable (take count text.now) table.new) }
 {
-    let mut marks = Marks::new();
+    let mut marks = NO_MARKS;
     let mut present = 0;
     let mut rest = 0;
     while rest < count {
@@ -147,17 +146,14 @@ fn value_in(text: &[u8], tag: u32) -> Option<&[u8]>
     requires { is_some (fields_of_body text.now) ≡ true }
     ensures { option_copied result ≡ value_of tag text.now }
 {
-    let mut rest = text;
-    while !rest.is_empty() {
-        match first_field(rest) {
-            Some(field) => {
-                if field.tag == tag {
-                    return Some(&rest[field.start..field.end]);
-                }
-                rest = &rest[field.end + 1..];
-            }
-            None => return None,
+    let mut marks = NO_MARKS;
+    let mut rest = 0;
+    while rest < text.len() {
+        let field = next_field(text, text.len(), rest, &mut marks)?;
+        if field.tag == tag {
+            return Some(&text[field.start..field.end]);
         }
+        rest = field.end + 1;
     }
     None
 }

@@ -14,8 +14,8 @@ loop-rest-init c =
       omega arith,
       record {
         order = omega arith;
-        few = omega (arith, c.new-marks.ensures.next);
-        bits = c.new-marks.ensures.bits ∙ sym (ap (λ n. marks_of (zeros (64 - n) ++ take (n - 0) text)) c.new-marks.ensures.next);
+        few = omega arith;
+        bits = refl;
       },
       none_tabled body (record c.args.table.now { present = 0 }) (search rules) refl,
     )
