@@ -4,9 +4,8 @@ use Rattle.std.specs.List.{position_or_len, between}
 use Rattle.std.specs.Prelude.{slice_range}
 use Rattle.std.proofs.lemmas.Bool.{cases_lt}
 use Rattle.std.proofs.lemmas.Bool.Decides.{nat_tests}
-use Rattle.std.proofs.lemmas.List.{drop-take, drop-drop, take-take, length-drop, length-take-le, take_rest}
+use Rattle.std.proofs.lemmas.List.{drop-take, drop-drop, take-take, length-drop, length-take-le}
 use Rattle.std.proofs.lemmas.Slice.{between_is}
-use Rattle.fix_wire.specs.declared.frame.LeadingField.{LeadingField}
 use Rattle.fix_wire.specs.declared.frame.Tag.{Tag}
 use Rattle.fix_wire.specs.Texts.{is_soh}
 use Rattle.fix_wire.specs.Fields.{TagValue, field_of_text}

@@ -1,11 +1,11 @@
 -- Tags of one and two digits.
-use Rattle.std.proofs.Common.{◌≡◌, ◌≢◌, ℕ, zero, suc, ◌+◌, ◌*◌, ◌-◌, ◌<◌, ◌≤◌, Bool, true, false, cond, not, ◌&&◌, eqb, List, [], ◌∷◌, Some, length, take, drop, get_or, refl, sym, ap, ◌∙◌, arith}
+use Rattle.std.proofs.Common.{◌≡◌, ◌≢◌, ℕ, ◌+◌, ◌*◌, ◌-◌, ◌≤◌, true, false, cond, not, ◌&&◌, eqb, List, [], ◌∷◌, Some, length, take, drop, get_or, sym, ap, ◌∙◌, arith}
 use Rattle.std.specs.Char.{is_ascii_digit}
 use Rattle.std.specs.List.{position_or_len, list_all}
 use Rattle.std.proofs.lemmas.Bool.Decides.{nat_tests}
-use Rattle.fix_wire.specs.Texts.{is_equals, number_of}
-use Rattle.fix_wire.specs.Fields.{TagValue, field_of_text}
-use Rattle.fix_wire.proofs.texts.FirstPlace.{differs, same}
+use Rattle.fix_wire.specs.Texts.{is_equals}
+use Rattle.fix_wire.specs.Fields.{field_of_text}
+use Rattle.fix_wire.proofs.texts.FirstPlace.{same}
 use Rattle.fix_wire.proofs.fields.RowOfFields.{field_found}
 
 digit_is_not_equals : (b : ℕ) → is_ascii_digit b ≡ true → eqb b 61 ≡ false

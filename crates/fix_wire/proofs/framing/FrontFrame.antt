@@ -1,5 +1,5 @@
 -- What a framer knows of the frame at its front.
-use Rattle.std.proofs.Common.{◌≡◌, ◌≢◌, ℕ, ◌+◌, ◌-◌, ◌<◌, ◌≤◌, List, ◌++◌, length, drop, Option, Some, None, sym, ap, subst, ◌∙◌, arith, ◌⊎◌, inl, inr}
+use Rattle.std.proofs.Common.{◌≡◌, ◌≢◌, ℕ, ◌+◌, ◌-◌, ◌≤◌, List, ◌++◌, length, drop, Option, Some, None, sym, ap, subst, ◌∙◌, arith}
 use Rattle.std.specs.Prelude.{slice_range, unwrap_or}
 use Rattle.std.specs.List.{between}
 use Rattle.std.proofs.lemmas.List.{length-take-le, length-drop}
@@ -10,7 +10,6 @@ use Rattle.fix_wire.specs.declared.table.FieldTable.{FieldTable}
 use Rattle.fix_wire.specs.code.Tabled.{IsTableOf}
 use Rattle.fix_wire.proofs.framing.FrontStays.{frame_stays}
 use Rattle.fix_wire.proofs.fields.TableOfFields.{table_stays}
-use Rattle.std.proofs.lemmas.Bool.{cases_lt}
 
 -- it still knows it when bytes were put
 pub knows_put : (text held : List ℕ) (found : ℕ) (now : List ℕ) → now ≡ held ++ text → (found ≢ 0 → frame_at held ≡ Some found) → found ≢ 0 → frame_at now ≡ Some found

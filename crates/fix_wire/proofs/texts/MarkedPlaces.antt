@@ -1,5 +1,5 @@
 -- The places of SOHs as the bits of a number.
-use Rattle.std.proofs.Common.{◌≡◌, ℕ, zero, suc, ◌+◌, ◌-◌, ◌*◌, ◌/◌, ◌^◌, ◌<◌, ◌≤◌, Bool, true, false, cond, not, eqb, List, [], ◌∷◌, ◌++◌, length, take, drop, map, refl, sym, ap, ◌∙◌, arith, ◌⊎◌, inl, inr}
+use Rattle.std.proofs.Common.{◌≡◌, ℕ, zero, suc, ◌+◌, ◌-◌, ◌*◌, ◌^◌, ◌<◌, ◌≤◌, Bool, true, false, cond, not, List, [], ◌∷◌, ◌++◌, length, take, drop, map, refl, sym, ap, ◌∙◌, arith}
 use lib.Count.{count_trailing_zeros}
 use lib.Lanes.{mask_l}
 use Rattle.std.specs.List.{position_or_len}
@@ -7,10 +7,9 @@ use Rattle.std.proofs.lemmas.Simd.{leading_from_mask_l, trailing_mask_l, length-
 use Rattle.std.proofs.lemmas.List.{drop-take, drop-drop, length-take, length-append, length-take-le, length-drop, take_all}
 use Rattle.std.proofs.lemmas.Nat.{and_block}
 use lib.Bits.{bit_and, and_self}
-use Rattle.std.proofs.lemmas.Bool.{cases_lt}
 use Rattle.fix_wire.specs.Texts.{is_soh}
 use Rattle.fix_wire.specs.code.Marked.{marks_of, zeros}
-use Rattle.fix_wire.proofs.texts.FirstPlace.{front_found, front_none}
+use Rattle.fix_wire.proofs.texts.FirstPlace.{front_none}
 
 pub marks_are : (xs : List ℕ) → marks_of xs ≡ mask_l (map is_soh xs)
 marks_are [] = refl
@@ -53,7 +52,7 @@ front_found_short p (suc n) (x ∷ xs) l =
 
 -- ---- bytes before a place, which are taken for 0
 
-zeros_none : (k : ℕ) (xs : List ℕ) → marks_of (zeros k ++ xs) ≡ 0 → marks_of xs ≡ 0
+pub zeros_none : (k : ℕ) (xs : List ℕ) → marks_of (zeros k ++ xs) ≡ 0 → marks_of xs ≡ 0
 zeros_none zero xs e = e
 zeros_none (suc k) xs e = zeros_none k xs (omega (arith, e))
 
@@ -130,9 +129,6 @@ unmarked_behind k xs l = in_front k ∙ ap marks_of (zeros_more k (position_or_l
     in_front (suc k) = ap (λ n. 0 + 2 * n) (in_front k)
 
 -- ---- the marks of a block from a place on
-
-pub none_marked_from : (k : ℕ) (xs : List ℕ) → marks_of (zeros k ++ xs) ≡ 0 → marks_of xs ≡ 0
-none_marked_from = zeros_none
 
 -- the first mark is that of the first SOH
 pub first_of_marks : (text : List ℕ) (from next bits : ℕ) → from ≤ next → next ≤ from + 64 → bits ≡ marks_of (zeros (from + 64 - next) ++ take (next - from) (drop from text)) → 0 < bits →

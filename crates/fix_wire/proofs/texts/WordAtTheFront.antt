@@ -1,7 +1,6 @@
 -- A word at the front of a text, by recursion and in std's words.
-use Rattle.std.proofs.Common.{◌≡◌, ℕ, suc, ◌<◌, zero, ◌+◌, ◌≤◌, get_or, Bool, true, false, cond, ◌&&◌, ◌||◌, option_and_then, ◌==◌, nat_eq, ltb, eqb, List, [], ◌∷◌, length, drop, Some, None, refl, sym, ap, ◌∙◌, arith}
+use Rattle.std.proofs.Common.{◌≡◌, ℕ, suc, ◌<◌, Bool, true, false, cond, ◌&&◌, ◌||◌, option_and_then, ◌==◌, nat_eq, ltb, eqb, List, [], ◌∷◌, length, drop, Some, None, refl, sym, ap, ◌∙◌, arith}
 use Rattle.std.specs.List.{starts_with}
-use Rattle.std.specs.Str.{bytes_eq}
 use Rattle.std.proofs.lemmas.Bool.Decides.{nat_tests}
 use Rattle.fix_wire.specs.Texts.{strip_prefix, is_cut_short}
 use Rattle.fix_wire.specs.Frames.{begin_text, header, header_after, is_length_open}
@@ -49,30 +48,3 @@ opens_short text b s e f short t =
     let less : ltb (length text) 12 ≡ true = grind (arith, nat_tests) in
     let cut = cut_is begin_text text ∙ ap (λ x. x && starts_with nat_eq begin_text text) less ∙ sym t in
     sym (ap (λ x. is_cut_short begin_text text || is_length_open x) none ∙ or_false _ ∙ cut)
-
--- ---- byte by byte
-
--- one byte of both further on
-pub front_step : (text word : List ℕ) (i : ℕ) → i < length word → length word ≤ length text → starts_with nat_eq (drop i text) (drop i word) ≡ (eqb (get_or word i 0) (get_or text i 0) && starts_with nat_eq (drop (i + 1) text) (drop (i + 1) word))
-front_step text [] i l m = absurd (omega arith)
-front_step [] (w ∷ ws) i l m = absurd (omega arith)
-front_step (t ∷ ts) (w ∷ ws) zero l m = refl
-front_step (t ∷ ts) (w ∷ ws) (suc i) l m =
-    let e : suc (i + 1) ≡ suc i + 1 = omega arith in
-    front_step ts ws i (omega arith) (omega arith) ∙ ap (λ n. eqb (get_or ws i 0) (get_or ts i 0) && starts_with nat_eq (drop n (t ∷ ts)) (drop n (w ∷ ws))) e
-
--- texts of one length are equal where one begins with the other
-pub equal_front : (xs ys : List ℕ) → length xs ≡ length ys → starts_with nat_eq xs ys ≡ bytes_eq xs ys
-equal_front [] [] e = refl
-equal_front [] (y ∷ ys) e = absurd (omega (arith, e))
-equal_front (x ∷ xs) [] e = absurd (omega (arith, e))
-equal_front (x ∷ xs) (y ∷ ys) e = ap (λ b. b && starts_with nat_eq xs ys) (eqb_swap y x) ∙ ap (λ b. eqb x y && b) (equal_front xs ys (omega (arith, e)))
-
-pub too_short : (text word : List ℕ) → length text < length word → starts_with nat_eq text word ≡ false
-too_short text [] l = absurd (omega arith)
-too_short [] (w ∷ ws) l = refl
-too_short (t ∷ ts) (w ∷ ws) l = ap (λ b. eqb w t && b) (too_short ts ws (omega arith)) ∙ and_false (eqb w t)
-  where
-    and_false : (x : Bool) → (x && false) ≡ false
-    and_false true = refl
-    and_false false = refl

@@ -1,5 +1,5 @@
-use Rattle.std.proofs.Common.{◌≡◌, ◌+◌, ◌<◌, Some, None, option_map, take, drop, length, ap, ◌∙◌, sym, subst, arith}
-use Rattle.fix_wire.specs.code.Scans.{tag_view, leading_field_view, first_field}
+use Rattle.std.proofs.Common.{option_map, take, ap, ◌∙◌}
+use Rattle.fix_wire.specs.code.Scans.{leading_field_view}
 use Rattle.fix_wire.proofs.fields.MarkedField.{no_end, tag_found, tag_not_found}
 use Rattle.fix_wire.proofs.frame.next_field.Goals as goal
 

@@ -1,14 +1,14 @@
-use Rattle.std.proofs.Common.{◌≡◌, ◌+◌, ◌-◌, ◌++◌, take, drop, length, ap, ◌∙◌, sym, arith}
+use Rattle.std.proofs.Common.{◌≡◌, ◌+◌, ◌-◌, ◌++◌, take, drop, ap, ◌∙◌, sym, arith}
 use Rattle.std.proofs.lemmas.List.{take_rest, take_all, length-drop}
-use Rattle.fix_wire.specs.code.Marked.{marks_of, zeros, IsMarked}
-use Rattle.fix_wire.proofs.texts.MarkedPlaces.{none_marked_from, none_to_end, none_up_to, first_of_marks, marked_behind}
+use Rattle.fix_wire.specs.code.Marked.{marks_of, zeros}
+use Rattle.fix_wire.proofs.texts.MarkedPlaces.{zeros_none, none_to_end, none_up_to, first_of_marks, marked_behind}
 use Rattle.fix_wire.proofs.marks.next_soh.Goals as goal
 use Rattle.fix_wire.proofs.marks.next_soh.Goals.{then-text-at-ge-BLOCK_BYTES, else-text-at-ge-BLOCK_BYTES}
 
 pub returns-then-marks-text-clause-place : goal.returns-then-marks-text-clause-place
 returns-then-marks-text-clause-place c =
     let l = c.loop-marks in
-    let none = none_marked_from (l.at + 64 - l.marks.next) _ (sym l.invariant.1.bits ∙ c.loop-marks-test.true) in
+    let none = zeros_none (l.at + 64 - l.marks.next) _ (sym l.invariant.1.bits ∙ c.loop-marks-test.true) in
     none_to_end c.args.text.now l.at l.marks.next l.invariant.0 c.if-marks-text.true none ∙ l.invariant.2
 
 pub loop-marks-preserved : goal.loop-marks-preserved
@@ -18,7 +18,7 @@ loop-marks-preserved c =
     let at = c.loop-marks.marks.next in
     let size : (c.loop-marks.marks.next + 64) - c.loop-marks.marks.next ≡ 64 = omega arith in
     let front : c.loop-marks.marks.next + 64 - (c.loop-marks.marks.next + 64) ≡ 0 = omega arith in
-    let none = none_marked_from (l.at + 64 - l.marks.next) _ (sym l.invariant.1.bits ∙ c.loop-marks-test.true) in
+    let none = zeros_none (l.at + 64 - l.marks.next) _ (sym l.invariant.1.bits ∙ c.loop-marks-test.true) in
     let block : c.if-text-at-ge-BLOCK_BYTES.marks ≡ marks_of (take 64 (drop c.loop-marks.marks.next c.args.text.now)) = elim c.if-text-at-ge-BLOCK_BYTES.branch [
       | then-text-at-ge-BLOCK_BYTES w ↦ w.marks-is ∙ w.marks_at-marks.ensures
       | else-text-at-ge-BLOCK_BYTES w ↦

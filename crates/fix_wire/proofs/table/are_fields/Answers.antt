@@ -1,7 +1,6 @@
-use Rattle.std.proofs.Common.{rules, ◌+◌, ◌-◌, ◌++◌, ◌<◌, List, is_some, take, drop, length, refl, sym, ap, subst, ◌∙◌, arith}
+use Rattle.std.proofs.Common.{rules, ◌+◌, ◌<◌, is_some, take, drop, length, refl, sym, ap, subst, ◌∙◌, arith}
 use Rattle.std.proofs.lemmas.List.{length-drop, length-take-le}
 use Rattle.fix_wire.specs.declared.table.FieldTable.{FieldTable}
-use Rattle.fix_wire.specs.code.Marked.{marks_of, zeros}
 use Rattle.fix_wire.proofs.fields.RowOfFields.{row_none}
 use Rattle.fix_wire.proofs.fields.TableOfFields.{IsTabled, none_tabled, tabled_more, all_tabled}
 use Rattle.fix_wire.proofs.texts.TagIndexes.{index_within}

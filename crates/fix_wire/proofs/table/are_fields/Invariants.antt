@@ -1,4 +1,4 @@
-use Rattle.std.proofs.Common.{◌-◌, ◌≤◌, take, length}
+use Rattle.std.proofs.Common.{◌-◌, ◌≤◌, take}
 use Rattle.fix_wire.specs.code.Marked.{IsMarked}
 use Rattle.fix_wire.proofs.fields.TableOfFields.{IsTabled}
 use Rattle.fix_wire.proofs.table.are_fields.Given as goal

@@ -1,7 +1,7 @@
-use Rattle.std.proofs.Common.{◌≡◌, ◌<◌, Some, None, take, drop, length, is_some, refl, sym, ap, subst, ◌∙◌, arith, ℕ, List}
+use Rattle.std.proofs.Common.{◌≡◌, ◌<◌, Some, drop, length, refl, sym, ap, subst, ◌∙◌, arith, ℕ, List}
 use Rattle.std.specs.Option.{option_copied}
 use Rattle.std.proofs.lemmas.List.{take_all, length-drop}
-use Rattle.fix_wire.specs.code.Scans.{leading_field_view, first_field, value_of}
+use Rattle.fix_wire.specs.code.Scans.{leading_field_view, first_field}
 use Rattle.fix_wire.proofs.fields.RowOfFields.{row_some, value_here, value_behind, value_none, first_some}
 use Rattle.fix_wire.proofs.table.value_in.Goals as goal
 

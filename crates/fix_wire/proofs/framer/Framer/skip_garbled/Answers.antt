@@ -1,11 +1,10 @@
-use Rattle.std.proofs.Common.{ℕ, List, refl, sym, ap, ◌∙◌, subst, arith}
+use Rattle.std.proofs.Common.{ℕ, List, refl, sym, ap, ◌∙◌, subst}
 use Rattle.fix_wire.specs.code.FramerFields.{held_of}
 use Rattle.fix_wire.specs.Frames.{frame_at}
 use Rattle.fix_wire.specs.Held.{from_first_start}
 use Rattle.fix_wire.specs.code.Tabled.{IsTableOf}
 use Rattle.fix_wire.proofs.framing.HeldPart.{range_drop}
 use Rattle.fix_wire.proofs.framing.FrontFrame.{skip_within}
-use Rattle.fix_wire.proofs.framing.FrontStays.{frame_within}
 use Rattle.fix_wire.proofs.framer.Framer.skip_garbled.Goals as goal
 
 pub invariant_of-self : goal.invariant_of-self
