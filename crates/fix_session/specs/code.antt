@@ -1,2 +1,3 @@
 pub mod Shown
 pub mod ReaderFields
+pub mod Changes

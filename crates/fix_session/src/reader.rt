@@ -7,9 +7,10 @@ ghost use Rattle.fix_wire.specs.Held.{first_frame, from_first_start};
 ghost use Rattle.fix_wire.specs.Pieces.{IsDrained};
 ghost use Rattle.fix_session.specs.Steps.{judge, ended, is_closed};
 ghost use Rattle.fix_session.specs.Reading.{ReaderState, new_reader, with_more, first_message, first_verdict, after_skipping, after_passing, Fed};
+ghost use Rattle.fix_session.specs.code.Changes.{judgement_with};
 ghost use Rattle.fix_session.specs.code.ReaderFields.{IsKept};
 
-use crate::session::{Session, Verdict};
+use crate::session::{Change, Session, Verdict};
 use fix_wire::{Framer, Next};
 use host_base::NoMemory;
 use spread_rules::Entry;
@@ -21,8 +22,10 @@ use std::marker::Model;
 pub struct Reader {
     framer: Framer,
     session: Session,
-    // What the first message says and the session after it, once that message was looked at.
-    due: Option<(Verdict, Session)>,
+    // What the first message says, once that message was looked at.
+    verdict: Verdict,
+    // What it changes in the session, once it was looked at.
+    due: Option<Change>,
 }
 
 impl Model for Reader {
@@ -36,26 +39,35 @@ impl Model for Reader {
     ghost invariant = { IsKept };
 }
 
-/// What the first message says, if one stands, and the session after it. Bytes at which no frame stands are skipped.
-fn judge_first(framer: &mut Framer, session: &Session) -> Option<(Verdict, Session)>
-    ensures verdict { result ≡ option_map (judge session.now) (first_frame (frames framer.old)) }
+/// Sets what the first message says, if one stands, and tells what it changes in the session. Bytes at which no frame stands
+/// are skipped.
+#[inline(always)]
+fn judge_first(framer: &mut Framer, session: &Session, verdict: &mut Verdict) -> Option<Change>
+    ensures verdict { option_map (judgement_with session.now verdict.new) result
+        ≡ option_map (judge session.now) (first_frame (frames framer.old)) }
     ensures held { framer.new ≡ from_first_start framer.old }
 {
     match framer.next() {
-        Next::Message(message) => Some(session.judge(&message)),
+        Next::Message(message) => Some(session.judged(&message, verdict)),
         Next::Need => None,
     }
 }
 
 /// Finds what the first message says, unless it was found before: a message is judged once, however often it is asked for.
 #[inline(always)]
-fn find_due(framer: &mut Framer, session: &Session, due: &mut Option<(Verdict, Session)>)
-    requires kept { IsKept (record { framer = framer.old; session = session.now; due = due.old }) }
-    ensures found { due.new ≡ option_map (judge session.now) (first_frame (frames framer.old)) }
+fn find_due(framer: &mut Framer, session: &Session, verdict: &mut Verdict, due: &mut Option<Change>)
+    requires kept { IsKept (record {
+      framer = framer.old;
+      session = session.now;
+      verdict = verdict.old;
+      due = due.old;
+    }) }
+    ensures found { option_map (judgement_with session.now verdict.new) due.new
+        ≡ option_map (judge session.now) (first_frame (frames framer.old)) }
     ensures held { framer.new ≡ from_first_start framer.old }
 {
     if due.is_none() {
-        *due = judge_first(framer, session);
+        *due = judge_first(framer, session, verdict);
     }
 }
 
@@ -75,6 +87,7 @@ impl Reader {
         Reader {
             framer: Framer::new(),
             session: Session::new(),
+            verdict: Verdict::Nothing,
             due: None,
         }
     }
@@ -99,9 +112,14 @@ impl Reader {
         ensures says { result ≡ first_verdict self.old }
         ensures skipped { self.new ≡ after_skipping self.old }
     {
-        find_due(&mut self.framer, &self.session, &mut self.due);
+        find_due(
+            &mut self.framer,
+            &self.session,
+            &mut self.verdict,
+            &mut self.due,
+        );
         match self.due {
-            Some((verdict, _)) => Some(verdict),
+            Some(_) => Some(self.verdict),
             None => None,
         }
     }
@@ -111,12 +129,17 @@ impl Reader {
         ensures stands { result ≡ is_some (first_message self.old) }
         ensures passed { self.new ≡ after_passing self.old }
     {
-        find_due(&mut self.framer, &self.session, &mut self.due);
-        let Some((_, after)) = self.due else {
+        find_due(
+            &mut self.framer,
+            &self.session,
+            &mut self.verdict,
+            &mut self.due,
+        );
+        let Some(change) = self.due else {
             return false;
         };
+        self.session.change(&self.verdict, change);
         self.framer.pass();
-        self.session = after;
         self.due = None;
         true
     }

@@ -1,11 +1,14 @@
 //! A session, message by message: which number is due, and what each message says.
-ghost use Rattle.std.specs.Prelude.{◌≡◌, ◌≤◌, ◌+◌, ℕ, List, Option, Some};
+ghost use Rattle.std.specs.Prelude.{◌≡◌, ◌≤◌, ◌+◌, ℕ, List, Option, Some, false};
 ghost use Rattle.fix_wire.specs.Messages.{kind, number};
 ghost use Rattle.fix_session.specs.Table.{meaning_of_message};
 ghost use Rattle.fix_session.specs.View.{given_id, given_number, is_opening, logon_of, is_duplicate, is_logout, comp_ids, are_same, view_with, event_of_accepted, due_after_accepted};
+ghost use Rattle.fix_session.specs.declared.session.Session.{Session};
+ghost use Rattle.fix_session.specs.declared.session.Running.{Running};
+ghost use Rattle.fix_session.specs.code.Changes.{changed, judgement_in, judgement_of};
 ghost use Rattle.fix_session.specs.Steps.{new_session, running, closes, opens, step_below, step_above, step_due, step_running, verdict_of, judge, ended, is_closed};
 
-use crate::table::{Meaning, meaning_of_message};
+use crate::table::{Meaning, meaning_of_message, new_order};
 use fix_wire::{Message, msg_types, read_number, tags};
 use host_base::Id;
 use host_base::limits::{FIRST_MSG_SEQ_NUM, MAX_MSG_SEQ_NUM};
@@ -52,6 +55,17 @@ pub struct Session {
     state: State,
 }
 
+/// What a message changes in a session.
+#[derive(Clone, Copy)]
+pub enum Change {
+    Nothing,
+    /// It opens, between the ids of the Logon that it says.
+    Opens,
+    /// This number is due, and whether the missing messages from it on were asked for.
+    Due { number: u32, gap_asked: bool },
+    Closes,
+}
+
 impl Session {
     /// A session before its Logon.
     pub fn new() -> Session
@@ -66,16 +80,51 @@ impl Session {
     pub fn judge(&self, message: &Message) -> (Verdict, Session)
         ensures { result ≡ judge self.now message.now.frame.now }
     {
+        let mut verdict = Verdict::Nothing;
+        let change = self.judged(message, &mut verdict);
+        let mut after = *self;
+        after.change(&verdict, change);
+        (verdict, after)
+    }
+
+    /// The same: it sets the verdict, and tells what the message changes in place of the session after it.
+    #[inline(always)]
+    pub(crate) fn judged(&self, message: &Message, verdict: &mut Verdict) -> Change
+        ensures { judgement_of self.now (verdict.new, result) ≡ judge self.now message.now.frame.now }
+    {
+        *verdict = Verdict::Nothing;
         let Some(number) = message.number() else {
-            return (Verdict::Nothing, *self);
+            return Change::Nothing;
         };
-        match self.state {
-            State::Closed => (Verdict::Nothing, *self),
+        match &self.state {
+            State::Closed => Change::Nothing,
             State::Before => match logon_of(message, number) {
-                Some(logon) => opened(logon),
-                None => closed(close_reason::NO_LOGON),
+                Some(logon) => opened(logon, verdict),
+                None => closes(close_reason::NO_LOGON, verdict),
             },
-            State::Running(running) => judge_running(running, message, number),
+            State::Running(running) => judge_running(running, message, number, verdict),
+        }
+    }
+
+    /// Makes the change that a message with this verdict makes.
+    #[inline(always)]
+    pub(crate) fn change(&mut self, verdict: &Verdict, change: Change)
+        ensures { self.new ≡ changed self.old verdict.now change }
+    {
+        match change {
+            Change::Nothing => {}
+            Change::Opens => {
+                if let Verdict::Event(Event::Logon { client, host, .. }) = *verdict {
+                    self.state = State::Running(begun(client, host));
+                }
+            }
+            Change::Due { number, gap_asked } => {
+                if let State::Running(running) = &mut self.state {
+                    running.due = number;
+                    running.gap_asked = gap_asked;
+                }
+            }
+            Change::Closes => self.state = State::Closed,
         }
     }
 
@@ -83,9 +132,15 @@ impl Session {
     pub fn end(&self) -> (Verdict, Session)
         ensures { result ≡ ended self.now }
     {
+        let reason = close_reason::STREAM_ENDED;
         match self.state {
             State::Closed => (Verdict::Nothing, *self),
-            _ => closed(close_reason::STREAM_ENDED),
+            _ => (
+                Verdict::Event(Event::Close { reason }),
+                Session {
+                    state: State::Closed,
+                },
+            ),
         }
     }
 
@@ -94,17 +149,6 @@ impl Session {
         ensures { result ≡ is_closed self.now }
     {
         matches!(self.state, State::Closed)
-    }
-}
-
-impl Running {
-    /// The session goes on so.
-    fn session(self) -> Session
-        ensures { result ≡ running self }
-    {
-        Session {
-            state: State::Running(self),
-        }
     }
 }
 
@@ -156,29 +200,33 @@ fn logon_of(message: &Message, number: u32) -> Option<Logon>
 }
 
 /// The session is over.
-fn closed(reason: u8) -> (Verdict, Session)
-    ensures { result ≡ closes reason }
+fn closes(reason: u8, verdict: &mut Verdict) -> Change
+    ensures { (s : Session) → judgement_of s (verdict.new, result) ≡ closes reason }
 {
-    let session = Session {
-        state: State::Closed,
-    };
-    (Verdict::Event(Event::Close { reason }), session)
+    *verdict = Verdict::Event(Event::Close { reason });
+    Change::Closes
 }
 
-fn opened(logon: Logon) -> (Verdict, Session)
-    ensures { result ≡ opens (FIRST_MSG_SEQ_NUM + 1) (Some logon) }
+/// A session right after its Logon.
+fn begun(client: Id, host: Id) -> Running
+    ensures { result
+        ≡ record { client = client; host = host; due = FIRST_MSG_SEQ_NUM + 1; gap_asked = false } }
 {
-    let Logon { client, host, beat } = logon;
-    let running = Running {
+    Running {
         client,
         host,
         due: FIRST_MSG_SEQ_NUM + 1,
         gap_asked: false,
-    };
-    (
-        Verdict::Event(Event::Logon { client, host, beat }),
-        running.session(),
-    )
+    }
+}
+
+fn opened(logon: Logon, verdict: &mut Verdict) -> Change
+    ensures { (s : Session) → judgement_of s (verdict.new, result)
+        ≡ opens (FIRST_MSG_SEQ_NUM + 1) (Some logon) }
+{
+    let Logon { client, host, beat } = logon;
+    *verdict = Verdict::Event(Event::Logon { client, host, beat });
+    Change::Opens
 }
 
 /// Whether a message has the CompIDs of the Logon.
@@ -208,81 +256,106 @@ fn is_duplicate(message: &Message) -> bool
 fn is_logout(message: &Message) -> bool
     ensures { result ≡ is_logout message.now.frame.now }
 {
-    message.kind() == [msg_types::LOGOUT].as_slice()
+    matches!(message.kind(), [msg_types::LOGOUT])
 }
 
 /// A message after the Logon.
-fn judge_running(running: Running, message: &Message, number: u32) -> (Verdict, Session)
+#[inline(always)]
+fn judge_running(running: &Running, message: &Message, number: u32, verdict: &mut Verdict) -> Change
     requires { number ≤ MAX_MSG_SEQ_NUM }
-    ensures { result ≡ step_running running (view_with message.now.frame.now number) }
+    ensures { judgement_in running.now (verdict.new, result)
+        ≡ step_running running.now (view_with message.now.frame.now number) }
 {
-    if !has_comp_ids(&running, message) {
-        return closed(close_reason::COMP_ID);
+    if !has_comp_ids(running, message) {
+        return closes(close_reason::COMP_ID, verdict);
     }
     if number < running.due {
-        return judge_below(running, message);
+        return judge_below(message, verdict);
     }
     if running.due < number {
-        return judge_above(running);
+        return judge_above(running, verdict);
     }
-    judge_due(running, message, number)
+    judge_due(message, number, verdict)
 }
 
 /// A number below the due one: a duplicate is dropped.
-fn judge_below(running: Running, message: &Message) -> (Verdict, Session)
-    ensures { result ≡ step_below running (is_duplicate message.now.frame.now) }
+fn judge_below(message: &Message, verdict: &mut Verdict) -> Change
+    ensures { (r : Running) → judgement_in r (verdict.new, result)
+        ≡ step_below r (is_duplicate message.now.frame.now) }
 {
     if is_duplicate(message) {
-        (Verdict::Nothing, running.session())
-    } else {
-        closed(close_reason::MSG_SEQ_NUM_TOO_LOW)
+        *verdict = Verdict::Nothing;
+        return Change::Nothing;
     }
+    closes(close_reason::MSG_SEQ_NUM_TOO_LOW, verdict)
 }
 
 /// A number above the due one: the message is discarded, and the missing ones are asked for once.
-fn judge_above(running: Running) -> (Verdict, Session)
-    ensures { result ≡ step_above running }
+fn judge_above(running: &Running, verdict: &mut Verdict) -> Change
+    ensures { judgement_in running.now (verdict.new, result) ≡ step_above running.now }
 {
     if running.gap_asked {
-        return (Verdict::Nothing, running.session());
+        *verdict = Verdict::Nothing;
+        return Change::Nothing;
     }
     let first = running.due;
-    let asked = Running {
+    *verdict = Verdict::Event(Event::Gap { first });
+    Change::Due {
+        number: first,
         gap_asked: true,
-        ..running
-    };
-    (Verdict::Event(Event::Gap { first }), asked.session())
+    }
 }
 
 /// The due number: the message is accepted.
-fn judge_due(running: Running, message: &Message, number: u32) -> (Verdict, Session)
+#[inline(always)]
+fn judge_due(message: &Message, number: u32, verdict: &mut Verdict) -> Change
     requires { number ≤ MAX_MSG_SEQ_NUM }
-    ensures { result ≡ step_due running (view_with message.now.frame.now number) }
+    ensures { (r : Running) → judgement_in r (verdict.new, result)
+        ≡ step_due r (view_with message.now.frame.now number) }
 {
     if is_logout(message) {
-        return closed(close_reason::LOGOUT);
+        return closes(close_reason::LOGOUT, verdict);
     }
-    let (verdict, due) = accepted(message, number);
-    let next = Running {
-        due,
+    let due = accepted(message, number, verdict);
+    Change::Due {
+        number: due,
         gap_asked: false,
-        ..running
-    };
-    (verdict, next.session())
+    }
 }
 
 /// What an accepted message gives, and the number due after it. A message that is rejected uses up its number.
-fn accepted(message: &Message, number: u32) -> (Verdict, u32)
+#[inline(always)]
+fn accepted(message: &Message, number: u32, verdict: &mut Verdict) -> u32
     requires { number ≤ MAX_MSG_SEQ_NUM }
-    ensures verdict { result.0
+    ensures verdict { verdict.new
         ≡ verdict_of (event_of_accepted number (meaning_of_message message.now.frame.now number)) }
-    ensures due { result.1
+    ensures due { result
         ≡ due_after_accepted number (meaning_of_message message.now.frame.now number) }
 {
-    match meaning_of_message(message, number) {
+    if let [msg_types::NEW_ORDER_SINGLE] = message.kind() {
+        *verdict = match new_order(message) {
+            Ok(ticket) => Verdict::Event(Event::New(ticket)),
+            Err(reason) => Verdict::Event(Event::Reject { number, reason }),
+        };
+        return number + 1;
+    }
+    accepted_other(message, number, verdict)
+}
+
+/// The same of any kind: orders are most of the messages, and are not copied so often.
+fn accepted_other(message: &Message, number: u32, verdict: &mut Verdict) -> u32
+    requires { number ≤ MAX_MSG_SEQ_NUM }
+    ensures verdict { verdict.new
+        ≡ verdict_of (event_of_accepted number (meaning_of_message message.now.frame.now number)) }
+    ensures due { result
+        ≡ due_after_accepted number (meaning_of_message message.now.frame.now number) }
+{
+    let (said, due) = match meaning_of_message(message, number) {
         Ok(Meaning::Nothing) => (Verdict::Nothing, number + 1),
         Ok(Meaning::Gives(event)) => (Verdict::Event(event), number + 1),
         Ok(Meaning::Fills(next)) => (Verdict::Nothing, next),
         Err(reason) => (Verdict::Event(Event::Reject { number, reason }), number + 1),
-    }
+    };
+    *verdict = said;
+    due
 }

@@ -195,7 +195,8 @@ fn sequence_reset(message: &Message, number: u32) -> Result<Meaning, u8>
 }
 
 #[tactic(auto, unfolding(crate::specs::Table::new_order))]
-fn new_order(message: &Message) -> Result<Ticket, u8>
+#[inline(always)]
+pub(crate) fn new_order(message: &Message) -> Result<Ticket, u8>
     ensures { result ≡ new_order message.now.frame.now }
 {
     value_at(message, tags::SENDING_TIME)?;

@@ -1,3 +1,5 @@
 pub mod RowOfFields
 pub mod TableOfFields
 pub mod SpelledRow
+pub mod MarkedField
+pub mod ShortTags

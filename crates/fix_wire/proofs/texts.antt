@@ -4,3 +4,5 @@ pub mod PairsOfDigits
 pub mod FirstPlace
 pub mod Hundredths
 pub mod WordAtTheFront
+pub mod MarkedPlaces
+pub mod TagIndexes

@@ -2,3 +2,4 @@ pub mod Scans
 pub mod FramerFields
 pub mod Tabled
 pub mod Spelling
+pub mod Marked

@@ -1,23 +1,24 @@
 //! What stands at the front of a text.
-ghost use Rattle.std.specs.Prelude.{◌≡◌, ℕ, ◌+◌, ◌%◌, ◌≤◌, ◌<◌, ◌^◌, length, take, drop, sum, option_map, option_and_then, is_some, true, IfSome, nat_le, ◌&&◌};
-ghost use Rattle.std.specs.List.{position_or_len};
+ghost use Rattle.std.specs.Prelude.{◌≡◌, ℕ, ◌+◌, ◌%◌, ◌≤◌, ◌<◌, ◌^◌, length, take, drop, sum, option_map, option_and_then, is_some, Some, true, IfSome, nat_eq, nat_le, ◌&&◌};
+ghost use Rattle.std.specs.List.{position_or_len, starts_with};
 ghost use Rattle.std.specs.Str.{bytes_eq};
 ghost use Rattle.memchr.specs.Find.{is_byte};
 ghost use Rattle.fix_wire.specs.Texts.{is_soh, strip_prefix, is_cut_short};
 ghost use Rattle.fix_wire.specs.Frames.{begin_text, header, header_after, body_at, is_body, is_intact, is_length_open, checksum_field, frame_length};
 ghost use Rattle.fix_wire.specs.Fields.{field_of_text};
 ghost use Rattle.fix_wire.specs.Held.{from_first_start};
+ghost use Rattle.fix_wire.specs.code.Marked.{IsMarked};
 ghost use Rattle.fix_wire.specs.code.Tabled.{IsTable, IsTableOf};
 ghost use Rattle.fix_wire.specs.declared.frame.Scan.TheVariants.{Frame};
 ghost use Rattle.std.specs.Bool.{OnTrue};
 ghost use Rattle.fix_wire.specs.code.Scans.{scan_front, first_field, leading_field_view, tag_view, is_header_open};
 
+use crate::marks::{Marks, next_soh};
 use crate::table::{FieldTable, are_fields};
 use crate::values::limited_digits;
 use host_base::bytes::SOH;
 use host_base::limits::{MAX_BODY_LENGTH, MIN_BODY_LENGTH};
 use memchr::memchr;
-use std::simd::prelude::*;
 
 /// How many bytes BeginString and the tag of BodyLength have.
 pub const BEGIN_BYTES: usize = 12;
@@ -89,34 +90,20 @@ fn near_place_of(byte: u8, text: &[u8]) -> usize
     text.len()
 }
 
-/// How many of the sixteen bytes at a place come before the first SOH among them.
-fn run_at(text: &[u8], at: usize) -> usize
-    requires { at + 16 ≤ length text.now }
-    ensures { result ≡ position_or_len is_soh (take 16 (drop at text.now)) }
+/// Whether the text begins with that word. A word of known length is compared without a loop or a call.
+#[inline(always)]
+fn has_front(text: &[u8], word: &[u8]) -> bool
+    ensures { result ≡ starts_with nat_eq text.now word.now }
 {
-    let ends = u8x16::from_slice(&text[at..])
-        .simd_eq(u8x16::splat(SOH))
-        .to_bitmask();
-    if ends == 0 {
-        16
-    } else {
-        ends.trailing_zeros() as usize
+    if text.len() < word.len() {
+        return false;
     }
-}
-
-/// The place of the first SOH, or the length: sixteen bytes at a time, since few fields are longer.
-fn field_end(text: &[u8]) -> usize
-    ensures { result ≡ position_or_len is_soh text.now }
-{
-    let mut at = 0;
-    while text.len() - at >= 16 {
-        let run = run_at(text, at);
-        if run < 16 {
-            return at + run;
+    for i in 0..word.len() {
+        if text[i] != word[i] {
+            return false;
         }
-        at += 16;
     }
-    at + near_place_of(SOH, &text[at..])
+    true
 }
 
 /// Whether a body may have this length.
@@ -148,7 +135,7 @@ pub(crate) fn header_of(text: &[u8]) -> Option<FrameHeader>
     requires { length text.now < 2 ^ 32 }
     ensures { result ≡ header text.now }
 {
-    if text.starts_with(&BEGIN_TEXT) {
+    if has_front(text, &BEGIN_TEXT) {
         header_after(&text[BEGIN_BYTES..])
     } else {
         None
@@ -177,9 +164,9 @@ pub(crate) fn next_begin(text: &[u8]) -> usize
     1 + place_of(b'8', &text[1..])
 }
 
-/// The tag that the text of a field begins with, and how many digits spell it.
+/// The tag that the text of a field begins with, and how many digits spell it: byte by byte.
 #[inline(always)]
-fn leading_tag(text: &[u8]) -> Option<Tag>
+fn any_tag(text: &[u8]) -> Option<Tag>
     ensures field { option_map (tag_view text.now) result ≡ field_of_text text.now }
     ensures within { IfSome result (λ t. t.digits < length text.now) }
 {
@@ -202,33 +189,85 @@ fn leading_tag(text: &[u8]) -> Option<Tag>
     None
 }
 
-/// The first field of a body.
+/// The tag of one or two digits that the text of a field begins with, if it does.
 #[inline(always)]
-pub(crate) fn first_field(body: &[u8]) -> Option<LeadingField>
-    ensures field { option_map (leading_field_view body.now) result ≡ first_field body.now }
-    ensures order { IfSome result (λ p. p.start ≤ p.end) }
-    ensures within { IfSome result (λ p. p.end < length body.now) }
-    ensures range { IfSome result (λ p. p.end + 1 < 2 ^ 64) }
+fn short_tag(text: &[u8]) -> Option<Tag>
+    ensures field { IfSome result (λ t. Some (tag_view text.now t) ≡ field_of_text text.now) }
+    ensures within { IfSome result (λ t. t.digits < length text.now) }
 {
-    let end = field_end(body);
-    if end == body.len() {
+    if text.len() < 3 || !text[0].is_ascii_digit() || text[0] == b'0' {
         return None;
     }
-    let tag = leading_tag(&body[..end])?;
+    let first = u32::from(text[0] - b'0');
+    if text[1] == b'=' {
+        return Some(Tag {
+            number: first,
+            digits: 1,
+        });
+    }
+    if !text[1].is_ascii_digit() || text[2] != b'=' {
+        return None;
+    }
+    Some(Tag {
+        number: first * 10 + u32::from(text[1] - b'0'),
+        digits: 2,
+    })
+}
+
+/// The tag that the text of a field begins with. Most have one or two digits, and those are read without a loop.
+#[inline(always)]
+fn leading_tag(text: &[u8]) -> Option<Tag>
+    ensures field { option_map (tag_view text.now) result ≡ field_of_text text.now }
+    ensures within { IfSome result (λ t. t.digits < length text.now) }
+{
+    match short_tag(text) {
+        Some(tag) => Some(tag),
+        None => any_tag(text),
+    }
+}
+
+/// The field of a body from a place on, which the marks are those from. The body is the first bytes of the text, of that
+/// number.
+#[inline(always)]
+pub(crate) fn next_field(
+    text: &[u8],
+    count: usize,
+    from: usize,
+    marks: &mut Marks,
+) -> Option<LeadingField>
+    requires within { count ≤ length text.now }
+    requires from { from < count }
+    requires marks { IsMarked text.now from marks.old }
+    ensures field { option_map (leading_field_view (take count text.now)) result
+        ≡ first_field (drop from (take count text.now)) }
+    ensures order { IfSome result (λ p. p.start ≤ p.end) }
+    ensures start { IfSome result (λ p. 0 < p.start) }
+    ensures past { IfSome result (λ p. from ≤ p.end) }
+    ensures within { IfSome result (λ p. p.end < count) }
+    ensures marks { IfSome result (λ p. IsMarked text.now (p.end + 1) marks.new) }
+{
+    let end = next_soh(text, from, marks);
+    if end >= count {
+        return None;
+    }
+    let tag = leading_tag(&text[from..end])?;
     Some(LeadingField {
         tag: tag.number,
-        start: tag.digits + 1,
+        start: from + tag.digits + 1,
         end,
     })
 }
 
-/// Whether a text is a body, and if so, its table.
-fn is_body(body: &[u8], table: &mut FieldTable) -> bool
-    requires { length body.now ≤ MAX_BODY_LENGTH }
-    ensures body { result ≡ is_body body.now }
-    ensures table { OnTrue result (IsTable body.now table.new) }
+/// Whether the first bytes of a text, of that number, are a body, and if so, its table.
+#[inline(always)]
+fn is_body(text: &[u8], count: usize, table: &mut FieldTable) -> bool
+    requires count { count ≤ MAX_BODY_LENGTH }
+    requires within { count ≤ length text.now }
+    ensures body { result ≡ is_body (take count text.now) }
+    ensures table { OnTrue result (IsTable (take count text.now) table.new) }
 {
-    body.starts_with(b"35=") && are_fields(body, table)
+    let body = &text[..count];
+    has_front(body, b"35=") && are_fields(text, count, table)
 }
 
 /// The sum of bytes, modulo 256.
@@ -258,10 +297,12 @@ pub(crate) fn checksum_digits(sum: u8) -> [u8; CHECKSUM_BYTES]
 }
 
 /// Whether the last bytes are the CheckSum field.
+#[inline(always)]
 fn is_trailer(tail: &[u8], sum: u8) -> bool
+    requires { length tail.now ≡ CHECKSUM_BYTES }
     ensures { result ≡ bytes_eq tail.now (checksum_field sum) }
 {
-    tail == checksum_digits(sum).as_slice()
+    has_front(tail, &checksum_digits(sum))
 }
 
 /// Whether the text has what its header announces, and if so, the table of its body.
@@ -274,7 +315,7 @@ fn is_intact(text: &[u8], header: FrameHeader, table: &mut FieldTable) -> bool
 {
     let end = header.body_start + header.body_length;
     is_trailer(&text[end..end + CHECKSUM_BYTES], checksum(&text[..end]))
-        && is_body(&text[header.body_start..end], table)
+        && is_body(&text[header.body_start..], header.body_length, table)
 }
 
 /// What stands at the front of a text, and the table of a frame that does.

@@ -26,7 +26,7 @@ pub struct Framer {
     end: usize,
     // The length of the frame at the front, once it is found; else 0.
     front_length: usize,
-    // Its table, of no field where no frame is found.
+    // Its table, once it is found.
     table: FieldTable,
 }
 
@@ -111,27 +111,34 @@ impl Framer {
         if self.front_length > 0 {
             return Some(self.front_length);
         }
-        let mut table = FieldTable::empty();
-        let (skip, front_length) = first_start(&self.buffer[self.start..self.end], &mut table);
+        let (skip, front_length) = first_start_in(
+            &self.buffer,
+            self.start,
+            self.end,
+            &mut self.table,
+        );
         self.start += skip;
         if let Some(length) = front_length {
             self.front_length = length;
-            self.table = table;
         }
         front_length
     }
 
-    /// The message at the front, of that length where there is one.
+    /// The message at the front, of that length where there is one. Its fields are read again unless they were found.
     fn peek(&self, front_length: Option<usize>) -> Next<'_>
         requires settled { from_first_start self.now ≡ self.now }
         requires front { front_length ≡ frame_at self.now }
         ensures { frame_in result ≡ first_frame (frames self.now) }
     {
-        match front_length {
-            Some(length) => {
-                let frame = &self.buffer[self.start..self.start + length];
-                Next::Message(Message::of_frame(frame, &self.table))
-            }
+        let Some(length) = front_length else {
+            return Next::Need;
+        };
+        let frame = &self.buffer[self.start..self.start + length];
+        if self.front_length > 0 {
+            return Next::Message(Message::of_frame(frame, &self.table));
+        }
+        match Message::whole(frame) {
+            Some(message) => Next::Message(message),
             None => Next::Need,
         }
     }
@@ -160,7 +167,6 @@ impl Framer {
             Some(length) => {
                 self.start += skip + length;
                 self.front_length = 0;
-                self.table.clear();
                 true
             }
             None => false,
@@ -185,6 +191,26 @@ fn append(buffer: &mut [u8], start: usize, end: usize, piece: &[u8])
         ≡ slice_range buffer.old start end ++ piece.now }
 {
     buffer[end..end + piece.len()].copy_from_slice(piece);
+}
+
+/// The same of the bytes of a buffer from start to end.
+#[inline(always)]
+fn first_start_in(
+    buffer: &[u8; BUFFER_BYTES],
+    start: usize,
+    end: usize,
+    table: &mut FieldTable,
+) -> (usize, Option<usize>)
+    requires order { start ≤ end }
+    requires fits { end ≤ BUFFER_BYTES }
+    ensures within { result.0 ≤ length (slice_range buffer.now start end) }
+    ensures kept { drop result.0 (slice_range buffer.now start end)
+        ≡ from_first_start (slice_range buffer.now start end) }
+    ensures found { result.1 ≡ frame_at (from_first_start (slice_range buffer.now start end)) }
+    ensures table { (n : ℕ) → result.1 ≡ Some n
+        → IsTableOf (from_first_start (slice_range buffer.now start end)) table.new }
+{
+    first_start(&buffer[start..end], table)
 }
 
 /// The first place at which a frame stands or may still begin, and the length and the table of the frame that stands there.

@@ -1,7 +1,7 @@
 //! A message, which is a lawful frame.
 ghost use Rattle.std.specs.Prelude.{◌≡◌, ℕ, ◌+◌, ◌<◌, ◌≤◌, ◌^◌, length, List, Option, IsSome, IfSome, ◌↔◌, option_map, Some, is_some, true};
 ghost use Rattle.std.specs.Option.{option_copied};
-ghost use Rattle.fix_wire.specs.Frames.{IsFrame, header, body_at};
+ghost use Rattle.fix_wire.specs.Frames.{IsFrame, header, body_at, is_body};
 ghost use Rattle.fix_wire.specs.Fields.{fields_of_body};
 ghost use Rattle.fix_wire.specs.code.Tabled.{IsTable, IsTableOf};
 ghost use Rattle.fix_wire.specs.Messages.{kind, get, number};
@@ -51,6 +51,7 @@ impl<'a> Message<'a> {
 
     fn body(&self) -> &'a [u8]
         ensures value { result.now ≡ body_at self.now.frame.now self.now.head }
+        ensures body { is_body result.now ≡ true }
         ensures fields_of_body { is_some (fields_of_body result.now) ≡ true }
     {
         &self.frame[self.head.body_start..self.head.body_start + self.head.body_length]

@@ -117,7 +117,7 @@ at_least_one_holds (Ok n) h = by_test (nat_le 1 n) refl
     by_test true e = (grind (arith, nat_tests), h)
     by_test false e = tt
 
-number_holds : (o : Option (List ℕ)) → May IsNumber (option_and_then (λ v. at_least_one (number_in v)) o)
+pub number_holds : (o : Option (List ℕ)) → May IsNumber (option_and_then (λ v. at_least_one (number_in v)) o)
 number_holds None = tt
 number_holds (Some text) = at_least_one_holds (number_in text) (read_holds text)
 

@@ -12,6 +12,8 @@ use Rattle.fix_session.specs.declared.session.Verdict.{Verdict}
 use Rattle.fix_session.specs.Steps.{judge}
 use Rattle.fix_session.specs.declared.reader.Reader.TheInside.{Inside}
 use Rattle.fix_session.specs.Reading.{ReaderState, first_message, first_judgement, first_verdict, session_past, after_skipping, after_passing}
+use Rattle.fix_session.specs.declared.session.Change.{Change}
+use Rattle.fix_session.specs.code.Changes.{judgement_with}
 use Rattle.fix_session.specs.code.ReaderFields.{IsKept}
 
 -- the message that was judged
@@ -59,21 +61,30 @@ verdict_none r = by_first (first_message r)
 -- ---- what is due
 
 -- bytes are put
-pub put_kept : (r : Inside) (held more : List ℕ) → IsKept r → held ≡ r.framer ++ more → IsKept (record { framer = held; session = r.session; due = r.due })
+pub put_kept : (r : Inside) (held more : List ℕ) → IsKept r → held ≡ r.framer ++ more → IsKept (record { framer = held; session = r.session; verdict = r.verdict; due = r.due })
 put_kept r held more kept e = record {
   settled = λ d due.
-      let m = judged_some r.session (first_frame (frames r.framer)) d (kept.known d due) in
+      let m = judged_some r.session (first_frame (frames r.framer)) (judgement_with r.session r.verdict d) (kept.known d due) in
       ap from_first_start e ∙ settled_stays r.framer more m.0 (kept.settled d due) m.1.0 ∙ sym e;
   known = λ d due.
-      let m = judged_some r.session (first_frame (frames r.framer)) d (kept.known d due) in
+      let m = judged_some r.session (first_frame (frames r.framer)) (judgement_with r.session r.verdict d) (kept.known d due) in
       ap (λ t. option_map (judge r.session) (first_frame (frames t))) e ∙ ap (option_map (judge r.session)) (first_stays r.framer more m.0 m.1.0) ∙ ap Some m.1.1;
 }
 
+-- bytes at which no frame stands are skipped
+pub skipped_kept : (r : Inside) (held : List ℕ) → IsKept r → held ≡ from_first_start r.framer → IsKept (record { framer = held; session = r.session; verdict = r.verdict; due = r.due })
+skipped_kept r held kept e = record {
+  settled = λ d due. ap from_first_start e ∙ start_again r.framer ∙ sym e;
+  known = λ d due.
+      ap (λ t. option_map (judge r.session) (first_frame (frames t))) e
+      ∙ ap (λ fs. option_map (judge r.session) (first_frame fs)) (start_frames r.framer) ∙ kept.known d due;
+}
+
 -- the first message is looked at
-pub found_kept : (held now : List ℕ) (s : Session) (o : Option (Verdict × Session)) → now ≡ from_first_start held → o ≡ option_map (judge s) (first_frame (frames held)) → IsKept (record { framer = now; session = s; due = o })
-found_kept held now s o e f = record {
+pub found_kept : (held now : List ℕ) (s : Session) (v : Verdict) (o : Option Change) → now ≡ from_first_start held → option_map (judgement_with s v) o ≡ option_map (judge s) (first_frame (frames held)) → IsKept (record { framer = now; session = s; verdict = v; due = o })
+found_kept held now s v o e f = record {
   settled = λ d due. ap from_first_start e ∙ start_again held ∙ sym e;
-  known = λ d due. ap (λ t. option_map (judge s) (first_frame (frames t))) e ∙ ap (λ fs. option_map (judge s) (first_frame fs)) (start_frames held) ∙ sym f ∙ due;
+  known = λ d due. ap (λ t. option_map (judge s) (first_frame (frames t))) e ∙ ap (λ fs. option_map (judge s) (first_frame fs)) (start_frames held) ∙ sym f ∙ ap (option_map (judgement_with s v)) due;
 }
 
 -- ---- what is passed

@@ -10,7 +10,7 @@ use Rattle.std.specs.Char.{is_ascii_digit}
 use Rattle.std.proofs.lemmas.List.{length-take-le, get_or-take}
 use Rattle.fix_wire.specs.declared.frame.FrameHeader.{FrameHeader}
 use Rattle.fix_wire.specs.Frames.{header, body_at}
-use Rattle.fix_wire.specs.Messages.{fields, first_value}
+use Rattle.fix_wire.specs.Messages.{fields}
 use Rattle.fix_wire.specs.Fields.{TagValue, field_texts, prepended, with_first, field_of_text, field_with, is_tag, fields_of_texts, fields_of_body}
 use Rattle.fix_wire.specs.code.Scans.{first_field, field_up_to, value_of}
 
@@ -173,13 +173,6 @@ value_step tag xs p some e whole = by_row (fields_of_body p.1) refl (row_is xs s
         ∙ by_test (eqb p.0.tag tag) fs
         ∙ ap (λ r. cond (eqb p.0.tag tag) (Some p.0.value) (option_map (λ f. f.value) (find (λ f. eqb f.tag tag) (unwrap_or r [])))) o
 
-pub first_step : (xs : List ℕ) (p : TagValue × List ℕ) → 0 < length xs → Some p ≡ first_field xs → is_some (fields_of_body xs) ≡ true → first_value (unwrap_or (fields_of_body xs) []) ≡ p.0.value
-first_step xs p some e whole = by_row (fields_of_body p.1) refl (row_is xs some ∙ ap (option_and_then onto_row) (sym e))
-  where
-    by_row : (o : Option (List TagValue)) → o ≡ fields_of_body p.1 → fields_of_body xs ≡ option_map (λ fs. p.0 ∷ fs) (fields_of_body p.1) → first_value (unwrap_or (fields_of_body xs) []) ≡ p.0.value
-    by_row None o is = absurd (false≢true (sym (ap is_some (is ∙ ap (option_map (λ fs. p.0 ∷ fs)) (sym o))) ∙ whole))
-    by_row (Some fs) o is = ap (λ r. first_value (unwrap_or r [])) (is ∙ ap (option_map (λ fs. p.0 ∷ fs)) (sym o))
-
 value_cond : (b : Bool) (v : List ℕ) (w x : Option (List ℕ)) → x ≡ cond b (Some v) w → b ≡ true → x ≡ Some v
 value_cond true v w x e t = e
 value_cond false v w x e t = absurd (false≢true t)
@@ -199,12 +192,6 @@ value_behind tag xs p some e whole other =
 pub value_none : (tag : ℕ) (xs : List ℕ) → 0 < length xs → None ≡ first_field xs → value_of tag xs ≡ None
 value_none tag xs some e = ap (λ r. option_map (λ f. f.value) (find (λ f. eqb f.tag tag) (unwrap_or r []))) (row_none xs some e)
 
-pub kind_none : (xs : List ℕ) → (length xs ≡ 0) ⊎ (0 < length xs) → None ≡ first_field xs → first_value (unwrap_or (fields_of_body xs) []) ≡ []
-kind_none [] (inl none) e = refl
-kind_none [] (inr some) e = refl
-kind_none (x ∷ xs) (inl none) e = absurd (omega arith)
-kind_none (x ∷ xs) (inr some) e = ap (λ r. first_value (unwrap_or r [])) (row_none (x ∷ xs) some e)
-
 -- the fields of a message whose claim is known
 pub fields_at : (frame : List ℕ) (head : FrameHeader) → header frame ≡ Some head → fields frame ≡ unwrap_or (fields_of_body (body_at frame head)) []
 fields_at frame head e = ap (λ c. unwrap_or (option_and_then (λ h. fields_of_body (body_at frame h)) c) []) e
@@ -212,13 +199,3 @@ fields_at frame head e = ap (λ c. unwrap_or (option_and_then (λ h. fields_of_b
 pub first_some : (xs : List ℕ) (p : TagValue × List ℕ) → Some p ≡ first_field xs → 0 < length xs
 first_some [] p e = cc
 first_some (x ∷ xs) p e = omega arith
-
-pub kind_some : (xs : List ℕ) (p : TagValue × List ℕ) → Some p ≡ first_field xs → is_some (fields_of_body xs) ≡ true → first_value (unwrap_or (fields_of_body xs) []) ≡ p.0.value
-kind_some xs p e whole = first_step xs p (first_some xs p e) e whole
-
-some_or_none : (xs : List ℕ) → (length xs ≡ 0) ⊎ (0 < length xs)
-some_or_none [] = inl refl
-some_or_none (x ∷ xs) = inr (omega arith)
-
-pub kind_nothing : (xs : List ℕ) → None ≡ first_field xs → first_value (unwrap_or (fields_of_body xs) []) ≡ []
-kind_nothing xs e = kind_none xs (some_or_none xs) e

@@ -1,82 +1,159 @@
--- A table of fields, one place after another.
-use Rattle.std.proofs.Common.{is_some, true, false, eqb, subst, unwrap_or, ◌≡◌, ℕ, zero, suc, ◌+◌, ◌-◌, ◌<◌, ◌≤◌, List, ◌++◌, Some, set, get_or, length, take, drop, refl, sym, ap, ◌∙◌, arith, add-one, ◌⊎◌, inl, inr}
-use Rattle.std.specs.List.{between}
-use Rattle.std.proofs.lemmas.List.{take-append-drop, drop-take, take-take, drop-drop, length-drop, length-set, get_or-set_same, get_or-set_other, drop-append-le, take-append-le}
-use Rattle.std.proofs.lemmas.Bool.{cases_lt, eqb-false}
+-- A table of fields, one field after another.
+use Rattle.std.proofs.Common.{is_some, true, false, cond, eqb, subst, unwrap_or, ◌≡◌, ◌≢◌, ℕ, ◌+◌, ◌*◌, ◌%◌, ◌^◌, ◌<◌, ◌≤◌, w64, Bool, List, ◌++◌, Option, Some, None, set, get_or, length, take, drop, refl, sym, ap, ◌∙◌, arith}
+use Rattle.std.specs.Prelude.{slice_range}
+use Rattle.std.proofs.lemmas.List.{drop_all, drop-take, take-take, length-drop, length-set, get_or-set_same, get_or-set_other, drop-append-le, take-append-le, take-append-drop}
+use Rattle.std.proofs.lemmas.List.Sums.{passes_at_first}
+use Rattle.std.proofs.lemmas.Nat.Bits.{bit_at-zero, bit_at_set_same, bit_at_set_other}
+use Rattle.std.specs.Int.{bit_at}
+use Rattle.std.proofs.Math.Pow.{pow-lt}
+use Rattle.std.proofs.Math.Nat.{mod-eq_of_lt}
+use Rattle.std.specs.Int.RustNames.{bit_or}
+use Rattle.std.proofs.lemmas.Bool.{eqb-true, eqb-false, false≢true}
 use Rattle.fix_wire.specs.declared.frame.LeadingField.{LeadingField}
 use Rattle.fix_wire.specs.declared.table.FieldPlace.{FieldPlace}
 use Rattle.fix_wire.specs.declared.table.FieldTable.{FieldTable}
 use Rattle.fix_wire.specs.Fields.{fields_of_body}
-use Rattle.fix_wire.proofs.fields.RowOfFields.{row_some, value_behind, first_some}
+use Rattle.fix_wire.proofs.fields.RowOfFields.{row_some, value_step, first_some}
+use Rattle.fix_wire.proofs.texts.FirstPlace.{same, differs}
 use Rattle.fix_wire.specs.code.Scans.{value_of, first_field, leading_field_view}
-use Rattle.fix_wire.specs.code.Tabled.{nowhere, place_at, start_of, field_at, leading_at, IsPlaced, IsTable, IsBlank, IsTableOf}
+use Rattle.fix_wire.specs.code.Tabled.{tabled_tags, is_same, index_of, nowhere, place_at, has_place, value_at, with_field, IsWithin, IsTable, IsTableOf}
 use Rattle.fix_wire.specs.Frames.{frame_at, header, frame_length}
 use Rattle.fix_wire.proofs.framing.FrontStays.{frame_parts, header_stays}
 
-between_drop : (xs : List ℕ) (from start end : ℕ) → between start end (drop from xs) ≡ between (from + start) (from + end) xs
-between_drop xs from start end =
-    let e : (from + end) - (from + start) ≡ end - start = omega arith in
-    ap (λ t. take (end - start) t) (drop-drop start from xs) ∙ sym (ap (λ n. take n (drop (from + start) xs)) e)
+-- a tag that is tabled stands at its index
+tag_at : (tag : ℕ) → index_of tag < 23 → get_or tabled_tags (index_of tag) 0 ≡ tag
+tag_at tag l = eqb-true _ _ (passes_at_first (is_same tag) tabled_tags 0 l)
 
-start_kept : (places : List FieldPlace) (n : ℕ) (p : FieldPlace) (i : ℕ) → i ≤ n → start_of (set places n p) i ≡ start_of places i
-start_kept places n p zero l = refl
-start_kept places n p (suc i) l = ap (λ (q : FieldPlace). q.end + 1) (get_or-set_other places n i p nowhere (omega arith))
+-- so no two tags have one index
+same_tag : (a b : ℕ) → index_of a ≡ index_of b → index_of b < 23 → a ≡ b
+same_tag a b e l = sym (tag_at a (omega (arith, e, l))) ∙ ap (λ i. get_or tabled_tags i 0) e ∙ tag_at b l
 
--- the place, in the body, of a field that stands in front of what follows `rest`
-abbrev pub moved : ℕ → LeadingField → FieldPlace
-moved rest f = record { start = rest + f.start; end = rest + f.end }
+abbrev or_else : Option (List ℕ) → Option (List ℕ) → Option (List ℕ)
+or_else None o = o
+or_else (Some v) o = Some v
 
-moved_first : (body : List ℕ) (rest : ℕ) (f : LeadingField) → Some (leading_field_view (drop rest body) f) ≡ first_field (drop rest body) → f.start ≤ f.end → f.end < length (drop rest body) → IsPlaced body rest f.tag (moved rest f)
-moved_first body rest f e order within =
-    let len = length-drop rest body in
-    let value = between_drop body rest f.start f.end in
-    let next = drop-drop (f.end + 1) rest body in
-    let sum : rest + (f.end + 1) ≡ (rest + f.end) + 1 = omega arith in
+other_tag : (a b : ℕ) → eqb (index_of b) (index_of a) ≡ false → eqb a b ≡ false
+other_tag a b d = differs a b (λ z. eqb-false _ _ d (ap index_of (sym z)))
+
+-- Of each tabled tag, the place of its first field before the rest, where there is one.
+pub record IsTabled (body : List ℕ) (t : FieldTable) (rest : ℕ) : Type 0 where
+  pub size : length t.places ≡ 24
+  pub near : rest ≤ length body
+  pub within : (i : ℕ) → has_place t.present i ≡ true → IsWithin body (place_at t.places i)
+  pub row : is_some (fields_of_body (drop rest body)) ≡ is_some (fields_of_body body)
+  pub value : is_some (fields_of_body body) ≡ true → (tag : ℕ) → index_of tag < 23
+      → or_else (value_at body t (index_of tag)) (value_of tag (drop rest body)) ≡ value_of tag body
+
+no_bit : (i : ℕ) → eqb (bit_at 0 i) 1 ≡ false
+no_bit i = ap (λ b. eqb b 1) (bit_at-zero i)
+
+pub none_tabled : (body : List ℕ) (t : FieldTable) → length t.places ≡ 24 → t.present ≡ 0 → IsTabled body t 0
+none_tabled body t size none =
+    let blank : (i : ℕ) → has_place t.present i ≡ false = λ i. ap (λ p. has_place p i) none ∙ no_bit i in
     record {
-      order = omega arith;
-      within = omega (arith, len);
-      is_first =
-          sym e ∙ ap (λ v. Some (record { tag = f.tag; value = v }, drop (f.end + 1) (drop rest body))) value
-          ∙ ap (λ r. Some (field_at body f.tag (moved rest f), r)) (next ∙ ap (λ n. drop n body) sum);
+      size = size;
+      near = omega arith;
+      within = λ i e. absurd (false≢true (sym (blank i) ∙ e));
+      row = refl;
+      value = λ whole tag l. ap (λ b. or_else (cond b (Some (slice_range body (place_at t.places (index_of tag)).start (place_at t.places (index_of tag)).end)) None) (value_of tag body)) (blank (index_of tag));
     }
 
-pub table_more : (body tags : List ℕ) (places : List FieldPlace) (count rest : ℕ) (f : LeadingField) → IsTable body (record { tags = tags; places = places; count = count; rest = rest }) → count < 24 →
-    Some (leading_field_view (drop rest body) f) ≡ first_field (drop rest body) → f.start ≤ f.end → f.end < length (drop rest body) →
-    IsTable body (record { tags = set tags count f.tag; places = set places count (moved rest f); count = count + 1; rest = rest + f.end + 1 })
-table_more body tags places count rest f t room e order within =
-    let p = moved rest f in
-    let len = length-drop rest body in
-    let here : get_or (set places count p) count nowhere ≡ p = get_or-set_same places count p nowhere (omega (arith, t.size.1, room)) in
-    let tagged : get_or (set tags count f.tag) count 0 ≡ f.tag = get_or-set_same tags count f.tag 0 (omega (arith, t.size.0, room)) in
-    let first = moved_first body rest f e order within in
+abbrev pub placed : LeadingField → FieldPlace
+placed f = record { start = f.start; end = f.end }
+
+-- the value of a tag where the bit and the place with its index are these
+abbrev read_as : List ℕ → Bool → FieldPlace → Option (List ℕ)
+read_as body b p = cond b (Some (slice_range body p.start p.end)) None
+
+abbrev with_bit : FieldTable → LeadingField → FieldTable
+with_bit t f = record { places = set t.places (index_of f.tag) (placed f); present = bit_or t.present (2 ^ index_of f.tag) }
+
+one_shifted : (k : ℕ) → k < 24 → 1 * 2 ^ k % 2 ^ 64 ≡ 2 ^ k
+one_shifted k l = let small : 2 ^ k < 2 ^ 64 = pow-lt {j = 64} (omega arith) in let one : 1 * 2 ^ k ≡ 2 ^ k = omega arith in ap (λ n. n % 2 ^ 64) one ∙ mod-eq_of_lt small
+
+bit_here : (present k : ℕ) → k < 24 → has_place (bit_or present (2 ^ k)) k ≡ true
+bit_here present k l =
+    let one : 1 * 2 ^ k % 2 ^ 64 ≡ 2 ^ k = one_shifted k l in
+    same _ 1 (ap (λ p. bit_at (bit_or present p) k) (sym one) ∙ bit_at_set_same w64 present k (omega arith))
+
+bit_there : (present k i : ℕ) → k < 24 → i ≢ k → has_place (bit_or present (2 ^ k)) i ≡ has_place present i
+bit_there present k i l other =
+    let one : 1 * 2 ^ k % 2 ^ 64 ≡ 2 ^ k = one_shifted k l in
+    ap (λ b. eqb b 1) (ap (λ p. bit_at (bit_or present p) i) (sym one) ∙ bit_at_set_other w64 present k (omega arith) i other)
+
+-- what a field changes in the value of a tag
+noted : (body : List ℕ) (t : FieldTable) (f : LeadingField) (tag : ℕ) (w : Option (List ℕ)) → length t.places ≡ 24 → index_of f.tag < 24 → index_of tag < 23 →
+    (b c : Bool) → has_place t.present (index_of f.tag) ≡ b → eqb (index_of tag) (index_of f.tag) ≡ c →
+    or_else (value_at body (cond b t (with_bit t f)) (index_of tag)) w ≡ or_else (value_at body t (index_of tag)) (cond (eqb f.tag tag) (Some (slice_range body f.start f.end)) w)
+noted body t f tag w size few l false true e d =
+    let i = eqb-true _ _ d in
+    let k = index_of f.tag in
+    let tags = same f.tag tag (same_tag f.tag tag (sym i) l) in
+    ap (λ j. or_else (value_at body (with_bit t f) j) w) i
+    ∙ ap (λ b. or_else (read_as body b (place_at (set t.places k (placed f)) k)) w) (bit_here t.present k few)
+    ∙ ap (λ p. or_else (read_as body true p) w) (get_or-set_same t.places k (placed f) nowhere (omega (arith, size, few)))
+    ∙ sym (ap (λ b. or_else (value_at body t (index_of tag)) (cond b (Some (slice_range body f.start f.end)) w)) tags
+    ∙ ap (λ j. or_else (value_at body t j) (Some (slice_range body f.start f.end))) i
+    ∙ ap (λ b. or_else (read_as body b (place_at t.places k)) (Some (slice_range body f.start f.end))) e)
+noted body t f tag w size few l false false e d =
+    let other = other_tag f.tag tag d in
+    let apart : index_of tag ≢ index_of f.tag = λ z. eqb-false _ _ d z in
+    ap (λ b. or_else (read_as body b (place_at (set t.places (index_of f.tag) (placed f)) (index_of tag))) w) (bit_there t.present (index_of f.tag) (index_of tag) few apart)
+    ∙ ap (λ p. or_else (read_as body (has_place t.present (index_of tag)) p) w) (get_or-set_other t.places (index_of f.tag) (index_of tag) (placed f) nowhere apart)
+    ∙ sym (ap (λ b. or_else (value_at body t (index_of tag)) (cond b (Some (slice_range body f.start f.end)) w)) other)
+noted body t f tag w size few l true true e d =
+    let i = eqb-true _ _ d in
+    let held = ap (value_at body t) i ∙ ap (λ b. read_as body b (place_at t.places (index_of f.tag))) e in
+    ap (λ v. or_else v w) held ∙ sym (ap (λ v. or_else v (cond (eqb f.tag tag) (Some (slice_range body f.start f.end)) w)) held)
+noted body t f tag w size few l true false e d =
+    sym (ap (λ b. or_else (value_at body t (index_of tag)) (cond b (Some (slice_range body f.start f.end)) w)) (other_tag f.tag tag d))
+
+pub tabled_more : (body : List ℕ) (t : FieldTable) (rest : ℕ) (f : LeadingField) → IsTabled body t rest → Some (leading_field_view body f) ≡ first_field (drop rest body) → f.start ≤ f.end → f.end < length body → index_of f.tag < 24 →
+    IsTabled body (with_field t f) (f.end + 1)
+tabled_more body t rest f tabled e order within index =
+    let first = first_some (drop rest body) (leading_field_view body f) e in
     record {
-      size = (length-set tags count f.tag ∙ t.size.0, length-set places count p ∙ t.size.1);
-      few = omega (arith, room);
-      within = omega (arith, len, within);
-      rest = sym (ap (start_of (set places count p)) (add-one count) ∙ ap (λ (q : FieldPlace). q.end + 1) here);
-      placed = λ i l. by_index i l (cases_lt i count) here tagged first;
+      size = size_kept (has_place t.present (index_of f.tag));
+      near = omega (arith, within);
+      within = λ i here. within_kept i (has_place t.present (index_of f.tag)) (eqb i (index_of f.tag)) refl here;
+      row = row_some (drop rest body) (leading_field_view body f) first e ∙ tabled.row;
+      value = λ whole tag l.
+          noted body t f tag (value_of tag (drop (f.end + 1) body)) tabled.size index l _ _ refl refl
+          ∙ ap (or_else (value_at body t (index_of tag))) (sym (value_step tag (drop rest body) (leading_field_view body f) first e (tabled.row ∙ whole)))
+          ∙ tabled.value whole tag l;
     }
   where
-    by_index : (i : ℕ) → i < count + 1 → (i < count) ⊎ (count ≤ i) → get_or (set places count (moved rest f)) count nowhere ≡ moved rest f → get_or (set tags count f.tag) count 0 ≡ f.tag → IsPlaced body rest f.tag (moved rest f) →
-        IsPlaced body (start_of (set places count (moved rest f)) i) (get_or (set tags count f.tag) i 0) (place_at (set places count (moved rest f)) i)
-    by_index i l (inl less) here tagged first =
-        rw (start_kept places count (moved rest f) i (omega arith), get_or-set_other places count i (moved rest f) nowhere (omega arith), get_or-set_other tags count i f.tag 0 (omega arith)) (t.placed i less)
-    by_index i l (inr more) here tagged first =
-        let same : i ≡ count = omega arith in
-        rw (same, here, tagged, start_kept places count (moved rest f) count (omega arith), sym t.rest) first
+    size_kept : (b : Bool) → length (cond b t (with_bit t f)).places ≡ 24
+    size_kept false = length-set t.places (index_of f.tag) (placed f) ∙ tabled.size
+    size_kept true = tabled.size
 
--- where the tags before an index are others, the value is that of what follows their fields
-pub value_from : (body : List ℕ) (t : FieldTable) (tag : ℕ) → IsTable body t → is_some (fields_of_body body) ≡ true → (i : ℕ) → i ≤ t.count → ((j : ℕ) → j < i → eqb (get_or t.tags j 0) tag ≡ false) →
-    (is_some (fields_of_body (drop (start_of t.places i) body)) ≡ true) × (value_of tag (drop (start_of t.places i) body) ≡ value_of tag body)
-value_from body t tag table row zero l before = (row, refl)
-value_from body t tag table row (suc i) l before =
-    let here = value_from body t tag table row i (omega arith) (λ j less. before j (omega arith)) in
-    let xs = drop (start_of t.places i) body in
-    let p = leading_at body (get_or t.tags i 0) (place_at t.places i) in
-    let e = sym (table.placed i (omega arith)).is_first in
-    let some = first_some xs p e in (
-      row_some xs p some e ∙ here.0,
-      sym (value_behind tag xs p some e here.0 (eqb-false (get_or t.tags i 0) tag (before i (omega arith)))) ∙ here.1,
+    within_kept : (i : ℕ) → (b c : Bool) → eqb i (index_of f.tag) ≡ c → has_place (cond b t (with_bit t f)).present i ≡ true → IsWithin body (place_at (cond b t (with_bit t f)).places i)
+    within_kept i true c d here = tabled.within i here
+    within_kept i false true d here =
+        let place = ap (place_at (set t.places (index_of f.tag) (placed f))) (eqb-true _ _ d) ∙ get_or-set_same t.places (index_of f.tag) (placed f) nowhere (omega (arith, tabled.size, index)) in
+        subst (IsWithin body) (sym place) (record { order = order; end = omega (arith, within) })
+    within_kept i false false d here =
+        let apart : i ≢ index_of f.tag = λ z. eqb-false _ _ d z in
+        subst (IsWithin body) (sym (get_or-set_other t.places (index_of f.tag) i (placed f) nowhere apart)) (tabled.within i (sym (bit_there t.present (index_of f.tag) i index apart) ∙ here))
+
+or_none : (o : Option (List ℕ)) → or_else o None ≡ o
+or_none None = refl
+or_none (Some v) = refl
+
+-- the table once no field is left
+pub all_tabled : (body : List ℕ) (t : FieldTable) (rest : ℕ) → IsTabled body t rest → length body ≤ rest → (is_some (fields_of_body body) ≡ true) × IsTable body t
+all_tabled body t rest tabled past =
+    let none = drop_all rest body past in
+    let whole = sym tabled.row ∙ ap (λ x. is_some (fields_of_body x)) none in (
+      whole,
+      record {
+        size = tabled.size;
+        within = tabled.within;
+        value = λ tag l.
+            sym (or_none (value_at body t (index_of tag)))
+            ∙ sym (ap (λ x. or_else (value_at body t (index_of tag)) (value_of tag x)) none)
+            ∙ tabled.value whole tag l;
+      },
     )
 
 -- the table of a text is that of the frame at its front
@@ -101,13 +178,3 @@ table_stays text more n t e known h claims =
     let body = ap (λ x. take h.body_length x) (drop-append-le h.body_start text more (omega (arith, size)))
     ∙ take-append-le h.body_length (drop h.body_start text) more (omega (arith, size, left)) in
     subst (λ (x : List ℕ). IsTable x t) (sym body) (known h (head ∙ ap Some same)))
-
--- a table of no field serves every text
-pub table_blank : (text : List ℕ) (t : FieldTable) → IsBlank t → IsTableOf text t
-table_blank text t blank h claims = record {
-  size = blank.size;
-  few = omega (arith, blank.none);
-  within = omega (arith, blank.start);
-  rest = blank.start ∙ sym (ap (start_of t.places) blank.none);
-  placed = λ i l. absurd (omega (arith, blank.none, l));
-}

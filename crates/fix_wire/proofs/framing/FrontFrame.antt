@@ -1,5 +1,5 @@
 -- What a framer knows of the frame at its front.
-use Rattle.std.proofs.Common.{◌≡◌, ◌≢◌, ℕ, ◌+◌, ◌-◌, ◌<◌, ◌≤◌, List, ◌++◌, length, drop, Option, Some, None, sym, ap, subst, ◌∙◌, arith, ◌⊎◌, inl, inr}
+use Rattle.std.proofs.Common.{◌≡◌, ◌≢◌, ℕ, ◌+◌, ◌-◌, ◌≤◌, List, ◌++◌, length, drop, Option, Some, None, sym, ap, subst, ◌∙◌, arith}
 use Rattle.std.specs.Prelude.{slice_range, unwrap_or}
 use Rattle.std.specs.List.{between}
 use Rattle.std.proofs.lemmas.List.{length-take-le, length-drop}
@@ -7,10 +7,9 @@ use Rattle.fix_wire.specs.declared.framer.Framer.TheInside.{Inside}
 use Rattle.fix_wire.specs.code.FramerFields.{held_of, IsKept}
 use Rattle.fix_wire.specs.Frames.{frame_at}
 use Rattle.fix_wire.specs.declared.table.FieldTable.{FieldTable}
-use Rattle.fix_wire.specs.code.Tabled.{IsBlank, IsTableOf}
+use Rattle.fix_wire.specs.code.Tabled.{IsTableOf}
 use Rattle.fix_wire.proofs.framing.FrontStays.{frame_stays}
-use Rattle.fix_wire.proofs.fields.TableOfFields.{table_stays, table_blank}
-use Rattle.std.proofs.lemmas.Bool.{cases_lt}
+use Rattle.fix_wire.proofs.fields.TableOfFields.{table_stays}
 
 -- it still knows it when bytes were put
 pub knows_put : (text held : List ℕ) (found : ℕ) (now : List ℕ) → now ≡ held ++ text → (found ≢ 0 → frame_at held ≡ Some found) → found ≢ 0 → frame_at now ≡ Some found
@@ -36,16 +35,7 @@ put_kept f i buffer text taken kept order room same table held len put =
       room = room;
       known = knows_put text (held_of f) i.front_length _ now known;
       tabled = table_put text (held_of f) i.front_length i.table _ now known (λ some. subst (λ (t : FieldTable). IsTableOf (held_of f) t) (sym table) (kept.tabled (λ none. some (same ∙ none))));
-      blank = λ none. subst (λ (t : FieldTable). IsBlank t) (sym table) (kept.blank (sym same ∙ none));
     }
-
--- the table is that of the frame at the front, found or not
-pub knows_table : (f : Inside) → IsKept f → IsTableOf (held_of f) f.table
-knows_table f kept = by_found (cases_lt 0 f.front_length)
-  where
-    by_found : (0 < f.front_length) ⊎ (f.front_length ≤ 0) → IsTableOf (held_of f) f.table
-    by_found (inl some) = kept.tabled (λ none. absurd (omega (arith, some, none)))
-    by_found (inr none) = table_blank (held_of f) f.table (kept.blank (omega (arith, none)))
 
 range_length : (xs : List ℕ) (start end : ℕ) → end ≤ length xs → length (between start end xs) ≡ end - start
 range_length xs start end l = length-take-le (end - start) (drop start xs) (omega (arith, length-drop start xs))

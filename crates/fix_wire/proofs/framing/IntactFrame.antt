@@ -1,11 +1,8 @@
 -- A claim that is kept, as the code tests it.
-use Rattle.std.proofs.Common.{◌≡◌, ℕ, ◌+◌, ◌≤◌, ◌%◌, Bool, true, false, ◌&&◌, leb, List, length, take, drop, sum, refl, sym, ap, subst, ◌∙◌, arith}
-use Rattle.std.specs.Bool.{OnTrue}
+use Rattle.std.proofs.Common.{◌≡◌, ℕ, ◌+◌, ◌≤◌, ◌%◌, Bool, true, false, ◌&&◌, leb, List, length, take, drop, sum, refl, sym, ap, ◌∙◌, arith}
 use Rattle.std.specs.Str.{bytes_eq}
 use Rattle.std.proofs.lemmas.Bool.Decides.{nat_tests}
 use Rattle.fix_wire.specs.declared.frame.FrameHeader.{FrameHeader}
-use Rattle.fix_wire.specs.declared.table.FieldTable.{FieldTable}
-use Rattle.fix_wire.specs.code.Tabled.{IsTable}
 use Rattle.fix_wire.specs.Frames.{is_intact, body_at, is_body, checksum_field, frame_length}
 
 and_of : (x y z : Bool) (b : Bool) → x ≡ true → z ≡ true → b ≡ y → b ≡ (x && y && z)
@@ -37,8 +34,3 @@ intact_false text header n ck seven sum_is t =
     let z = ap (λ c. bytes_eq (take n (drop (header.body_start + header.body_length) text)) (checksum_field c)) sum_is in
     let z2 = ap (λ m. bytes_eq (take m (drop (header.body_start + header.body_length) text)) (checksum_field (sum (take (header.body_start + header.body_length) text) % 256))) seven in
     and_last (leb (frame_length header) (length text)) (is_body (body_at text header)) _ (sym (t ∙ z ∙ z2))
-
--- the table is that of the body
-pub table_true : (text : List ℕ) (header : FrameHeader) (k : ℕ) (b : Bool) (t : FieldTable) → k ≡ header.body_length
-    → OnTrue b (IsTable (take k (drop header.body_start text)) t) → OnTrue b (IsTable (body_at text header) t)
-table_true text header k b t size tabled = subst (λ m. OnTrue b (IsTable (take m (drop header.body_start text)) t)) size tabled

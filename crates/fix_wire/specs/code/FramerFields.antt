@@ -4,7 +4,7 @@ use Rattle.std.specs.Prelude.{◌≡◌, ◌≢◌, ℕ, ◌≤◌, List, Some, 
 use Rattle.fix_wire.specs.declared.framer.TheConstants.{BUFFER_BYTES}
 use Rattle.fix_wire.specs.declared.framer.Framer.TheInside.{Inside}
 use Rattle.fix_wire.specs.Frames.{frame_at}
-use Rattle.fix_wire.specs.code.Tabled.{IsBlank, IsTableOf}
+use Rattle.fix_wire.specs.code.Tabled.{IsTableOf}
 
 abbrev pub held_of : Inside → List ℕ
 held_of f = slice_range f.buffer f.start f.end
@@ -15,4 +15,3 @@ pub record IsKept (f : Inside) : Type 0 where
   -- A front length other than 0 is that of the frame that stands at the front.
   pub known : f.front_length ≢ 0 → frame_at (held_of f) ≡ Some f.front_length
   pub tabled : f.front_length ≢ 0 → IsTableOf (held_of f) f.table
-  pub blank : f.front_length ≡ 0 → IsBlank f.table

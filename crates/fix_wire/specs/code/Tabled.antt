@@ -1,13 +1,34 @@
 -- A table of the fields of a body.
 -- Words of the code alone.
-use Rattle.std.specs.Prelude.{Bool, ◌==◌, ◌≡◌, ℕ, zero, suc, ◌+◌, ◌<◌, ◌≤◌, List, Some, get_or, length, drop, slice_range}
+use Rattle.std.specs.Prelude.{Bool, ◌==◌, ◌≡◌, ℕ, ◌<◌, ◌≤◌, if◌then◌else◌, List, [], ◌∷◌, Option, Some, None, get_or, set, true, ◌^◌, length, slice_range}
+use Rattle.std.specs.Int.{bit_at}
+use Rattle.std.specs.Int.RustNames.{bit_or}
+use Rattle.std.specs.List.{position_or_len}
 use Rattle.fix_wire.specs.declared.frame.FrameHeader.{FrameHeader}
-use Rattle.fix_wire.specs.declared.table.TheConstants.{MAX_TABLED_FIELDS}
+use Rattle.fix_wire.specs.declared.frame.LeadingField.{LeadingField}
+use Rattle.fix_wire.specs.declared.table.TheConstants.{PLACES, TABLED_TAGS}
 use Rattle.fix_wire.specs.declared.table.FieldPlace.{FieldPlace}
 use Rattle.fix_wire.specs.declared.table.FieldTable.{FieldTable}
+use Rattle.fix_wire.specs.declared.tags.TheConstants as tags
 use Rattle.fix_wire.specs.Frames.{header, body_at}
-use Rattle.fix_wire.specs.Fields.{TagValue}
-use Rattle.fix_wire.specs.code.Scans.{first_field}
+use Rattle.fix_wire.specs.code.Scans.{value_of}
+
+-- the tags whose first fields a table has, in order
+abbrev pub tabled_tags : List ℕ
+tabled_tags =
+    tags.BEGIN_SEQ_NO ∷ tags.CL_ORD_ID ∷ tags.END_SEQ_NO ∷ tags.HANDL_INST ∷
+    tags.MSG_SEQ_NUM ∷ tags.MSG_TYPE ∷ tags.NEW_SEQ_NO ∷ tags.ORDER_QTY ∷
+    tags.ORD_TYPE ∷ tags.ORIG_CL_ORD_ID ∷ tags.POSS_DUP_FLAG ∷ tags.PRICE ∷
+    tags.SENDER_COMP_ID ∷ tags.SENDING_TIME ∷ tags.SIDE ∷ tags.SYMBOL ∷
+    tags.TARGET_COMP_ID ∷ tags.TIME_IN_FORCE ∷ tags.TRANSACT_TIME ∷ tags.ENCRYPT_METHOD ∷
+    tags.HEART_BT_INT ∷ tags.TEST_REQ_ID ∷ tags.GAP_FILL_FLAG ∷ []
+
+abbrev pub is_same : ℕ → ℕ → Bool
+is_same tag t = t == tag
+
+-- the index of a tag among them, or their number
+abbrev pub index_of : ℕ → ℕ
+index_of tag = position_or_len (is_same tag) tabled_tags
 
 abbrev pub nowhere : FieldPlace
 nowhere = record { start = 0; end = 0 }
@@ -16,42 +37,35 @@ nowhere = record { start = 0; end = 0 }
 abbrev pub place_at : List FieldPlace → ℕ → FieldPlace
 place_at places i = get_or places i nowhere
 
--- where the field with this index starts: after the SOH of the one before it
-abbrev pub start_of : List FieldPlace → ℕ → ℕ
-start_of places zero = 0
-start_of places (suc i) = (place_at places i).end + 1
+-- the tag with this index has a place
+abbrev pub has_place : ℕ → ℕ → Bool
+has_place present i = bit_at present i == 1
 
--- the field with this tag, whose value stands at a place of a body
-abbrev pub field_at : List ℕ → ℕ → FieldPlace → TagValue
-field_at body tag p = record { tag = tag; value = slice_range body p.start p.end }
+-- the value that stands at the place with this index, if there is one
+abbrev pub value_at : List ℕ → FieldTable → ℕ → Option (List ℕ)
+value_at body t i =
+    if has_place t.present i
+    then Some (slice_range body (place_at t.places i).start (place_at t.places i).end) else None
 
--- the same, and the fields after it
-abbrev pub leading_at : List ℕ → ℕ → FieldPlace → TagValue × List ℕ
-leading_at body tag p = (field_at body tag p, drop (p.end + 1) body)
+-- the table, and the place of a field where there was none of its tag
+abbrev pub with_field : FieldTable → LeadingField → FieldTable
+with_field t f =
+    if has_place t.present (index_of f.tag) then t
+    else record {
+      places = set t.places (index_of f.tag) (record { start = f.start; end = f.end });
+      present = bit_or t.present (2 ^ index_of f.tag);
+    }
 
--- The first field from a start on has this tag and this place.
-pub record IsPlaced (body : List ℕ) (start tag : ℕ) (p : FieldPlace) : Type 0 where
+pub record IsWithin (body : List ℕ) (p : FieldPlace) : Type 0 where
   pub order : p.start ≤ p.end
-  pub within : p.end < length body
-  pub is_first : first_field (drop start body) ≡ Some (leading_at body tag p)
+  pub end : p.end ≤ length body
 
-abbrev pub is_same : ℕ → ℕ → Bool
-is_same tag t = t == tag
-
--- The tags and places are those of the first fields of the body, and the fields after them start at the rest.
+-- Each place is that of the first field of the body with its tag.
 pub record IsTable (body : List ℕ) (t : FieldTable) : Type 0 where
-  pub size : (length t.tags ≡ MAX_TABLED_FIELDS) × (length t.places ≡ MAX_TABLED_FIELDS)
-  pub few : t.count ≤ MAX_TABLED_FIELDS
-  pub within : t.rest ≤ length body
-  pub rest : t.rest ≡ start_of t.places t.count
-  pub placed : (i : ℕ) → i < t.count
-      → IsPlaced body (start_of t.places i) (get_or t.tags i 0) (place_at t.places i)
-
--- A table of no field, which is a table of every body.
-pub record IsBlank (t : FieldTable) : Type 0 where
-  pub size : (length t.tags ≡ MAX_TABLED_FIELDS) × (length t.places ≡ MAX_TABLED_FIELDS)
-  pub none : t.count ≡ 0
-  pub start : t.rest ≡ 0
+  pub size : length t.places ≡ PLACES
+  pub within : (i : ℕ) → has_place t.present i ≡ true → IsWithin body (place_at t.places i)
+  pub value : (tag : ℕ) → index_of tag < TABLED_TAGS
+      → value_at body t (index_of tag) ≡ value_of tag body
 
 -- A table of the body of a text that has a header.
 abbrev pub IsTableOf : List ℕ → FieldTable → Type 0

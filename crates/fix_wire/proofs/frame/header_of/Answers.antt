@@ -4,5 +4,5 @@ use Rattle.fix_wire.proofs.texts.WordAtTheFront.{header_when}
 use Rattle.fix_wire.specs.Frames.{header_after}
 use Rattle.fix_wire.proofs.frame.header_of.Goals as goal
 
-pub returns-then-starts_with : goal.returns-then-starts_with
-returns-then-starts_with c = c.header_after.ensures ∙ ap header_after (take_rest c.args.text.now 12) ∙ sym (header_when c.args.text.now c.starts_with.result c.starts_with.ensures.value c.if-starts_with.true)
+pub returns-then-has_front : goal.returns-then-has_front
+returns-then-has_front c = c.header_after.ensures ∙ ap header_after (take_rest c.args.text.now 12) ∙ sym (header_when c.args.text.now c.has_front.result c.has_front.ensures c.if-has_front.true)

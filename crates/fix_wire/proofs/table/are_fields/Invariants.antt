@@ -1,12 +1,11 @@
-use Rattle.std.proofs.Common.{◌≡◌, ◌-◌, length, drop, is_some}
-use Rattle.fix_wire.specs.Fields.{fields_of_body}
-use Rattle.fix_wire.specs.code.Tabled.{IsTable}
+use Rattle.std.proofs.Common.{◌-◌, ◌≤◌, take}
+use Rattle.fix_wire.specs.code.Marked.{IsMarked}
+use Rattle.fix_wire.proofs.fields.TableOfFields.{IsTabled}
 use Rattle.fix_wire.proofs.table.are_fields.Given as goal
 
-abbrev pub invariant-loop-count : goal.invariant-loop-count
-invariant-loop-count l =
-    IsTable l.fn.text (record { tags = l.table.tags; places = l.table.places; count = l.count; rest = l.rest })
-    × (is_some (fields_of_body (drop l.rest l.fn.text)) ≡ is_some (fields_of_body l.fn.text))
+abbrev pub invariant-loop-rest : goal.invariant-loop-rest
+invariant-loop-rest l =
+    (l.rest ≤ l.count) × IsMarked l.text l.rest l.marks × IsTabled (take l.count l.text) (record { places = l.table.places; present = l.present }) l.rest
 
-abbrev pub decreases-loop-count : goal.decreases-loop-count
-decreases-loop-count l = length l.fn.text - l.rest
+abbrev pub decreases-loop-rest : goal.decreases-loop-rest
+decreases-loop-rest l = l.count - l.rest

@@ -1,10 +1,13 @@
-use Rattle.std.proofs.Common.{◌≡◌, true, length, is_some}
+use Rattle.std.proofs.Common.{◌≡◌, ◌-◌, ◌≤◌, true, drop, length, is_some}
 use Rattle.fix_wire.specs.Fields.{fields_of_body}
 use Rattle.fix_wire.specs.code.Scans.{value_of}
+use Rattle.fix_wire.specs.code.Marked.{IsMarked}
 use Rattle.fix_wire.proofs.table.value_in.Given as goal
 
 abbrev pub invariant-loop-rest : goal.invariant-loop-rest
-invariant-loop-rest l = (is_some (fields_of_body l.rest) ≡ true) × (value_of l.tag l.rest ≡ value_of l.tag l.fn.text)
+invariant-loop-rest l =
+    (l.rest ≤ length l.text) × IsMarked l.text l.rest l.marks × (is_some (fields_of_body (drop l.rest l.text)) ≡ true)
+    × (value_of l.tag (drop l.rest l.text) ≡ value_of l.tag l.text)
 
 abbrev pub decreases-loop-rest : goal.decreases-loop-rest
-decreases-loop-rest l = length l.rest
+decreases-loop-rest l = length l.text - l.rest

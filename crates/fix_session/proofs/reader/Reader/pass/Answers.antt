@@ -1,18 +1,22 @@
-use Rattle.std.proofs.Common.{sym, ◌∙◌}
+use Rattle.std.proofs.Common.{List, ℕ, sym, ap, ◌∙◌}
+use Rattle.std.specs.Prelude.{option_map}
+use Rattle.fix_session.specs.code.Changes.{judgement_with}
 use Rattle.fix_session.specs.code.ReaderFields.{state_of}
 use Rattle.fix_session.proofs.readers.FirstMessage.{found_kept, none_passed, one_passed}
 use Rattle.fix_session.proofs.reader.Reader.pass.Goals as goal
 
 pub invariant_of-self : goal.invariant_of-self
 invariant_of-self c =
-    found_kept c.self.inside.framer c.find_due.new.framer c.self.inside.session c.find_due.new.due c.find_due.ensures.held c.find_due.ensures.found
+    found_kept c.self.inside.framer c.find_due.new.framer c.self.inside.session c.find_due.new.verdict c.find_due.new.due c.find_due.ensures.held c.find_due.ensures.found
 
 pub returns-in_default-clause-passed : goal.returns-in_default-clause-passed
 returns-in_default-clause-passed c =
-    rw (← c.self.view_is, c.find_due.ensures.held) (none_passed (state_of c.self.inside) (sym c.find_due.ensures.found ∙ c.in_default.is))
+    rw (← c.self.view_is, c.find_due.ensures.held) (none_passed (state_of c.self.inside) (sym c.find_due.ensures.found ∙ ap (option_map (judgement_with c.self.inside.session c.find_due.new.verdict)) c.in_default.is))
 
 pub returns-clause-passed : goal.returns-clause-passed
 returns-clause-passed c =
-    rw (← c.self.view_is)
-    (one_passed (state_of c.self.inside) c.find_due.new.framer c.pass.new.self (c.in-Some.field-0-0, c.in-Some.after) c.pass.result
-    c.find_due.ensures.held (sym c.find_due.ensures.found ∙ c.in-Some.is) c.pass.ensures.stands c.pass.ensures.passed)
+    let s = c.self.inside.session in
+    let v = c.find_due.new.verdict in
+    rw (← c.self.view_is, c.change.ensures)
+    (one_passed (state_of c.self.inside) c.find_due.new.framer c.pass.new.self (judgement_with s v c.in-Some.change) c.pass.result
+    c.find_due.ensures.held (sym c.find_due.ensures.found ∙ ap (option_map (judgement_with s v)) c.in-Some.is) c.pass.ensures.stands c.pass.ensures.passed)
