@@ -13,6 +13,7 @@ ghost use Rattle.spread_rules.specs.Meaning.{has_id};
 ghost use Rattle.spread_match.specs.code.StateAfter.{status_after_fill, statuses_after, AreInOrder};
 
 use host_base::{Id, IdKey, NoMemory};
+use row_index::Hints;
 use spread_rules::codes::ord_status;
 use spread_rules::{Fill, OrderStatus};
 use std::alloc::Allocator;
@@ -23,6 +24,8 @@ use std::marker::Model;
 #[derive(Drop)]
 pub struct Statuses<A: Allocator + Copy> {
     rows: Vec<OrderStatus, A>,
+    /// Where the row of a place may be. Each is tested where it is used.
+    hints: Hints<A>,
     /// Of each session and id, where its earliest status stands.
     first: BTreeMap<IdKey, usize, A>,
 }
@@ -100,14 +103,39 @@ fn first_possible(statuses: &[OrderStatus], place: u64) -> usize
     }
 }
 
+/// The row that the hint of that place names, where it has the place.
+fn hinted_row<A: Allocator + Copy>(
+    statuses: &[OrderStatus],
+    hints: &Hints<A>,
+    place: u64,
+) -> Option<usize>
+    ensures within { IfSome result (λ i. i < length statuses.now) }
+    ensures at { (d : OrderStatus)
+        → IfSome result (λ i. (slice_index_or statuses.now i d).place ≡ place) }
+{
+    let at = hints.guess(place)?;
+    if at < statuses.len() && statuses[at].place == place {
+        Some(at)
+    } else {
+        None
+    }
+}
+
 /// Where the status of that place stands.
-fn place_in(statuses: &[OrderStatus], place: u64) -> Option<usize>
+fn place_in<A: Allocator + Copy>(
+    statuses: &[OrderStatus],
+    hints: &Hints<A>,
+    place: u64,
+) -> Option<usize>
     requires { AreInOrder statuses.now }
     ensures within { IfSome result (λ i. i < length statuses.now) }
     ensures at { (d : OrderStatus)
         → IfSome result (λ i. (slice_index_or statuses.now i d).place ≡ place) }
     ensures none { IfNone result (All (λ s. s.place ≢ place) statuses.now) }
 {
+    if let Some(at) = hinted_row(statuses, hints, place) {
+        return Some(at);
+    }
     let from = first_possible(statuses, place);
     match statuses[from..].binary_search_by_key(&place, |status| status.place) {
         Ok(at) => Some(from + at),
@@ -116,14 +144,18 @@ fn place_in(statuses: &[OrderStatus], place: u64) -> Option<usize>
 }
 
 /// An order whose fill leaves nothing is filled.
-fn mark_filled<A: Allocator + Copy>(statuses: &mut Vec<OrderStatus, A>, fill: &Fill)
+fn mark_filled<A: Allocator + Copy>(
+    statuses: &mut Vec<OrderStatus, A>,
+    hints: &Hints<A>,
+    fill: &Fill,
+)
     requires { AreInOrder statuses.old.items }
     ensures { statuses.new.items ≡ map (status_after_fill fill.now) statuses.old.items }
 {
     if fill.leaves > 0 {
         return;
     }
-    if let Some(at) = place_in(statuses, fill.order) {
+    if let Some(at) = place_in(statuses, hints, fill.order) {
         statuses[at].status = ord_status::FILLED;
     }
 }
@@ -135,6 +167,7 @@ impl<A: Allocator + Copy> Statuses<A> {
     {
         Statuses {
             rows: Vec::new(alloc),
+            hints: Hints::new(alloc),
             first: BTreeMap::new(alloc),
         }
     }
@@ -160,6 +193,7 @@ impl<A: Allocator + Copy> Statuses<A> {
         self.rows.reserve(1)?;
         let key = IdKey::new(status.session, &status.id);
         let used = note_first(&mut self.first, key, self.rows.len())?;
+        self.hints.note(status.place, self.rows.len());
         self.rows.push_reserved(if_refused(status, used));
         Ok(used)
     }
@@ -169,7 +203,7 @@ impl<A: Allocator + Copy> Statuses<A> {
         ensures { self.new ≡ statuses_after fills.now self.old }
     {
         for fill in fills {
-            mark_filled(&mut self.rows, fill);
+            mark_filled(&mut self.rows, &self.hints, fill);
         }
     }
 }

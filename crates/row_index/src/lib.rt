@@ -1,0 +1,6 @@
+//! Where rows stand: guesses by place. Nothing here knows of orders.
+#![tactic(auto)]
+
+mod hints;
+
+pub use hints::Hints;
