@@ -63,10 +63,18 @@ impl IdKey {
         }
     }
 
-    /// The 32 bytes that hold the id, eight in each number: for who spreads keys over places.
-    pub fn words(&self) -> [u64; 4]
-        ensures { result ≡ self.now.first ∷ self.now.second ∷ self.now.third ∷ self.now.fourth ∷ [] }
+    /// The session, and the 32 bytes that hold the id, eight in each number: for who spreads keys over places.
+    pub fn words(&self) -> [u64; 5]
+        ensures { result
+            ≡ self.now.session ∷ self.now.first ∷ self.now.second ∷ self.now.third
+            ∷ self.now.fourth ∷ [] }
     {
-        [self.first, self.second, self.third, self.fourth]
+        [
+            u64::from(self.session),
+            self.first,
+            self.second,
+            self.third,
+            self.fourth,
+        ]
     }
 }
