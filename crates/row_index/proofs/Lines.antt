@@ -5,7 +5,9 @@ use Rattle.std.specs.Option.{option_or}
 use Rattle.std.proofs.lemmas.Bool.Decides.{nat_tests}
 use Rattle.host_base.specs.declared.id_key.IdKey.{IdKey}
 use Rattle.row_index.specs.declared.id_table.TheConstants.{ROWS}
-use Rattle.row_index.specs.Ids.{is_key, first_row, tag_of, is_row_of, names_key, named_row, HasEnd, EndsAt, NamesBelow}
+use Rattle.row_index.specs.Ids.{is_key, first_row}
+use Rattle.row_index.specs.Tables.{tag_of, is_row_of, names_key, named_row, HasEnd, NamesBelow}
+use Rattle.row_index.specs.code.Seeks.{EndsAt}
 use Rattle.row_index.proofs.Keys.{key_is, is_key_sym}
 
 -- ---- lists of keys that agree in their first rows

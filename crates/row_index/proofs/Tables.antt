@@ -9,7 +9,9 @@ use Rattle.std.proofs.lemmas.Option.{get_or_from_slice_get, slice_get_within}
 use Rattle.host_base.specs.declared.id_key.IdKey.{IdKey}
 use Rattle.row_index.specs.declared.id_table.Line.{Line}
 use Rattle.row_index.specs.declared.id_table.TheConstants.{ROWS}
-use Rattle.row_index.specs.Ids.{is_key, first_row, tag_of, line_of, names_key, named_row, HasEnd, EndsAt, numbers_of, line_for, with_number, NamesBelow, AreOfRows}
+use Rattle.row_index.specs.Ids.{is_key, first_row}
+use Rattle.row_index.specs.Tables.{tag_of, line_of, names_key, named_row, HasEnd, numbers_of, line_for, NamesBelow, AreOfRows}
+use Rattle.row_index.specs.code.Seeks.{EndsAt, with_number}
 use Rattle.row_index.proofs.Keys.{key_is, is_key_sym}
 use Rattle.row_index.proofs.Lines.{agree_more, agree_take, named_same, named_with, names_new, last_row, first_row_more, end_after, zero_was, ends_with_zero, full_has_no_zero, zeros_below, zeros_end, zeros_name_none}
 

@@ -4,7 +4,9 @@ ghost use Rattle.std.specs.BTreeMap.{get};
 ghost use Rattle.std.specs.Option.{option_or};
 ghost use Rattle.host_base.specs.declared.id_key.IdKey.{IdKey};
 ghost use Rattle.host_base.specs.IdKeys.{id_key_cmp};
-ghost use Rattle.row_index.specs.Ids.{is_key, first_row, line_of, line_for, tag_of, is_row_of, names_key, named_row, HasEnd, IsSeek, with_number, AreOfRows};
+ghost use Rattle.row_index.specs.Ids.{is_key, first_row};
+ghost use Rattle.row_index.specs.Tables.{line_of, line_for, tag_of, is_row_of, names_key, named_row, HasEnd, IsTableOf};
+ghost use Rattle.row_index.specs.code.Seeks.{IsSeek, with_number};
 
 use crate::rows::IdRows;
 use crate::spot::{Spot, spot_of};
@@ -129,7 +131,7 @@ fn note_first<A: Allocator + Copy>(
 impl<A: Allocator + Copy> IdTable<A> {
     /// A table of no rows. Takes no memory yet.
     pub fn new(alloc: A) -> Self
-        ensures { AreOfRows result.lines.items (get id_key_cmp result.behind) [] }
+        ensures { IsTableOf result [] }
     {
         IdTable {
             lines: Vec::new(alloc),
@@ -157,8 +159,7 @@ impl<A: Allocator + Copy> IdTable<A> {
     /// The first row of that key, of those that the table was told of.
     #[inline(always)]
     pub fn find<R: IdRows>(&self, rows: &R, key: &IdKey) -> Option<usize>
-        requires { AreOfRows self.now.lines.items (get id_key_cmp self.now.behind)
-            (R.keys rows.now) }
+        requires { IsTableOf self.now (R.keys rows.now) }
         ensures { result ≡ first_row key.now (R.keys rows.now) }
     {
         match self.seek(spot_of(self.lines.len(), key), rows, key) {
@@ -191,14 +192,11 @@ impl<A: Allocator + Copy> IdTable<A> {
     /// Notes that the row has that key, where none of the rows before it has. Answers whether one has.
     fn note_row<R: IdRows>(&mut self, rows: &R, row: usize, key: &IdKey) -> Result<bool, NoMemory>
         requires row { row ≤ length (R.keys rows.now) }
-        requires table { AreOfRows self.old.lines.items (get id_key_cmp self.old.behind)
-            (take row (R.keys rows.now)) }
+        requires table { IsTableOf self.old (take row (R.keys rows.now)) }
         ensures used { IfOk result (λ used.
             used ≡ is_some (first_row key.now (take row (R.keys rows.now)))) }
-        ensures ok { OnOk result (AreOfRows self.new.lines.items (get id_key_cmp self.new.behind)
-            (take row (R.keys rows.now) ++ key.now ∷ [])) }
-        ensures err { OnErr result (AreOfRows self.new.lines.items
-            (get id_key_cmp self.new.behind) (take row (R.keys rows.now))) }
+        ensures ok { OnOk result (IsTableOf self.new (take row (R.keys rows.now) ++ key.now ∷ [])) }
+        ensures err { OnErr result (IsTableOf self.new (take row (R.keys rows.now))) }
     {
         let spot = spot_of(self.lines.len(), key);
         match self.seek(spot, rows, key) {
@@ -217,8 +215,7 @@ impl<A: Allocator + Copy> IdTable<A> {
 
     /// A table of those rows, in so many lines.
     fn of_rows<R: IdRows>(alloc: A, rows: &R, lines: usize) -> Result<Self, NoMemory>
-        ensures { IfOk result (λ table. AreOfRows table.lines.items (get id_key_cmp table.behind)
-            (R.keys rows.now)) }
+        ensures { IfOk result (λ table. IsTableOf table (R.keys rows.now)) }
     {
         let mut table = IdTable::with_lines(alloc, lines)?;
         for row in 0..rows.len() {
@@ -231,8 +228,7 @@ impl<A: Allocator + Copy> IdTable<A> {
 
     /// A table of no rows, in so many lines.
     fn with_lines(alloc: A, lines: usize) -> Result<Self, NoMemory>
-        ensures { IfOk result (λ table. AreOfRows table.lines.items (get id_key_cmp table.behind)
-            []) }
+        ensures { IfOk result (λ table. IsTableOf table []) }
     {
         let mut empty = Vec::new(alloc);
         empty.resize(
@@ -250,10 +246,8 @@ impl<A: Allocator + Copy> IdTable<A> {
 
     /// More lines, where they are crowded.
     fn make_room<R: IdRows>(&mut self, rows: &R) -> Result<(), NoMemory>
-        requires { AreOfRows self.old.lines.items (get id_key_cmp self.old.behind)
-            (R.keys rows.now) }
-        ensures { AreOfRows self.new.lines.items (get id_key_cmp self.new.behind)
-            (R.keys rows.now) }
+        requires { IsTableOf self.old (R.keys rows.now) }
+        ensures { IsTableOf self.new (R.keys rows.now) }
     {
         let count = self.lines.len();
         if self.standing >= count.saturating_mul(CROWD) {
@@ -266,14 +260,11 @@ impl<A: Allocator + Copy> IdTable<A> {
     /// Notes that the row behind all others, which is about to come, has that key. Answers whether one of the others has
     /// it already. All growth comes before the change, so after NoMemory look-ups answer as before.
     pub fn note<R: IdRows>(&mut self, rows: &R, key: &IdKey) -> Result<bool, NoMemory>
-        requires { AreOfRows self.old.lines.items (get id_key_cmp self.old.behind)
-            (R.keys rows.now) }
+        requires { IsTableOf self.old (R.keys rows.now) }
         ensures used { IfOk result (λ used.
             used ≡ is_some (first_row key.now (R.keys rows.now))) }
-        ensures ok { OnOk result (AreOfRows self.new.lines.items (get id_key_cmp self.new.behind)
-            (R.keys rows.now ++ key.now ∷ [])) }
-        ensures err { OnErr result (AreOfRows self.new.lines.items
-            (get id_key_cmp self.new.behind) (R.keys rows.now)) }
+        ensures ok { OnOk result (IsTableOf self.new (R.keys rows.now ++ key.now ∷ [])) }
+        ensures err { OnErr result (IsTableOf self.new (R.keys rows.now)) }
     {
         self.make_room(rows)?;
         self.note_row(rows, rows.len(), key)

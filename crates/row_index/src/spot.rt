@@ -1,12 +1,12 @@
 //! Where a session and an id belong in a table of lines.
 ghost use Rattle.std.specs.Prelude.{◌≡◌, ◌<◌, ◌≤◌};
-ghost use Rattle.row_index.specs.Ids.{hash_of, line_of, tag_of};
+ghost use Rattle.row_index.specs.Tables.{hash_of, line_of, tag_of};
 
 use host_base::IdKey;
 
 /// The bits of a key, spread so that keys that differ little differ in many bits. Who chooses ids can choose them so that
 /// their bits are the same: nothing rests on it but speed.
-#[tactic(auto, unfolding(crate::specs::Ids::hash_of))]
+#[tactic(auto, unfolding(crate::specs::Tables::hash_of))]
 fn hash(key: &IdKey) -> u64
     ensures { result ≡ hash_of key.now }
 {

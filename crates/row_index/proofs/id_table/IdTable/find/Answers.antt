@@ -1,7 +1,8 @@
 use Rattle.std.proofs.Common.{subst, arith}
 use Rattle.std.specs.BTreeMap.{get}
 use Rattle.host_base.specs.IdKeys.{id_key_cmp}
-use Rattle.row_index.specs.Ids.{IsSeek, named_row, line_for}
+use Rattle.row_index.specs.Tables.{named_row, line_for}
+use Rattle.row_index.specs.code.Seeks.{IsSeek}
 use Rattle.row_index.proofs.Tables.{open_is_none}
 use Rattle.row_index.proofs.id_table.IdTable.find.Goals as goal
 

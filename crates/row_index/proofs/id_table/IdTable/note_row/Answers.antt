@@ -6,7 +6,9 @@ use Rattle.row_index.specs.declared.id_table.Line.{Line}
 use Rattle.std.proofs.lemmas.List.{length-take-le}
 use Rattle.host_base.specs.declared.id_key.IdKey.{IdKey}
 use Rattle.host_base.specs.IdKeys.{id_key_cmp}
-use Rattle.row_index.specs.Ids.{AreOfRows, IsSeek, first_row, is_key, named_row, line_for, line_of, with_number}
+use Rattle.row_index.specs.Ids.{first_row, is_key}
+use Rattle.row_index.specs.Tables.{AreOfRows, named_row, line_for, line_of}
+use Rattle.row_index.specs.code.Seeks.{IsSeek, with_number}
 use Rattle.row_index.proofs.Tables.{line_same, found_is_first, behind_is_first, open_is_none, noted_used, noted_open, noted_behind, on_ok, if_used}
 use Rattle.row_index.proofs.id_table.IdTable.note_row.Goals as goal
 

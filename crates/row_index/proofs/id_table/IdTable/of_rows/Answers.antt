@@ -2,7 +2,7 @@ use Rattle.std.proofs.Common.{◌+◌, take, subst, sym, ◌∙◌, arith}
 use Rattle.std.specs.BTreeMap.{get}
 use Rattle.host_base.specs.IdKeys.{id_key_cmp}
 use Rattle.row_index.specs.declared.id_table.IdTable.{IdTable}
-use Rattle.row_index.specs.Ids.{AreOfRows}
+use Rattle.row_index.specs.Tables.{AreOfRows}
 use Rattle.row_index.proofs.Tables.{take_next, has_row}
 use Rattle.row_index.proofs.id_table.IdTable.of_rows.Goals.{in-Some+in_ok-note_row, in_default}
 use Rattle.row_index.proofs.id_table.IdTable.of_rows.Goals as goal

@@ -1,7 +1,7 @@
 use Rattle.std.proofs.Common.{take}
 use Rattle.std.specs.BTreeMap.{get}
 use Rattle.host_base.specs.IdKeys.{id_key_cmp}
-use Rattle.row_index.specs.Ids.{AreOfRows}
+use Rattle.row_index.specs.Tables.{AreOfRows}
 use Rattle.row_index.proofs.id_table.IdTable.of_rows.Given as goal
 
 abbrev pub invariant-loop-row : goal.invariant-loop-row
