@@ -29,7 +29,7 @@ exact_id_key a b e =
     ∙ (ap (λ (n : ℕ). record { session = b.session; first = b.first; second = b.second; third = b.third; fourth = n; size = a.size }) (exact_unsigned a.fourth b.fourth t.0)
     ∙ ap (λ (n : ℕ). record { session = b.session; first = b.first; second = b.second; third = b.third; fourth = b.fourth; size = n }) (exact_unsigned a.size b.size t.1)))))
 
-equal_is : (o : Ordering) → is_eq o ≡ true → o ≡ Equal
+pub equal_is : (o : Ordering) → is_eq o ≡ true → o ≡ Equal
 equal_is Equal e = refl
 equal_is Less e = cc
 equal_is Greater e = cc
@@ -37,7 +37,7 @@ equal_is Greater e = cc
 nat_self : (n : ℕ) → nat_cmp n n ≡ Equal
 nat_self n = grind (arith, nat_tests)
 
-key_self : (k : IdKey) → id_key_cmp k k ≡ Equal
+pub key_self : (k : IdKey) → id_key_cmp k k ≡ Equal
 key_self k =
     ap (λ (o : Ordering). ordering_then o (ordering_then (nat_cmp k.first k.first) (ordering_then (nat_cmp k.second k.second) (ordering_then (nat_cmp k.third k.third) (ordering_then (nat_cmp k.fourth k.fourth) (nat_cmp k.size k.size)))))) (nat_self k.session)
     ∙ (ap (λ (o : Ordering). ordering_then o (ordering_then (nat_cmp k.second k.second) (ordering_then (nat_cmp k.third k.third) (ordering_then (nat_cmp k.fourth k.fourth) (nat_cmp k.size k.size))))) (nat_self k.first)
