@@ -21,7 +21,7 @@ use Rattle.spread_rules.proofs.ranks.PlainIsLeast.{ranks}
 use Rattle.spread_rules.proofs.clearings.BoughtIsSold.{on_price}
 use Rattle.spread_match.specs.Trade.{IsNearBeforeFar, IsNearFirst}
 use Rattle.spread_match.specs.declared.best.PairCost.{PairCost}
-use Rattle.spread_match.specs.code.Best.{Beats, CoversTwo, CoversBelow, spread_of, spread_side, cost_of_pair, IsPair, HasFronts, CostsOfFronts, cheaper_of, IsNoCheaper, IsCheapest}
+use Rattle.spread_match.specs.code.Best.{Beats, CoversTwo, CoversBelow, spread_of, spread_side, cost_of_pair, IsPair, HasFront, HasFronts, CostsOfFronts, cheaper_of, IsNoCheaper, IsCheapest}
 use Rattle.spread_match.proofs.fronts.PairCost.{within_cost, after_cost, pair_le}
 use Rattle.spread_match.proofs.fronts.BeatAnyPair.{front_best, pair_cost, on_again}
 use Rattle.spread_match.proofs.fronts.Suffice.{less_or_same}
@@ -273,21 +273,20 @@ level_small xs of side l small h =
     let f = front_of_level xs of side l h in
     subst (λ (k : Level). IsOrderPrice k.price) f.1.stands (All-contains HasOrderPrice xs f.0 small f.1.front.0.stands)
 
-pub levels_cost : (xs : List Order) (side : Side) (m k : ℕ) (a b : Level) → IsFrontLevel xs (spread_of m k) (spread_side side m k) (Some a) → IsFrontLevel xs (Outright k) (other_side side) (Some b) →
-    HasFronts xs side m k (cost (other_side (spread_side side m k)) a.price +ℤ cost (other_side (other_side side)) b.price)
-levels_cost xs side m k a b h i =
-    let f = front_of_level xs (spread_of m k) (spread_side side m k) a h in
-    let s = front_of_level xs (Outright k) (other_side side) b i in
-    let x : a.price ≡ f.0.price = ap (λ (l : Level). l.price) (sym f.1.stands) in
-    let y : b.price ≡ s.0.price = ap (λ (l : Level). l.price) (sym s.1.stands) in
-    record {
-      a = f.0;
-      b = s.0;
-      first = f.1.front;
-      second = s.1.front;
-      sum = ap (λ (v : ℤ). cost (other_side (spread_side side m k)) v +ℤ cost (other_side (other_side side)) b.price) x
-          ∙ ap (λ (v : ℤ). cost (other_side (spread_side side m k)) f.0.price +ℤ cost (other_side (other_side side)) v) y;
-    }
+-- where a front's level is known, what it costs is
+pub level_costs : (xs : List Order) (of : Instrument) (side : Side) (l : Level) (paid : ℤ) → IsFrontLevel xs of side (Some l) → paid ≡ cost (other_side side) l.price → HasFront xs of side paid
+level_costs xs of side l paid h e =
+    let f = front_of_level xs of side l h in
+    record { front = f.0; is = f.1.front; sum = e ∙ ap (λ (k : Level). cost (other_side side) k.price) (sym f.1.stands) }
+
+pub fronts_cost : (xs : List Order) (side : Side) (m k : ℕ) (c d : ℤ) → HasFront xs (spread_of m k) (spread_side side m k) c → HasFront xs (Outright k) (other_side side) d → HasFronts xs side m k (c +ℤ d)
+fronts_cost xs side m k c d f s = record {
+  a = f.front;
+  b = s.front;
+  first = f.is;
+  second = s.is;
+  sum = ap (λ (v : ℤ). v +ℤ d) f.sum ∙ ap (λ (v : ℤ). cost (other_side (spread_side side m k)) f.front.price +ℤ v) s.sum;
+}
 
 -- ---- prices as they are passed
 
@@ -298,7 +297,7 @@ leg_is z h =
     let fits : FitsSigned w64 z = omega (arith, ints) in
     to_z-of_z w64 z fits
 
-order_is : (z : ℤ) → IsOrderPrice z → to_z w64 (of_z w64 z) ≡ z
+pub order_is : (z : ℤ) → IsOrderPrice z → to_z w64 (of_z w64 z) ≡ z
 order_is z h =
     let low = h.low in
     let high = h.high in

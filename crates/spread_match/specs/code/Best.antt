@@ -88,6 +88,17 @@ pub record HasFronts (xs : List Order) (side : Side) (month other : ℕ) (cost :
   pub second : IsFront xs (Outright other) (other_side side) (Some b)
   pub sum : cost ≡ cost_of_pair side month other a b
 
+-- the front of a queue, and what it costs
+pub record HasFront (xs : List Order) (instrument : Instrument) (side : Side) (paid : ℤ) : Type 0 where
+  pub front : Order
+  pub is : IsFront xs instrument side (Some front)
+  pub sum : paid ≡ cost (other_side side) front.price
+
+-- what the front of a queue costs, and none where the queue is empty
+abbrev pub CostsOfFront : List Order → Instrument → Side → Option ℤ → Type 0
+CostsOfFront xs instrument side None = (o : Order) → Rests xs instrument side o → ⊥
+CostsOfFront xs instrument side (Some paid) = HasFront xs instrument side paid
+
 -- what the fronts of the two queues cost, and none where a queue is empty
 abbrev pub CostsOfFronts : List Order → Side → ℕ → ℕ → Option ℤ → Type 0
 CostsOfFronts xs side month other None = (a b : Order) → IsPair xs side month other a b → ⊥
