@@ -6,7 +6,7 @@ use Rattle.spread_rules.specs.declared.order.Instrument.{Instrument}
 use Rattle.spread_rules.specs.declared.order.Order.{Order}
 use Rattle.spread_rules.specs.declared.candidate.Counterparty.TheVariants.{Direct, Implied}
 use Rattle.spread_rules.specs.declared.candidate.Candidate.{Candidate}
-use Rattle.spread_rules.specs.Candidates.{Pairs, HasLegPrice, cost, is_before, IsEligible, month_of}
+use Rattle.spread_rules.specs.Candidates.{Pairs, HasLegPrice, cost, is_within_limit, is_before, IsEligible, month_of}
 use Rattle.spread_rules.specs.Quiet.{Rests}
 use Rattle.spread_rules.specs.Prices.{IsLegPrice}
 use Rattle.spread_rules.specs.Legs.{other_side}
@@ -17,6 +17,12 @@ use Rattle.spread_match.specs.declared.best.PairCost.{PairCost}
 -- the best so far is an eligible candidate
 abbrev pub IsFair : Pairs → Order → List Order → Option Candidate → Type 0
 IsFair trades_implied n xs best = IfSome best (IsEligible trades_implied n xs)
+
+-- the queue is empty, or its front stands beyond the order's limit
+abbrev pub IsBeyond : List Order → Instrument → Side → Order → Type 0
+IsBeyond xs instrument side n =
+    (front : Option Order) × IsFront xs instrument side front
+    × IfSome front (λ f. is_within_limit n.side n.price f.price ≡ false)
 
 -- there is a best one, and q doesn't rank before it
 abbrev pub Beats : Order → Option Candidate → Candidate → Type 0
