@@ -30,8 +30,8 @@ impl<A: Allocator + Copy> Hints<A> {
         Some(row as usize)
     }
 
-    /// The row of that place stands there. A guess that finds no memory is left out. Behind a gap that is longer than all
-    /// guesses together guesses begin anew, so that one place far away takes no more memory than all before it.
+    /// The row of that place stands there. A guess that finds no memory is left out. Behind a gap that is longer than
+    /// all guesses together they begin anew, so that one place far away takes no more memory than all before it.
     pub fn note(&mut self, place: u64, at: usize) {
         if self.rows.is_empty() {
             self.base = place;

@@ -14,8 +14,8 @@ use host_base::{IdKey, NoMemory};
 use std::alloc::Allocator;
 use std::collections::BTreeMap;
 
-/// So many rows can be named in lines. Where there are more, the others stand in the ordered table, and each look-up that
-/// finds nothing in its line asks that too.
+/// So many rows can be named in lines. Where there are more, the others stand in the ordered table, and each look-up
+/// that finds nothing in its line asks that too.
 pub const ROWS: usize = 1_048_576;
 
 /// How many numbers a line has.
@@ -27,8 +27,8 @@ const CROWD: usize = 8;
 /// How many times as many lines there are then.
 const GROWTH: usize = 4;
 
-/// A number for each row that is named in it, and 0 behind the last one. A number is a tag of twelve bits, never 0, and a
-/// row of twenty.
+/// A number for each row that is named in it, and 0 behind the last one. A number is a tag of twelve bits, never 0,
+/// and a row of twenty.
 #[derive(Clone, Copy)]
 pub struct Line {
     numbers: [u32; WIDTH],
@@ -257,8 +257,8 @@ impl<A: Allocator + Copy> IdTable<A> {
         Ok(())
     }
 
-    /// Notes that the row behind all others, which is about to come, has that key. Answers whether one of the others has
-    /// it already. All growth comes before the change, so after NoMemory look-ups answer as before.
+    /// Notes that the row behind all others, which is about to come, has that key. Answers whether one of the others
+    /// has it already. All growth comes before the change, so after NoMemory look-ups answer as before.
     pub fn note<R: IdRows>(&mut self, rows: &R, key: &IdKey) -> Result<bool, NoMemory>
         requires { IsTableOf self.old (R.keys rows.now) }
         ensures used { IfOk result (λ used.

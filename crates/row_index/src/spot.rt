@@ -4,8 +4,8 @@ ghost use Rattle.row_index.specs.Tables.{hash_of, line_of, tag_of};
 
 use host_base::IdKey;
 
-/// The bits of a key, spread so that keys that differ little differ in many bits. Who chooses ids can choose them so that
-/// their bits are the same: nothing rests on it but speed.
+/// The bits of a key, spread so that keys that differ little differ in many bits. Who chooses ids can choose them so
+/// that their bits are the same: nothing rests on it but speed.
 #[tactic(auto, unfolding(crate::specs::Tables::hash_of))]
 fn hash(key: &IdKey) -> u64
     ensures { result ≡ hash_of key.now }

@@ -95,7 +95,8 @@ pub record HasFronts (xs : List Order) (side : Side) (month other : ℕ) (cost :
   pub sum : cost ≡ cost_of_pair side month other a b
 
 -- the front of a queue, and what it costs
-pub record HasFront (xs : List Order) (instrument : Instrument) (side : Side) (paid : ℤ) : Type 0 where
+pub record HasFront
+    (xs : List Order) (instrument : Instrument) (side : Side) (paid : ℤ) : Type 0 where
   pub front : Order
   pub is : IsFront xs instrument side (Some front)
   pub sum : paid ≡ cost (other_side side) front.price
