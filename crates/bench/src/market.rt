@@ -1,5 +1,5 @@
 //! Matching, and what the sessions are sent.
-ghost use Rattle.std.specs.Prelude.{All};
+ghost use Rattle.std.specs.Prelude.{◌<◌, ◌≤◌, All};
 ghost use Rattle.spread_rules.specs.Journal.{FitsEntry};
 
 use crate::fault::Fault;
@@ -15,25 +15,6 @@ use std::time::CpuClock;
 
 fn rulebook_of(text: &[u8]) -> Result<Rulebook, Fault> {
     Rulebook::read(text).map_err(|_| Fault::Input)
-}
-
-/// Applies the entries of a journal, the fills of each in place of those before: tells how many there were.
-fn match_all<A: Allocator + Copy>(
-    alloc: A,
-    rulebook: &Rulebook,
-    journal: &[Entry],
-) -> Result<u64, Fault>
-    requires { All FitsEntry journal.now }
-{
-    let mut market = Market::new(alloc, rulebook, IndexBook::new(alloc));
-    let mut fills = Vec::new(alloc);
-    let mut count = 0u64;
-    for n in 0..journal.len() {
-        fills.clear();
-        market.apply(n as u64 + 1, &journal[n], &mut fills)?;
-        count = count.wrapping_add(fills.len() as u64);
-    }
-    Ok(count)
 }
 
 /// Applies the entries of a journal, and keeps what came of them.
@@ -54,7 +35,26 @@ fn apply_all<A: Allocator + Copy>(
     Ok(Applied { fills, outcomes })
 }
 
-/// Applies the entries of a journal.
+/// Applies the entries of a journal, each one's fills over those of the one before, and counts the fills.
+fn match_all<A: Allocator + Copy>(
+    alloc: A,
+    rulebook: &Rulebook,
+    journal: &[Entry],
+) -> Result<u64, Fault>
+    requires { All FitsEntry journal.now }
+{
+    let mut market = Market::new(alloc, rulebook, IndexBook::new(alloc));
+    let mut fills = Vec::new(alloc);
+    let mut count = 0u64;
+    for n in 0..journal.len() {
+        fills.clear();
+        market.apply(n as u64 + 1, &journal[n], &mut fills)?;
+        count = count.wrapping_add(fills.len() as u64);
+    }
+    Ok(count)
+}
+
+/// Applies the entries of a journal, and keeps neither fills nor outcomes.
 pub fn time_match(
     rt: &(impl CpuClock + Print + AllocGlobal),
     rules: &[u8],
@@ -62,10 +62,14 @@ pub fn time_match(
 ) -> Result<(), Fault> {
     let rulebook = rulebook_of(rules)?;
     let journal = read_journal(rt.alloc(), text)?;
-    let start = nanos(rt)?;
-    let fills = match_all(rt.alloc(), &rulebook, &journal)?;
-    let used = nanos(rt)?.saturating_sub(start);
-    tell(rt, "match", journal.len() as u64, "entries", used)?;
+    let mut fills = 0;
+    let mut least = u64::MAX;
+    for _ in 0..RUNS {
+        let start = nanos(rt)?;
+        fills = match_all(rt.alloc(), &rulebook, &journal)?;
+        least = least.min(nanos(rt)?.saturating_sub(start));
+    }
+    tell(rt, "match", journal.len() as u64, "entries", least)?;
     println!(rt; "# {} fills", fills)?;
     Ok(())
 }

@@ -1,5 +1,5 @@
 //! A session and an id as one key of an ordered table.
-ghost use Rattle.std.specs.Prelude.{◌≡◌, ℕ, ◌+◌, ◌-◌, ◌≤◌, ◌++◌, ◌<◌, length, get_or, take, drop, replicate};
+ghost use Rattle.std.specs.Prelude.{◌≡◌, ℕ, ◌+◌, ◌-◌, ◌≤◌, ◌++◌, ◌∷◌, [], ◌<◌, length, get_or, take, drop, replicate};
 ghost use Rattle.std.specs.Int.{w64, from_be_bytes};
 ghost use Rattle.host_base.specs.IdKeys.{key_of, IsIdBytes};
 
@@ -61,5 +61,20 @@ impl IdKey {
             fourth: word(bytes, 24),
             size: text.len() as u8,
         }
+    }
+
+    /// The session, and the 32 bytes that hold the id, eight in each number: for who spreads keys over places.
+    pub fn words(&self) -> [u64; 5]
+        ensures { result
+            ≡ self.now.session ∷ self.now.first ∷ self.now.second ∷ self.now.third
+            ∷ self.now.fourth ∷ [] }
+    {
+        [
+            u64::from(self.session),
+            self.first,
+            self.second,
+            self.third,
+            self.fourth,
+        ]
     }
 }

@@ -2,3 +2,4 @@ pub mod PairCost
 pub mod BeatAnyPair
 pub mod Levels
 pub mod Suffice
+pub mod MonthPairs

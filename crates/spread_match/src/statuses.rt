@@ -4,34 +4,30 @@ ghost use Rattle.spread_rules.specs.declared.codes.ord_status.TheConstants.{REJE
 ghost use Rattle.spread_rules.specs.declared.outcome.OrderStatus.{OrderStatus};
 ghost use Rattle.std.specs.Prelude.{ℕ, cond, is_some, Some, None, IfOk};
 ghost use Rattle.std.specs.List.{find};
-ghost use Rattle.std.specs.Option.{option_or};
-ghost use Rattle.std.specs.Ordering.{is_eq};
-ghost use Rattle.std.specs.BTreeMap.{get};
-ghost use Rattle.host_base.specs.declared.id_key.IdKey.{IdKey};
-ghost use Rattle.host_base.specs.IdKeys.{id_key_cmp};
 ghost use Rattle.spread_rules.specs.Meaning.{has_id};
+ghost use Rattle.spread_match.specs.code.Statuses.{key_of_status};
 ghost use Rattle.spread_match.specs.code.StateAfter.{status_after_fill, statuses_after, AreInOrder};
 
 use host_base::{Id, IdKey, NoMemory};
+use row_index::{Hints, IdRows, IdTable};
 use spread_rules::codes::ord_status;
 use spread_rules::{Fill, OrderStatus};
 use std::alloc::Allocator;
-use std::collections::BTreeMap;
 use std::marker::Model;
 
 /// The status of each New entry so far, in order of place.
 #[derive(Drop)]
 pub struct Statuses<A: Allocator + Copy> {
     rows: Vec<OrderStatus, A>,
+    /// Where the row of a place may be. Each is tested where it is used.
+    hints: Hints<A>,
     /// Of each session and id, where its earliest status stands.
-    first: BTreeMap<IdKey, usize, A>,
+    first: IdTable<A>,
 }
 
 impl<A: Allocator + Copy> Model for Statuses<A> {
     ghost use Rattle.std.specs.Prelude.{List};
     ghost use Rattle.spread_rules.specs.declared.outcome.OrderStatus.{OrderStatus};
-    ghost use Rattle.std.specs.BTreeMap.{get};
-    ghost use Rattle.host_base.specs.IdKeys.{id_key_cmp};
     ghost use Rattle.spread_match.specs.code.StateAfter.{AreInOrder};
     ghost use Rattle.spread_match.specs.code.Statuses.{IsIndex};
 
@@ -40,29 +36,26 @@ impl<A: Allocator + Copy> Model for Statuses<A> {
     ghost view = { λ m. m.rows.items };
 
     ghost invariant = { λ m.
-        AreInOrder m.rows.items × IsIndex (get id_key_cmp m.first) m.rows.items };
+        AreInOrder m.rows.items × IsIndex m.first m.rows.items };
 }
 
-/// Notes where a status stands, where its session and id have none yet. Answers whether they had one.
-fn note_first<A: Allocator + Copy>(
-    first: &mut BTreeMap<IdKey, usize, A>,
-    key: IdKey,
-    at: usize,
-) -> Result<bool, NoMemory>
-    ensures used { IfOk result (λ used. used ≡ is_some (get id_key_cmp first.old key)) }
-    ensures ok { OnOk result ((q : IdKey)
-        → get id_key_cmp first.new q
-        ≡ option_or (get id_key_cmp first.old q)
-        (cond (is_eq (id_key_cmp key q)) (Some at) None)) }
-    ensures err { OnErr result ((q : IdKey)
-        → get id_key_cmp first.new q ≡ get id_key_cmp first.old q) }
-{
-    if let Some(earlier) = first.insert(key, at)? {
-        // A key that the table has takes no memory.
-        first.insert(key, earlier)?;
-        return Ok(true);
+/// Statuses, to be looked up by session and id.
+#[derive(Clone, Copy)]
+struct StatusRows<'a> {
+    rows: &'a [OrderStatus],
+}
+
+impl<'a> IdRows for StatusRows<'a> {
+    ghost keys = { λ r. map key_of_status r.rows.now };
+
+    fn key_at(&self, row: usize) -> Option<IdKey> {
+        let status = self.rows.get(row)?;
+        Some(IdKey::new(status.session, &status.id))
     }
-    Ok(false)
+
+    fn len(&self) -> usize {
+        self.rows.len()
+    }
 }
 
 /// The status of an entry that is refused where its id was used.
@@ -100,14 +93,39 @@ fn first_possible(statuses: &[OrderStatus], place: u64) -> usize
     }
 }
 
+/// The row that the hint of that place names, where it has the place.
+fn hinted_row<A: Allocator + Copy>(
+    statuses: &[OrderStatus],
+    hints: &Hints<A>,
+    place: u64,
+) -> Option<usize>
+    ensures within { IfSome result (λ i. i < length statuses.now) }
+    ensures at { (d : OrderStatus)
+        → IfSome result (λ i. (slice_index_or statuses.now i d).place ≡ place) }
+{
+    let at = hints.guess(place)?;
+    if at < statuses.len() && statuses[at].place == place {
+        Some(at)
+    } else {
+        None
+    }
+}
+
 /// Where the status of that place stands.
-fn place_in(statuses: &[OrderStatus], place: u64) -> Option<usize>
+fn place_in<A: Allocator + Copy>(
+    statuses: &[OrderStatus],
+    hints: &Hints<A>,
+    place: u64,
+) -> Option<usize>
     requires { AreInOrder statuses.now }
     ensures within { IfSome result (λ i. i < length statuses.now) }
     ensures at { (d : OrderStatus)
         → IfSome result (λ i. (slice_index_or statuses.now i d).place ≡ place) }
     ensures none { IfNone result (All (λ s. s.place ≢ place) statuses.now) }
 {
+    if let Some(at) = hinted_row(statuses, hints, place) {
+        return Some(at);
+    }
     let from = first_possible(statuses, place);
     match statuses[from..].binary_search_by_key(&place, |status| status.place) {
         Ok(at) => Some(from + at),
@@ -116,14 +134,18 @@ fn place_in(statuses: &[OrderStatus], place: u64) -> Option<usize>
 }
 
 /// An order whose fill leaves nothing is filled.
-fn mark_filled<A: Allocator + Copy>(statuses: &mut Vec<OrderStatus, A>, fill: &Fill)
+fn mark_filled<A: Allocator + Copy>(
+    statuses: &mut Vec<OrderStatus, A>,
+    hints: &Hints<A>,
+    fill: &Fill,
+)
     requires { AreInOrder statuses.old.items }
     ensures { statuses.new.items ≡ map (status_after_fill fill.now) statuses.old.items }
 {
     if fill.leaves > 0 {
         return;
     }
-    if let Some(at) = place_in(statuses, fill.order) {
+    if let Some(at) = place_in(statuses, hints, fill.order) {
         statuses[at].status = ord_status::FILLED;
     }
 }
@@ -135,7 +157,8 @@ impl<A: Allocator + Copy> Statuses<A> {
     {
         Statuses {
             rows: Vec::new(alloc),
-            first: BTreeMap::new(alloc),
+            hints: Hints::new(alloc),
+            first: IdTable::new(alloc),
         }
     }
 
@@ -143,8 +166,11 @@ impl<A: Allocator + Copy> Statuses<A> {
     pub fn find(&self, session: u8, id: &Id) -> Option<OrderStatus>
         ensures { result ≡ find (has_id session id.now) self.now }
     {
-        let at = self.first.get(&IdKey::new(session, id))?;
-        status_at(&self.rows, *at)
+        let rows = StatusRows { rows: &self.rows };
+        match self.first.find(&rows, &IdKey::new(session, id)) {
+            None => None,
+            Some(at) => status_at(&self.rows, at),
+        }
     }
 
     /// The status of one entry more, whose place is above all others. Where its session and id have one already, it is
@@ -159,7 +185,8 @@ impl<A: Allocator + Copy> Statuses<A> {
     {
         self.rows.reserve(1)?;
         let key = IdKey::new(status.session, &status.id);
-        let used = note_first(&mut self.first, key, self.rows.len())?;
+        let used = self.first.note(&StatusRows { rows: &self.rows }, &key)?;
+        self.hints.note(status.place, self.rows.len());
         self.rows.push_reserved(if_refused(status, used));
         Ok(used)
     }
@@ -169,7 +196,7 @@ impl<A: Allocator + Copy> Statuses<A> {
         ensures { self.new ≡ statuses_after fills.now self.old }
     {
         for fill in fills {
-            mark_filled(&mut self.rows, fill);
+            mark_filled(&mut self.rows, &self.hints, fill);
         }
     }
 }

@@ -23,7 +23,7 @@ was_on true r p h = refl
 was_on false None p h = cc
 was_on false (Some q) p h = cc
 
-on_again : (b : Bool) (r : Option ℤ) (q : ℤ) → b ≡ true → r ≡ Some q → offered_if b r ≡ Some q
+pub on_again : (b : Bool) (r : Option ℤ) (q : ℤ) → b ≡ true → r ≡ Some q → offered_if b r ≡ Some q
 on_again true None q h k = cc
 on_again true (Some x) q h k = k
 on_again false r q h k = cc

@@ -1,15 +1,17 @@
 -- How a status is found by its session and id.
 -- Words of the code alone.
-use Rattle.std.specs.Prelude.{◌≡◌, ℕ, ◌<◌, List, Option, Some, slice_get, option_and_then, length}
-use Rattle.std.specs.List.{find}
+use Rattle.std.specs.Prelude.{List, All, map}
 use Rattle.spread_rules.specs.declared.outcome.OrderStatus.{OrderStatus}
 use Rattle.host_base.specs.declared.id_key.IdKey.{IdKey}
 use Rattle.host_base.specs.IdKeys.{key_of, IsIdBytes}
-use Rattle.spread_rules.specs.Meaning.{has_id}
+use Rattle.row_index.specs.declared.id_table.IdTable.{IdTable}
+use Rattle.row_index.specs.Tables.{IsTableOf}
 
--- a session and an id are looked up to the first of their statuses
-pub record IsIndex (look : IdKey → Option ℕ) (rows : List OrderStatus) : Type 0 where
-  pub within : (k : IdKey) (i : ℕ) → look k ≡ Some i → i < length rows
-  pub finds :
-      (session : ℕ) (id : List ℕ) → IsIdBytes id
-      → option_and_then (slice_get rows) (look (key_of session id)) ≡ find (has_id session id) rows
+-- the session and the id of a status
+abbrev pub key_of_status : OrderStatus → IdKey
+key_of_status s = key_of s.session s.id
+
+-- the table tells of each session and id the first of their statuses
+pub record IsIndex {A : Type 0} (first : IdTable A) (rows : List OrderStatus) : Type 0 where
+  pub bytes : All (λ s. IsIdBytes s.id) rows
+  pub table : IsTableOf first (map key_of_status rows)

@@ -1,6 +1,4 @@
 use Rattle.std.proofs.Common.{◌≡◌, take}
-use Rattle.std.specs.BTreeMap.{get}
-use Rattle.host_base.specs.IdKeys.{id_key_cmp}
 use Rattle.spread_match.specs.code.StateAfter.{statuses_after, AreInOrder}
 use Rattle.spread_match.specs.code.Statuses.{IsIndex}
 use Rattle.spread_match.proofs.statuses.Statuses.mark_filled.Given as goal
@@ -10,5 +8,5 @@ invariant-loop-fill g l = record {
   statuses_after : l.self-inside.rows.items ≡ statuses_after (take l.fill-index l.fills) l.initial.self-inside.rows.items;
   in_order : AreInOrder l.self-inside.rows.items;
   index : l.self-inside.first ≡ l.initial.self-inside.first;
-  indexed : IsIndex (get id_key_cmp l.initial.self-inside.first) l.self-inside.rows.items;
+  indexed : IsIndex l.initial.self-inside.first l.self-inside.rows.items;
 }

@@ -1,0 +1,130 @@
+//! The table of ids: each that was noted is found at its first row, and no other one.
+ghost use Rattle.std.specs.Prelude.{◌≡◌, List, []};
+ghost use Rattle.row_index.specs.Tables.{IsTableOf};
+
+use host_base::{IdKey, NoMemory};
+use row_index::{Hints, IdRows, IdTable};
+use std::alloc::Allocator;
+use std::process::Abort;
+use std::test::Fail;
+use test_support::{Refusing, id};
+
+/// Rows that are no more than their session and id.
+#[derive(Clone, Copy)]
+struct Keys<'a> {
+    keys: &'a [IdKey],
+}
+
+impl<'a> IdRows for Keys<'a> {
+    ghost keys = { λ r. r.keys.now };
+
+    fn key_at(&self, row: usize) -> Option<IdKey> {
+        self.keys.get(row).copied()
+    }
+
+    fn len(&self) -> usize {
+        self.keys.len()
+    }
+}
+
+/// Another session or another id of four letters for each number below 262,144.
+fn numbered(n: usize) -> IdKey {
+    let letters = [
+        b'A' + (n / 4096 % 16) as u8,
+        b'A' + (n / 256 % 16) as u8,
+        b'A' + (n / 16 % 16) as u8,
+        b'A' + (n % 16) as u8,
+    ];
+    IdKey::new((n / 65_536 % 4) as u8, &id(&letters))
+}
+
+/// One row more. Answers whether one before it has its session and id.
+fn note_next<A: Allocator + Copy>(
+    table: &mut IdTable<A>,
+    keys: &mut Vec<IdKey, A>,
+    key: IdKey,
+) -> Result<bool, NoMemory>
+    requires { IsTableOf table.old keys.old.items }
+    ensures { IsTableOf table.new keys.new.items }
+{
+    keys.reserve(1)?;
+    let used = table.note(&Keys { keys }, &key)?;
+    keys.push_reserved(key);
+    Ok(used)
+}
+
+/// Where the first row of that number stands.
+fn row_of<A: Allocator + Copy>(table: &IdTable<A>, keys: &[IdKey], n: usize) -> Option<usize>
+    requires { IsTableOf table.now keys.now }
+{
+    table.find(&Keys { keys }, &numbered(n))
+}
+
+/// Rows of the numbers up to there, which stand at those rows then. A request for memory that is refused leaves all as it
+/// was.
+fn note_numbers<A: Allocator + Copy>(
+    rt: &impl Abort,
+    table: &mut IdTable<A>,
+    keys: &mut Vec<IdKey, A>,
+    count: usize,
+) -> Result<(), Fail>
+    requires { IsTableOf table.old keys.old.items }
+    ensures { IsTableOf table.new keys.new.items }
+{
+    for n in 0..count {
+        let used = match note_next(table, keys, numbered(n)) {
+            Ok(used) => used,
+            Err(NoMemory) => {
+                assert!(rt; row_of(table, keys, n).is_none());
+                assert!(rt; n == 0 || row_of(table, keys, n - 1) == Some(n - 1));
+                note_next(table, keys, numbered(n))?
+            }
+        };
+        assert!(rt; !used);
+    }
+    for n in 0..count {
+        assert!(rt; row_of(table, keys, n) == Some(n));
+    }
+    Ok(())
+}
+
+#[test]
+fn ids_are_found(rt: HostRuntime) -> Result<(), Fail> {
+    let mut table = IdTable::new(rt.alloc());
+    let mut keys = Vec::new(rt.alloc());
+    note_numbers(&rt, &mut table, &mut keys, 8_190)?;
+    assert!(rt; row_of(&table, &keys, 8_190).is_none());
+    assert!(rt; row_of(&table, &keys, 65_536).is_none());
+    assert!(rt; note_next(&mut table, &mut keys, numbered(17))?);
+    assert!(rt; row_of(&table, &keys, 17) == Some(17));
+    assert!(rt; !note_next(&mut table, &mut keys, numbered(65_553))?);
+    assert!(rt; row_of(&table, &keys, 65_553) == Some(8_191));
+    Ok(())
+}
+
+#[test]
+fn memory_is_refused(rt: HostRuntime) -> Result<(), Fail> {
+    for number in 1..16 {
+        let heap = Refusing::new(rt.alloc(), number);
+        let mut table = IdTable::new(&heap);
+        let mut keys = Vec::new(&heap);
+        note_numbers(&rt, &mut table, &mut keys, 200)?;
+    }
+    Ok(())
+}
+
+#[test]
+fn hints_are_guesses(rt: HostRuntime) -> Result<(), Fail> {
+    let mut hints = Hints::new(rt.alloc());
+    assert!(rt; hints.guess(5).is_none());
+    hints.note(5, 0);
+    hints.note(9, 1);
+    assert!(rt; hints.guess(5) == Some(0));
+    assert!(rt; hints.guess(9) == Some(1));
+    assert!(rt; hints.guess(4).is_none());
+    assert!(rt; hints.guess(10).is_none());
+    hints.note(1_000_000_000_000, 2);
+    assert!(rt; hints.guess(1_000_000_000_000) == Some(2));
+    assert!(rt; hints.guess(9).is_none());
+    Ok(())
+}

@@ -1,0 +1,3 @@
+pub mod Ids
+pub mod Tables
+pub mod code
