@@ -4,14 +4,18 @@
 mod book;
 mod first_from;
 mod front_table;
+mod hints;
 mod index;
 mod list;
 mod newest;
 mod own_key;
+mod place_rows;
 mod queue_key;
+mod row;
 mod tree;
 
 pub use book::Book;
+pub use hints::Hints;
 pub use index::IndexBook;
 pub use list::ListBook;
 pub use newest::NewestBook;
