@@ -3,11 +3,11 @@
 
 mod book;
 mod first_from;
+mod front_book;
 mod front_table;
 mod hints;
 mod index;
 mod list;
-mod newest;
 mod own_key;
 mod place_rows;
 mod queue_key;
@@ -15,8 +15,8 @@ mod row;
 mod tree;
 
 pub use book::Book;
+pub use front_book::FrontBook;
 pub use hints::Hints;
 pub use index::IndexBook;
 pub use list::ListBook;
-pub use newest::NewestBook;
 pub use tree::TreeBook;

@@ -56,6 +56,14 @@ impl<A: Allocator + Copy> TreeBook<A> {
         self.orders.count()
     }
 
+    /// The order of that place. Takes no memory.
+    pub(crate) fn order_at(&self, place: u64) -> Option<Order>
+        ensures value { result ≡ find (λ o. o.place == place) self.now }
+        ensures ordered { Ascends self.now }
+    {
+        self.orders.get(place)
+    }
+
     /// As `reduce`, and tells which order it was. Takes no memory.
     pub(crate) fn reduce_order(&mut self, place: u64, by: u32) -> Option<Order>
         requires { HasMore self.old place by }
@@ -91,7 +99,7 @@ impl<A: Allocator + Copy> Book for TreeBook<A> {
         if !key.is_in_queue_of(&start) {
             return None;
         }
-        self.orders.get(key.place())
+        self.order_at(key.place())
     }
 
     fn find(&self, session: u8, id: &Id) -> Option<Order> {
@@ -100,7 +108,7 @@ impl<A: Allocator + Copy> Book for TreeBook<A> {
         if !key.has_id_of(&start) {
             return None;
         }
-        self.orders.get(key.place())
+        self.order_at(key.place())
     }
 
     fn add(&mut self, order: Order) -> Result<(), NoMemory> {

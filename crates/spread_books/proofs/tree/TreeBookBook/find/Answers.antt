@@ -37,4 +37,4 @@ returns g c =
     let o = own.0 in
     let place = ap (λ (f : OwnKey). f.place) own.1 ∙ sym c.place.ensures in
     let found = subst (λ p. find (λ (q : Order). q.place == p) xs ≡ Some o) place (is_found xs o now.ordered own.2) in
-    c.get.ensures ∙ ap (λ (ys : List Order). find (λ (q : Order). q.place == c.place.result) ys) c.self.view_is ∙ found ∙ sym own.3
+    c.order_at.ensures.value ∙ found ∙ sym own.3

@@ -41,4 +41,4 @@ returns g c =
     let o = front.0 in
     let place = ap (λ (f : QueueKey). f.place) front.1 ∙ sym c.place.ensures in
     let found = subst (λ p. find (λ (q : Order). q.place == p) xs ≡ Some o) place (is_found xs o now.ordered front.2.0.stands) in
-    subst (λ (r : Option Order). IsFront xs c.args.instrument c.args.side r) (sym (c.get.ensures ∙ ap (λ (ys : List Order). find (λ (q : Order). q.place == c.place.result) ys) c.self.view_is ∙ found)) front.2
+    subst (λ (r : Option Order). IsFront xs c.args.instrument c.args.side r) (sym (c.order_at.ensures.value ∙ found)) front.2
