@@ -8,32 +8,32 @@ ghost use Rattle.spread_books.specs.code.Index.{Ascends};
 use crate::book::Book;
 use crate::first_from::first_from;
 use crate::own_key::OwnKey;
+use crate::place_rows::PlaceRows;
 use crate::queue_key::QueueKey;
 use host_base::{Id, NoMemory};
 use spread_rules::{Instrument, Order, Side};
 use std::alloc::Allocator;
-use std::collections::{BTreeMap, BTreeSet};
+use std::collections::BTreeSet;
 use std::marker::Model;
 
 /// Resting orders by place, and their keys by queue and by id.
 #[derive(Drop)]
 pub struct TreeBook<A: Allocator + Copy> {
-    orders: BTreeMap<u64, Order, A>,
+    orders: PlaceRows<A>,
     queues: BTreeSet<QueueKey, A>,
     ids: BTreeSet<OwnKey, A>,
 }
 
 impl<A: Allocator + Copy> Model for TreeBook<A> {
     ghost use Rattle.std.specs.Prelude.{List};
-    ghost use Rattle.std.specs.Map.{values_of};
     ghost use Rattle.spread_rules.specs.declared.order.Order.{Order};
     ghost use Rattle.spread_books.specs.code.Index.{IsIndex};
 
     ghost Value = { List Order };
 
-    ghost view = { λ b. values_of b.orders.entries };
+    ghost view = { λ b. b.orders };
 
-    ghost invariant = { λ b. IsIndex b.orders.entries b.queues b.ids };
+    ghost invariant = { λ b. IsIndex b.orders b.queues b.ids };
 }
 
 impl<A: Allocator + Copy> TreeBook<A> {
@@ -42,7 +42,7 @@ impl<A: Allocator + Copy> TreeBook<A> {
         ensures { result ≡ [] }
     {
         TreeBook {
-            orders: BTreeMap::new(alloc),
+            orders: PlaceRows::new(alloc),
             queues: BTreeSet::new(alloc),
             ids: BTreeSet::new(alloc),
         }
@@ -53,7 +53,15 @@ impl<A: Allocator + Copy> TreeBook<A> {
         ensures count { result ≡ length self.now }
         ensures small { result < 2 ^ 63 }
     {
-        self.orders.len()
+        self.orders.count()
+    }
+
+    /// The order of that place. Takes no memory.
+    pub(crate) fn order_at(&self, place: u64) -> Option<Order>
+        ensures value { result ≡ find (λ o. o.place == place) self.now }
+        ensures ordered { Ascends self.now }
+    {
+        self.orders.get(place)
     }
 
     /// As `reduce`, and tells which order it was. Takes no memory.
@@ -63,12 +71,7 @@ impl<A: Allocator + Copy> TreeBook<A> {
         ensures was { result ≡ find (λ o. o.place == place) self.old }
         ensures ordered { Ascends self.old }
     {
-        if let Some(order) = self.orders.get_mut(&place) {
-            let was = *order;
-            order.leaves -= by;
-            return Some(was);
-        }
-        None
+        self.orders.reduce(place, by)
     }
 
     /// As `remove`, and gives the order. Takes no memory.
@@ -78,7 +81,7 @@ impl<A: Allocator + Copy> TreeBook<A> {
         ensures was { result ≡ find (λ o. o.place == place) self.old }
         ensures ordered { Ascends self.old }
     {
-        if let Some(order) = self.orders.remove(&place) {
+        if let Some(order) = self.orders.remove(place) {
             self.queues.remove(&QueueKey::new(&order));
             self.ids.remove(&OwnKey::new(&order));
             return Some(order);
@@ -96,7 +99,7 @@ impl<A: Allocator + Copy> Book for TreeBook<A> {
         if !key.is_in_queue_of(&start) {
             return None;
         }
-        self.orders.get(&key.place()).copied()
+        self.order_at(key.place())
     }
 
     fn find(&self, session: u8, id: &Id) -> Option<Order> {
@@ -105,7 +108,7 @@ impl<A: Allocator + Copy> Book for TreeBook<A> {
         if !key.has_id_of(&start) {
             return None;
         }
-        self.orders.get(&key.place()).copied()
+        self.order_at(key.place())
     }
 
     fn add(&mut self, order: Order) -> Result<(), NoMemory> {
@@ -118,7 +121,7 @@ impl<A: Allocator + Copy> Book for TreeBook<A> {
             self.queues.remove(&queue);
             return Err(NoMemory);
         }
-        if self.orders.insert(order.place, order).is_err() {
+        if self.orders.push(order).is_err() {
             self.ids.remove(&own);
             self.queues.remove(&queue);
             return Err(NoMemory);
@@ -135,7 +138,7 @@ impl<A: Allocator + Copy> Book for TreeBook<A> {
     }
 
     fn walk(&self, n: usize) -> Option<Order> {
-        self.orders.values().nth(n).copied()
+        self.orders.nth(n)
     }
 
     fn len(&self) -> usize {

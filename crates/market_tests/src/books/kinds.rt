@@ -2,7 +2,7 @@
 use super::queues::{
     buyers, last_leaves, one_after_another, one_comes_behind, queues_apart, sellers,
 };
-use spread_books::{IndexBook, ListBook, NewestBook, TreeBook};
+use spread_books::{FrontBook, IndexBook, ListBook, TreeBook};
 use spread_rules::Instrument;
 use std::test::Fail;
 
@@ -33,14 +33,14 @@ fn tree_book(rt: HostRuntime) -> Result<(), Fail> {
 }
 
 #[test]
-fn newest_book(rt: HostRuntime) -> Result<(), Fail> {
-    sellers(&rt, &mut NewestBook::new(rt.alloc()))?;
-    buyers(&rt, &mut NewestBook::new(rt.alloc()))?;
-    queues_apart(&rt, &mut NewestBook::new(rt.alloc()))?;
-    one_after_another(&rt, &mut NewestBook::new(rt.alloc()))?;
+fn front_book(rt: HostRuntime) -> Result<(), Fail> {
+    sellers(&rt, &mut FrontBook::new(rt.alloc()))?;
+    buyers(&rt, &mut FrontBook::new(rt.alloc()))?;
+    queues_apart(&rt, &mut FrontBook::new(rt.alloc()))?;
+    one_after_another(&rt, &mut FrontBook::new(rt.alloc()))?;
     for queue in [Instrument::Outright(0), Instrument::Spread(1, 24)] {
-        last_leaves(&rt, &mut NewestBook::new(rt.alloc()), queue)?;
-        one_comes_behind(&rt, &mut NewestBook::new(rt.alloc()), queue)?;
+        last_leaves(&rt, &mut FrontBook::new(rt.alloc()), queue)?;
+        one_comes_behind(&rt, &mut FrontBook::new(rt.alloc()), queue)?;
     }
     Ok(())
 }

@@ -1,5 +1,5 @@
 -- what becomes of a front as orders come and go
-use Rattle.std.proofs.Common.{◌≡◌, ℕ, ◌==◌, true, false, List, [], ◌∷◌, ◌++◌, Contains, Option, Some, None, refl, sym, ap, ◌∙◌, subst, arith, inl, inr}
+use Rattle.std.proofs.Common.{◌≡◌, ℕ, ◌==◌, true, false, List, [], ◌∷◌, ◌++◌, Contains, Option, Some, None, option_map, refl, sym, ap, ◌∙◌, subst, arith, inl, inr}
 use Rattle.std.specs.Ordering.{is_lt}
 use Rattle.std.specs.declared.cmp.Ordering.{Ordering}
 use Rattle.std.specs.declared.cmp.Ordering.TheVariants.{Less, Equal, Greater}
@@ -9,11 +9,12 @@ use Rattle.std.proofs.lemmas.List.Elements.{Contains-append_left, Contains-push,
 use Rattle.spread_rules.specs.declared.order.Side.{Side}
 use Rattle.spread_rules.specs.declared.order.Instrument.{Instrument}
 use Rattle.spread_rules.specs.declared.order.Order.{Order}
+use Rattle.spread_rules.specs.declared.order.Level.{Level}
 use Rattle.spread_rules.specs.Candidates.{better_by}
 use Rattle.spread_rules.specs.Quiet.{Rests}
 use Rattle.spread_rules.specs.Clearing.{reduced, removed, with_less_left}
 use Rattle.spread_rules.proofs.lists.Membership.{in_head, in_map, from_map}
-use Rattle.spread_books.specs.Queues.{IsFront, is_in, is_ahead, queue_cmp}
+use Rattle.spread_books.specs.Queues.{IsFront, IsFrontLevel, is_in, is_ahead, queue_cmp}
 use Rattle.spread_books.specs.code.Index.{Ascends}
 use Rattle.spread_books.proofs.fronts.FoldGivesFront.{queue_total, in_queue, from_queue}
 use Rattle.spread_books.proofs.places.Ascending.{one_at_a_place}
@@ -100,6 +101,9 @@ pub front_of_no_queue : (xs : List Order) (o : Order) (j : Instrument) (t : Side
 front_of_no_queue xs o j t f other h =
     front_of_others xs o j t f (λ e. let k = in_queue (o ∷ []) j t o (record { stands = in_head o []; instrument_is = e.0; side_is = e.1 }) in cc) h
 
+pub level_of_no_queue : (xs : List Order) (o : Order) (j : Instrument) (t : Side) (l : Option Level) → is_in j t o ≡ false → IsFrontLevel xs j t l → IsFrontLevel (xs ++ o ∷ []) j t l
+level_of_no_queue xs o j t l other h = (h.0, front_of_no_queue xs o j t h.0 other h.1, h.2)
+
 -- ---- one order less, or less of it, where another is the front
 
 differs : (a b : ℕ) → (a ≡ b → ⊥) → (a == b) ≡ false
@@ -125,7 +129,7 @@ rested xs place by j t p r =
     )
 
 -- what is left of the front is the front
-pub front_less : (xs : List Order) (place by : ℕ) (j : Instrument) (t : Side) (f : Order) → IsFront xs j t (Some f) → IsFront (reduced place by xs) j t (Some (with_less_left place by f))
+front_less : (xs : List Order) (place by : ℕ) (j : Instrument) (t : Side) (f : Order) → IsFront xs j t (Some f) → IsFront (reduced place by xs) j t (Some (with_less_left place by f))
 front_less xs place by j t f h = (
   record {
     stands = in_map (with_less_left place by) xs f h.0.stands;
@@ -139,12 +143,9 @@ front_less xs place by j t f h = (
       ∙ less_left (λ (o : Order). is_ahead t m.0 o) (λ o n. refl) place by f ∙ h.1 m.0 m.1),
 )
 
-pub front_reduced : (xs : List Order) (place by : ℕ) (j : Instrument) (t : Side) (f : Option Order) → ((h : Order) → f ≡ Some h → h.place ≡ place → ⊥) → IsFront xs j t f → IsFront (reduced place by xs) j t f
-front_reduced xs place by j t None other h = λ p r. let m = rested xs place by j t p r in h m.0 m.1
-front_reduced xs place by j t (Some f) other h =
-    let d = differs f.place place (other f refl) in
-    let same : with_less_left place by f ≡ f = rw d in
-    subst (λ (q : Order). IsFront (reduced place by xs) j t (Some q)) same (front_less xs place by j t f h)
+pub any_front_less : (xs : List Order) (place by : ℕ) (j : Instrument) (t : Side) (f : Option Order) → IsFront xs j t f → IsFront (reduced place by xs) j t (option_map (with_less_left place by) f)
+any_front_less xs place by j t None h = λ p r. let m = rested xs place by j t p r in h m.0 m.1
+any_front_less xs place by j t (Some f) h = front_less xs place by j t f h
 
 -- the front of another queue is another order
 pub of_another : (xs : List Order) (o : Order) (j : Instrument) (t : Side) (f : Option Order) → Ascends xs → Contains xs o → ((o.instrument ≡ j) × (o.side ≡ t) → ⊥) → IsFront xs j t f → (h : Order) → f ≡ Some h → h.place ≡ o.place → ⊥

@@ -1,5 +1,5 @@
--- the table of fronts through the changes of a book
-use Rattle.std.proofs.Common.{◌≡◌, ℕ, zero, suc, ◌-◌, ◌<◌, ◌==◌, nat_lt, Bool, true, false, ◌&&◌, cond, List, [], ◌∷◌, ◌++◌, length, replicate, Contains, Option, Some, None, refl, sym, ap, ◌∙◌, subst, arith, inl, inr, ◌⊎◌, slice_set, slice_get}
+-- the table of best prices through the changes of a book
+use Rattle.std.proofs.Common.{◌≡◌, ℕ, zero, suc, ◌-◌, ◌<◌, ◌==◌, nat_lt, Bool, true, false, ◌&&◌, cond, List, [], ◌∷◌, ◌++◌, length, replicate, Contains, Option, Some, None, option_map, refl, sym, ap, ◌∙◌, subst, arith, inl, inr, ◌⊎◌, slice_set, slice_get}
 use Rattle.std.specs.List.{find}
 use Rattle.std.proofs.lemmas.Bool.Decides.{nat_tests}
 use Rattle.spread_rules.specs.declared.order.Side.{Side}
@@ -10,14 +10,16 @@ use Rattle.spread_rules.specs.declared.order.Order.{Order}
 use Rattle.spread_rules.specs.Candidates.{better_by, same_instrument}
 use Rattle.spread_rules.specs.Clearing.{reduced, removed, with_less_left}
 use Rattle.spread_rules.proofs.lists.Membership.{not_in_nil, in_head, in_tail, in_cons_cases}
-use Rattle.spread_books.specs.Queues.{IsFront, is_ahead}
+use Rattle.spread_books.specs.Queues.{IsFront, IsFrontLevel, is_ahead}
 use Rattle.spread_rules.specs.Legs.{is_side}
 use Rattle.spread_books.specs.code.Index.{Ascends}
-use Rattle.spread_books.specs.code.FrontTable.{has_slot, slot_number, slot_of, slot_in, put_in, known_front, with_known_front, HoldsFronts, may_be_at}
+use Rattle.spread_books.specs.code.FrontTable.{has_slot, slot_number, slot_of, slot_in, put_in, known_price, with_known_price, best_price_of, level_at, IsBestPrice, HoldsPrices, becomes_front, may_be_at}
+use Rattle.spread_books.specs.declared.front_table.BestPrice.{BestPrice}
 use Rattle.spread_books.proofs.fronts.FoldGivesFront.{same_instrument_is, same_instrument_itself, same_side_is, same_side_itself}
 use Rattle.spread_books.proofs.places.Ascending.{one_at_a_place}
-use Rattle.spread_books.proofs.keys.SetOfKeys.{is_so}
-use Rattle.spread_books.proofs.fronts.Changes.{front_of_others, front_of_own, front_removed, front_reduced, front_less, of_another}
+use Rattle.spread_books.proofs.keys.SetOfKeys.{is_so, less_left}
+use Rattle.spread_books.proofs.keys.TablesThroughChanges.{is_found}
+use Rattle.spread_books.proofs.fronts.Changes.{front_of_others, front_of_own, front_removed, any_front_less, of_another}
 
 -- ---- slots
 
@@ -75,11 +77,11 @@ get_set_other (z ∷ xs) zero (suc m) x h = refl
 get_set_other (z ∷ xs) (suc n) zero x h = refl
 get_set_other (z ∷ xs) (suc n) (suc m) x h = get_set_other xs n m x (λ e. h (ap suc e))
 
-put_same_at : (slots : List (Option Order)) (a : Option ℕ) (f r : Option Order) → slot_in (put_in slots a f) a ≡ Some r → r ≡ f
+put_same_at : (slots : List (Option BestPrice)) (a : Option ℕ) (f r : Option BestPrice) → slot_in (put_in slots a f) a ≡ Some r → r ≡ f
 put_same_at slots None f r h = cc
 put_same_at slots (Some n) f r h = get_set_same slots n f r h
 
-put_other_at : (slots : List (Option Order)) (a b : Option ℕ) (f : Option Order) → ((n : ℕ) → a ≡ Some n → b ≡ Some n → ⊥) → slot_in (put_in slots a f) b ≡ slot_in slots b
+put_other_at : (slots : List (Option BestPrice)) (a b : Option ℕ) (f : Option BestPrice) → ((n : ℕ) → a ≡ Some n → b ≡ Some n → ⊥) → slot_in (put_in slots a f) b ≡ slot_in slots b
 put_other_at slots None b f h = refl
 put_other_at slots (Some n) None f h = refl
 put_other_at slots (Some n) (Some m) f h = get_set_other slots n m f (λ e. h n refl (ap (λ (k : ℕ). Some k) (sym e)))
@@ -96,24 +98,24 @@ same_queue i j s t =
 
 -- ---- a table whose fronts are those of the others, and of one queue
 
-module _ (ys : List Order) (slots : List (Option Order)) (i : Instrument) (s : Side) (others : (j : Instrument) (t : Side) (f : Option Order) → ((i ≡ j) × (s ≡ t) → ⊥) → known_front slots j t ≡ Some f → IsFront ys j t f) where
-  pub fronts_put : (f : Option Order) → IsFront ys i s f → HoldsFronts ys (with_known_front slots i s f)
-  fronts_put f front j t r h =
+module _ (ys : List Order) (slots : List (Option BestPrice)) (i : Instrument) (s : Side) (others : (j : Instrument) (t : Side) (f : Option BestPrice) → ((i ≡ j) × (s ≡ t) → ⊥) → known_price slots j t ≡ Some f → IsBestPrice ys j t f) where
+  pub prices_put : (f : Option BestPrice) → IsBestPrice ys i s f → HoldsPrices ys (with_known_price slots i s f)
+  prices_put f front j t r h =
       elim (same_queue i j s t) [
         | inl e ↦
-            let at = λ (u : Instrument) (v : Side). IsFront ys u v r in
-            let own : known_front (with_known_front slots i s f) i s ≡ Some r = subst (λ (v : Side). known_front (with_known_front slots i s f) i v ≡ Some r) (sym e.1) (subst (λ (u : Instrument). known_front (with_known_front slots i s f) u t ≡ Some r) (sym e.0) h) in
+            let at = λ (u : Instrument) (v : Side). IsBestPrice ys u v r in
+            let own : known_price (with_known_price slots i s f) i s ≡ Some r = subst (λ (v : Side). known_price (with_known_price slots i s f) i v ≡ Some r) (sym e.1) (subst (λ (u : Instrument). known_price (with_known_price slots i s f) u t ≡ Some r) (sym e.0) h) in
             let k : r ≡ f = put_same_at slots (slot_of i s) f r own in
-            subst (λ (u : Instrument). IsFront ys u t r) e.0 (subst (λ (v : Side). IsFront ys i v r) e.1 (subst (λ (g : Option Order). IsFront ys i s g) (sym k) front))
+            subst (λ (u : Instrument). IsBestPrice ys u t r) e.0 (subst (λ (v : Side). IsBestPrice ys i v r) e.1 (subst (λ (g : Option BestPrice). IsBestPrice ys i s g) (sym k) front))
         | inr n ↦ others j t r n (sym (put_other_at slots (slot_of i s) (slot_of j t) f (λ m a b. n (slot_once i j s t m a b))) ∙ h)
       ]
 
-  pub fronts_kept : ((f : Option Order) → known_front slots i s ≡ Some f → IsFront ys i s f) → HoldsFronts ys slots
-  fronts_kept own j t r h =
+  pub prices_kept : ((f : Option BestPrice) → known_price slots i s ≡ Some f → IsBestPrice ys i s f) → HoldsPrices ys slots
+  prices_kept own j t r h =
       elim (same_queue i j s t) [
         | inl e ↦
-            let here : known_front slots i s ≡ Some r = subst (λ (v : Side). known_front slots i v ≡ Some r) (sym e.1) (subst (λ (u : Instrument). known_front slots u t ≡ Some r) (sym e.0) h) in
-            subst (λ (u : Instrument). IsFront ys u t r) e.0 (subst (λ (v : Side). IsFront ys i v r) e.1 (own r here))
+            let here : known_price slots i s ≡ Some r = subst (λ (v : Side). known_price slots i v ≡ Some r) (sym e.1) (subst (λ (u : Instrument). known_price slots u t ≡ Some r) (sym e.0) h) in
+            subst (λ (u : Instrument). IsBestPrice ys u t r) e.0 (subst (λ (v : Side). IsBestPrice ys i v r) e.1 (own r here))
         | inr n ↦ others j t r n h
       ]
 
@@ -123,11 +125,11 @@ pub is_nil : (xs : List Order) → length xs ≡ 0 → xs ≡ []
 is_nil [] e = refl
 is_nil (x ∷ xs) e = absurd (omega arith)
 
-no_slot : (a : Option ℕ) (f : Option Order) → slot_in [] a ≡ Some f → ⊥
+no_slot : (a : Option ℕ) (f : Option BestPrice) → slot_in [] a ≡ Some f → ⊥
 no_slot None f h = cc
 no_slot (Some n) f h = cc
 
-pub no_slots : (xs : List Order) → HoldsFronts xs []
+pub no_slots : (xs : List Order) → HoldsPrices xs []
 no_slots xs j t f h = absurd (no_slot (slot_of j t) f h)
 
 get_replicate : {X : Type 0} (n k : ℕ) (x y : X) → slice_get (replicate n x) k ≡ Some y → y ≡ x
@@ -135,22 +137,42 @@ get_replicate zero k x y h = cc
 get_replicate (suc n) zero x y h = cc
 get_replicate (suc n) (suc k) x y h = get_replicate n k x y h
 
-no_front_at : (n : ℕ) (a : Option ℕ) (f : Option Order) → slot_in (replicate n None) a ≡ Some f → f ≡ None
+no_front_at : (n : ℕ) (a : Option ℕ) (f : Option BestPrice) → slot_in (replicate n None) a ≡ Some f → f ≡ None
 no_front_at n None f h = cc
 no_front_at n (Some k) f h = get_replicate n k None f h
 
-pub empty_slots : (n : ℕ) → HoldsFronts [] (replicate n None)
-empty_slots n j t f h = subst (λ (g : Option Order). IsFront [] j t g) (sym (no_front_at n (slot_of j t) f h)) (λ o r. not_in_nil o r.stands)
+pub empty_slots : (n : ℕ) → HoldsPrices [] (replicate n None)
+empty_slots n j t f h = subst (λ (g : Option BestPrice). IsBestPrice [] j t g) (sym (no_front_at n (slot_of j t) f h)) (None, (λ o r. not_in_nil o r.stands), refl)
 
 -- ---- one order more
 
-pub fronts_added : (xs : List Order) (slots : List (Option Order)) (o r : Order) (f : Option Order) → HoldsFronts xs slots → known_front slots o.instrument o.side ≡ Some f → Some r ≡ better_by (is_ahead o.side) f (Some o) → HoldsFronts (xs ++ o ∷ []) (with_known_front slots o.instrument o.side (Some r))
-fronts_added xs slots o r f h e b =
-    fronts_put (xs ++ o ∷ []) slots o.instrument o.side (λ j t g n k. front_of_others xs o j t g n (h j t g k)) (Some r) (front_of_own xs o r f (h o.instrument o.side f e) b)
+best_of_others : (xs : List Order) (o : Order) (j : Instrument) (t : Side) (b : Option BestPrice) → ((o.instrument ≡ j) × (o.side ≡ t) → ⊥) → IsBestPrice xs j t b → IsBestPrice (xs ++ o ∷ []) j t b
+best_of_others xs o j t b other h = (h.0, front_of_others xs o j t h.0 other h.1, h.2)
 
-pub fronts_unadded : (xs : List Order) (slots : List (Option Order)) (o : Order) → HoldsFronts xs slots → known_front slots o.instrument o.side ≡ None → HoldsFronts (xs ++ o ∷ []) slots
-fronts_unadded xs slots o h e =
-    fronts_kept (xs ++ o ∷ []) slots o.instrument o.side (λ j t g n k. front_of_others xs o j t g n (h j t g k)) (λ f k. cc)
+best_of_own : (xs : List Order) (o : Order) (b : Option BestPrice) → IsBestPrice xs o.instrument o.side b → becomes_front o b ≡ true → IsBestPrice (xs ++ o ∷ []) o.instrument o.side (Some (best_price_of o))
+best_of_own xs o b (None, h, e) t = (Some o, front_of_own xs o o None h refl, refl)
+best_of_own xs o b (Some f, h, e) t =
+    let ahead : is_ahead o.side o f ≡ true = subst (λ (r : Option BestPrice). becomes_front o r ≡ true) e t in
+    (Some o, front_of_own xs o o (Some f) h (rw ahead refl), refl)
+
+best_of_front : (xs : List Order) (o : Order) (b : Option BestPrice) → IsBestPrice xs o.instrument o.side b → becomes_front o b ≡ false → IsBestPrice (xs ++ o ∷ []) o.instrument o.side b
+best_of_front xs o b (None, h, e) t = let k : true ≡ false = subst (λ (r : Option BestPrice). becomes_front o r ≡ false) e t in cc
+best_of_front xs o b (Some f, h, e) t =
+    let ahead : is_ahead o.side o f ≡ false = subst (λ (r : Option BestPrice). becomes_front o r ≡ false) e t in
+    (Some f, front_of_own xs o f (Some f) h (rw ahead refl), e)
+
+module _ (xs : List Order) (slots : List (Option BestPrice)) (o : Order) (h : HoldsPrices xs slots) where
+  pub prices_added : (b : Option BestPrice) → known_price slots o.instrument o.side ≡ Some b → becomes_front o b ≡ true → HoldsPrices (xs ++ o ∷ []) (with_known_price slots o.instrument o.side (Some (best_price_of o)))
+  prices_added b e t =
+      prices_put (xs ++ o ∷ []) slots o.instrument o.side (λ j u g n k. best_of_others xs o j u g n (h j u g k)) (Some (best_price_of o)) (best_of_own xs o b (h o.instrument o.side b e) t)
+
+  pub prices_behind : (b : Option BestPrice) → known_price slots o.instrument o.side ≡ Some b → becomes_front o b ≡ false → HoldsPrices (xs ++ o ∷ []) slots
+  prices_behind b e t =
+      prices_kept (xs ++ o ∷ []) slots o.instrument o.side (λ j u g n k. best_of_others xs o j u g n (h j u g k))
+      (λ g k. let same : g ≡ b = cc in subst (λ (r : Option BestPrice). IsBestPrice (xs ++ o ∷ []) o.instrument o.side r) (sym same) (best_of_front xs o b (h o.instrument o.side b e) t))
+
+  pub prices_unknown : known_price slots o.instrument o.side ≡ None → HoldsPrices (xs ++ o ∷ []) slots
+  prices_unknown e = prices_kept (xs ++ o ∷ []) slots o.instrument o.side (λ j u g n k. best_of_others xs o j u g n (h j u g k)) (λ g k. cc)
 
 -- ---- one order less
 
@@ -180,38 +202,63 @@ not_nobody (x ∷ xs) place o c e h =
     ]
 
 -- whom the test tells apart
-apart : (f : Option Order) (place : ℕ) → may_be_at f place ≡ false → (h : Order) → f ≡ Some h → h.place ≡ place → ⊥
-apart None place t h e k = cc
-apart (Some g) place t h e k = let same : g.place ≡ place = ap (λ (p : Order). p.place) (let s : g ≡ h = cc in s) ∙ k in let n : (g.place == place) ≡ true = grind (arith, nat_tests) in cc
+apart : (f : Option Order) (b : Option BestPrice) (place : ℕ) → b ≡ option_map best_price_of f → may_be_at b place ≡ false → (h : Order) → f ≡ Some h → h.place ≡ place → ⊥
+apart None b place e t h is k = cc
+apart (Some g) b place e t h is k =
+    let same : g.place ≡ place = ap (λ (p : Order). p.place) (let s : g ≡ h = cc in s) ∙ k in
+    let at : may_be_at (Some (best_price_of g)) place ≡ false = subst (λ (r : Option BestPrice). may_be_at r place ≡ false) e t in
+    let n : (g.place == place) ≡ true = grind (arith, nat_tests) in
+    cc
 
-module _ (xs : List Order) (slots : List (Option Order)) (o : Order) (h : HoldsFronts xs slots) (up : Ascends xs) (c : Contains xs o) where
-  others_removed : (j : Instrument) (t : Side) (f : Option Order) → ((o.instrument ≡ j) × (o.side ≡ t) → ⊥) → known_front slots j t ≡ Some f → IsFront (removed o.place xs) j t f
-  others_removed j t f n k = front_removed xs o.place j t f (of_another xs o j t f up c n (h j t f k)) (h j t f k)
+module _ (xs : List Order) (slots : List (Option BestPrice)) (o : Order) (h : HoldsPrices xs slots) (up : Ascends xs) (c : Contains xs o) where
+  others_removed : (j : Instrument) (t : Side) (b : Option BestPrice) → ((o.instrument ≡ j) × (o.side ≡ t) → ⊥) → known_price slots j t ≡ Some b → IsBestPrice (removed o.place xs) j t b
+  others_removed j t b n k = let a = h j t b k in (a.0, front_removed xs o.place j t a.0 (of_another xs o j t a.0 up c n a.1) a.1, a.2)
 
-  pub fronts_removed : (f : Option Order) → IsFront (removed o.place xs) o.instrument o.side f → HoldsFronts (removed o.place xs) (with_known_front slots o.instrument o.side f)
-  fronts_removed f front = fronts_put (removed o.place xs) slots o.instrument o.side others_removed f front
+  pub prices_removed : (b : Option BestPrice) → IsBestPrice (removed o.place xs) o.instrument o.side b → HoldsPrices (removed o.place xs) (with_known_price slots o.instrument o.side b)
+  prices_removed b best = prices_put (removed o.place xs) slots o.instrument o.side others_removed b best
 
-  pub fronts_unremoved : ((f : Option Order) → known_front slots o.instrument o.side ≡ Some f → may_be_at f o.place ≡ false) → HoldsFronts (removed o.place xs) slots
-  fronts_unremoved other = fronts_kept (removed o.place xs) slots o.instrument o.side others_removed (λ f k. front_removed xs o.place o.instrument o.side f (apart f o.place (other f k)) (h o.instrument o.side f k))
+  pub prices_unremoved : ((b : Option BestPrice) → known_price slots o.instrument o.side ≡ Some b → may_be_at b o.place ≡ false) → HoldsPrices (removed o.place xs) slots
+  prices_unremoved other =
+      prices_kept (removed o.place xs) slots o.instrument o.side others_removed
+      (λ b k. let a = h o.instrument o.side b k in (a.0, front_removed xs o.place o.instrument o.side a.0 (apart a.0 b o.place a.2 (other b k)) a.1, a.2))
 
-  -- ---- less of one order
+-- ---- less of one order
 
-  others_reduced : (by : ℕ) (j : Instrument) (t : Side) (f : Option Order) → ((o.instrument ≡ j) × (o.side ≡ t) → ⊥) → known_front slots j t ≡ Some f → IsFront (reduced o.place by xs) j t f
-  others_reduced by j t f n k = front_reduced xs o.place by j t f (of_another xs o j t f up c n (h j t f k)) (h j t f k)
+best_less : (place by : ℕ) (f : Option Order) → option_map best_price_of (option_map (with_less_left place by) f) ≡ option_map best_price_of f
+best_less place by None = refl
+best_less place by (Some o) = ap (λ (b : BestPrice). Some b) (less_left best_price_of (λ p n. refl) place by o)
 
-  own_front : (f : Option Order) → known_front slots o.instrument o.side ≡ Some f → may_be_at f o.place ≡ true → IsFront xs o.instrument o.side (Some o)
-  own_front None k m = absurd (h o.instrument o.side None k o (record { stands = c; instrument_is = refl; side_is = refl }))
-  own_front (Some g) k m =
-      let front = h o.instrument o.side (Some g) k in
-      let same = one_at_a_place xs g o up front.0.stands c (grind (arith, nat_tests)) in
-      subst (λ (p : Order). IsFront xs o.instrument o.side (Some p)) same front
+-- the price and the place of a front stay
+pub prices_reduced : (xs : List Order) (slots : List (Option BestPrice)) (place by : ℕ) → HoldsPrices xs slots → HoldsPrices (reduced place by xs) slots
+prices_reduced xs slots place by h j t b k =
+    let a = h j t b k in
+    (option_map (with_less_left place by) a.0, any_front_less xs place by j t a.0 a.1, a.2 ∙ sym (best_less place by a.0))
 
-  pub fronts_reduced : (by : ℕ) (f : Option Order) → known_front slots o.instrument o.side ≡ Some f → may_be_at f o.place ≡ true → HoldsFronts (reduced o.place by xs) (with_known_front slots o.instrument o.side (Some (record o { leaves = o.leaves - by })))
-  fronts_reduced by f k m =
-      let t : (o.place == o.place) ≡ true = grind (arith, nat_tests) in
-      let left : with_less_left o.place by o ≡ record o { leaves = o.leaves - by } = rw t in
-      fronts_put (reduced o.place by xs) slots o.instrument o.side (others_reduced by) (Some (record o { leaves = o.leaves - by }))
-      (subst (λ (p : Order). IsFront (reduced o.place by xs) o.instrument o.side (Some p)) left (front_less xs o.place by o.instrument o.side o (own_front f k m)))
+-- ---- what a slot tells
 
-  pub fronts_unreduced : (by : ℕ) → ((f : Option Order) → known_front slots o.instrument o.side ≡ Some f → may_be_at f o.place ≡ false) → HoldsFronts (reduced o.place by xs) slots
-  fronts_unreduced by other = fronts_kept (reduced o.place by xs) slots o.instrument o.side (others_reduced by) (λ f k. front_reduced xs o.place by o.instrument o.side f (apart f o.place (other f k)) (h o.instrument o.side f k))
+-- a slot without a price is that of an empty queue
+pub no_front : (xs : List Order) (j : Instrument) (t : Side) → IsBestPrice xs j t None → IsFront xs j t None
+no_front xs j t (None, h, e) = h
+no_front xs j t (Some f, h, e) = cc
+
+-- the order of that place is the front
+pub front_found : (xs : List Order) (j : Instrument) (t : Side) (b : BestPrice) → Ascends xs → IsBestPrice xs j t (Some b) → IsFront xs j t (find (λ o. o.place == b.place) xs)
+front_found xs j t b up (None, h, e) = cc
+front_found xs j t b up (Some f, h, e) =
+    let same : b ≡ best_price_of f = cc in
+    let place : f.place ≡ b.place = ap (λ (p : BestPrice). p.place) (sym same) in
+    let found = subst (λ (p : ℕ). find (λ (o : Order). o.place == p) xs ≡ Some f) place (is_found xs f up h.0.stands) in
+    subst (λ (r : Option Order). IsFront xs j t r) (sym found) h
+
+-- and its level is that of the front
+pub level_found : (xs : List Order) (j : Instrument) (t : Side) (b : BestPrice) → IsBestPrice xs j t (Some b) → IsFrontLevel xs j t (Some (level_at j t b))
+level_found xs j t b (None, h, e) = cc
+level_found xs j t b (Some f, h, e) =
+    let same : b ≡ best_price_of f = cc in
+    let price = ap (λ (p : BestPrice). p.price) same in
+    let i = h.0.instrument_is in
+    let s = h.0.side_is in
+    (Some f, h, rw (i, s, price) refl)
+
+pub no_level : (xs : List Order) (j : Instrument) (t : Side) → IsBestPrice xs j t None → IsFrontLevel xs j t None
+no_level xs j t h = (None, no_front xs j t h, refl)

@@ -1,4 +1,4 @@
--- lists of orders in order of place, and the table of them by place
+-- lists of orders in order of place
 use Rattle.std.proofs.Common.{◌≡◌, ℕ, ◌-◌, ◌<◌, ◌≤◌, ◌==◌, Bool, true, false, List, [], ◌∷◌, ◌++◌, map, Some, None, Contains, All, refl, sym, ap, ◌∙◌, subst, arith, inl, inr, ◌⊎◌}
 use Rattle.std.specs.Ordering.{nat_cmp}
 use Rattle.std.specs.declared.cmp.Ordering.TheVariants.{Less, Equal, Greater}
@@ -12,7 +12,7 @@ use Rattle.std.proofs.lemmas.List.Elements.{All-from_recursion, All-contains, Al
 use Rattle.spread_rules.specs.declared.order.Order.{Order}
 use Rattle.spread_rules.specs.Clearing.{reduced, removed}
 use Rattle.spread_rules.proofs.lists.Membership.{not_in_nil, in_head, in_tail, in_cons_cases, in_map}
-use Rattle.spread_books.specs.code.Index.{by_place, Ascends}
+use Rattle.spread_books.specs.code.Index.{Ascends}
 
 abbrev pub places : List Order → List ℕ
 places xs = map (λ o. o.place) xs
@@ -54,47 +54,6 @@ one_at_a_place (x ∷ xs) p o s c d e =
       ]
     ]
 
-pub values_by_place : (xs : List Order) → values_of (map by_place xs) ≡ xs
-values_by_place [] = refl
-values_by_place (x ∷ xs) = ap (λ (ys : List Order). x ∷ ys) (values_by_place xs)
-
-pub keys_by_place : (xs : List Order) → keys_of (map by_place xs) ≡ places xs
-keys_by_place [] = refl
-keys_by_place (x ∷ xs) = ap (λ (ys : List ℕ). x.place ∷ ys) (keys_by_place xs)
-
--- the order of a place is found there
-pub found_at : (xs : List Order) (o : Order) → Ascends xs → Contains xs o → lookup (is_at (nat_cmp o.place)) (map by_place xs) ≡ Some o
-found_at [] o s c = absurd (not_in_nil o c)
-found_at (x ∷ xs) o s c =
-    elim (in_cons_cases x xs o c) [
-      | inl h ↦ let e = ap (λ (p : Order). p.place) h in let k : nat_cmp o.place x.place ≡ Equal = rw e (cmp_same o.place) in rw k (ap (λ (p : Order). Some p) h)
-      | inr h ↦ rw (cmp_above o.place x.place (behind_first x xs o s h)) (found_at xs o (others_ascend x xs s) h)
-    ]
-
--- what is found there is the order of that place
-pub from_found : (xs : List Order) (place : ℕ) (o : Order) → lookup (is_at (nat_cmp place)) (map by_place xs) ≡ Some o → Contains xs o × (o.place ≡ place)
-from_found [] place o h = cc
-from_found (x ∷ xs) place o h =
-    by_ranked (place < x.place) (place ≡ x.place) (x.place < place) (nat_cmp place x.place) (ranked place x.place (nat_cmp place x.place) refl)
-    (λ e l. let r = from_found xs place o (rw e at h) in (in_tail x xs o r.0, r.1))
-    (λ e l. let k : x ≡ o = let g = rw e at h in cc in (subst (λ (p : Order). Contains (x ∷ xs) p) k (in_head x xs), cc))
-    (λ e l. let r = from_found xs place o (rw e at h) in (in_tail x xs o r.0, r.1))
-
-pub lookup_is_find : (xs : List Order) (place : ℕ) → lookup (is_at (nat_cmp place)) (map by_place xs) ≡ find (λ o. o.place == place) xs
-lookup_is_find [] place = refl
-lookup_is_find (x ∷ xs) place =
-    by_ranked (place < x.place) (place ≡ x.place) (x.place < place) (nat_cmp place x.place) (ranked place x.place (nat_cmp place x.place) refl)
-    (λ e l. let k : (x.place == place) ≡ false = grind (arith, nat_tests) in rw (e, k) (lookup_is_find xs place))
-    (λ e l. let k : (x.place == place) ≡ true = grind (arith, nat_tests) in rw (e, k))
-    (λ e l. let k : (x.place == place) ≡ false = grind (arith, nat_tests) in rw (e, k) (lookup_is_find xs place))
-
--- the greatest place goes to the end
-pub insert_last : (xs : List Order) (o : Order) → All (λ p. p.place < o.place) xs → insert_entry nat_cmp (map by_place xs) o.place o ≡ map by_place (xs ++ o ∷ [])
-insert_last [] o h = refl
-insert_last (x ∷ xs) o h =
-    rw (cmp_above o.place x.place (All-head (λ (p : Order). p.place < o.place) x xs h))
-    (ap (λ (es : List (ℕ × Order)). by_place x ∷ es) (insert_last xs o (All-tail (λ (p : Order). p.place < o.place) x xs h)))
-
 -- a place that no order has
 pub kept_without : (xs : List Order) (place : ℕ) → ((o : Order) → Contains xs o → place < o.place) → removed place xs ≡ xs
 kept_without [] place h = refl
@@ -103,34 +62,12 @@ kept_without (x ∷ xs) place h =
     let k : (x.place == place) ≡ false = grind (arith, nat_tests) in
     rw k (ap (λ (ys : List Order). x ∷ ys) (kept_without xs place (λ o c. h o (in_tail x xs o c))))
 
-pub remove_at : (xs : List Order) (place : ℕ) → Ascends xs → remove_entry (is_at (nat_cmp place)) (map by_place xs) ≡ map by_place (removed place xs)
-remove_at [] place s = refl
-remove_at (x ∷ xs) place s =
-    by_ranked (place < x.place) (place ≡ x.place) (x.place < place) (nat_cmp place x.place) (ranked place x.place (nat_cmp place x.place) refl)
-    (λ e l. let k : (x.place == place) ≡ false = grind (arith, nat_tests) in rw (e, k) (ap (λ (es : List (ℕ × Order)). by_place x ∷ es) (remove_at xs place (others_ascend x xs s))))
-    (λ e l. let k : (x.place == place) ≡ true = grind (arith, nat_tests) in rw (e, k) (ap (λ (ys : List Order). map by_place ys) (sym (kept_without xs place (λ o c. let b = behind_first x xs o s c in omega arith)))))
-    (λ e l. let k : (x.place == place) ≡ false = grind (arith, nat_tests) in rw (e, k) (ap (λ (es : List (ℕ × Order)). by_place x ∷ es) (remove_at xs place (others_ascend x xs s))))
-
 pub as_before : (xs : List Order) (place by : ℕ) → ((o : Order) → Contains xs o → place < o.place) → reduced place by xs ≡ xs
 as_before [] place by h = refl
 as_before (x ∷ xs) place by h =
     let l = h x (in_head x xs) in
     let k : (x.place == place) ≡ false = grind (arith, nat_tests) in
     rw k (ap (λ (ys : List Order). x ∷ ys) (as_before xs place by (λ o c. h o (in_tail x xs o c))))
-
--- an order with less left takes the place of the order
-pub set_at : (xs : List Order) (place by : ℕ) (o : Order) → Ascends xs → lookup (is_at (nat_cmp place)) (map by_place xs) ≡ Some o → set_value (is_at (nat_cmp place)) (map by_place xs) (record o { leaves = o.leaves - by }) ≡ map by_place (reduced place by xs)
-set_at [] place by o s h = refl
-set_at (x ∷ xs) place by o s h =
-    by_ranked (place < x.place) (place ≡ x.place) (x.place < place) (nat_cmp place x.place) (ranked place x.place (nat_cmp place x.place) refl)
-    (λ e l. let k : (x.place == place) ≡ false = grind (arith, nat_tests) in rw (e, k) (ap (λ (es : List (ℕ × Order)). by_place x ∷ es) (set_at xs place by o (others_ascend x xs s) (rw e at h))))
-    (λ e l.
-    let k : (x.place == place) ≡ true = grind (arith, nat_tests) in
-    let q : x ≡ o = let g = rw e at h in cc in
-    let rest = sym (as_before xs place by (λ p c. let b = behind_first x xs p s c in omega arith)) in
-    rw (e, k) (subst (λ (p : Order). (x.place, record p { leaves = p.leaves - by }) ∷ map by_place xs ≡ (x.place, record x { leaves = x.leaves - by }) ∷ map by_place (reduced place by xs)) q
-    (ap (λ (ys : List Order). (x.place, record x { leaves = x.leaves - by }) ∷ map by_place ys) rest)))
-    (λ e l. let k : (x.place == place) ≡ false = grind (arith, nat_tests) in rw (e, k) (ap (λ (es : List (ℕ × Order)). by_place x ∷ es) (set_at xs place by o (others_ascend x xs s) (rw e at h))))
 
 -- ---- the first that passes a test
 pub find_none : (test : Order → Bool) (xs : List Order) → ((o : Order) → Contains xs o → test o ≡ false) → find test xs ≡ None

@@ -25,7 +25,7 @@ all_of P xs h = All-weaker (λ o. Contains xs o) P h xs (All-contains_itself xs)
 above : (n : ℕ) (xs : List Order) → ((o : Order) → Contains xs o → n < o.place) → All (λ y. nat_cmp n y ≡ Less) (places xs)
 above n xs h = All-map (λ (y : ℕ). nat_cmp n y ≡ Less) (λ (o : Order). o.place) xs (all_of (λ (o : Order). nat_cmp n o.place ≡ Less) xs (λ o c. cmp_below n o.place (h o c)))
 
-ascends_cons : (x : Order) (xs : List Order) → ((o : Order) → Contains xs o → x.place < o.place) → Ascends xs → Ascends (x ∷ xs)
+pub ascends_cons : (x : Order) (xs : List Order) → ((o : Order) → Contains xs o → x.place < o.place) → Ascends xs → Ascends (x ∷ xs)
 unfolding IsStrictlySortedBy
 ascends_cons x xs h s = (recursion_from_All (λ (y : ℕ). nat_cmp x.place y ≡ Less) (places xs) (above x.place xs h), s)
 
@@ -69,7 +69,7 @@ newest_above xs (Some n) s = all_below xs n s
 
 -- ---- a place that no order of the list has
 
-unfound : (xs : List Order) (place : ℕ) → find (λ o. o.place == place) xs ≡ None → (o : Order) → Contains xs o → (o.place == place) ≡ false
+pub unfound : (xs : List Order) (place : ℕ) → find (λ o. o.place == place) xs ≡ None → (o : Order) → Contains xs o → (o.place == place) ≡ false
 unfound [] place h o c = absurd (not_in_nil o c)
 unfound (x ∷ xs) place h o c =
     elim (is_so (x.place == place)) [

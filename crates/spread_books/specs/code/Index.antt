@@ -1,11 +1,10 @@
--- What holds of the tables of a book: one by place, which the book is seen as, and the keys of its orders in two sets.
+-- What holds of the tables of a book: its orders in order of place, which it is seen as, and their keys in two sets.
 -- Words of the code alone.
-use Rattle.std.specs.Prelude.{◌≡◌, ℕ, List, map, Contains}
+use Rattle.std.specs.Prelude.{◌≡◌, List, map, Contains}
 use Rattle.std.specs.declared.cmp.Ordering.{Ordering}
 use Rattle.std.specs.Ordering.{nat_cmp, int_cmp, ordering_then}
 use Rattle.std.specs.List.{list_any}
 use Rattle.std.specs.List.Sorted.{IsStrictlySortedBy}
-use Rattle.std.specs.Map.{values_of}
 use Rattle.std.specs.BTreeMap.{is_at}
 use Rattle.std.specs.BTreeSet.{BTreeSet, contains}
 use Rattle.spread_rules.specs.declared.order.Order.{Order}
@@ -23,9 +22,6 @@ queue_key_cmp a b =
 abbrev pub own_key_cmp : OwnKey → OwnKey → Ordering
 own_key_cmp a b = ordering_then (id_key_cmp a.id b.id) (nat_cmp a.place b.place)
 
-abbrev pub by_place : Order → ℕ × Order
-by_place o = (o.place, o)
-
 -- the set has the keys of these orders and no other
 abbrev pub HasKeys :
     {K : Type 0} → (K → K → Ordering) → (Order → K) → BTreeSet K → List Order → Type 0
@@ -39,14 +35,9 @@ pub record IsKept (o : Order) : Type 0 where
   pub in_range : IsInRange o
   pub id : IsIdBytes o.id
 
-pub record IsIndexOf
-    (xs : List Order)
-    (orders : List (ℕ × Order)) (queues : BTreeSet QueueKey) (ids : BTreeSet OwnKey) : Type 0 where
-  pub placed : orders ≡ map by_place xs
+pub record IsIndex
+    (xs : List Order) (queues : BTreeSet QueueKey) (ids : BTreeSet OwnKey) : Type 0 where
   pub ordered : Ascends xs
   pub queued : HasKeys queue_key_cmp queue_key queues xs
   pub owned : HasKeys own_key_cmp own_key ids xs
   pub kept : (o : Order) → Contains xs o → IsKept o
-
-abbrev pub IsIndex : List (ℕ × Order) → BTreeSet QueueKey → BTreeSet OwnKey → Type 0
-IsIndex orders queues ids = IsIndexOf (values_of orders) orders queues ids

@@ -1,0 +1,15 @@
+-- Rows of orders in order of place, some of which left.
+-- Words of the code alone.
+use Rattle.std.specs.Prelude.{◌<◌, ⊤, cond, List, [], ◌∷◌, All}
+use Rattle.spread_rules.specs.declared.order.Order.{Order}
+use Rattle.spread_books.specs.declared.row.Row.{Row}
+
+-- the orders that rest
+abbrev pub live : List Row → List Order
+live [] = []
+live (r ∷ rs) = cond r.rests (r.order ∷ live rs) (live rs)
+
+-- each row stands before those of later places
+abbrev pub Rises : List Row → Type 0
+Rises [] = ⊤
+Rises (r ∷ rs) = All (λ t. r.order.place < t.order.place) rs × Rises rs
