@@ -5,7 +5,6 @@ mod book;
 mod first_from;
 mod front_book;
 mod front_table;
-mod hints;
 mod index;
 mod list;
 mod own_key;
@@ -16,7 +15,6 @@ mod tree;
 
 pub use book::Book;
 pub use front_book::FrontBook;
-pub use hints::Hints;
 pub use index::IndexBook;
 pub use list::ListBook;
 pub use tree::TreeBook;

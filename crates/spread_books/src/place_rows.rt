@@ -12,9 +12,9 @@ ghost use Rattle.spread_books.specs.Queues.{HasMore, HasPlace};
 ghost use Rattle.spread_books.specs.code.Index.{Ascends};
 ghost use Rattle.spread_books.specs.code.Rows.{live, Rises};
 
-use crate::hints::Hints;
 use crate::row::Row;
 use host_base::NoMemory;
+use row_index::Hints;
 use spread_rules::Order;
 use std::alloc::Allocator;
 use std::marker::Model;
