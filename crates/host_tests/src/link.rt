@@ -5,7 +5,7 @@ use test_support::id;
 mod gateways;
 mod laws;
 mod links;
-mod stage_rings;
+mod ring_ends;
 mod threads;
 
 const LOGON: &[u8] =
