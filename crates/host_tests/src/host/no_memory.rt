@@ -111,8 +111,9 @@ fn check_refused_memory(rt: HostRuntime) -> Result<(), Fail> {
     for number in 1..500u64 {
         let heap = Refusing::new(rt.alloc(), number);
         match check_over(&rt, rt.alloc(), &heap, &rules)? {
+            // A guess of a row that finds no memory is left out, and the answer is the same.
+            None if heap.has_refused() => {}
             None => {
-                assert!(rt; !heap.has_refused());
                 assert!(rt; !places.seen[1] && places.seen[0] && places.seen[2]);
                 assert!(rt; places.seen[5] && places.seen[6] && places.last == 6);
                 return Ok(());
@@ -148,9 +149,12 @@ fn run_day_refused_memory(rt: HostRuntime) -> Result<(), Fail> {
         let heap = Refusing::new(rt.alloc(), number);
         match day_over(&rt, &heap, &rulebook) {
             Ok(day) => {
-                assert!(rt; !heap.has_refused() && day.journal.len() == 4);
-                assert!(rt; places.seen[0] && places.seen[1] && places.last < 5);
-                return Ok(());
+                assert!(rt; day.journal.len() == 4 && day.fills.len() == 2);
+                // A guess of a row that finds no memory is left out.
+                if !heap.has_refused() {
+                    assert!(rt; places.seen[0] && places.seen[1] && places.last < 5);
+                    return Ok(());
+                }
             }
             Err(HostFault::NoMemory(place)) => {
                 assert!(rt; heap.has_refused() && places.note(place));
