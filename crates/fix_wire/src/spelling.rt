@@ -1,9 +1,11 @@
 //! The parts of a message, each written into room behind the part before it. A writer is told where to begin, and tells where
 //! it ended: so the place stays in a register, which a list's own length would not.
-ghost use Rattle.std.specs.Prelude.{◌≡◌, ◌++◌, ◌∷◌, [], ◌<◌, ◌≤◌, ◌*◌, ◌+◌, ◌%◌, sum, set, take, drop, length, decimal, ◌/◌, ◌^◌};
+ghost use Rattle.std.specs.Prelude.{◌≡◌, ◌++◌, ◌∷◌, [], ◌<◌, ◌≤◌, ◌*◌, ◌+◌, ◌%◌, true, sum, set, take, drop, length, decimal, ◌/◌, ◌^◌};
 ghost use Rattle.std.specs.List.{flat_map, AllByRecursion};
+ghost use Rattle.host_base.specs.declared.limits.TheConstants.{MAX_ID_LENGTH};
 ghost use Rattle.fix_wire.specs.Frames.{begin_text, checksum_field};
 ghost use Rattle.host_base.specs.Ascii.{digit_zero};
+ghost use Rattle.host_base.specs.Ids.{is_plain};
 ghost use Rattle.fix_wire.specs.Texts.{two_digits};
 ghost use Rattle.fix_wire.specs.Layout.{price_text, value_text, field_text, head_fields, field_of_given, body_text, summed_text, FitsTypes, FitsValueOf, FitsValue};
 ghost use Rattle.fix_wire.specs.code.Spelling.{kind_text, orig_text};
@@ -11,7 +13,9 @@ ghost use Rattle.fix_wire.specs.code.Spelling.{kind_text, orig_text};
 use crate::body::Body;
 use crate::frame::{BEGIN_BYTES, BEGIN_TEXT, CHECKSUM_BYTES, checksum, checksum_digits};
 use crate::writer::{Field, Head, Value};
+use host_base::Id;
 use host_base::bytes::SOH;
+use host_base::limits::MAX_ID_LENGTH;
 use itoa::Buffer;
 
 #[inline(always)]
@@ -35,6 +39,20 @@ fn put_byte(room: &mut [u8], at: usize, byte: u8) -> usize
 {
     room[at] = byte;
     at + 1
+}
+
+/// An id. All 32 bytes that hold it are copied, since a length that is known costs less than a short one.
+#[inline(always)]
+fn put_id(room: &mut [u8], at: usize, id: &Id) -> usize
+    requires within { at + MAX_ID_LENGTH ≤ length room.old }
+    ensures text { take result room.new ≡ take at room.old ++ id.now }
+    ensures end { result ≡ at + length id.now }
+    ensures most { result ≤ at + MAX_ID_LENGTH }
+    ensures plain { is_plain id.now ≡ true }
+    ensures size { length room.new ≡ length room.old }
+{
+    room[at..at + MAX_ID_LENGTH].copy_from_slice(id.padded());
+    at + id.bytes().len()
 }
 
 /// The two digits of each number below 100.
@@ -134,7 +152,7 @@ fn put_value(room: &mut [u8], at: usize, value: &Value) -> usize
     ensures size { length room.new ≡ length room.old }
 {
     match value {
-        Value::Text(id) => put(room, at, id.bytes()),
+        Value::Text(id) => put_id(room, at, id),
         Value::Number(number) => put_number(room, at, *number),
         Value::Price(price) => put_price(room, at, *price),
         Value::Pair(first, second) => {
@@ -203,7 +221,7 @@ fn put_orig_time(room: &mut [u8], at: usize, head: &Head) -> usize
 {
     if head.duplicate {
         let stamp = put(room, at, b"\x01122=");
-        put(room, stamp, head.stamp.bytes())
+        put_id(room, stamp, &head.stamp)
     } else {
         at
     }
@@ -218,11 +236,11 @@ fn put_head(room: &mut [u8], at: usize, head: &Head) -> usize
     ensures size { length room.new ≡ length room.old }
 {
     let sender = put_kind(room, at, head);
-    let time = put(room, sender, head.sender.bytes());
+    let time = put_id(room, sender, &head.sender);
     let stamp = put(room, time, b"\x0152=");
-    let to = put(room, stamp, head.stamp.bytes());
+    let to = put_id(room, stamp, &head.stamp);
     let target = put(room, to, b"\x0156=");
-    let rest = put(room, target, head.target.bytes());
+    let rest = put_id(room, target, &head.target);
     let end = put_orig_time(room, rest, head);
     put_byte(room, end, SOH)
 }

@@ -57,29 +57,35 @@ pub fn write_message<A: Allocator>(
     ensures lawful { OnOk result (FitsKind head.now → FitsTags fields.now →
         FitsBody head.now fields.now → IsReadBack head.now fields.now) }
 {
-    write_body(out, head, &FieldList { fields })
+    let most = room_for(fields.len());
+    out.reserve(most)?;
+    let start = out.as_slice().len();
+    let _ = out.resize(start + most, 0);
+    let end = put_message(out.as_mut_slice(), start, head, &FieldList { fields });
+    out.truncate(end);
+    Ok(())
 }
 
-/// The same of fields that write themselves.
+/// The same of fields that write themselves, into a room of the caller's first: 64 bytes for each field, and 240. A
+/// caller that keeps its room from message to message fills no bytes that no message has.
 pub fn write_body<A: Allocator, B: Body>(
+    room: &mut [u8],
     out: &mut Vec<u8, A>,
     head: &Head,
     body: &B,
 ) -> Result<(), NoMemory>
+    requires room { 64 * length (B.fields body.now) + 240 ≤ length room.old }
     ensures ok { OnOk result
         (out.new.items ≡ out.old.items ++ message_text head.now (B.fields body.now)) }
     ensures err { OnErr result (out.new.items ≡ out.old.items) }
+    ensures size { length room.new ≡ length room.old }
     ensures short { OnOk result
         (length (body_text head.now (B.fields body.now)) ≤ 64 * length (B.fields body.now) + 180) }
     ensures lawful { OnOk result (FitsKind head.now → FitsTags (B.fields body.now) →
         FitsBody head.now (B.fields body.now) → IsReadBack head.now (B.fields body.now)) }
 {
-    let most = room_for(body.count());
-    out.reserve(most)?;
-    let start = out.as_slice().len();
-    let _ = out.resize(start + most, 0);
-    let end = put_message(out.as_mut_slice(), start, head, body);
-    out.truncate(end);
+    let end = put_message(room, 0, head, body);
+    out.extend_from_slice(&room[..end])?;
     Ok(())
 }
 
@@ -88,6 +94,7 @@ fn put_message<B: Body>(room: &mut [u8], start: usize, head: &Head, body: &B) ->
     requires within { start + 64 * length (B.fields body.now) + 240 ≤ length room.old }
     ensures text { take result room.new
         ≡ take start room.old ++ message_text head.now (B.fields body.now) }
+    ensures end { result ≤ length room.new }
     ensures size { length room.new ≡ length room.old }
     ensures short { length (body_text head.now (B.fields body.now))
         ≤ 64 * length (B.fields body.now) + 180 }

@@ -62,8 +62,8 @@ impl Id {
         &self.bytes[..usize::from(self.len)]
     }
 
-    /// Its bytes with zeros behind them.
-    pub(crate) fn padded(&self) -> &[u8; MAX_ID_LENGTH]
+    /// Its bytes with zeros behind them, 32 in all: what copies these copies a length that is known.
+    pub fn padded(&self) -> &[u8; MAX_ID_LENGTH]
         ensures { result.now ≡ self.now ++ replicate (MAX_ID_LENGTH - length self.now) 0 }
     {
         &self.bytes

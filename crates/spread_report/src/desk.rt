@@ -25,12 +25,17 @@ use spread_rules::{Entry, Fill, Outcome, Rulebook};
 use std::alloc::Allocator;
 use std::marker::Model;
 
+/// Room for one message of up to 18 fields.
+const MESSAGE_ROOM: usize = 1392;
+
 /// Publishes execution reports and session messages. For each of the sixteen sessions it keeps the next
 /// outgoing number, and the CompIDs of the last Logon.
 #[derive(Drop)]
 pub struct Desk {
     stamp: Id,
     sessions: [OutboundSession; SESSIONS],
+    // Each message is written here first.
+    room: [u8; MESSAGE_ROOM],
 }
 
 impl Model for Desk {
@@ -56,6 +61,7 @@ impl Desk {
                 next: 1,
                 comp_ids: None,
             }; SESSIONS],
+            room: [0; MESSAGE_ROOM],
         }
     }
 
@@ -71,6 +77,7 @@ impl Desk {
                     next: u64::from(next),
                     comp_ids: None,
                 }; SESSIONS],
+                room: [0; MESSAGE_ROOM],
             })
         } else {
             None
@@ -165,7 +172,7 @@ impl Desk {
                     target: ids.client,
                     stamp: self.stamp,
                 };
-                write_body(&mut lists[at], &head, body)?;
+                write_body(&mut self.room, &mut lists[at], &head, body)?;
                 self.sessions[at].next = outbound.next + 1;
                 Ok(())
             }

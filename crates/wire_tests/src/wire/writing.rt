@@ -164,18 +164,26 @@ fn written_lengths(rt: HostRuntime) -> Result<(), Fail> {
         (26, b"8=FIX.4.2\x019=981\x0135=0\x01"),
         (27, b"8=FIX.4.2\x019=1017\x0135=0\x01"),
     ];
+    let mut room = [7; 2000];
     for (count, begin) in rows {
         let list = FieldList {
             fields: &fields[..count],
         };
         let mut out = Vec::new(rt.alloc());
-        write_body(&mut out, &head(b'0', 2, false), &list)?;
+        write_body(&mut room, &mut out, &head(b'0', 2, false), &list)?;
         assert!(rt; out.as_slice().starts_with(begin));
         assert!(rt; Message::whole(&out).is_some());
         assert!(rt; list.count() == count);
-        let mut room = [0; 2000];
         assert!(rt; list.put(&mut room, 20) == 20 + 36 * count);
     }
+    Ok(())
+}
+
+#[test]
+fn padded_ids(rt: HostRuntime) -> Result<(), Fail> {
+    let id = Id::new(b"C1").ok_or("an id")?;
+    let padded = id.padded();
+    assert!(rt; padded.starts_with(b"C1\x00") && padded.ends_with(&[0; 30]));
     Ok(())
 }
 
