@@ -1,3 +1,1 @@
-pub mod Ascending
 pub mod LastOrder
-pub mod RowsByPlace

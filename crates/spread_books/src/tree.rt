@@ -2,15 +2,11 @@
 ghost use Rattle.std.specs.Prelude.{◌≡◌, ◌<◌, ◌^◌, ◌==◌, [], length};
 ghost use Rattle.std.specs.List.{find};
 ghost use Rattle.spread_rules.specs.Clearing.{reduced, removed};
-ghost use Rattle.spread_books.specs.Queues.{HasMore, HasPlace};
-ghost use Rattle.spread_books.specs.code.Index.{Ascends};
+ghost use Rattle.order_tables.specs.Places.{HasMore, HasPlace, Ascends};
 
 use crate::book::Book;
-use crate::first_from::first_from;
-use crate::own_key::OwnKey;
-use crate::place_rows::PlaceRows;
-use crate::queue_key::QueueKey;
 use host_base::{Id, NoMemory};
+use order_tables::{OwnKey, PlaceRows, QueueKey, first_from};
 use spread_rules::{Instrument, Order, Side};
 use std::alloc::Allocator;
 use std::collections::BTreeSet;

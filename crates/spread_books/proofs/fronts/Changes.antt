@@ -15,10 +15,10 @@ use Rattle.spread_rules.specs.Quiet.{Rests}
 use Rattle.spread_rules.specs.Clearing.{reduced, removed, with_less_left}
 use Rattle.spread_rules.proofs.lists.Membership.{in_head, in_map, from_map}
 use Rattle.spread_books.specs.Queues.{IsFront, IsFrontLevel, is_in, is_ahead, queue_cmp}
-use Rattle.spread_books.specs.code.Index.{Ascends}
+use Rattle.order_tables.specs.Places.{Ascends}
 use Rattle.spread_books.proofs.fronts.FoldGivesFront.{queue_total, in_queue, from_queue}
-use Rattle.spread_books.proofs.places.Ascending.{one_at_a_place}
-use Rattle.spread_books.proofs.keys.SetOfKeys.{is_so, from_removed, in_removed, less_left}
+use Rattle.order_tables.proofs.places.Ascending.{one_at_a_place, is_so}
+use Rattle.spread_books.proofs.keys.SetOfKeys.{from_removed, in_removed, less_left}
 
 is_less : (r : Ordering) → is_lt r ≡ true → r ≡ Less
 is_less Less h = refl

@@ -1,5 +1,5 @@
 -- the table of best prices through the changes of a book
-use Rattle.std.proofs.Common.{◌≡◌, ℕ, zero, suc, ◌-◌, ◌<◌, ◌==◌, nat_lt, Bool, true, false, ◌&&◌, cond, List, [], ◌∷◌, ◌++◌, length, replicate, Contains, Option, Some, None, option_map, refl, sym, ap, ◌∙◌, subst, arith, inl, inr, ◌⊎◌, slice_set, slice_get}
+use Rattle.std.proofs.Common.{◌≡◌, ℕ, zero, suc, ◌<◌, ◌==◌, nat_lt, Bool, true, false, ◌&&◌, cond, List, [], ◌∷◌, ◌++◌, length, replicate, Contains, Option, Some, None, option_map, refl, sym, ap, ◌∙◌, subst, arith, inl, inr, ◌⊎◌, slice_set, slice_get}
 use Rattle.std.specs.List.{find}
 use Rattle.std.proofs.lemmas.Bool.Decides.{nat_tests}
 use Rattle.spread_rules.specs.declared.order.Side.{Side}
@@ -7,17 +7,18 @@ use Rattle.spread_rules.specs.declared.order.Side.TheVariants.{Buy, Sell}
 use Rattle.spread_rules.specs.declared.order.Instrument.{Instrument}
 use Rattle.spread_rules.specs.declared.order.Instrument.TheVariants.{Outright, Spread}
 use Rattle.spread_rules.specs.declared.order.Order.{Order}
-use Rattle.spread_rules.specs.Candidates.{better_by, same_instrument}
+use Rattle.spread_rules.specs.Candidates.{same_instrument}
 use Rattle.spread_rules.specs.Clearing.{reduced, removed, with_less_left}
 use Rattle.spread_rules.proofs.lists.Membership.{not_in_nil, in_head, in_tail, in_cons_cases}
 use Rattle.spread_books.specs.Queues.{IsFront, IsFrontLevel, is_ahead}
 use Rattle.spread_rules.specs.Legs.{is_side}
-use Rattle.spread_books.specs.code.Index.{Ascends}
-use Rattle.spread_books.specs.code.FrontTable.{has_slot, slot_number, slot_of, slot_in, put_in, known_price, with_known_price, best_price_of, level_at, IsBestPrice, HoldsPrices, becomes_front, may_be_at}
-use Rattle.spread_books.specs.declared.front_table.BestPrice.{BestPrice}
+use Rattle.order_tables.specs.Places.{Ascends}
+use Rattle.order_tables.specs.FrontTable.{has_slot, slot_number, slot_of, slot_in, put_in, known_price, with_known_price, best_price_of, level_at}
+use Rattle.spread_books.specs.code.FrontPrices.{IsBestPrice, HoldsPrices, becomes_front, may_be_at}
+use Rattle.order_tables.specs.declared.front_table.BestPrice.{BestPrice}
 use Rattle.spread_books.proofs.fronts.FoldGivesFront.{same_instrument_is, same_instrument_itself, same_side_is, same_side_itself}
-use Rattle.spread_books.proofs.places.Ascending.{one_at_a_place}
-use Rattle.spread_books.proofs.keys.SetOfKeys.{is_so, less_left}
+use Rattle.order_tables.proofs.places.Ascending.{is_so}
+use Rattle.spread_books.proofs.keys.SetOfKeys.{less_left}
 use Rattle.spread_books.proofs.keys.TablesThroughChanges.{is_found}
 use Rattle.spread_books.proofs.fronts.Changes.{front_of_others, front_of_own, front_removed, any_front_less, of_another}
 

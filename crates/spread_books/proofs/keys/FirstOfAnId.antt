@@ -16,13 +16,15 @@ use Rattle.host_base.specs.declared.id_key.IdKey.{IdKey}
 use Rattle.host_base.specs.IdKeys.{key_of, IsIdBytes, id_key_cmp}
 use Rattle.spread_rules.specs.Meaning.{is_own}
 use Rattle.host_base.proofs.IdKeyOnce.{one_key}
-use Rattle.spread_books.specs.declared.own_key.OwnKey.{OwnKey}
-use Rattle.spread_books.specs.code.OwnKeys.{own_key, own_start}
-use Rattle.spread_books.specs.code.Firsts.{IsFirstFrom}
-use Rattle.spread_books.specs.code.Index.{Ascends, own_key_cmp, HasKeys, IsKept}
-use Rattle.spread_books.proofs.places.Ascending.{find_none, find_first}
-use Rattle.spread_books.proofs.keys.SetOfKeys.{has_key, key_of_some, is_so}
-use Rattle.spread_books.proofs.keys.TotalOrders.{id_key_total, id_key_exact, own_key_total, own_key_exact}
+use Rattle.order_tables.specs.declared.own_key.OwnKey.{OwnKey}
+use Rattle.order_tables.specs.OwnKeys.{own_key, own_start}
+use Rattle.order_tables.specs.Firsts.{IsFirstFrom}
+use Rattle.order_tables.specs.Places.{Ascends}
+use Rattle.spread_books.specs.code.Index.{own_key_cmp, HasKeys, IsKept}
+use Rattle.order_tables.proofs.places.Ascending.{find_none, find_first, is_so}
+use Rattle.spread_books.proofs.keys.SetOfKeys.{has_key, key_of_some}
+use Rattle.spread_books.proofs.keys.TotalOrders.{id_key_total, own_key_total, own_key_exact}
+use Rattle.row_index.proofs.Keys.{exact_id_key}
 
 both : (a b : Bool) → (a && b) ≡ true → (a ≡ true) × (b ≡ true)
 both true b h = (refl, h)
@@ -50,7 +52,7 @@ level a Greater e h k = cc
 
 -- between two equal ids stands no other
 one_id : (a b : IdKey) → is_gt (id_key_cmp a b) ≡ false → is_gt (id_key_cmp b a) ≡ false → a ≡ b
-one_id a b h k = id_key_exact a b (level (id_key_cmp a b) (id_key_cmp b a) (id_key_total.antisymm a b) h k)
+one_id a b h k = exact_id_key a b (level (id_key_cmp a b) (id_key_cmp b a) (id_key_total.antisymm a b) h k)
 
 from_zero : (place : ℕ) → is_gt (nat_cmp 0 place) ≡ false
 from_zero place = grind (arith, nat_tests)

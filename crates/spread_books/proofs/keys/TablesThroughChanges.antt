@@ -10,13 +10,14 @@ use Rattle.std.proofs.lemmas.List.Elements.{Contains-append_cases}
 use Rattle.spread_rules.specs.declared.order.Order.{Order}
 use Rattle.spread_rules.specs.Clearing.{reduced, removed, with_less_left}
 use Rattle.spread_rules.proofs.lists.Membership.{not_in_nil, in_head, in_tail, in_cons_cases, from_map}
-use Rattle.spread_books.specs.declared.queue_key.QueueKey.{QueueKey}
-use Rattle.spread_books.specs.declared.own_key.OwnKey.{OwnKey}
-use Rattle.spread_books.specs.code.QueueKeys.{queue_key}
-use Rattle.spread_books.specs.code.OwnKeys.{own_key}
-use Rattle.spread_books.specs.code.Index.{Ascends, queue_key_cmp, own_key_cmp, IsKept, IsIndex}
-use Rattle.spread_books.proofs.places.Ascending.{find_first}
-use Rattle.spread_books.proofs.keys.SetOfKeys.{is_so, keys_added, keys_removed, keys_reduced, from_removed}
+use Rattle.order_tables.specs.declared.queue_key.QueueKey.{QueueKey}
+use Rattle.order_tables.specs.declared.own_key.OwnKey.{OwnKey}
+use Rattle.order_tables.specs.QueueKeys.{queue_key}
+use Rattle.order_tables.specs.OwnKeys.{own_key}
+use Rattle.order_tables.specs.Places.{Ascends}
+use Rattle.spread_books.specs.code.Index.{queue_key_cmp, own_key_cmp, IsKept, IsIndex}
+use Rattle.order_tables.proofs.places.Ascending.{find_first, is_so}
+use Rattle.spread_books.proofs.keys.SetOfKeys.{keys_added, keys_removed, keys_reduced, from_removed}
 use Rattle.spread_books.proofs.keys.TotalOrders.{queue_key_total, queue_key_exact, own_key_total, own_key_exact}
 use Rattle.spread_books.proofs.places.LastOrder.{ascends_removed, ascends_added, ascends_reduced}
 

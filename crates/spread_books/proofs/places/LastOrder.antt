@@ -1,33 +1,21 @@
 -- orders in order of place, and one more or none behind them
 use Rattle.std.proofs.Common.{◌≡◌, ℕ, ◌-◌, ◌<◌, ◌==◌, Bool, true, false, not, cond, List, [], ◌∷◌, ◌++◌, Option, Some, None, Contains, All, refl, sym, ap, ◌∙◌, subst, arith, inl, inr}
 use Rattle.std.specs.Ordering.{nat_cmp}
-use Rattle.std.specs.declared.cmp.Ordering.TheVariants.{Less}
 use Rattle.std.specs.List.{find}
 use Rattle.std.specs.List.Sorted.{IsStrictlySortedBy}
 use Rattle.std.specs.Option.{IfSome, option_to_list, option_or}
 use Rattle.std.proofs.lemmas.Bool.Decides.{nat_tests}
 use Rattle.std.proofs.lemmas.List.{map-append}
-use Rattle.std.proofs.lemmas.List.Elements.{All-contains, All-contains_itself, All-map, All-head, All-tail, All-weaker, recursion_from_All, Contains-append_cases, Contains-append_left, Contains-push, Contains-push_cases, filter-append}
+use Rattle.std.proofs.lemmas.List.Elements.{All-contains, All-head, All-tail, Contains-append_cases, Contains-append_left, Contains-push, Contains-push_cases, filter-append}
 use Rattle.std.proofs.lemmas.List.Folds.{find-append}
 use Rattle.spread_rules.specs.declared.order.Order.{Order}
 use Rattle.spread_rules.specs.Clearing.{reduced, removed, with_less_left}
 use Rattle.spread_rules.proofs.lists.Membership.{not_in_nil, in_head, in_tail, in_cons_cases}
-use Rattle.spread_books.specs.Queues.{HasMore, HasPlace}
-use Rattle.spread_books.specs.code.Index.{Ascends}
-use Rattle.spread_books.proofs.places.Ascending.{places, cmp_below, behind_first, others_ascend, find_none}
-use Rattle.spread_books.proofs.keys.SetOfKeys.{is_so, from_removed, keys_reduced}
-
-all_of : (P : Order → Type 0) (xs : List Order) → ((o : Order) → Contains xs o → P o) → All P xs
-all_of P xs h = All-weaker (λ o. Contains xs o) P h xs (All-contains_itself xs)
+use Rattle.order_tables.specs.Places.{HasMore, HasPlace, Ascends}
+use Rattle.order_tables.proofs.places.Ascending.{all_of, ascends_cons, behind_first, others_ascend, find_none, unfound, is_so}
+use Rattle.spread_books.proofs.keys.SetOfKeys.{from_removed, keys_reduced}
 
 -- ---- places that rise
-
-above : (n : ℕ) (xs : List Order) → ((o : Order) → Contains xs o → n < o.place) → All (λ y. nat_cmp n y ≡ Less) (places xs)
-above n xs h = All-map (λ (y : ℕ). nat_cmp n y ≡ Less) (λ (o : Order). o.place) xs (all_of (λ (o : Order). nat_cmp n o.place ≡ Less) xs (λ o c. cmp_below n o.place (h o c)))
-
-pub ascends_cons : (x : Order) (xs : List Order) → ((o : Order) → Contains xs o → x.place < o.place) → Ascends xs → Ascends (x ∷ xs)
-unfolding IsStrictlySortedBy
-ascends_cons x xs h s = (recursion_from_All (λ (y : ℕ). nat_cmp x.place y ≡ Less) (places xs) (above x.place xs h), s)
 
 pub ascends_added : (xs : List Order) (o : Order) → Ascends xs → All (λ p. p.place < o.place) xs → Ascends (xs ++ o ∷ [])
 ascends_added [] o s h = ascends_cons o [] (λ p c. absurd (not_in_nil p c)) s
@@ -68,17 +56,6 @@ newest_above xs None s = tt
 newest_above xs (Some n) s = all_below xs n s
 
 -- ---- a place that no order of the list has
-
-pub unfound : (xs : List Order) (place : ℕ) → find (λ o. o.place == place) xs ≡ None → (o : Order) → Contains xs o → (o.place == place) ≡ false
-unfound [] place h o c = absurd (not_in_nil o c)
-unfound (x ∷ xs) place h o c =
-    elim (is_so (x.place == place)) [
-      | inl k ↦ let g = rw k at h in cc
-      | inr k ↦ elim (in_cons_cases x xs o c) [
-        | inl e ↦ subst (λ (p : Order). (p.place == place) ≡ false) e k
-        | inr d ↦ unfound xs place (rw k at h) o d
-      ]
-    ]
 
 reduced_nobody : (xs : List Order) (place by : ℕ) → ((o : Order) → Contains xs o → (o.place == place) ≡ false) → reduced place by xs ≡ xs
 reduced_nobody [] place by h = refl

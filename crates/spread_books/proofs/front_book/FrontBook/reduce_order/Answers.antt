@@ -1,6 +1,6 @@
 use Rattle.std.proofs.Common.{List, sym, subst}
 use Rattle.spread_rules.specs.declared.order.Order.{Order}
-use Rattle.spread_books.specs.code.FrontTable.{HoldsPrices}
+use Rattle.spread_books.specs.code.FrontPrices.{HoldsPrices}
 use Rattle.spread_books.proofs.fronts.TableHoldsFronts.{prices_reduced}
 use Rattle.spread_books.proofs.front_book.FrontBook.reduce_order.Goals as goal
 

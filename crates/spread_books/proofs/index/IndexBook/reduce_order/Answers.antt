@@ -4,8 +4,7 @@ use Rattle.std.specs.Option.{option_to_list}
 use Rattle.std.proofs.lemmas.List.Elements.{All-contains}
 use Rattle.spread_rules.specs.declared.order.Order.{Order}
 use Rattle.spread_rules.specs.Clearing.{reduced}
-use Rattle.spread_books.specs.Queues.{HasMore}
-use Rattle.spread_books.specs.code.Index.{Ascends}
+use Rattle.order_tables.specs.Places.{HasMore, Ascends}
 use Rattle.spread_books.proofs.places.LastOrder.{ascends_reduced, reduced_newest, found_newest, reduced_before, found_before, more_before}
 use Rattle.spread_books.proofs.fronts.TableHoldsFronts.{rests_at}
 use Rattle.spread_books.proofs.index.IndexBook.reduce_order.Goals as goal

@@ -1,0 +1,2 @@
+pub mod Ascending
+pub mod RowsByPlace

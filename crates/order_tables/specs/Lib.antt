@@ -1,0 +1,6 @@
+pub mod Places
+pub mod FrontTable
+pub mod Firsts
+pub mod QueueKeys
+pub mod OwnKeys
+pub mod code
