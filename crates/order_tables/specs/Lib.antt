@@ -1,3 +1,4 @@
+pub mod Amended
 pub mod Places
 pub mod FrontTable
 pub mod Firsts

@@ -8,11 +8,13 @@ ghost use Rattle.std.specs.List.{find};
 ghost use Rattle.spread_rules.specs.declared.order.Order.{Order};
 ghost use Rattle.spread_rules.specs.Clearing.{reduced, removed};
 ghost use Rattle.order_tables.specs.declared.row.Row.{Row};
+ghost use Rattle.order_tables.specs.Amended.{amended};
 ghost use Rattle.order_tables.specs.Places.{HasMore, HasPlace, Ascends};
 ghost use Rattle.order_tables.specs.code.Rows.{live, Rises};
 
+use crate::amend::with_quantity;
 use crate::row::Row;
-use host_base::NoMemory;
+use host_base::{Id, NoMemory};
 use row_index::{Hints, PlacedRows};
 use spread_rules::Order;
 use std::alloc::Allocator;
@@ -180,6 +182,23 @@ impl<A: Allocator + Copy> PlaceRows<A> {
             return None;
         }
         self.rows[at].order.leaves -= by;
+        Some(was.order)
+    }
+
+    /// The order of that place takes that id and that quantity, what is filled included. Tells which it was. Takes no
+    /// memory.
+    pub fn amend(&mut self, place: u64, id: Id, quantity: u32) -> Option<Order>
+        requires { HasPlace self.old place }
+        ensures book { self.new ≡ amended place id quantity self.old }
+        ensures was { result ≡ find (λ o. o.place == place) self.old }
+        ensures ordered { Ascends self.old }
+    {
+        let at = row_at(&self.rows, &self.hints, place)?;
+        let was = self.rows[at];
+        if !was.rests {
+            return None;
+        }
+        self.rows[at].order = with_quantity(&was.order, id, quantity);
         Some(was.order)
     }
 

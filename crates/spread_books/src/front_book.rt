@@ -199,6 +199,10 @@ impl<A: Allocator + Copy> Book for FrontBook<A> {
         self.reduce_order(place, by);
     }
 
+    fn amend(&mut self, place: u64, id: Id, quantity: u32) -> Result<(), NoMemory> {
+        self.tables.amend(place, id, quantity)
+    }
+
     fn remove(&mut self, place: u64) {
         self.remove_order(place);
     }

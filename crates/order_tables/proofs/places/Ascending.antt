@@ -9,9 +9,10 @@ use Rattle.std.proofs.lemmas.Bool.Decides.{nat_tests}
 use Rattle.std.proofs.lemmas.Map.Keys.{sorted_head, sorted_tail}
 use Rattle.std.proofs.lemmas.List.Elements.{All-from_recursion, All-contains, All-contains_itself, All-map, All-weaker, recursion_from_All}
 use Rattle.spread_rules.specs.declared.order.Order.{Order}
-use Rattle.spread_rules.specs.Clearing.{reduced, removed}
+use Rattle.spread_rules.specs.Clearing.{removed}
 use Rattle.spread_rules.proofs.lists.Membership.{not_in_nil, in_head, in_tail, in_cons_cases, in_map}
 use Rattle.order_tables.specs.Places.{Ascends}
+use Rattle.order_tables.proofs.places.ChangedAt.{changed, keys_kept}
 
 pub is_so : (b : Bool) → (b ≡ true) ⊎ (b ≡ false)
 is_so true = inl refl
@@ -68,19 +69,9 @@ one_at_a_place (x ∷ xs) p o s c d e =
     ]
 
 -- a place that no order has
-pub kept_without : (xs : List Order) (place : ℕ) → ((o : Order) → Contains xs o → place < o.place) → removed place xs ≡ xs
-kept_without [] place h = refl
-kept_without (x ∷ xs) place h =
-    let l = h x (in_head x xs) in
-    let k : (x.place == place) ≡ false = grind (arith, nat_tests) in
-    rw k (ap (λ (ys : List Order). x ∷ ys) (kept_without xs place (λ o c. h o (in_tail x xs o c))))
-
-pub as_before : (xs : List Order) (place by : ℕ) → ((o : Order) → Contains xs o → place < o.place) → reduced place by xs ≡ xs
-as_before [] place by h = refl
-as_before (x ∷ xs) place by h =
-    let l = h x (in_head x xs) in
-    let k : (x.place == place) ≡ false = grind (arith, nat_tests) in
-    rw k (ap (λ (ys : List Order). x ∷ ys) (as_before xs place by (λ o c. h o (in_tail x xs o c))))
+pub removed_nobody : (xs : List Order) (place : ℕ) → ((o : Order) → Contains xs o → (o.place == place) ≡ false) → removed place xs ≡ xs
+removed_nobody [] place h = refl
+removed_nobody (x ∷ xs) place h = rw (h x (in_head x xs)) (ap (λ (ys : List Order). x ∷ ys) (removed_nobody xs place (λ o c. h o (in_tail x xs o c))))
 
 -- ---- the first that passes a test
 pub find_none : (test : Order → Bool) (xs : List Order) → ((o : Order) → Contains xs o → test o ≡ false) → find test xs ≡ None
@@ -98,14 +89,21 @@ find_first test (x ∷ xs) o s c t h =
       ]
     ]
 
--- a place that no order of the list has
-pub unfound : (xs : List Order) (place : ℕ) → find (λ o. o.place == place) xs ≡ None → (o : Order) → Contains xs o → (o.place == place) ≡ false
-unfound [] place h o c = absurd (not_in_nil o c)
-unfound (x ∷ xs) place h o c =
-    elim (is_so (x.place == place)) [
+-- no order passes a test by which none is found
+pub unfound_by : (test : Order → Bool) (xs : List Order) → find test xs ≡ None → (o : Order) → Contains xs o → test o ≡ false
+unfound_by test [] h o c = absurd (not_in_nil o c)
+unfound_by test (x ∷ xs) h o c =
+    elim (is_so (test x)) [
       | inl k ↦ let g = rw k at h in cc
       | inr k ↦ elim (in_cons_cases x xs o c) [
-        | inl e ↦ subst (λ (p : Order). (p.place == place) ≡ false) e k
-        | inr d ↦ unfound xs place (rw k at h) o d
+        | inl e ↦ subst (λ (p : Order). test p ≡ false) e k
+        | inr d ↦ unfound_by test xs (rw k at h) o d
       ]
     ]
+
+-- a place that no order of the list has
+pub unfound : (xs : List Order) (place : ℕ) → find (λ o. o.place == place) xs ≡ None → (o : Order) → Contains xs o → (o.place == place) ≡ false
+unfound xs place h o c = unfound_by (λ (p : Order). p.place == place) xs h o c
+
+pub ascends_changed : (f : Order → Order) (keeps : (o : Order) → (f o).place ≡ o.place) (place : ℕ) (xs : List Order) → Ascends xs → Ascends (changed f place xs)
+ascends_changed f keeps place xs s = subst (λ (ps : List ℕ). IsStrictlySortedBy nat_cmp ps) (sym (keys_kept (λ (o : Order). o.place) f keeps place xs)) s

@@ -8,12 +8,13 @@ use Rattle.std.specs.List.{find}
 use Rattle.std.specs.List.Sorted.{IsStrictlySortedBy}
 use Rattle.row_index.proofs.Places.{not_later}
 use Rattle.spread_rules.specs.declared.order.Order.{Order}
-use Rattle.spread_rules.specs.Clearing.{reduced, removed}
+use Rattle.spread_rules.specs.Clearing.{removed}
 use Rattle.spread_rules.proofs.lists.Membership.{not_in_nil, in_head, in_tail, in_cons_cases}
 use Rattle.order_tables.specs.declared.row.Row.{Row}
 use Rattle.order_tables.specs.Places.{Ascends, HasPlace, HasMore}
 use Rattle.order_tables.specs.code.Rows.{live, Rises}
-use Rattle.order_tables.proofs.places.Ascending.{is_so, kept_without, as_before, find_none, ascends_cons, unfound}
+use Rattle.order_tables.proofs.places.ChangedAt.{changed, changed_nobody}
+use Rattle.order_tables.proofs.places.Ascending.{is_so, removed_nobody, find_none, ascends_cons, unfound}
 
 -- ---- which orders rest
 
@@ -111,23 +112,23 @@ rises_set (r ∷ rs) (suc i) d q h lt e =
 pub live_left : (rs : List Row) (i : ℕ) (d : Row) → Rises rs → i < length rs → live (set rs i (record (get_or rs i d) { rests = false })) ≡ removed (get_or rs i d).order.place (live rs)
 live_left [] i d h lt = absurd (omega arith)
 live_left (r ∷ rs) zero d h lt =
-    let rest = sym (kept_without (live rs) r.order.place (λ o c. above_first r rs o h c)) in
+    let rest = sym (removed_nobody (live rs) r.order.place (λ o c. above_test r.order.place o.place (above_first r rs o h c))) in
     elim (is_so r.rests) [ inl k ↦ rw (k, same_test r.order.place) rest | inr k ↦ rw k rest ]
 live_left (r ∷ rs) (suc i) d h lt =
     let rest = live_left rs i d h.1 (omega arith) in
     let other = below_test r.order.place (get_or rs i d).order.place (h.0 i d (omega arith)) in
     elim (is_so r.rests) [ inl k ↦ rw (k, other) (ap (λ (xs : List Order). r.order ∷ xs) rest) | inr k ↦ rw k rest ]
 
-abbrev pub less_row : ℕ → Row → Row
-less_row by r = record r { order = record r.order { leaves = r.order.leaves - by } }
+abbrev pub changed_row : (Order → Order) → Row → Row
+changed_row f r = record r { order = f r.order }
 
-pub live_less : (rs : List Row) (i by : ℕ) (d : Row) → Rises rs → i < length rs → (get_or rs i d).rests ≡ true → live (set rs i (less_row by (get_or rs i d))) ≡ reduced (get_or rs i d).order.place by (live rs)
-live_less [] i by d h lt k = absurd (omega arith)
-live_less (r ∷ rs) zero by d h lt k =
-    let rest = sym (as_before (live rs) r.order.place by (λ o c. above_first r rs o h c)) in
-    rw (k, same_test r.order.place) (ap (λ (xs : List Order). record r.order { leaves = r.order.leaves - by } ∷ xs) rest)
-live_less (r ∷ rs) (suc i) by d h lt k =
-    let rest = live_less rs i by d h.1 (omega arith) k in
+pub live_changed : (f : Order → Order) (rs : List Row) (i : ℕ) (d : Row) → Rises rs → i < length rs → (get_or rs i d).rests ≡ true → live (set rs i (changed_row f (get_or rs i d))) ≡ changed f (get_or rs i d).order.place (live rs)
+live_changed f [] i d h lt k = absurd (omega arith)
+live_changed f (r ∷ rs) zero d h lt k =
+    let rest = sym (changed_nobody f (live rs) r.order.place (λ o c. above_test r.order.place o.place (above_first r rs o h c))) in
+    rw (k, same_test r.order.place) (ap (λ (xs : List Order). f r.order ∷ xs) rest)
+live_changed f (r ∷ rs) (suc i) d h lt k =
+    let rest = live_changed f rs i d h.1 (omega arith) k in
     let other = below_test r.order.place (get_or rs i d).order.place (h.0 i d (omega arith)) in
     elim (is_so r.rests) [ inl l ↦ rw (l, other) (ap (λ (xs : List Order). r.order ∷ xs) rest) | inr l ↦ rw l rest ]
 
@@ -201,11 +202,11 @@ shorter (r ∷ rs) (suc i) d lt k =
     let m = shorter rs i d (omega arith) k in
     elim (is_so r.rests) [ inl l ↦ rw l (omega (arith, m)) | inr l ↦ rw l m ]
 
-pub as_long : (rs : List Row) (i by : ℕ) (d : Row) → i < length rs → length (live (set rs i (less_row by (get_or rs i d)))) ≡ length (live rs)
-as_long [] i by d lt = absurd (omega arith)
-as_long (r ∷ rs) zero by d lt = elim (is_so r.rests) [ inl l ↦ rw l | inr l ↦ rw l ]
-as_long (r ∷ rs) (suc i) by d lt =
-    let m = as_long rs i by d (omega arith) in
+pub as_long : (f : Order → Order) (rs : List Row) (i : ℕ) (d : Row) → i < length rs → length (live (set rs i (changed_row f (get_or rs i d)))) ≡ length (live rs)
+as_long f [] i d lt = absurd (omega arith)
+as_long f (r ∷ rs) zero d lt = elim (is_so r.rests) [ inl l ↦ rw l | inr l ↦ rw l ]
+as_long f (r ∷ rs) (suc i) d lt =
+    let m = as_long f rs i d (omega arith) in
     elim (is_so r.rests) [ inl l ↦ rw l (omega (arith, m)) | inr l ↦ rw l m ]
 
 pub more_left : (rs : List Row) (xs : List Order) (i place by : ℕ) (was : Row) → live rs ≡ xs → i < length rs → was ≡ get_or rs i was → (get_or rs i was).order.place ≡ place → was.rests ≡ true → HasMore xs place by → by < was.order.leaves
@@ -232,16 +233,16 @@ left_kept rs i count was q h lt e f k n =
       live = subst (λ (r : Row). live (set rs i (record r { rests = false })) ≡ removed r.order.place (live rs)) (sym f) (live_left rs i q h lt);
     }
 
--- a row of whose order less is left
-pub less_kept : (rs : List Row) (i count by : ℕ) (was q : Row) → Rises rs → i < length rs → was ≡ get_or rs i was → q ≡ get_or rs i q → was.rests ≡ true → count ≡ length (live rs) →
-    record { rises : Rises (set rs i (less_row by q)); count : count ≡ length (live (set rs i (less_row by q))); live : live (set rs i (less_row by q)) ≡ reduced q.order.place by (live rs) }
-less_kept rs i count by was q h lt e f k n =
-    let rests : (get_or rs i q).rests ≡ true = sym (ap (λ (r : Row). r.rests) f) ∙ ap (λ (r : Row). r.rests) (same_row rs i q was lt f e) ∙ k in
-    let m : length (live (set rs i (less_row by q))) ≡ length (live rs) = subst (λ (r : Row). length (live (set rs i (less_row by r))) ≡ length (live rs)) (sym f) (as_long rs i by q lt) in
+-- a row whose order is changed at its place
+pub changed_kept : (f : Order → Order) → ((o : Order) → (f o).place ≡ o.place) → (rs : List Row) (i count : ℕ) (was q : Row) → Rises rs → i < length rs → was ≡ get_or rs i was → q ≡ get_or rs i q → was.rests ≡ true → count ≡ length (live rs) →
+    record { rises : Rises (set rs i (changed_row f q)); count : count ≡ length (live (set rs i (changed_row f q))); live : live (set rs i (changed_row f q)) ≡ changed f q.order.place (live rs) }
+changed_kept f keeps rs i count was q h lt e g k n =
+    let rests : (get_or rs i q).rests ≡ true = sym (ap (λ (r : Row). r.rests) g) ∙ ap (λ (r : Row). r.rests) (same_row rs i q was lt g e) ∙ k in
+    let m : length (live (set rs i (changed_row f q))) ≡ length (live rs) = subst (λ (r : Row). length (live (set rs i (changed_row f r))) ≡ length (live rs)) (sym g) (as_long f rs i q lt) in
     record {
-      rises = rises_set rs i q (less_row by q) h lt (ap (λ (r : Row). r.order.place) f);
+      rises = rises_set rs i q (changed_row f q) h lt (keeps q.order ∙ ap (λ (r : Row). r.order.place) g);
       count = n ∙ sym m;
-      live = subst (λ (r : Row). live (set rs i (less_row by r)) ≡ reduced r.order.place by (live rs)) (sym f) (live_less rs i by q h lt rests);
+      live = subst (λ (r : Row). live (set rs i (changed_row f r)) ≡ changed f r.order.place (live rs)) (sym g) (live_changed f rs i q h lt rests);
     }
 
 pub longer : (rs : List Row) (o : Order) → length (live (rs ++ record { order = o; rests = true } ∷ [])) ≡ length (live rs) + 1
