@@ -1,6 +1,6 @@
 -- The market's state after an entry: the orders that rest, and a status for each New entry in place of the past.
 -- Words of the code alone.
-use Rattle.std.specs.Prelude.{ℕ, ◌-◌, ◌==◌, ◌≤◌, ◌<◌, ⊤, Bool, ◌&&◌, ◌||◌, cond, if◌then◌else◌, List, [], ◌∷◌, ◌++◌, map, fold, All, Option, Some, None}
+use Rattle.std.specs.Prelude.{ℕ, ◌-◌, ◌==◌, ◌≤◌, Bool, ◌&&◌, ◌||◌, cond, if◌then◌else◌, List, [], ◌∷◌, ◌++◌, map, fold, All, Option, Some, None}
 use Rattle.std.specs.List.{find}
 use Rattle.row_index.specs.Places.{RisesBy}
 use Rattle.spread_rules.specs.declared.codes.ord_rej_reason.TheConstants as ord_rej_reason
