@@ -103,6 +103,13 @@ fn ids_are_found(rt: HostRuntime) -> Result<(), Fail> {
 }
 
 #[test]
+fn words_of_a_key(rt: HostRuntime) -> Result<(), Fail> {
+    let words = IdKey::new(3, &id(b"ABCDEFGH\x02")).words();
+    assert!(rt; words == [3, 0x4142_4344_4546_4748, 0x0200_0000_0000_0000, 0, 0]);
+    Ok(())
+}
+
+#[test]
 fn memory_is_refused(rt: HostRuntime) -> Result<(), Fail> {
     for number in 1..16 {
         let heap = Refusing::new(rt.alloc(), number);

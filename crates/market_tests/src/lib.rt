@@ -1,4 +1,4 @@
-//! Tests of `spread_rules`, `spread_books`, `row_index` and `spread_match`.
+//! Tests of `row_index`, `spread_rules`, `order_tables`, `spread_books` and `spread_match`.
 #![tactic(auto)]
 
 #[cfg(test)]

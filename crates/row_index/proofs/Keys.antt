@@ -10,7 +10,7 @@ use Rattle.host_base.specs.declared.id_key.IdKey.{IdKey}
 use Rattle.host_base.specs.IdKeys.{id_key_cmp}
 use Rattle.row_index.specs.Ids.{is_key}
 
-both_equal : (a b : Ordering) → ordering_then a b ≡ Equal → (a ≡ Equal) × (b ≡ Equal)
+pub both_equal : (a b : Ordering) → ordering_then a b ≡ Equal → (a ≡ Equal) × (b ≡ Equal)
 both_equal Equal b e = (refl, e)
 both_equal Less b e = cc
 both_equal Greater b e = cc
@@ -66,36 +66,34 @@ or_none : (o : Option ℕ) → o ≡ option_or o None
 or_none None = refl
 or_none (Some n) = refl
 
--- a key that is new
-pub first_new : (old new : IdKey → Option ℕ) (key : IdKey) (at : ℕ) → None ≡ old key → ((q : IdKey) → new q ≡ cond (is_eq (id_key_cmp key q)) (Some at) (old q))
-    → (q : IdKey) → new q ≡ option_or (old q) (cond (is_eq (id_key_cmp key q)) (Some at) None)
-first_new old new key at none put q = by_test (is_eq (id_key_cmp key q)) refl
+-- a key gets that row where it has none
+kept_or_new : (old new : IdKey → Option ℕ) (key : IdKey) (at : ℕ) → ((q : IdKey) → new q ≡ cond (is_key key q) (option_or (old key) (Some at)) (old q))
+    → (q : IdKey) → new q ≡ option_or (old q) (cond (is_key key q) (Some at) None)
+kept_or_new old new key at put q = by_test (is_key key q) refl
   where
-    by_test : (v : Bool) → is_eq (id_key_cmp key q) ≡ v → new q ≡ option_or (old q) (cond (is_eq (id_key_cmp key q)) (Some at) None)
+    by_test : (v : Bool) → is_key key q ≡ v → new q ≡ option_or (old q) (cond (is_key key q) (Some at) None)
     by_test true e =
-        let same : key ≡ q = exact_id_key key q (equal_is (id_key_cmp key q) e) in
-        put q ∙ (ap (λ (b : Bool). cond b (Some at) (old q)) e
-        ∙ (ap (λ (o : Option ℕ). option_or o (Some at)) (none ∙ ap old same)
+        put q ∙ (ap (λ (b : Bool). cond b (option_or (old key) (Some at)) (old q)) e
+        ∙ (ap (λ (k : IdKey). option_or (old k) (Some at)) (key_is key q e)
         ∙ ap (λ (b : Bool). option_or (old q) (cond b (Some at) None)) (sym e)))
     by_test false e =
-        put q ∙ (ap (λ (b : Bool). cond b (Some at) (old q)) e
+        put q ∙ (ap (λ (b : Bool). cond b (option_or (old key) (Some at)) (old q)) e
         ∙ (or_none (old q)
         ∙ ap (λ (b : Bool). option_or (old q) (cond b (Some at) None)) (sym e)))
 
+-- a key that is new
+pub first_new : (old new : IdKey → Option ℕ) (key : IdKey) (at : ℕ) → None ≡ old key → ((q : IdKey) → new q ≡ cond (is_key key q) (Some at) (old q))
+    → (q : IdKey) → new q ≡ option_or (old q) (cond (is_key key q) (Some at) None)
+first_new old new key at none put = kept_or_new old new key at (λ q. put q ∙ ap (λ (o : Option ℕ). cond (is_key key q) (option_or o (Some at)) (old q)) none)
+
+put_twice : (b : Bool) (x y z : Option ℕ) → cond b x (cond b y z) ≡ cond b x z
+put_twice true x y z = refl
+put_twice false x y z = refl
+
 -- a key that had a place, which is put back
-pub first_kept : (old mid new : IdKey → Option ℕ) (key : IdKey) (at earlier : ℕ) → Some earlier ≡ old key → ((q : IdKey) → mid q ≡ cond (is_eq (id_key_cmp key q)) (Some at) (old q))
-    → ((q : IdKey) → new q ≡ cond (is_eq (id_key_cmp key q)) (Some earlier) (mid q)) → (q : IdKey) → new q ≡ option_or (old q) (cond (is_eq (id_key_cmp key q)) (Some at) None)
-first_kept old mid new key at earlier some put back q = by_test (is_eq (id_key_cmp key q)) refl
-  where
-    by_test : (v : Bool) → is_eq (id_key_cmp key q) ≡ v → new q ≡ option_or (old q) (cond (is_eq (id_key_cmp key q)) (Some at) None)
-    by_test true e =
-        let same : key ≡ q = exact_id_key key q (equal_is (id_key_cmp key q) e) in
-        back q ∙ (ap (λ (b : Bool). cond b (Some earlier) (mid q)) e
-        ∙ (ap (λ (o : Option ℕ). option_or o (Some at)) (some ∙ ap old same)
-        ∙ ap (λ (b : Bool). option_or (old q) (cond b (Some at) None)) (sym e)))
-    by_test false e =
-        back q ∙ (ap (λ (b : Bool). cond b (Some earlier) (mid q)) e
-        ∙ (put q
-        ∙ (ap (λ (b : Bool). cond b (Some at) (old q)) e
-        ∙ (or_none (old q)
-        ∙ ap (λ (b : Bool). option_or (old q) (cond b (Some at) None)) (sym e)))))
+pub first_kept : (old mid new : IdKey → Option ℕ) (key : IdKey) (at earlier : ℕ) → Some earlier ≡ old key → ((q : IdKey) → mid q ≡ cond (is_key key q) (Some at) (old q))
+    → ((q : IdKey) → new q ≡ cond (is_key key q) (Some earlier) (mid q)) → (q : IdKey) → new q ≡ option_or (old q) (cond (is_key key q) (Some at) None)
+first_kept old mid new key at earlier some put back = kept_or_new old new key at (λ q.
+    back q ∙ (ap (λ (o : Option ℕ). cond (is_key key q) (Some earlier) o) (put q)
+    ∙ (put_twice (is_key key q) (Some earlier) (Some at) (old q)
+    ∙ ap (λ (o : Option ℕ). cond (is_key key q) (option_or o (Some at)) (old q)) some)))

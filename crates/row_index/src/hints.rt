@@ -1,4 +1,7 @@
 //! Guesses of where the row of a place stands.
+ghost use Rattle.std.specs.Prelude.{◌≡◌, Some, IfSome, slice_get};
+
+use crate::rows::PlacedRows;
 use std::alloc::Allocator;
 
 /// How many places the next guess may be behind the last one, beyond as many as there are guesses.
@@ -28,6 +31,17 @@ impl<A: Allocator + Copy> Hints<A> {
         let n = usize::try_from(from).ok()?;
         let row = *self.rows.get(n)?;
         Some(row as usize)
+    }
+
+    /// The row of that place, where the guess is right.
+    pub fn find<R: PlacedRows>(&self, rows: &R, place: u64) -> Option<usize>
+        ensures { IfSome result (λ row. slice_get (R.places rows.now) row ≡ Some place) }
+    {
+        let row = self.guess(place)?;
+        match rows.place_at(row) {
+            Some(own) if own == place => Some(row),
+            _ => None,
+        }
     }
 
     /// The row of that place stands there. A guess that finds no memory is left out. Behind a gap that is longer than

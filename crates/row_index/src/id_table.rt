@@ -201,15 +201,11 @@ impl<A: Allocator + Copy> IdTable<A> {
         let spot = spot_of(self.lines.len(), key);
         match self.seek(spot, rows, key) {
             Seek::Found(_) => Ok(true),
-            Seek::Open(at) => {
-                if row < ROWS {
-                    self.put_number(spot.line, at, number_of(spot.tag, row));
-                    Ok(false)
-                } else {
-                    note_first(&mut self.behind, key, row)
-                }
+            Seek::Open(at) if row < ROWS => {
+                self.put_number(spot.line, at, number_of(spot.tag, row));
+                Ok(false)
             }
-            Seek::Full => note_first(&mut self.behind, key, row),
+            _ => note_first(&mut self.behind, key, row),
         }
     }
 

@@ -8,4 +8,4 @@ mod spot;
 
 pub use hints::Hints;
 pub use id_table::IdTable;
-pub use rows::IdRows;
+pub use rows::{IdRows, PlacedRows};

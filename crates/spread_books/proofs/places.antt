@@ -1,3 +1,2 @@
-pub mod Ascending
+pub mod InTurn
 pub mod LastOrder
-pub mod RowsByPlace

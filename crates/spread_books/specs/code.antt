@@ -1,6 +1,2 @@
-pub mod Firsts
-pub mod QueueKeys
-pub mod OwnKeys
-pub mod Rows
 pub mod Index
-pub mod FrontTable
+pub mod FrontPrices

@@ -3,14 +3,13 @@ ghost use Rattle.std.specs.Prelude.{◌≡◌, ◌<◌, ◌^◌, ◌==◌, ◌++
 ghost use Rattle.std.specs.List.{find};
 ghost use Rattle.spread_rules.specs.Clearing.{reduced, removed};
 ghost use Rattle.spread_rules.specs.declared.order.Order.{Order};
-ghost use Rattle.spread_books.specs.Queues.{HasMore, HasPlace};
-ghost use Rattle.spread_books.specs.code.FrontTable.{may_be_at, becomes_front, is_ahead_of, IsBestPrice, HoldsPrices};
-ghost use Rattle.spread_books.specs.code.Index.{Ascends};
+ghost use Rattle.order_tables.specs.Places.{HasMore, HasPlace, Ascends};
+ghost use Rattle.spread_books.specs.code.FrontPrices.{may_be_at, becomes_front, is_ahead_of, IsBestPrice, HoldsPrices};
 
 use crate::book::Book;
-use crate::front_table::{BestPrice, FrontTable};
 use crate::tree::TreeBook;
 use host_base::{Id, NoMemory};
+use order_tables::{BestPrice, FrontTable};
 use spread_rules::{Instrument, Level, Order, Side};
 use std::alloc::Allocator;
 use std::marker::Model;
@@ -25,7 +24,7 @@ pub struct FrontBook<A: Allocator + Copy> {
 impl<A: Allocator + Copy> Model for FrontBook<A> {
     ghost use Rattle.std.specs.Prelude.{List};
     ghost use Rattle.spread_rules.specs.declared.order.Order.{Order};
-    ghost use Rattle.spread_books.specs.code.FrontTable.{HoldsPrices};
+    ghost use Rattle.spread_books.specs.code.FrontPrices.{HoldsPrices};
 
     ghost Value = { List Order };
 
@@ -198,6 +197,10 @@ impl<A: Allocator + Copy> Book for FrontBook<A> {
 
     fn reduce(&mut self, place: u64, by: u32) {
         self.reduce_order(place, by);
+    }
+
+    fn amend(&mut self, place: u64, id: Id, quantity: u32) -> Result<(), NoMemory> {
+        self.tables.amend(place, id, quantity)
     }
 
     fn remove(&mut self, place: u64) {

@@ -2,15 +2,9 @@
 #![tactic(auto)]
 
 mod book;
-mod first_from;
 mod front_book;
-mod front_table;
 mod index;
 mod list;
-mod own_key;
-mod place_rows;
-mod queue_key;
-mod row;
 mod tree;
 
 pub use book::Book;

@@ -2,15 +2,11 @@
 ghost use Rattle.std.specs.Prelude.{◌≡◌, ◌<◌, ◌^◌, ◌==◌, [], length};
 ghost use Rattle.std.specs.List.{find};
 ghost use Rattle.spread_rules.specs.Clearing.{reduced, removed};
-ghost use Rattle.spread_books.specs.Queues.{HasMore, HasPlace};
-ghost use Rattle.spread_books.specs.code.Index.{Ascends};
+ghost use Rattle.order_tables.specs.Places.{HasMore, HasPlace, Ascends};
 
 use crate::book::Book;
-use crate::first_from::first_from;
-use crate::own_key::OwnKey;
-use crate::place_rows::PlaceRows;
-use crate::queue_key::QueueKey;
 use host_base::{Id, NoMemory};
+use order_tables::{OwnKey, PlaceRows, QueueKey, first_from, with_quantity};
 use spread_rules::{Instrument, Order, Side};
 use std::alloc::Allocator;
 use std::collections::BTreeSet;
@@ -131,6 +127,18 @@ impl<A: Allocator + Copy> Book for TreeBook<A> {
 
     fn reduce(&mut self, place: u64, by: u32) {
         self.reduce_order(place, by);
+    }
+
+    fn amend(&mut self, place: u64, id: Id, quantity: u32) -> Result<(), NoMemory> {
+        if let Some(was) = self.orders.get(place) {
+            let amended = with_quantity(&was, id, quantity);
+            if self.ids.insert(OwnKey::new(&amended)).is_err() {
+                return Err(NoMemory);
+            }
+            self.ids.remove(&OwnKey::new(&was));
+            self.orders.amend(place, id, quantity);
+        }
+        Ok(())
     }
 
     fn remove(&mut self, place: u64) {

@@ -1,15 +1,14 @@
 //! How each New entry so far stands, found by its session and id, and by its place.
-ghost use Rattle.std.specs.Prelude.{◌≡◌, ◌≢◌, ◌<◌, ◌≤◌, length, take, slice_get, slice_index_or, List, All, [], ◌++◌, ◌∷◌, map, OnOk, OnErr, IfSome, IfNone};
+ghost use Rattle.std.specs.Prelude.{◌≡◌, ◌≢◌, ◌<◌, ◌≤◌, length, take, slice_get, slice_index_or, List, All, [], ◌++◌, ◌∷◌, map, OnOk, OnErr, IfSome, IfNone, ℕ, cond, is_some, Some, None, IfOk};
 ghost use Rattle.spread_rules.specs.declared.codes.ord_status.TheConstants.{REJECTED};
 ghost use Rattle.spread_rules.specs.declared.outcome.OrderStatus.{OrderStatus};
-ghost use Rattle.std.specs.Prelude.{ℕ, cond, is_some, Some, None, IfOk};
 ghost use Rattle.std.specs.List.{find};
 ghost use Rattle.spread_rules.specs.Meaning.{has_id};
 ghost use Rattle.spread_match.specs.code.Statuses.{key_of_status};
 ghost use Rattle.spread_match.specs.code.StateAfter.{status_after_fill, statuses_after, AreInOrder};
 
 use host_base::{Id, IdKey, NoMemory};
-use row_index::{Hints, IdRows, IdTable};
+use row_index::{Hints, IdRows, IdTable, PlacedRows};
 use spread_rules::codes::ord_status;
 use spread_rules::{Fill, OrderStatus};
 use std::alloc::Allocator;
@@ -39,7 +38,7 @@ impl<A: Allocator + Copy> Model for Statuses<A> {
         AreInOrder m.rows.items × IsIndex m.first m.rows.items };
 }
 
-/// Statuses, to be looked up by session and id.
+/// Statuses, to be looked up by session and id, or by place.
 #[derive(Clone, Copy)]
 struct StatusRows<'a> {
     rows: &'a [OrderStatus],
@@ -55,6 +54,15 @@ impl<'a> IdRows for StatusRows<'a> {
 
     fn len(&self) -> usize {
         self.rows.len()
+    }
+}
+
+impl<'a> PlacedRows for StatusRows<'a> {
+    ghost places = { λ r. map (λ status. status.place) r.rows.now };
+
+    fn place_at(&self, row: usize) -> Option<u64> {
+        let status = self.rows.get(row)?;
+        Some(status.place)
     }
 }
 
@@ -93,24 +101,6 @@ fn first_possible(statuses: &[OrderStatus], place: u64) -> usize
     }
 }
 
-/// The row that the hint of that place names, where it has the place.
-fn hinted_row<A: Allocator + Copy>(
-    statuses: &[OrderStatus],
-    hints: &Hints<A>,
-    place: u64,
-) -> Option<usize>
-    ensures within { IfSome result (λ i. i < length statuses.now) }
-    ensures at { (d : OrderStatus)
-        → IfSome result (λ i. (slice_index_or statuses.now i d).place ≡ place) }
-{
-    let at = hints.guess(place)?;
-    if at < statuses.len() && statuses[at].place == place {
-        Some(at)
-    } else {
-        None
-    }
-}
-
 /// Where the status of that place stands.
 fn place_in<A: Allocator + Copy>(
     statuses: &[OrderStatus],
@@ -123,7 +113,7 @@ fn place_in<A: Allocator + Copy>(
         → IfSome result (λ i. (slice_index_or statuses.now i d).place ≡ place) }
     ensures none { IfNone result (All (λ s. s.place ≢ place) statuses.now) }
 {
-    if let Some(at) = hinted_row(statuses, hints, place) {
+    if let Some(at) = hints.find(&StatusRows { rows: statuses }, place) {
         return Some(at);
     }
     let from = first_possible(statuses, place);

@@ -12,13 +12,14 @@ use Rattle.spread_rules.specs.declared.order.Order.{Order}
 use Rattle.spread_rules.specs.declared.order.Level.{Level}
 use Rattle.spread_rules.specs.Candidates.{better_by}
 use Rattle.spread_rules.specs.Quiet.{Rests}
-use Rattle.spread_rules.specs.Clearing.{reduced, removed, with_less_left}
+use Rattle.spread_rules.specs.Clearing.{removed}
 use Rattle.spread_rules.proofs.lists.Membership.{in_head, in_map, from_map}
 use Rattle.spread_books.specs.Queues.{IsFront, IsFrontLevel, is_in, is_ahead, queue_cmp}
-use Rattle.spread_books.specs.code.Index.{Ascends}
+use Rattle.order_tables.specs.Places.{Ascends}
 use Rattle.spread_books.proofs.fronts.FoldGivesFront.{queue_total, in_queue, from_queue}
-use Rattle.spread_books.proofs.places.Ascending.{one_at_a_place}
-use Rattle.spread_books.proofs.keys.SetOfKeys.{is_so, from_removed, in_removed, less_left}
+use Rattle.order_tables.proofs.places.Ascending.{one_at_a_place, is_so}
+use Rattle.spread_books.proofs.keys.SetOfKeys.{from_removed, in_removed}
+use Rattle.order_tables.proofs.places.ChangedAt.{changed_at, changed, key_kept}
 
 is_less : (r : Ordering) → is_lt r ≡ true → r ≡ Less
 is_less Less h = refl
@@ -116,36 +117,46 @@ front_removed xs place j t (Some f) other h = (
   λ p r. h.1 p (record { stands = (from_removed place xs p r.stands).0; instrument_is = r.instrument_is; side_is = r.side_is }),
 )
 
-rested : (xs : List Order) (place by : ℕ) (j : Instrument) (t : Side) (p : Order) → Rests (reduced place by xs) j t p → (q : Order) × Rests xs j t q × (with_less_left place by q ≡ p)
-rested xs place by j t p r =
-    let m = from_map (with_less_left place by) xs p r.stands in (
-      m.0,
-      record {
-        stands = m.1;
-        instrument_is = sym (less_left (λ (o : Order). o.instrument) (λ o n. refl) place by m.0) ∙ ap (λ (o : Order). o.instrument) m.2 ∙ r.instrument_is;
-        side_is = sym (less_left (λ (o : Order). o.side) (λ o n. refl) place by m.0) ∙ ap (λ (o : Order). o.side) m.2 ∙ r.side_is;
-      },
-      m.2,
-    )
+-- a change of an order that leaves it in its queue and at its place there
+pub record KeepsQueue (f : Order → Order) : Type 0 where
+  pub instrument : (o : Order) → (f o).instrument ≡ o.instrument
+  pub side : (o : Order) → (f o).side ≡ o.side
+  pub price : (o : Order) → (f o).price ≡ o.price
+  pub place : (o : Order) → (f o).place ≡ o.place
 
--- what is left of the front is the front
-front_less : (xs : List Order) (place by : ℕ) (j : Instrument) (t : Side) (f : Order) → IsFront xs j t (Some f) → IsFront (reduced place by xs) j t (Some (with_less_left place by f))
-front_less xs place by j t f h = (
-  record {
-    stands = in_map (with_less_left place by) xs f h.0.stands;
-    instrument_is = less_left (λ (o : Order). o.instrument) (λ o n. refl) place by f ∙ h.0.instrument_is;
-    side_is = less_left (λ (o : Order). o.side) (λ o n. refl) place by f ∙ h.0.side_is;
-  },
-  λ p r.
-      let m = rested xs place by j t p r in
-      subst (λ (q : Order). is_ahead t q (with_less_left place by f) ≡ false) m.2
-      (less_left (λ (o : Order). is_ahead t o (with_less_left place by f)) (λ o n. refl) place by m.0
-      ∙ less_left (λ (o : Order). is_ahead t m.0 o) (λ o n. refl) place by f ∙ h.1 m.0 m.1),
-)
+module _ (f : Order → Order) (keeps : KeepsQueue f) (xs : List Order) (place : ℕ) (j : Instrument) (t : Side) where
+  rested : (p : Order) → Rests (changed f place xs) j t p → (q : Order) × Rests xs j t q × (changed_at f place q ≡ p)
+  rested p r =
+      let m = from_map (changed_at f place) xs p r.stands in (
+        m.0,
+        record {
+          stands = m.1;
+          instrument_is = sym (key_kept (λ (o : Order). o.instrument) f keeps.instrument place m.0) ∙ ap (λ (o : Order). o.instrument) m.2 ∙ r.instrument_is;
+          side_is = sym (key_kept (λ (o : Order). o.side) f keeps.side place m.0) ∙ ap (λ (o : Order). o.side) m.2 ∙ r.side_is;
+        },
+        m.2,
+      )
 
-pub any_front_less : (xs : List Order) (place by : ℕ) (j : Instrument) (t : Side) (f : Option Order) → IsFront xs j t f → IsFront (reduced place by xs) j t (option_map (with_less_left place by) f)
-any_front_less xs place by j t None h = λ p r. let m = rested xs place by j t p r in h m.0 m.1
-any_front_less xs place by j t (Some f) h = front_less xs place by j t f h
+  ahead_as : (a b : Order) → is_ahead t (changed_at f place a) (changed_at f place b) ≡ is_ahead t a b
+  ahead_as a b =
+      rw (key_kept (λ (o : Order). o.price) f keeps.price place a, key_kept (λ (o : Order). o.price) f keeps.price place b, key_kept (λ (o : Order). o.place) f keeps.place place a, key_kept (λ (o : Order). o.place) f keeps.place place b) refl
+
+  -- the changed front is the front
+  front_changed : (h : Order) → IsFront xs j t (Some h) → IsFront (changed f place xs) j t (Some (changed_at f place h))
+  front_changed h k = (
+    record {
+      stands = in_map (changed_at f place) xs h k.0.stands;
+      instrument_is = key_kept (λ (o : Order). o.instrument) f keeps.instrument place h ∙ k.0.instrument_is;
+      side_is = key_kept (λ (o : Order). o.side) f keeps.side place h ∙ k.0.side_is;
+    },
+    λ p r.
+        let m = rested p r in
+        subst (λ (q : Order). is_ahead t q (changed_at f place h) ≡ false) m.2 (ahead_as m.0 h ∙ k.1 m.0 m.1),
+  )
+
+  pub any_front_changed : (h : Option Order) → IsFront xs j t h → IsFront (changed f place xs) j t (option_map (changed_at f place) h)
+  any_front_changed None k = λ p r. let m = rested p r in k m.0 m.1
+  any_front_changed (Some h) k = front_changed h k
 
 -- the front of another queue is another order
 pub of_another : (xs : List Order) (o : Order) (j : Instrument) (t : Side) (f : Option Order) → Ascends xs → Contains xs o → ((o.instrument ≡ j) × (o.side ≡ t) → ⊥) → IsFront xs j t f → (h : Order) → f ≡ Some h → h.place ≡ o.place → ⊥

@@ -1,5 +1,5 @@
 -- the table of best prices through the changes of a book
-use Rattle.std.proofs.Common.{◌≡◌, ℕ, zero, suc, ◌-◌, ◌<◌, ◌==◌, nat_lt, Bool, true, false, ◌&&◌, cond, List, [], ◌∷◌, ◌++◌, length, replicate, Contains, Option, Some, None, option_map, refl, sym, ap, ◌∙◌, subst, arith, inl, inr, ◌⊎◌, slice_set, slice_get}
+use Rattle.std.proofs.Common.{◌≡◌, ℕ, zero, suc, ◌<◌, ◌==◌, nat_lt, Bool, true, false, ◌&&◌, cond, List, [], ◌∷◌, ◌++◌, length, replicate, Contains, Option, Some, None, option_map, refl, sym, ap, ◌∙◌, subst, arith, inl, inr, ◌⊎◌, slice_set, slice_get}
 use Rattle.std.specs.List.{find}
 use Rattle.std.proofs.lemmas.Bool.Decides.{nat_tests}
 use Rattle.spread_rules.specs.declared.order.Side.{Side}
@@ -7,19 +7,20 @@ use Rattle.spread_rules.specs.declared.order.Side.TheVariants.{Buy, Sell}
 use Rattle.spread_rules.specs.declared.order.Instrument.{Instrument}
 use Rattle.spread_rules.specs.declared.order.Instrument.TheVariants.{Outright, Spread}
 use Rattle.spread_rules.specs.declared.order.Order.{Order}
-use Rattle.spread_rules.specs.Candidates.{better_by, same_instrument}
-use Rattle.spread_rules.specs.Clearing.{reduced, removed, with_less_left}
+use Rattle.spread_rules.specs.Candidates.{same_instrument}
+use Rattle.spread_rules.specs.Clearing.{removed}
 use Rattle.spread_rules.proofs.lists.Membership.{not_in_nil, in_head, in_tail, in_cons_cases}
 use Rattle.spread_books.specs.Queues.{IsFront, IsFrontLevel, is_ahead}
 use Rattle.spread_rules.specs.Legs.{is_side}
-use Rattle.spread_books.specs.code.Index.{Ascends}
-use Rattle.spread_books.specs.code.FrontTable.{has_slot, slot_number, slot_of, slot_in, put_in, known_price, with_known_price, best_price_of, level_at, IsBestPrice, HoldsPrices, becomes_front, may_be_at}
-use Rattle.spread_books.specs.declared.front_table.BestPrice.{BestPrice}
+use Rattle.order_tables.specs.Places.{Ascends}
+use Rattle.order_tables.specs.FrontTable.{has_slot, slot_number, slot_of, slot_in, put_in, known_price, with_known_price, best_price_of, level_at}
+use Rattle.spread_books.specs.code.FrontPrices.{IsBestPrice, HoldsPrices, becomes_front, may_be_at}
+use Rattle.order_tables.specs.declared.front_table.BestPrice.{BestPrice}
 use Rattle.spread_books.proofs.fronts.FoldGivesFront.{same_instrument_is, same_instrument_itself, same_side_is, same_side_itself}
-use Rattle.spread_books.proofs.places.Ascending.{one_at_a_place}
-use Rattle.spread_books.proofs.keys.SetOfKeys.{is_so, less_left}
+use Rattle.order_tables.proofs.places.Ascending.{is_so}
+use Rattle.order_tables.proofs.places.ChangedAt.{changed_at, changed, key_kept}
 use Rattle.spread_books.proofs.keys.TablesThroughChanges.{is_found}
-use Rattle.spread_books.proofs.fronts.Changes.{front_of_others, front_of_own, front_removed, any_front_less, of_another}
+use Rattle.spread_books.proofs.fronts.Changes.{front_of_others, front_of_own, front_removed, any_front_changed, KeepsQueue, of_another}
 
 -- ---- slots
 
@@ -222,17 +223,20 @@ module _ (xs : List Order) (slots : List (Option BestPrice)) (o : Order) (h : Ho
       prices_kept (removed o.place xs) slots o.instrument o.side others_removed
       (λ b k. let a = h o.instrument o.side b k in (a.0, front_removed xs o.place o.instrument o.side a.0 (apart a.0 b o.place a.2 (other b k)) a.1, a.2))
 
--- ---- less of one order
-
-best_less : (place by : ℕ) (f : Option Order) → option_map best_price_of (option_map (with_less_left place by) f) ≡ option_map best_price_of f
-best_less place by None = refl
-best_less place by (Some o) = ap (λ (b : BestPrice). Some b) (less_left best_price_of (λ p n. refl) place by o)
+-- ---- one order changed in its queue
 
 -- the price and the place of a front stay
-pub prices_reduced : (xs : List Order) (slots : List (Option BestPrice)) (place by : ℕ) → HoldsPrices xs slots → HoldsPrices (reduced place by xs) slots
-prices_reduced xs slots place by h j t b k =
+pub prices_changed : (f : Order → Order) → KeepsQueue f → (xs : List Order) (slots : List (Option BestPrice)) (place : ℕ) → HoldsPrices xs slots → HoldsPrices (changed f place xs) slots
+prices_changed f keeps xs slots place h j t b k =
     let a = h j t b k in
-    (option_map (with_less_left place by) a.0, any_front_less xs place by j t a.0 a.1, a.2 ∙ sym (best_less place by a.0))
+    (option_map (changed_at f place) a.0, any_front_changed f keeps xs place j t a.0 a.1, a.2 ∙ sym (best_changed a.0))
+  where
+    best_kept : (o : Order) → best_price_of (f o) ≡ best_price_of o
+    best_kept o = rw (keeps.price o, keeps.place o) refl
+
+    best_changed : (h : Option Order) → option_map best_price_of (option_map (changed_at f place) h) ≡ option_map best_price_of h
+    best_changed None = refl
+    best_changed (Some o) = ap (λ (p : BestPrice). Some p) (key_kept best_price_of f best_kept place o)
 
 -- ---- what a slot tells
 

@@ -9,10 +9,10 @@ use Rattle.spread_rules.specs.declared.order.Side.{Side}
 use Rattle.spread_rules.specs.declared.order.Instrument.{Instrument}
 use Rattle.spread_rules.specs.declared.order.Order.{Order}
 use Rattle.spread_rules.specs.Quiet.{Rests}
-use Rattle.spread_books.specs.declared.queue_key.QueueKey.{QueueKey}
+use Rattle.order_tables.specs.declared.queue_key.QueueKey.{QueueKey}
 use Rattle.spread_books.specs.Queues.{IsFront, queue_cmp}
-use Rattle.spread_books.specs.code.QueueKeys.{queue_key, queue_start, queue_number, HasMonths, IsInRange}
-use Rattle.spread_books.specs.code.Firsts.{IsFirstFrom}
+use Rattle.order_tables.specs.QueueKeys.{queue_key, queue_start, queue_number, HasMonths, IsInRange}
+use Rattle.order_tables.specs.Firsts.{IsFirstFrom}
 use Rattle.spread_books.specs.code.Index.{queue_key_cmp, HasKeys, IsKept}
 use Rattle.spread_books.proofs.fronts.FoldGivesFront.{queue_total}
 use Rattle.spread_books.proofs.keys.SetOfKeys.{has_key, key_of_some}

@@ -16,13 +16,16 @@ use Rattle.host_base.specs.declared.id_key.IdKey.{IdKey}
 use Rattle.host_base.specs.IdKeys.{key_of, IsIdBytes, id_key_cmp}
 use Rattle.spread_rules.specs.Meaning.{is_own}
 use Rattle.host_base.proofs.IdKeyOnce.{one_key}
-use Rattle.spread_books.specs.declared.own_key.OwnKey.{OwnKey}
-use Rattle.spread_books.specs.code.OwnKeys.{own_key, own_start}
-use Rattle.spread_books.specs.code.Firsts.{IsFirstFrom}
-use Rattle.spread_books.specs.code.Index.{Ascends, own_key_cmp, HasKeys, IsKept}
-use Rattle.spread_books.proofs.places.Ascending.{find_none, find_first}
-use Rattle.spread_books.proofs.keys.SetOfKeys.{has_key, key_of_some, is_so}
-use Rattle.spread_books.proofs.keys.TotalOrders.{id_key_total, id_key_exact, own_key_total, own_key_exact}
+use Rattle.spread_books.specs.Queues.{CanAmend}
+use Rattle.order_tables.specs.declared.own_key.OwnKey.{OwnKey}
+use Rattle.order_tables.specs.OwnKeys.{own_key, own_start}
+use Rattle.order_tables.specs.Firsts.{IsFirstFrom}
+use Rattle.order_tables.specs.Places.{Ascends}
+use Rattle.spread_books.specs.code.Index.{own_key_cmp, HasKeys, IsKept}
+use Rattle.order_tables.proofs.places.Ascending.{one_at_a_place, unfound_by, find_none, find_first, is_so}
+use Rattle.spread_books.proofs.keys.SetOfKeys.{has_key, key_of_some}
+use Rattle.spread_books.proofs.keys.TotalOrders.{id_key_total, own_key_total, own_key_exact}
+use Rattle.row_index.proofs.Keys.{exact_id_key}
 
 both : (a b : Bool) → (a && b) ≡ true → (a ≡ true) × (b ≡ true)
 both true b h = (refl, h)
@@ -50,7 +53,7 @@ level a Greater e h k = cc
 
 -- between two equal ids stands no other
 one_id : (a b : IdKey) → is_gt (id_key_cmp a b) ≡ false → is_gt (id_key_cmp b a) ≡ false → a ≡ b
-one_id a b h k = id_key_exact a b (level (id_key_cmp a b) (id_key_cmp b a) (id_key_total.antisymm a b) h k)
+one_id a b h k = exact_id_key a b (level (id_key_cmp a b) (id_key_cmp b a) (id_key_total.antisymm a b) h k)
 
 from_zero : (place : ℕ) → is_gt (nat_cmp 0 place) ≡ false
 from_zero place = grind (arith, nat_tests)
@@ -62,6 +65,14 @@ start_below : (session : ℕ) (id : List ℕ) (o : Order) → is_own session id 
 start_below session id o h =
     let same : id_key_cmp (key_of session id) (key_of o.session o.id) ≡ Equal = ap (λ (k : IdKey). id_key_cmp (key_of session id) k) (key_is session id o h) ∙ tied_itself id_key_total (key_of session id) in
     rw same (from_zero o.place)
+
+-- the order that takes an id had another one
+pub had_another : (xs : List Order) (place quantity : ℕ) (id : List ℕ) (o : Order) → Ascends xs → Contains xs o → o.place ≡ place → CanAmend xs place id quantity → o.id ≡ id → ⊥
+had_another xs place quantity id o up c at h e =
+    let same = one_at_a_place xs h.order o up h.stands c (h.at ∙ sym at) in
+    let none = unfound_by (is_own h.order.session id) xs h.free o c in
+    let own = to_own h.order.session id o (ap (λ (p : Order). p.session) (sym same)) e in
+    cc
 
 module _ (xs : List Order) (s : BTreeSet OwnKey) (up : Ascends xs) (kept : (o : Order) → Contains xs o → IsKept o) (keys : HasKeys own_key_cmp own_key s xs) (session : ℕ) (id : List ℕ) where
   pub no_own : IsFirstFrom own_key_cmp s (own_start session id) None → find (is_own session id) xs ≡ None

@@ -1,5 +1,5 @@
 -- a set that has the keys of a list of orders
-use Rattle.std.proofs.Common.{◌≡◌, ℕ, ◌-◌, ◌==◌, Bool, true, false, not, ◌||◌, cond, List, [], ◌∷◌, ◌++◌, map, Contains, All, ◌<◌, refl, sym, ap, ◌∙◌, subst, arith, inl, inr, ◌⊎◌}
+use Rattle.std.proofs.Common.{◌≡◌, ℕ, ◌==◌, Bool, true, false, not, ◌||◌, cond, List, [], ◌∷◌, ◌++◌, map, Contains, All, ◌<◌, refl, sym, ap, ◌∙◌, subst, arith, inl, inr}
 use Rattle.std.specs.Cmp.{IsTotalOrder}
 use Rattle.std.specs.Ordering.{is_eq}
 use Rattle.std.specs.declared.cmp.Ordering.{Ordering}
@@ -12,14 +12,12 @@ use Rattle.std.proofs.lemmas.Map.Lookups.{CmpEqualImpliesEq}
 use Rattle.std.proofs.lemmas.Bool.Decides.{nat_tests}
 use Rattle.std.proofs.lemmas.List.Elements.{All-contains}
 use Rattle.spread_rules.specs.declared.order.Order.{Order}
-use Rattle.spread_rules.specs.Clearing.{reduced, removed, with_less_left}
+use Rattle.spread_rules.specs.Clearing.{removed}
 use Rattle.spread_rules.proofs.lists.Membership.{not_in_nil, in_head, in_tail, in_cons_cases}
-use Rattle.spread_books.specs.code.Index.{Ascends, HasKeys}
-use Rattle.spread_books.proofs.places.Ascending.{one_at_a_place}
-
-pub is_so : (b : Bool) → (b ≡ true) ⊎ (b ≡ false)
-is_so true = inl refl
-is_so false = inr refl
+use Rattle.order_tables.specs.Places.{Ascends}
+use Rattle.spread_books.specs.code.Index.{HasKeys}
+use Rattle.order_tables.proofs.places.Ascending.{one_at_a_place, behind_first, others_ascend, removed_nobody, is_so}
+use Rattle.order_tables.proofs.places.ChangedAt.{changed, changed_nobody}
 
 is_equal : (r : Ordering) → is_eq r ≡ true → r ≡ Equal
 is_equal Less h = cc
@@ -92,17 +90,41 @@ module _ {K : Type 0} (key : Order → K) (test : K → Bool) where
         | inr k ↦ rw k (ap (λ (b : Bool). test (key x) || b) rest)
       ]
 
-less_left_at : {K : Type 0} (key : Order → K) → ((o : Order) (n : ℕ) → key (record o { leaves = n }) ≡ key o) → (by : ℕ) (o : Order) (b : Bool) → key (cond b (record o { leaves = o.leaves - by }) o) ≡ key o
-less_left_at key same by o true = same o (o.leaves - by)
-less_left_at key same by o false = refl
+as_or : (a l : Bool) → (a || l) ≡ cond a true l
+as_or true l = refl
+as_or false l = refl
 
-pub less_left : {K : Type 0} (key : Order → K) → ((o : Order) (n : ℕ) → key (record o { leaves = n }) ≡ key o) → (place by : ℕ) (o : Order) → key (with_less_left place by o) ≡ key o
-less_left key same place by o = less_left_at key same by o (o.place == place)
+or_cond : (a b l c : Bool) → c ≡ cond b true l → (a || c) ≡ cond b true (a || l)
+or_cond true true l c e = refl
+or_cond true false l c e = refl
+or_cond false true l c e = e
+or_cond false false l c e = e
 
--- a key that does not read what is left stays
-pub keys_reduced : {K : Type 0} (key : Order → K) → ((o : Order) (n : ℕ) → key (record o { leaves = n }) ≡ key o) → (place by : ℕ) (xs : List Order) → map key (reduced place by xs) ≡ map key xs
-keys_reduced key same place by [] = refl
-keys_reduced {K} key same place by (x ∷ xs) = let a = less_left_at key same by x (x.place == place) in let b = keys_reduced key same place by xs in cc
+-- the keys after the order of a place is changed: its new one, and those of the others
+any_changed : {K : Type 0} (key : Order → K) (test : K → Bool) (f : Order → Order) (xs : List Order) (o : Order) → Ascends xs → Contains xs o → list_any test (map key (changed f o.place xs)) ≡ cond (test (key (f o))) true (list_any test (map key (removed o.place xs)))
+any_changed key test f [] o s c = absurd (not_in_nil o c)
+any_changed key test f (x ∷ xs) o s c =
+    elim (is_so (x.place == o.place)) [
+      | inl k ↦
+          let e : x.place ≡ o.place = grind (arith, nat_tests, k) in
+          let same = one_at_a_place (x ∷ xs) x o s (in_head x xs) c e in
+          let later : (p : Order) → Contains xs p → (p.place == o.place) ≡ false = λ p d. (let b = behind_first x xs p s d in grind (arith, nat_tests, b, e)) in
+          let nobody : changed f o.place xs ≡ xs = changed_nobody f xs o.place later in
+          let kept : removed o.place xs ≡ xs = removed_nobody xs o.place later in
+          rw k (ap (λ (ys : List Order). list_any test (map key (f x ∷ ys))) nobody
+          ∙ ap (λ (p : Order). list_any test (map key (f p ∷ xs))) same
+          ∙ as_or (test (key (f o))) (list_any test (map key xs))
+          ∙ ap (λ (ys : List Order). cond (test (key (f o))) true (list_any test (map key ys))) (sym kept))
+      | inr k ↦ elim (in_cons_cases x xs o c) [
+        | inl h ↦ let e = ap (λ (p : Order). p.place) h in absurd (grind (arith, nat_tests, k, e))
+        | inr d ↦ rw k (or_cond (test (key x)) (test (key (f o))) (list_any test (map key (removed o.place xs))) (list_any test (map key (changed f o.place xs))) (any_changed key test f xs o (others_ascend x xs s) d))
+      ]
+    ]
+
+in_turn : (a b l : Bool) → (a ≡ true → b ≡ true → ⊥) → cond a false (cond b true l) ≡ cond b true (cond a false l)
+in_turn true true l h = absurd (h refl refl)
+in_turn true false l h = refl
+in_turn false b l h = refl
 
 module _ {K : Type 0} (cmp : K → K → Ordering) (total : IsTotalOrder cmp) (exact : CmpEqualImpliesEq cmp) (key : Order → K) where
   is_key : (a b : K) → is_at (cmp a) b ≡ true → a ≡ b
@@ -122,18 +144,33 @@ module _ {K : Type 0} (cmp : K → K → Ordering) (total : IsTotalOrder cmp) (e
       let turned = (eq_by_cmp_equiv total).symm (key o) q in
       u q ∙ ap (λ (b : Bool). cond b true (contains cmp s q)) turned ∙ ap (λ (b : Bool). cond (is_at (cmp q) (key o)) true b) (h q) ∙ sym (any_push key (is_at (cmp q)) xs o)
 
-  pub keys_removed : (s n : BTreeSet K) (xs : List Order) (o : Order) → ((p r : Order) → key p ≡ key r → p.place ≡ r.place) → Ascends xs → Contains xs o → HasKeys cmp key s xs → ((q : K) → contains cmp n q ≡ cond (is_at (cmp (key o)) q) false (contains cmp s q)) → HasKeys cmp key n (removed o.place xs)
-  keys_removed s n xs o tells up in' h u q =
+  -- the keys of the others
+  any_without : (xs : List Order) (o : Order) → ((p r : Order) → key p ≡ key r → p.place ≡ r.place) → Ascends xs → Contains xs o → (q : K) → list_any (is_at (cmp q)) (map key (removed o.place xs)) ≡ cond (is_at (cmp (key o)) q) false (list_any (is_at (cmp q)) (map key xs))
+  any_without xs o tells up in' q =
       elim (is_so (is_at (cmp (key o)) q)) [
-        | inl k ↦ let a = u q in u q ∙ rw k (sym (none_of key (is_at (cmp q)) (removed o.place xs) (λ p c.
+        | inl k ↦ rw k (none_of key (is_at (cmp q)) (removed o.place xs) (λ p c.
             elim (is_so (is_at (cmp q) (key p))) [
               | inl l ↦ let m = from_removed o.place xs p c in let e = tells o p (is_key (key o) q k ∙ is_key q (key p) l) in absurd (grind (arith, nat_tests, m.1, e))
               | inr l ↦ l
-            ])))
-        | inr k ↦ u q ∙ rw k (h q ∙ sym (any_kept key (is_at (cmp q)) o.place xs (λ p c e.
+            ]))
+        | inr k ↦ rw k (any_kept key (is_at (cmp q)) o.place xs (λ p c e.
             let same = one_at_a_place xs p o up c in' e in
-            ap (λ (r : Order). is_at (cmp q) (key r)) same ∙ (eq_by_cmp_equiv total).symm q (key o) ∙ k)))
+            ap (λ (r : Order). is_at (cmp q) (key r)) same ∙ (eq_by_cmp_equiv total).symm q (key o) ∙ k))
       ]
+
+  pub keys_removed : (s n : BTreeSet K) (xs : List Order) (o : Order) → ((p r : Order) → key p ≡ key r → p.place ≡ r.place) → Ascends xs → Contains xs o → HasKeys cmp key s xs → ((q : K) → contains cmp n q ≡ cond (is_at (cmp (key o)) q) false (contains cmp s q)) → HasKeys cmp key n (removed o.place xs)
+  keys_removed s n xs o tells up in' h u q = u q ∙ (ap (λ (b : Bool). cond (is_at (cmp (key o)) q) false b) (h q) ∙ sym (any_without xs o tells up in' q))
+
+  -- a key is taken out for another one
+  pub keys_changed : (f : Order → Order) (s n m : BTreeSet K) (xs : List Order) (o : Order) → ((p r : Order) → key p ≡ key r → p.place ≡ r.place) → (key (f o) ≡ key o → ⊥) → Ascends xs → Contains xs o → HasKeys cmp key s xs → ((q : K) → contains cmp n q ≡ cond (is_at (cmp (key (f o))) q) true (contains cmp s q)) → ((q : K) → contains cmp m q ≡ cond (is_at (cmp (key o)) q) false (contains cmp n q)) → HasKeys cmp key m (changed f o.place xs)
+  keys_changed f s n m xs o tells other up in' h u v q =
+      let was = is_at (cmp (key o)) q in
+      let own = is_at (cmp (key (f o))) q in
+      v q ∙ (ap (λ (b : Bool). cond was false b) (u q ∙ ap (λ (b : Bool). cond own true b) (h q))
+      ∙ (in_turn was own (list_any (is_at (cmp q)) (map key xs)) (λ a b. other (is_key (key (f o)) q b ∙ sym (is_key (key o) q a)))
+      ∙ (ap (λ (b : Bool). cond own true b) (sym (any_without xs o tells up in' q))
+      ∙ (ap (λ (b : Bool). cond b true (list_any (is_at (cmp q)) (map key (removed o.place xs)))) ((eq_by_cmp_equiv total).symm (key (f o)) q)
+      ∙ sym (any_changed key (is_at (cmp q)) f xs o up in')))))
 
   -- a key that was added and taken out again
   pub keys_restored : (s n m : BTreeSet K) (xs : List Order) (o : Order) → ((p r : Order) → key p ≡ key r → p.place ≡ r.place) → All (λ p. p.place < o.place) xs → HasKeys cmp key s xs → ((q : K) → contains cmp n q ≡ cond (is_at (cmp (key o)) q) true (contains cmp s q)) → ((q : K) → contains cmp m q ≡ cond (is_at (cmp (key o)) q) false (contains cmp n q)) → HasKeys cmp key m xs

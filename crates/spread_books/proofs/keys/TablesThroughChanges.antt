@@ -10,15 +10,20 @@ use Rattle.std.proofs.lemmas.List.Elements.{Contains-append_cases}
 use Rattle.spread_rules.specs.declared.order.Order.{Order}
 use Rattle.spread_rules.specs.Clearing.{reduced, removed, with_less_left}
 use Rattle.spread_rules.proofs.lists.Membership.{not_in_nil, in_head, in_tail, in_cons_cases, from_map}
-use Rattle.spread_books.specs.declared.queue_key.QueueKey.{QueueKey}
-use Rattle.spread_books.specs.declared.own_key.OwnKey.{OwnKey}
-use Rattle.spread_books.specs.code.QueueKeys.{queue_key}
-use Rattle.spread_books.specs.code.OwnKeys.{own_key}
-use Rattle.spread_books.specs.code.Index.{Ascends, queue_key_cmp, own_key_cmp, IsKept, IsIndex}
-use Rattle.spread_books.proofs.places.Ascending.{find_first}
-use Rattle.spread_books.proofs.keys.SetOfKeys.{is_so, keys_added, keys_removed, keys_reduced, from_removed}
+use Rattle.order_tables.specs.declared.queue_key.QueueKey.{QueueKey}
+use Rattle.order_tables.specs.declared.own_key.OwnKey.{OwnKey}
+use Rattle.order_tables.specs.QueueKeys.{queue_key}
+use Rattle.order_tables.specs.OwnKeys.{own_key}
+use Rattle.order_tables.specs.Places.{Ascends}
+use Rattle.spread_books.specs.code.Index.{queue_key_cmp, own_key_cmp, IsKept, IsIndex}
+use Rattle.order_tables.proofs.places.Ascending.{ascends_changed, find_first, is_so}
+use Rattle.spread_books.proofs.keys.SetOfKeys.{keys_added, keys_removed, keys_changed, from_removed}
+use Rattle.order_tables.proofs.places.ChangedAt.{less, keys_kept}
+use Rattle.order_tables.specs.Amended.{amended, amended_at, with_quantity}
+use Rattle.host_base.specs.IdKeys.{IsIdBytes}
+use Rattle.host_base.proofs.IdKeyOnce.{one_key}
 use Rattle.spread_books.proofs.keys.TotalOrders.{queue_key_total, queue_key_exact, own_key_total, own_key_exact}
-use Rattle.spread_books.proofs.places.LastOrder.{ascends_removed, ascends_added, ascends_reduced}
+use Rattle.spread_books.proofs.places.LastOrder.{ascends_removed, ascends_added}
 
 -- ---- no order
 
@@ -40,10 +45,33 @@ kept_less by o false k = k
 pub index_reduced : (xs : List Order) (q : BTreeSet QueueKey) (i : BTreeSet OwnKey) (place by : ℕ) → IsIndex xs q i → IsIndex (reduced place by xs) q i
 index_reduced xs q i place by h =
     record {
-      ordered = ascends_reduced place by xs h.ordered;
-      queued = subst (λ (ks : List QueueKey). (k : QueueKey) → contains queue_key_cmp q k ≡ list_any (is_at (queue_key_cmp k)) ks) (sym (keys_reduced queue_key (λ p n. refl) place by xs)) h.queued;
-      owned = subst (λ (ks : List OwnKey). (k : OwnKey) → contains own_key_cmp i k ≡ list_any (is_at (own_key_cmp k)) ks) (sym (keys_reduced own_key (λ p n. refl) place by xs)) h.owned;
+      ordered = ascends_changed (less by) (λ p. refl) place xs h.ordered;
+      queued = subst (λ (ks : List QueueKey). (k : QueueKey) → contains queue_key_cmp q k ≡ list_any (is_at (queue_key_cmp k)) ks) (sym (keys_kept queue_key (less by) (λ p. refl) place xs)) h.queued;
+      owned = subst (λ (ks : List OwnKey). (k : OwnKey) → contains own_key_cmp i k ≡ list_any (is_at (own_key_cmp k)) ks) (sym (keys_kept own_key (less by) (λ p. refl) place xs)) h.owned;
       kept = λ p c. let r = from_map (with_less_left place by) xs p c in subst (λ (s : Order). IsKept s) r.2 (kept_less by r.0 (r.0.place == place) (h.kept r.0 r.1));
+    }
+
+-- ---- one order of all, under another id and with another quantity
+
+kept_amended : (id : List ℕ) (quantity : ℕ) (o : Order) (b : Bool) → IsIdBytes id → IsKept o → IsKept (cond b (with_quantity id quantity o) o)
+kept_amended id quantity o true bytes k = record { in_range = record { months = k.in_range.months; cost = k.in_range.cost }; id = bytes }
+kept_amended id quantity o false bytes k = k
+
+-- another id gives another key
+another_key : (id : List ℕ) (quantity : ℕ) (o : Order) → IsIdBytes id → IsIdBytes o.id → (o.id ≡ id → ⊥) → own_key (with_quantity id quantity o) ≡ own_key o → ⊥
+another_key id quantity o new old other e = other (sym (one_key o.session o.session id o.id new old (ap (λ (k : OwnKey). k.id) e)).1)
+
+pub index_amended : (xs : List Order) (q : BTreeSet QueueKey) (i n m : BTreeSet OwnKey) (o : Order) (id : List ℕ) (quantity : ℕ) → IsIndex xs q i → Contains xs o → IsIdBytes id → (o.id ≡ id → ⊥)
+    → ((k : OwnKey) → contains own_key_cmp n k ≡ cond (is_at (own_key_cmp (own_key (with_quantity id quantity o))) k) true (contains own_key_cmp i k))
+    → ((k : OwnKey) → contains own_key_cmp m k ≡ cond (is_at (own_key_cmp (own_key o)) k) false (contains own_key_cmp n k))
+    → IsIndex (amended o.place id quantity xs) q m
+index_amended xs q i n m o id quantity h c bytes other u v =
+    let f = with_quantity id quantity in
+    record {
+      ordered = ascends_changed f (λ p. refl) o.place xs h.ordered;
+      queued = subst (λ (ks : List QueueKey). (k : QueueKey) → contains queue_key_cmp q k ≡ list_any (is_at (queue_key_cmp k)) ks) (sym (keys_kept queue_key f (λ p. refl) o.place xs)) h.queued;
+      owned = keys_changed own_key_cmp own_key_total own_key_exact own_key f i n m xs o (λ a b k. ap (λ (x : OwnKey). x.place) k) (another_key id quantity o bytes (h.kept o c).id other) h.ordered c h.owned u v;
+      kept = λ p d. let r = from_map (amended_at o.place id quantity) xs p d in subst (λ (s : Order). IsKept s) r.2 (kept_amended id quantity r.0 (r.0.place == o.place) bytes (h.kept r.0 r.1));
     }
 
 -- what is found at a place is the order of that place

@@ -16,12 +16,13 @@ use Rattle.spread_rules.specs.declared.order.Instrument.TheVariants.{Outright, S
 use Rattle.spread_rules.specs.declared.order.Order.{Order}
 use Rattle.host_base.specs.declared.id_key.IdKey.{IdKey}
 use Rattle.spread_rules.specs.Candidates.{cost}
-use Rattle.spread_books.proofs.places.Ascending.{cmp_same}
-use Rattle.spread_books.specs.declared.queue_key.QueueKey.{QueueKey}
-use Rattle.spread_books.specs.declared.own_key.OwnKey.{OwnKey}
+use Rattle.row_index.proofs.Keys.{both_equal, exact_id_key}
+use Rattle.order_tables.proofs.places.Ascending.{cmp_same}
+use Rattle.order_tables.specs.declared.queue_key.QueueKey.{QueueKey}
+use Rattle.order_tables.specs.declared.own_key.OwnKey.{OwnKey}
 use Rattle.spread_books.specs.Queues.{queue_cmp}
 use Rattle.spread_rules.specs.Legs.{other_side}
-use Rattle.spread_books.specs.code.QueueKeys.{queue_number, queue_cost, queue_key, queue_start, HasMonths, IsInRange}
+use Rattle.order_tables.specs.QueueKeys.{queue_number, queue_cost, queue_key, queue_start, HasMonths, IsInRange}
 use Rattle.host_base.specs.IdKeys.{id_key_cmp}
 use Rattle.spread_books.specs.code.Index.{queue_key_cmp, own_key_cmp}
 
@@ -36,11 +37,6 @@ id_key_total =
 pub own_key_total : IsTotalOrder own_key_cmp
 own_key_total = then_total (on_total (λ (k : OwnKey). k.id) id_key_total) (on_total (λ (k : OwnKey). k.place) nat_cmp_total)
 
-both_equal : (a b : Ordering) → ordering_then a b ≡ Equal → (a ≡ Equal) × (b ≡ Equal)
-both_equal Less b h = cc
-both_equal Equal b h = (refl, h)
-both_equal Greater b h = cc
-
 abbrev queue_key_of : ℕ → ℤ → ℕ → QueueKey
 queue_key_of queue cost place = record { queue = queue; cost = cost; place = place }
 
@@ -54,37 +50,13 @@ queue_key_exact x y h =
     let same : queue_key_of x.queue x.cost x.place ≡ queue_key_of y.queue y.cost y.place = cc in
     same
 
--- the record of these
-abbrev id_key_of : ℕ → ℕ → ℕ → ℕ → ℕ → ℕ → IdKey
-id_key_of session first second third fourth size = record { session = session; first = first; second = second; third = third; fourth = fourth; size = size }
-
-pub id_key_exact : CmpEqualImpliesEq id_key_cmp
-id_key_exact x y h =
-    let fifth = ordering_then (nat_cmp x.fourth y.fourth) (nat_cmp x.size y.size) in
-    let fourth = ordering_then (nat_cmp x.third y.third) fifth in
-    let third = ordering_then (nat_cmp x.second y.second) fourth in
-    let second = ordering_then (nat_cmp x.first y.first) third in
-    let a = both_equal (nat_cmp x.session y.session) second h in
-    let b = both_equal (nat_cmp x.first y.first) third a.1 in
-    let c = both_equal (nat_cmp x.second y.second) fourth b.1 in
-    let d = both_equal (nat_cmp x.third y.third) fifth c.1 in
-    let e = both_equal (nat_cmp x.fourth y.fourth) (nat_cmp x.size y.size) d.1 in
-    let p = exact_unsigned x.session y.session a.0 in
-    let q = exact_unsigned x.first y.first b.0 in
-    let r = exact_unsigned x.second y.second c.0 in
-    let s = exact_unsigned x.third y.third d.0 in
-    let t = exact_unsigned x.fourth y.fourth e.0 in
-    let u = exact_unsigned x.size y.size e.1 in
-    let same : id_key_of x.session x.first x.second x.third x.fourth x.size ≡ id_key_of y.session y.first y.second y.third y.fourth y.size = cc in
-    same
-
 abbrev own_key_of : IdKey → ℕ → OwnKey
 own_key_of id place = record { id = id; place = place }
 
 pub own_key_exact : CmpEqualImpliesEq own_key_cmp
 own_key_exact x y h =
     let a = both_equal (id_key_cmp x.id y.id) (nat_cmp x.place y.place) h in
-    let id = id_key_exact x.id y.id a.0 in
+    let id = exact_id_key x.id y.id a.0 in
     let place = exact_unsigned x.place y.place a.1 in
     let same : own_key_of x.id x.place ≡ own_key_of y.id y.place = cc in
     same

@@ -1,33 +1,23 @@
 -- orders in order of place, and one more or none behind them
-use Rattle.std.proofs.Common.{◌≡◌, ℕ, ◌-◌, ◌<◌, ◌==◌, Bool, true, false, not, cond, List, [], ◌∷◌, ◌++◌, Option, Some, None, Contains, All, refl, sym, ap, ◌∙◌, subst, arith, inl, inr}
-use Rattle.std.specs.Ordering.{nat_cmp}
-use Rattle.std.specs.declared.cmp.Ordering.TheVariants.{Less}
+use Rattle.std.proofs.Common.{◌≡◌, ℕ, ◌<◌, ◌==◌, Bool, true, false, not, cond, List, [], ◌∷◌, ◌++◌, Option, Some, None, Contains, All, refl, sym, ap, ◌∙◌, subst, arith, inl, inr}
 use Rattle.std.specs.List.{find}
-use Rattle.std.specs.List.Sorted.{IsStrictlySortedBy}
 use Rattle.std.specs.Option.{IfSome, option_to_list, option_or}
 use Rattle.std.proofs.lemmas.Bool.Decides.{nat_tests}
 use Rattle.std.proofs.lemmas.List.{map-append}
-use Rattle.std.proofs.lemmas.List.Elements.{All-contains, All-contains_itself, All-map, All-head, All-tail, All-weaker, recursion_from_All, Contains-append_cases, Contains-append_left, Contains-push, Contains-push_cases, filter-append}
+use Rattle.std.proofs.lemmas.List.Elements.{All-contains, All-head, All-tail, Contains-append_cases, Contains-append_left, Contains-push, Contains-push_cases, filter-append}
 use Rattle.std.proofs.lemmas.List.Folds.{find-append}
 use Rattle.spread_rules.specs.declared.order.Order.{Order}
-use Rattle.spread_rules.specs.Clearing.{reduced, removed, with_less_left}
-use Rattle.spread_rules.proofs.lists.Membership.{not_in_nil, in_head, in_tail, in_cons_cases}
-use Rattle.spread_books.specs.Queues.{HasMore, HasPlace}
-use Rattle.spread_books.specs.code.Index.{Ascends}
-use Rattle.spread_books.proofs.places.Ascending.{places, cmp_below, behind_first, others_ascend, find_none}
-use Rattle.spread_books.proofs.keys.SetOfKeys.{is_so, from_removed, keys_reduced}
-
-all_of : (P : Order → Type 0) (xs : List Order) → ((o : Order) → Contains xs o → P o) → All P xs
-all_of P xs h = All-weaker (λ o. Contains xs o) P h xs (All-contains_itself xs)
+use Rattle.spread_rules.specs.Clearing.{removed}
+use Rattle.spread_rules.specs.Meaning.{is_own}
+use Rattle.order_tables.specs.Amended.{done}
+use Rattle.spread_books.specs.Queues.{CanAmend}
+use Rattle.spread_rules.proofs.lists.Membership.{not_in_nil, in_cons_cases}
+use Rattle.order_tables.specs.Places.{HasMore, HasPlace, Ascends}
+use Rattle.order_tables.proofs.places.ChangedAt.{changed_at, changed, changed_nobody}
+use Rattle.order_tables.proofs.places.Ascending.{all_of, ascends_cons, behind_first, others_ascend, find_none, unfound, removed_nobody, is_so}
+use Rattle.spread_books.proofs.keys.SetOfKeys.{from_removed}
 
 -- ---- places that rise
-
-above : (n : ℕ) (xs : List Order) → ((o : Order) → Contains xs o → n < o.place) → All (λ y. nat_cmp n y ≡ Less) (places xs)
-above n xs h = All-map (λ (y : ℕ). nat_cmp n y ≡ Less) (λ (o : Order). o.place) xs (all_of (λ (o : Order). nat_cmp n o.place ≡ Less) xs (λ o c. cmp_below n o.place (h o c)))
-
-pub ascends_cons : (x : Order) (xs : List Order) → ((o : Order) → Contains xs o → x.place < o.place) → Ascends xs → Ascends (x ∷ xs)
-unfolding IsStrictlySortedBy
-ascends_cons x xs h s = (recursion_from_All (λ (y : ℕ). nat_cmp x.place y ≡ Less) (places xs) (above x.place xs h), s)
 
 pub ascends_added : (xs : List Order) (o : Order) → Ascends xs → All (λ p. p.place < o.place) xs → Ascends (xs ++ o ∷ [])
 ascends_added [] o s h = ascends_cons o [] (λ p c. absurd (not_in_nil p c)) s
@@ -38,9 +28,6 @@ ascends_added (x ∷ xs) o s h =
       | inr e ↦ subst (λ (q : Order). x.place < q.place) e (All-head (λ (q : Order). q.place < o.place) x xs h)
     ])
     (ascends_added xs o (others_ascend x xs s) (All-tail (λ (q : Order). q.place < o.place) x xs h))
-
-pub ascends_reduced : (place by : ℕ) (xs : List Order) → Ascends xs → Ascends (reduced place by xs)
-ascends_reduced place by xs s = subst (λ (ps : List ℕ). IsStrictlySortedBy nat_cmp ps) (sym (keys_reduced (λ (o : Order). o.place) (λ o n. refl) place by xs)) s
 
 pub ascends_removed : (place : ℕ) (xs : List Order) → Ascends xs → Ascends (removed place xs)
 ascends_removed place [] s = s
@@ -69,25 +56,6 @@ newest_above xs (Some n) s = all_below xs n s
 
 -- ---- a place that no order of the list has
 
-pub unfound : (xs : List Order) (place : ℕ) → find (λ o. o.place == place) xs ≡ None → (o : Order) → Contains xs o → (o.place == place) ≡ false
-unfound [] place h o c = absurd (not_in_nil o c)
-unfound (x ∷ xs) place h o c =
-    elim (is_so (x.place == place)) [
-      | inl k ↦ let g = rw k at h in cc
-      | inr k ↦ elim (in_cons_cases x xs o c) [
-        | inl e ↦ subst (λ (p : Order). (p.place == place) ≡ false) e k
-        | inr d ↦ unfound xs place (rw k at h) o d
-      ]
-    ]
-
-reduced_nobody : (xs : List Order) (place by : ℕ) → ((o : Order) → Contains xs o → (o.place == place) ≡ false) → reduced place by xs ≡ xs
-reduced_nobody [] place by h = refl
-reduced_nobody (x ∷ xs) place by h = rw (h x (in_head x xs)) (ap (λ (ys : List Order). x ∷ ys) (reduced_nobody xs place by (λ o c. h o (in_tail x xs o c))))
-
-removed_nobody : (xs : List Order) (place : ℕ) → ((o : Order) → Contains xs o → (o.place == place) ≡ false) → removed place xs ≡ xs
-removed_nobody [] place h = refl
-removed_nobody (x ∷ xs) place h = rw (h x (in_head x xs)) (ap (λ (ys : List Order). x ∷ ys) (removed_nobody xs place (λ o c. h o (in_tail x xs o c))))
-
 or_none : (r : Option Order) → option_or r None ≡ r
 or_none None = refl
 or_none (Some o) = refl
@@ -100,11 +68,18 @@ found_behind test xs ys none = find-append test xs ys ∙ ap (λ (r : Option Ord
 pub found_ahead : (test : Order → Bool) (xs ys : List Order) (o : Order) → find test xs ≡ Some o → find test (xs ++ ys) ≡ Some o
 found_ahead test xs ys o some = find-append test xs ys ∙ ap (λ (r : Option Order). option_or r (find test ys)) some
 
+first_none : (a b : Option Order) → option_or a b ≡ None → a ≡ None
+first_none None b h = refl
+first_none (Some o) b h = cc
+
+none_ahead : (test : Order → Bool) (xs ys : List Order) → find test (xs ++ ys) ≡ None → find test xs ≡ None
+none_ahead test xs ys h = first_none (find test xs) (find test ys) (sym (find-append test xs ys) ∙ h)
+
 -- ---- whose place is not among those behind
 
 module _ (xs ys : List Order) (place : ℕ) (none : find (λ o. o.place == place) ys ≡ None) where
-  pub reduced_before : (by : ℕ) → reduced place by (xs ++ ys) ≡ reduced place by xs ++ ys
-  reduced_before by = map-append (with_less_left place by) xs ys ∙ ap (λ (zs : List Order). reduced place by xs ++ zs) (reduced_nobody ys place by (unfound ys place none))
+  pub changed_before : (f : Order → Order) → changed f place (xs ++ ys) ≡ changed f place xs ++ ys
+  changed_before f = map-append (changed_at f place) xs ys ∙ ap (λ (zs : List Order). changed f place xs ++ zs) (changed_nobody f ys place (unfound ys place none))
 
   pub removed_before : removed place (xs ++ ys) ≡ removed place xs ++ ys
   removed_before = filter-append (λ (o : Order). not (o.place == place)) xs ys ∙ ap (λ (zs : List Order). removed place xs ++ zs) (removed_nobody ys place (unfound ys place none))
@@ -132,6 +107,16 @@ module _ (xs ys : List Order) (place : ℕ) (none : find (λ o. o.place == place
     each = all_of (λ (o : Order). o.place ≡ place → by < o.leaves) xs (λ o c. All-contains (λ (p : Order). p.place ≡ place → by < p.leaves) (xs ++ ys) o h.each (Contains-append_left xs ys o c));
   }
 
+  pub amend_before : (id : List ℕ) (quantity : ℕ) → CanAmend (xs ++ ys) place id quantity → CanAmend xs place id quantity
+  amend_before id quantity h = record {
+    order = h.order;
+    stands = stands_before h.order h.stands h.at;
+    at = h.at;
+    each = all_of (λ (o : Order). o.place ≡ place → done o < quantity) xs (λ o c. All-contains (λ (p : Order). p.place ≡ place → done p < quantity) (xs ++ ys) o h.each (Contains-append_left xs ys o c));
+    most = h.most;
+    free = none_ahead (is_own h.order.session id) xs ys h.free;
+  }
+
 -- ---- whose place is that of the one behind
 
 -- the newest is the one that is found among none or one
@@ -150,11 +135,11 @@ module _ (xs : List Order) (o : Order) (up : Ascends (xs ++ o ∷ [])) where
   own : (o.place == o.place) ≡ true
   own = grind (arith, nat_tests)
 
-  pub reduced_last : (by : ℕ) → reduced o.place by (xs ++ o ∷ []) ≡ xs ++ record o { leaves = o.leaves - by } ∷ []
-  reduced_last by =
-      let left : with_less_left o.place by o ≡ record o { leaves = o.leaves - by } = rw own in
-      map-append (with_less_left o.place by) xs (o ∷ [])
-      ∙ ap (λ (zs : List Order). zs ++ with_less_left o.place by o ∷ []) (reduced_nobody xs o.place by others)
+  pub changed_last : (f : Order → Order) → changed f o.place (xs ++ o ∷ []) ≡ xs ++ f o ∷ []
+  changed_last f =
+      let left : changed_at f o.place o ≡ f o = rw own in
+      map-append (changed_at f o.place) xs (o ∷ [])
+      ∙ ap (λ (zs : List Order). zs ++ changed_at f o.place o ∷ []) (changed_nobody f xs o.place others)
       ∙ ap (λ (p : Order). xs ++ p ∷ []) left
 
   pub removed_last : removed o.place (xs ++ o ∷ []) ≡ xs ++ []
@@ -179,8 +164,8 @@ module _ (xs : List Order) (newest : Option Order) (place : ℕ) (o : Order) (he
   at : o.place ≡ place
   at = (newest_is newest place o here).1
 
-  pub reduced_newest : (by : ℕ) → reduced place by (xs ++ option_to_list newest) ≡ xs ++ record o { leaves = o.leaves - by } ∷ []
-  reduced_newest by = ap (λ (zs : List Order). reduced place by zs) whole ∙ ap (λ (n : ℕ). reduced n by (xs ++ o ∷ [])) (sym at) ∙ reduced_last xs o rises by
+  pub changed_newest : (f : Order → Order) → changed f place (xs ++ option_to_list newest) ≡ xs ++ f o ∷ []
+  changed_newest f = ap (λ (zs : List Order). changed f place zs) whole ∙ ap (λ (n : ℕ). changed f n (xs ++ o ∷ [])) (sym at) ∙ changed_last xs o rises f
 
   pub removed_newest : removed place (xs ++ option_to_list newest) ≡ xs ++ []
   removed_newest = ap (λ (zs : List Order). removed place zs) whole ∙ ap (λ (n : ℕ). removed n (xs ++ o ∷ [])) (sym at) ∙ removed_last xs o rises

@@ -4,15 +4,15 @@ use Rattle.std.specs.Prelude.{◌≡◌, List, map, Contains}
 use Rattle.std.specs.declared.cmp.Ordering.{Ordering}
 use Rattle.std.specs.Ordering.{nat_cmp, int_cmp, ordering_then}
 use Rattle.std.specs.List.{list_any}
-use Rattle.std.specs.List.Sorted.{IsStrictlySortedBy}
 use Rattle.std.specs.BTreeMap.{is_at}
 use Rattle.std.specs.BTreeSet.{BTreeSet, contains}
 use Rattle.spread_rules.specs.declared.order.Order.{Order}
+use Rattle.order_tables.specs.Places.{Ascends}
 use Rattle.host_base.specs.IdKeys.{IsIdBytes, id_key_cmp}
-use Rattle.spread_books.specs.declared.queue_key.QueueKey.{QueueKey}
-use Rattle.spread_books.specs.declared.own_key.OwnKey.{OwnKey}
-use Rattle.spread_books.specs.code.QueueKeys.{queue_key, IsInRange}
-use Rattle.spread_books.specs.code.OwnKeys.{own_key}
+use Rattle.order_tables.specs.declared.queue_key.QueueKey.{QueueKey}
+use Rattle.order_tables.specs.declared.own_key.OwnKey.{OwnKey}
+use Rattle.order_tables.specs.QueueKeys.{queue_key, IsInRange}
+use Rattle.order_tables.specs.OwnKeys.{own_key}
 
 abbrev pub queue_key_cmp : QueueKey → QueueKey → Ordering
 queue_key_cmp a b =
@@ -26,10 +26,6 @@ own_key_cmp a b = ordering_then (id_key_cmp a.id b.id) (nat_cmp a.place b.place)
 abbrev pub HasKeys :
     {K : Type 0} → (K → K → Ordering) → (Order → K) → BTreeSet K → List Order → Type 0
 HasKeys {K} cmp key s xs = (k : K) → contains cmp s k ≡ list_any (is_at (cmp k)) (map key xs)
-
--- the places rise
-abbrev pub Ascends : List Order → Type 0
-Ascends xs = IsStrictlySortedBy nat_cmp (map (λ o. o.place) xs)
 
 pub record IsKept (o : Order) : Type 0 where
   pub in_range : IsInRange o

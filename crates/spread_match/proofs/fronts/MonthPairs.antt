@@ -49,29 +49,33 @@ both false b h = cc
 number_is : (m n : ℕ) → (m == n) ≡ true → m ≡ n
 number_is m n e = grind (arith, nat_tests, e)
 
+months_are : (m i l j : ℕ) → (m == i && l == j) ≡ true → (m ≡ i) × (l ≡ j)
+months_are m i l j h =
+    let t = both (m == i) (l == j) h in
+    (number_is m i t.0, number_is l j t.1)
+
 is_less : (m k : ℕ) → m < k → nat_lt m k ≡ true
 is_less m k h = grind (arith, nat_tests)
 
 is_not_less : (m k : ℕ) → k < m → nat_lt m k ≡ false
 is_not_less m k h = grind (arith, nat_tests)
 
+-- of two months that are in that order
+pair_of : (s : Side) (m k l : ℕ) (in_order : Bool) → nat_lt m k ≡ in_order → l ≡ k →
+    IsMonthPair s m k (cond in_order (other_side s) s) (cond in_order (Spread m k) (Spread k m)) (other_side s) (Outright l)
+pair_of s m k l in_order lt at = record { of = rw lt refl; sided = rw lt refl; and = ap Outright at; and_on = refl }
+
 near_pair : (s : Side) (m k i j l : ℕ) → (m == i && l == j) ≡ true → i < j → l ≡ k → IsMonthPair s m k (other_side s) (Spread i j) (other_side s) (Outright l)
 near_pair s m k i j l h near at =
-    let t = both (m == i) (l == j) h in
-    let a = number_is m i t.0 in
-    let b = number_is l j t.1 in
-    let lt : nat_lt m k ≡ true = is_less m k (omega (arith, a, b)) in
-    let of : Spread i j ≡ Spread m k = cc in
-    record { of = rw lt of; sided = rw lt refl; and = ap Outright at; and_on = refl }
+    let t = months_are m i l j h in
+    let of : Spread m k ≡ Spread i j = let a = t.0 in let b = t.1 in cc in
+    subst (λ (A : Instrument). IsMonthPair s m k (other_side s) A (other_side s) (Outright l)) of (pair_of s m k l true (is_less m k (omega (arith, t.0, t.1))) at)
 
 far_pair : (s : Side) (m k i j l : ℕ) → (m == j && l == i) ≡ true → i < j → l ≡ k → IsMonthPair s m k s (Spread i j) (other_side s) (Outright l)
 far_pair s m k i j l h near at =
-    let t = both (m == j) (l == i) h in
-    let a = number_is m j t.0 in
-    let b = number_is l i t.1 in
-    let lt : nat_lt m k ≡ false = is_not_less m k (omega (arith, a, b)) in
-    let of : Spread i j ≡ Spread k m = cc in
-    record { of = rw lt of; sided = rw lt refl; and = ap Outright at; and_on = refl }
+    let t = months_are m j l i h in
+    let of : Spread k m ≡ Spread i j = let a = t.0 in let b = t.1 in cc in
+    subst (λ (A : Instrument). IsMonthPair s m k s A (other_side s) (Outright l)) of (pair_of s m k l false (is_not_less m k (omega (arith, t.0, t.1))) at)
 
 month_pair : (s : Side) (m k : ℕ) (sa : Side) (A : Instrument) (sb : Side) (B : Instrument) (x y p : ℤ) → implied_price s (Outright m) sa A sb B x y ≡ Some p → IsNearBeforeFar A → month_of B ≡ k → IsMonthPair s m k sa A sb B
 month_pair Buy m k Sell (Spread i j) Sell (Outright l) x y p h near at = near_pair Buy m k i j l (holds _ _ p h) near at

@@ -5,7 +5,7 @@ use Rattle.std.proofs.lemmas.List.{get_or-take, length-take, length-drop, take_a
 use Rattle.std.proofs.lemmas.Option.{get_or_from_slice_get}
 use Rattle.spread_rules.specs.declared.outcome.OrderStatus.{OrderStatus}
 use Rattle.spread_match.specs.code.StateAfter.{AreInOrder}
-use Rattle.spread_match.proofs.status_rows.InOrder.{not_later}
+use Rattle.row_index.proofs.Places.{not_later}
 
 pub in_order_from : (n : ℕ) (ss : List OrderStatus) → AreInOrder ss → AreInOrder (drop n ss)
 in_order_from zero ss h = h
@@ -37,7 +37,7 @@ none_before ss newest place from h last le e k d lt same =
 pub none_above : (ss : List OrderStatus) (newest : OrderStatus) (place : ℕ) → AreInOrder ss → Some newest ≡ slice_get ss (length ss - 1) → newest.place < place
     → All (λ s. s.place ≢ place) ss
 none_above ss newest place h last above k d lt same =
-    let earlier = not_later ss k (length ss - 1) d h (omega (arith, lt)) (omega (arith, lt)) in
+    let earlier = not_later (λ (s : OrderStatus). s.place) ss k (length ss - 1) d h (omega (arith, lt)) (omega (arith, lt)) in
     let end : (get_or ss (length ss - 1) d).place ≡ newest.place = subst (λ (s : OrderStatus). s.place ≡ newest.place) (sym (get_or_from_slice_get ss (length ss - 1) newest d (sym last))) refl in
     omega (arith, earlier, end, same, above)
 

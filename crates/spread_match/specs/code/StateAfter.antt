@@ -1,7 +1,8 @@
 -- The market's state after an entry: the orders that rest, and a status for each New entry in place of the past.
 -- Words of the code alone.
-use Rattle.std.specs.Prelude.{ℕ, ◌-◌, ◌==◌, ◌≤◌, ◌<◌, ⊤, Bool, ◌&&◌, ◌||◌, cond, if◌then◌else◌, List, [], ◌∷◌, ◌++◌, map, fold, All, Option, Some, None}
+use Rattle.std.specs.Prelude.{ℕ, ◌-◌, ◌==◌, ◌≤◌, Bool, ◌&&◌, ◌||◌, cond, if◌then◌else◌, List, [], ◌∷◌, ◌++◌, map, fold, All, Option, Some, None}
 use Rattle.std.specs.List.{find}
+use Rattle.row_index.specs.Places.{RisesBy}
 use Rattle.spread_rules.specs.declared.codes.ord_rej_reason.TheConstants as ord_rej_reason
 use Rattle.spread_rules.specs.declared.codes.ord_status.TheConstants as ord_status
 use Rattle.spread_rules.specs.declared.order.Order.{Order}
@@ -106,8 +107,7 @@ with_refusal m o =
 
 -- each status stands before those of later places
 abbrev pub AreInOrder : List OrderStatus → Type 0
-AreInOrder [] = ⊤
-AreInOrder (s ∷ ss) = All (λ t. s.place < t.place) ss × AreInOrder ss
+AreInOrder ss = RisesBy (λ s. s.place) ss
 
 -- what the book does with the new order once it has traded
 abbrev pub orders_after_trading : Bool → Order → ℕ → List Order → List Order

@@ -1,7 +1,7 @@
 use Rattle.std.proofs.Common.{◌≡◌, List, [], Option, sym, subst, arith}
 use Rattle.spread_rules.specs.declared.order.Order.{Order}
-use Rattle.spread_books.specs.declared.front_table.BestPrice.{BestPrice}
-use Rattle.spread_books.specs.code.FrontTable.{HoldsPrices}
+use Rattle.order_tables.specs.declared.front_table.BestPrice.{BestPrice}
+use Rattle.spread_books.specs.code.FrontPrices.{HoldsPrices}
 use Rattle.spread_books.proofs.fronts.TableHoldsFronts.{empty_slots, is_nil}
 use Rattle.spread_books.proofs.keys.TablesThroughChanges.{from_both}
 use Rattle.spread_books.proofs.front_book.make_room.Goals as goal

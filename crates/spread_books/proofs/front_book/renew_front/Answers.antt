@@ -1,8 +1,8 @@
-use Rattle.std.proofs.Common.{◌≡◌, false, List, Option, Some, None, sym, ◌∙◌, subst}
+use Rattle.std.proofs.Common.{◌≡◌, false, List, Option, sym, ◌∙◌, subst}
 use Rattle.spread_rules.specs.declared.order.Order.{Order}
 use Rattle.spread_rules.specs.Clearing.{removed}
-use Rattle.spread_books.specs.declared.front_table.BestPrice.{BestPrice}
-use Rattle.spread_books.specs.code.FrontTable.{HoldsPrices, IsBestPrice, may_be_at}
+use Rattle.order_tables.specs.declared.front_table.BestPrice.{BestPrice}
+use Rattle.spread_books.specs.code.FrontPrices.{HoldsPrices, IsBestPrice, may_be_at}
 use Rattle.spread_books.proofs.fronts.TableHoldsFronts.{prices_removed, prices_unremoved}
 use Rattle.spread_books.proofs.front_book.renew_front.Goals as goal
 

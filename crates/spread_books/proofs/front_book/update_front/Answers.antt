@@ -1,7 +1,7 @@
 use Rattle.std.proofs.Common.{[], ◌∷◌, ◌++◌, List, Option, Some, sym, ◌∙◌, subst}
-use Rattle.spread_rules.specs.declared.order.Order.{Order}
-use Rattle.spread_books.specs.declared.front_table.BestPrice.{BestPrice}
-use Rattle.spread_books.specs.code.FrontTable.{HoldsPrices, with_known_price}
+use Rattle.order_tables.specs.declared.front_table.BestPrice.{BestPrice}
+use Rattle.spread_books.specs.code.FrontPrices.{HoldsPrices}
+use Rattle.order_tables.specs.FrontTable.{with_known_price}
 use Rattle.spread_books.proofs.fronts.TableHoldsFronts.{prices_added, prices_behind, prices_unknown}
 use Rattle.spread_books.proofs.front_book.update_front.Goals as goal
 

@@ -2,7 +2,7 @@ use Rattle.std.proofs.Common.{◌≡◌, ℕ, ◌-◌, Bool, true, false, cond, 
 use Rattle.spread_rules.specs.declared.order.Order.{Order}
 use Rattle.spread_rules.specs.Clearing.{reduced, with_less_left}
 use Rattle.spread_rules.proofs.lists.Membership.{in_head, in_tail}
-use Rattle.spread_books.specs.Queues.{HasPlace}
+use Rattle.order_tables.specs.Places.{HasPlace}
 use Rattle.spread_books.proofs.keys.SetOfKeys.{less_left}
 use Rattle.market_tests.proofs.books.queues.last_leaves.Goals as goal
 

@@ -2,7 +2,7 @@ use Rattle.std.proofs.Common.{◌≡◌, ℕ, zero, suc, ◌<◌, ◌==◌, Bool
 use Rattle.spread_rules.specs.declared.order.Order.{Order}
 use Rattle.spread_rules.specs.Clearing.{reduced, with_less_left}
 use Rattle.spread_rules.proofs.lists.Membership.{in_head, in_tail}
-use Rattle.spread_books.specs.Queues.{HasMore, HasPlace}
+use Rattle.order_tables.specs.Places.{HasMore, HasPlace}
 use Rattle.market_tests.proofs.books.queues.sellers.Goals as goal
 
 -- five are left of each of three

@@ -1,8 +1,8 @@
-use Rattle.std.proofs.Common.{◌≡◌, ◌==◌, ℕ, List, Option, Some, None, sym, ap, ◌∙◌, subst}
+use Rattle.std.proofs.Common.{◌≡◌, ◌==◌, ℕ, List, None, sym, ap, ◌∙◌, subst}
 use Rattle.std.specs.List.{find}
 use Rattle.spread_rules.specs.declared.order.Order.{Order}
 use Rattle.spread_rules.specs.Clearing.{removed}
-use Rattle.spread_books.specs.Queues.{HasPlace}
+use Rattle.order_tables.specs.Places.{HasPlace}
 use Rattle.spread_books.proofs.fronts.TableHoldsFronts.{rests_at, not_nobody}
 use Rattle.spread_books.proofs.front_book.FrontBook.remove_order.Goals as goal
 

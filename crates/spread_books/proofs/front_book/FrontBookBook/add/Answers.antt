@@ -1,6 +1,6 @@
-use Rattle.std.proofs.Common.{List, [], ◌∷◌, ◌++◌, sym, subst}
+use Rattle.std.proofs.Common.{List, sym, subst}
 use Rattle.spread_rules.specs.declared.order.Order.{Order}
-use Rattle.spread_books.specs.code.FrontTable.{HoldsPrices}
+use Rattle.spread_books.specs.code.FrontPrices.{HoldsPrices}
 use Rattle.spread_books.proofs.front_book.FrontBookBook.add.Goals as goal
 
 pub invariant_of-self-2 : goal.invariant_of-self-2

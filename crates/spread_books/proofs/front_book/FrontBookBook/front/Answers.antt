@@ -1,7 +1,6 @@
-use Rattle.std.proofs.Common.{◌≡◌, ◌==◌, List, Option, Some, None, sym, ap, ◌∙◌, subst}
-use Rattle.std.specs.List.{find}
+use Rattle.std.proofs.Common.{List, Option, Some, None, sym, ap, ◌∙◌, subst}
 use Rattle.spread_rules.specs.declared.order.Order.{Order}
-use Rattle.spread_books.specs.declared.front_table.BestPrice.{BestPrice}
+use Rattle.order_tables.specs.declared.front_table.BestPrice.{BestPrice}
 use Rattle.spread_books.specs.Queues.{IsFront}
 use Rattle.spread_books.proofs.fronts.TableHoldsFronts.{no_front, front_found}
 use Rattle.spread_books.proofs.front_book.FrontBookBook.front.Goals as goal

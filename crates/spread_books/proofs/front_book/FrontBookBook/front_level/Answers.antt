@@ -1,7 +1,7 @@
-use Rattle.std.proofs.Common.{◌≡◌, List, Option, Some, None, sym, ap, ◌∙◌, subst}
+use Rattle.std.proofs.Common.{List, Option, Some, None, sym, ap, ◌∙◌, subst}
 use Rattle.spread_rules.specs.declared.order.Order.{Order}
 use Rattle.spread_rules.specs.declared.order.Level.{Level}
-use Rattle.spread_books.specs.declared.front_table.BestPrice.{BestPrice}
+use Rattle.order_tables.specs.declared.front_table.BestPrice.{BestPrice}
 use Rattle.spread_books.specs.Queues.{IsFrontLevel}
 use Rattle.spread_books.proofs.fronts.TableHoldsFronts.{no_level, level_found}
 use Rattle.spread_books.proofs.front_book.FrontBookBook.front_level.Goals as goal

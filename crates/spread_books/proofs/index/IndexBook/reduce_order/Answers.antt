@@ -1,12 +1,13 @@
-use Rattle.std.proofs.Common.{◌≡◌, ◌==◌, ◌<◌, List, ◌++◌, Some, arith, sym, ap, ◌∙◌, subst}
+use Rattle.std.proofs.Common.{◌≡◌, ◌==◌, ◌<◌, List, ◌++◌, Some, arith, refl, sym, ap, ◌∙◌, subst}
 use Rattle.std.specs.List.{find}
 use Rattle.std.specs.Option.{option_to_list}
 use Rattle.std.proofs.lemmas.List.Elements.{All-contains}
 use Rattle.spread_rules.specs.declared.order.Order.{Order}
 use Rattle.spread_rules.specs.Clearing.{reduced}
-use Rattle.spread_books.specs.Queues.{HasMore}
-use Rattle.spread_books.specs.code.Index.{Ascends}
-use Rattle.spread_books.proofs.places.LastOrder.{ascends_reduced, reduced_newest, found_newest, reduced_before, found_before, more_before}
+use Rattle.order_tables.specs.Places.{HasMore, Ascends}
+use Rattle.order_tables.proofs.places.Ascending.{ascends_changed}
+use Rattle.order_tables.proofs.places.ChangedAt.{less}
+use Rattle.spread_books.proofs.places.LastOrder.{changed_newest, found_newest, changed_before, found_before, more_before}
 use Rattle.spread_books.proofs.fronts.TableHoldsFronts.{rests_at}
 use Rattle.spread_books.proofs.index.IndexBook.reduce_order.Goals as goal
 
@@ -23,7 +24,7 @@ overflow_sub-left g c =
 
 pub returns-in-Some-clause-book : goal.returns-in-Some-clause-book
 returns-in-Some-clause-book g c =
-    sym (reduced_newest c.self.inside.others c.self.inside.newest c.args.place c.in-Some.was (sym c.newest_at.ensures ∙ c.in-Some.is) c.self.invariant c.args.by)
+    sym (changed_newest c.self.inside.others c.self.inside.newest c.args.place c.in-Some.was (sym c.newest_at.ensures ∙ c.in-Some.is) c.self.invariant (less c.args.by))
     ∙ ap (λ (xs : List Order). reduced c.args.place c.args.by xs) c.self.view_is
 
 pub returns-in-Some-clause-was : goal.returns-in-Some-clause-was
@@ -35,8 +36,8 @@ pub invariant_of-self : goal.invariant_of-self
 invariant_of-self g c =
     let xs = c.self.inside.others in
     let newest = c.self.inside.newest in
-    subst (λ (zs : List Order). Ascends zs) (reduced_newest xs newest c.args.place c.in-Some.was (sym c.newest_at.ensures ∙ c.in-Some.is) c.self.invariant c.args.by)
-    (ascends_reduced c.args.place c.args.by (xs ++ option_to_list newest) c.self.invariant)
+    subst (λ (zs : List Order). Ascends zs) (changed_newest xs newest c.args.place c.in-Some.was (sym c.newest_at.ensures ∙ c.in-Some.is) c.self.invariant (less c.args.by))
+    (ascends_changed (less c.args.by) (λ o. refl) c.args.place (xs ++ option_to_list newest) c.self.invariant)
 
 pub returns-in-Some-clause-ordered : goal.returns-in-Some-clause-ordered
 returns-in-Some-clause-ordered g c = subst (λ (zs : List Order). Ascends zs) c.self.view_is c.self.invariant
@@ -51,8 +52,8 @@ invariant_of-self-2 g c =
     let xs = c.self.inside.others in
     let ys = option_to_list c.self.inside.newest in
     let kept : reduced c.args.place c.args.by (xs ++ ys) ≡ c.reduce_order.new.self ++ ys =
-    reduced_before xs ys c.args.place (sym c.newest_at.ensures ∙ c.in_default.is) c.args.by ∙ ap (λ (zs : List Order). zs ++ ys) (sym c.reduce_order.ensures.book) in
-    subst (λ (zs : List Order). Ascends zs) kept (ascends_reduced c.args.place c.args.by (xs ++ ys) c.self.invariant)
+    changed_before xs ys c.args.place (sym c.newest_at.ensures ∙ c.in_default.is) (less c.args.by) ∙ ap (λ (zs : List Order). zs ++ ys) (sym c.reduce_order.ensures.book) in
+    subst (λ (zs : List Order). Ascends zs) kept (ascends_changed (less c.args.by) (λ o. refl) c.args.place (xs ++ ys) c.self.invariant)
 
 pub returns-clause-was : goal.returns-clause-was
 returns-clause-was g c =
@@ -65,7 +66,7 @@ returns-clause-book g c =
     let xs = c.self.inside.others in
     let ys = option_to_list c.self.inside.newest in
     ap (λ (zs : List Order). zs ++ ys) c.reduce_order.ensures.book
-    ∙ sym (reduced_before xs ys c.args.place (sym c.newest_at.ensures ∙ c.in_default.is) c.args.by)
+    ∙ sym (changed_before xs ys c.args.place (sym c.newest_at.ensures ∙ c.in_default.is) (less c.args.by))
     ∙ ap (λ (zs : List Order). reduced c.args.place c.args.by zs) c.self.view_is
 
 pub returns-clause-ordered : goal.returns-clause-ordered

@@ -3,8 +3,7 @@ use Rattle.std.specs.List.{find}
 use Rattle.std.specs.Option.{option_to_list}
 use Rattle.spread_rules.specs.declared.order.Order.{Order}
 use Rattle.spread_rules.specs.Clearing.{removed}
-use Rattle.spread_books.specs.Queues.{HasPlace}
-use Rattle.spread_books.specs.code.Index.{Ascends}
+use Rattle.order_tables.specs.Places.{HasPlace, Ascends}
 use Rattle.spread_books.proofs.places.LastOrder.{ascends_removed, removed_newest, found_newest, removed_before, found_before, place_before}
 use Rattle.spread_books.proofs.index.IndexBook.remove_order.Goals as goal
 

@@ -1,8 +1,7 @@
-use Rattle.std.proofs.Common.{◌≡◌, List, [], ◌∷◌, ◌++◌, Option, Some, refl, sym, ap, ◌∙◌, subst}
-use Rattle.std.specs.Option.{option_to_list, option_map}
+use Rattle.std.proofs.Common.{◌≡◌, List, [], ◌∷◌, ◌++◌, Option, Some, sym, ap, ◌∙◌, subst}
+use Rattle.std.specs.Option.{option_to_list}
 use Rattle.spread_rules.specs.declared.order.Order.{Order}
 use Rattle.spread_rules.specs.declared.order.Level.{Level}
-use Rattle.spread_rules.specs.Candidates.{level_of}
 use Rattle.spread_books.specs.Queues.{IsFrontLevel}
 use Rattle.spread_books.proofs.fronts.Changes.{front_of_queue, level_of_no_queue}
 use Rattle.spread_books.proofs.index.IndexBookBook.front_level.Goals as goal

@@ -4,11 +4,11 @@ use Rattle.std.specs.BTreeMap.{is_at}
 use Rattle.std.specs.BTreeSet.{contains}
 use Rattle.spread_rules.specs.declared.order.Order.{Order}
 use Rattle.spread_rules.specs.Clearing.{removed}
-use Rattle.spread_books.specs.declared.queue_key.QueueKey.{QueueKey}
-use Rattle.spread_books.specs.declared.own_key.OwnKey.{OwnKey}
+use Rattle.order_tables.specs.declared.queue_key.QueueKey.{QueueKey}
+use Rattle.order_tables.specs.declared.own_key.OwnKey.{OwnKey}
 use Rattle.spread_books.specs.code.Index.{IsIndex, queue_key_cmp, own_key_cmp}
 use Rattle.spread_books.proofs.keys.TablesThroughChanges.{index_removed, at_place}
-use Rattle.spread_books.proofs.places.RowsByPlace.{missing}
+use Rattle.order_tables.proofs.places.RowsByPlace.{missing}
 use Rattle.spread_books.proofs.tree.TreeBook.remove_order.Goals as goal
 
 pub invariant_of-self : goal.invariant_of-self

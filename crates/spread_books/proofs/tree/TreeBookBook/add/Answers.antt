@@ -3,10 +3,10 @@ use Rattle.std.specs.List.{list_any}
 use Rattle.std.specs.BTreeMap.{is_at}
 use Rattle.std.specs.BTreeSet.{contains}
 use Rattle.spread_rules.specs.declared.order.Order.{Order}
-use Rattle.spread_books.specs.declared.queue_key.QueueKey.{QueueKey}
-use Rattle.spread_books.specs.declared.own_key.OwnKey.{OwnKey}
-use Rattle.spread_books.specs.code.QueueKeys.{queue_key}
-use Rattle.spread_books.specs.code.OwnKeys.{own_key}
+use Rattle.order_tables.specs.declared.queue_key.QueueKey.{QueueKey}
+use Rattle.order_tables.specs.declared.own_key.OwnKey.{OwnKey}
+use Rattle.order_tables.specs.QueueKeys.{queue_key}
+use Rattle.order_tables.specs.OwnKeys.{own_key}
 use Rattle.spread_books.specs.code.Index.{IsIndex, queue_key_cmp, own_key_cmp}
 use Rattle.spread_books.proofs.keys.TotalOrders.{queue_key_total, queue_key_exact, own_key_total, own_key_exact}
 use Rattle.spread_books.proofs.keys.SetOfKeys.{keys_restored}

@@ -2,8 +2,8 @@ use Rattle.std.proofs.Common.{◌≡◌, ◌==◌, List, Option, Some, None, ap,
 use Rattle.std.specs.List.{find}
 use Rattle.spread_rules.specs.declared.order.Order.{Order}
 use Rattle.host_base.specs.IdKeys.{key_of}
-use Rattle.spread_books.specs.declared.own_key.OwnKey.{OwnKey}
-use Rattle.spread_books.specs.code.Firsts.{IsFirstFrom}
+use Rattle.order_tables.specs.declared.own_key.OwnKey.{OwnKey}
+use Rattle.order_tables.specs.Firsts.{IsFirstFrom}
 use Rattle.spread_books.specs.code.Index.{own_key_cmp, IsIndex}
 use Rattle.spread_books.proofs.keys.TablesThroughChanges.{is_found}
 use Rattle.spread_books.proofs.keys.FirstOfAnId.{no_own, own_of_another, own_of_earliest}

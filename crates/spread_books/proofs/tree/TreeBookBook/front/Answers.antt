@@ -2,10 +2,10 @@ use Rattle.std.proofs.Common.{◌≡◌, ◌==◌, true, false, List, Option, So
 use Rattle.std.specs.List.{find}
 use Rattle.std.proofs.lemmas.Bool.Decides.{nat_tests}
 use Rattle.spread_rules.specs.declared.order.Order.{Order}
-use Rattle.spread_books.specs.declared.queue_key.QueueKey.{QueueKey}
+use Rattle.order_tables.specs.declared.queue_key.QueueKey.{QueueKey}
 use Rattle.spread_books.specs.Queues.{IsFront}
-use Rattle.spread_books.specs.code.QueueKeys.{queue_number}
-use Rattle.spread_books.specs.code.Firsts.{IsFirstFrom}
+use Rattle.order_tables.specs.QueueKeys.{queue_number}
+use Rattle.order_tables.specs.Firsts.{IsFirstFrom}
 use Rattle.spread_books.specs.code.Index.{queue_key_cmp, IsIndex}
 use Rattle.spread_books.proofs.keys.TablesThroughChanges.{is_found}
 use Rattle.spread_books.proofs.keys.FirstOfAQueue.{no_key, key_of_another, key_of_front}

@@ -1,0 +1,19 @@
+-- An order that keeps its place under another id and with another quantity.
+use Rattle.std.specs.Prelude.{ℕ, ◌-◌, ◌==◌, if◌then◌else◌, List, map}
+use Rattle.spread_rules.specs.declared.order.Order.{Order}
+
+-- so much of an order is filled
+abbrev pub done : Order → ℕ
+done o = o.quantity - o.leaves
+
+-- an order under a new id and with a new quantity, what is filled included
+abbrev pub with_quantity : List ℕ → ℕ → Order → Order
+with_quantity id quantity o =
+    record o { id = id; quantity = quantity; leaves = quantity - done o }
+
+abbrev pub amended_at : ℕ → List ℕ → ℕ → Order → Order
+amended_at place id quantity o = if o.place == place then with_quantity id quantity o else o
+
+-- the order of that place is amended
+abbrev pub amended : ℕ → List ℕ → ℕ → List Order → List Order
+amended place id quantity xs = map (amended_at place id quantity) xs

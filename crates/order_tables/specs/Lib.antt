@@ -1,0 +1,7 @@
+pub mod Amended
+pub mod Places
+pub mod FrontTable
+pub mod Firsts
+pub mod QueueKeys
+pub mod OwnKeys
+pub mod code
