@@ -1,6 +1,5 @@
 pub mod code
 pub mod Texts
-pub mod Values
 pub mod Fields
 pub mod Frames
 pub mod Messages
