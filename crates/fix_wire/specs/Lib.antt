@@ -5,6 +5,7 @@ pub mod Frames
 pub mod Messages
 pub mod Held
 pub mod Next
+pub mod Looks
 pub mod Layout
 pub mod Pieces
 pub mod Examples
