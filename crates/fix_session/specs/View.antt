@@ -7,8 +7,8 @@ use Rattle.spread_rules.specs.declared.event.Event.{Event}
 use Rattle.spread_rules.specs.declared.event.Event.TheVariants as events
 use Rattle.fix_wire.specs.declared.msg_types.TheConstants as msg_types
 use Rattle.fix_wire.specs.declared.tags.TheConstants as tags
-use Rattle.fix_wire.specs.declared.values.Unread.{Unread}
-use Rattle.fix_wire.specs.Values.{number_in}
+use Rattle.fix_values.specs.declared.values.Unread.{Unread}
+use Rattle.fix_values.specs.Values.{number_in}
 use Rattle.fix_wire.specs.Messages.{get, kind, number}
 use Rattle.fix_session.specs.declared.table.Meaning.{Meaning}
 use Rattle.fix_session.specs.declared.table.Meaning.TheVariants.{Nothing, Gives, Fills}

@@ -6,3 +6,4 @@ pub mod FrameStarts
 pub mod FrontFrame
 pub mod HeldPart
 pub mod OneTurn
+pub mod FrameFromAPlace

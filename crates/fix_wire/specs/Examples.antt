@@ -1,8 +1,8 @@
 -- Two messages and some values, read.
 use Rattle.std.specs.Prelude.{◌≡◌, ℕ, pos, negsuc, List, [], ◌∷◌, ◌++◌, length, Some, Ok, Err, refl, codes}
-use Rattle.fix_wire.specs.declared.values.Unread.TheVariants.{Range}
+use Rattle.fix_values.specs.declared.values.Unread.TheVariants.{Range}
 use Rattle.fix_wire.specs.Texts.{with_soh}
-use Rattle.fix_wire.specs.Values.{quantity_in, price_in}
+use Rattle.fix_values.specs.Values.{quantity_in, price_in}
 use Rattle.fix_wire.specs.declared.frame.TheConstants.{BEGIN_BYTES, CHECKSUM_BYTES}
 use Rattle.fix_wire.specs.Frames.{begin_text, checksum_field, frame_at, frames}
 use Rattle.fix_wire.specs.Messages.{kind, number}

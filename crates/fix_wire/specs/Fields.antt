@@ -5,7 +5,8 @@ use Rattle.std.specs.List.{list_all, position_or_len}
 use Rattle.host_base.specs.declared.bytes.TheConstants.{SOH}
 use Rattle.host_base.specs.Ascii.{digit_zero}
 use Rattle.fix_wire.specs.declared.frame.TheConstants.{MAX_TAG_DIGITS}
-use Rattle.fix_wire.specs.Texts.{is_equals, number_of}
+use Rattle.fix_wire.specs.Texts.{is_equals}
+use Rattle.fix_values.specs.Digits.{number_of}
 
 -- one field
 pub record TagValue : Type 0 where

@@ -8,7 +8,8 @@ use Rattle.host_base.specs.declared.limits.TheConstants.{MIN_BODY_LENGTH, MAX_BO
 use Rattle.host_base.specs.Ascii.{digit_zero}
 use Rattle.fix_wire.specs.declared.frame.FrameHeader.{FrameHeader}
 use Rattle.fix_wire.specs.declared.frame.TheConstants.{BEGIN_BYTES, CHECKSUM_BYTES, MAX_LENGTH_DIGITS}
-use Rattle.fix_wire.specs.Texts.{is_soh, number_of, strip_prefix, is_cut_short, with_soh, two_digits}
+use Rattle.fix_wire.specs.Texts.{is_soh, strip_prefix, is_cut_short, with_soh}
+use Rattle.fix_values.specs.Digits.{number_of, two_digits}
 use Rattle.fix_wire.specs.Fields.{fields_of_body}
 
 -- ---- the header: BeginString and BodyLength

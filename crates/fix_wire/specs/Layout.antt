@@ -1,9 +1,9 @@
 -- How a message is written, and that it is read back.
-use Rattle.std.specs.Prelude.{◌≡◌, ◌≢◌, ℕ, ◌+◌, ◌/◌, ◌%◌, ◌<◌, ◌≤◌, ◌^◌, ℤ, pos, Bool, true, false, if◌then◌else◌, List, [], ◌∷◌, ◌++◌, map, length, sum, decimal, int_lt, unsigned_abs, codes}
+use Rattle.std.specs.Prelude.{◌≡◌, ◌≢◌, ℕ, ◌%◌, ◌<◌, ◌≤◌, ◌^◌, Bool, true, false, List, [], ◌∷◌, ◌++◌, map, length, sum, decimal, unsigned_abs, codes}
 use Rattle.std.specs.List.{flat_map, AllByRecursion}
 use Rattle.host_base.specs.declared.bytes.TheConstants.{SOH}
 use Rattle.host_base.specs.declared.limits.TheConstants.{MAX_BODY_LENGTH}
-use Rattle.host_base.specs.Ascii.{equals, hyphen_minus, point}
+use Rattle.host_base.specs.Ascii.{equals, hyphen_minus}
 use Rattle.host_base.specs.Ids.{is_plain}
 use Rattle.fix_wire.specs.declared.frame.TheConstants.{MAX_TAG_DIGITS}
 use Rattle.fix_wire.specs.declared.tags.TheConstants as tags
@@ -11,16 +11,10 @@ use Rattle.fix_wire.specs.declared.writer.Value.{Value}
 use Rattle.fix_wire.specs.declared.writer.Value.TheVariants.{Text, Number, Price, Pair}
 use Rattle.fix_wire.specs.declared.writer.Field as given
 use Rattle.fix_wire.specs.declared.writer.Head.{Head}
-use Rattle.fix_wire.specs.Texts.{two_digits}
+use Rattle.fix_values.specs.Values.{price_text}
 use Rattle.fix_wire.specs.Fields.{TagValue}
 use Rattle.fix_wire.specs.Frames.{begin_text, checksum_field, IsFrame, frames}
 use Rattle.fix_wire.specs.Messages.{fields}
-
--- a price: an optional `-`, the whole part, a point and two digits; 10000 is `100.00`, -5 is `-0.05`
-abbrev pub price_text : ℤ → List ℕ
-price_text z =
-    (if int_lt z (pos 0) then hyphen_minus ∷ [] else [])
-    ++ (decimal (unsigned_abs z / 100) ++ (point ∷ two_digits (unsigned_abs z % 100)))
 
 -- what a field's value is written as; a pair is `a-b`
 abbrev pub value_text : Value → List ℕ

@@ -1,10 +1,10 @@
 -- What a message says: a message is a lawful frame, and its fields are those of its body.
 use Rattle.std.specs.Prelude.{ℕ, ◌==◌, nat_le, if◌then◌else◌, List, [], ◌∷◌, Option, Some, None, Result, Ok, Err, option_map, option_and_then, unwrap_or, find}
 use Rattle.fix_wire.specs.declared.tags.TheConstants as tags
-use Rattle.fix_wire.specs.declared.values.Unread.{Unread}
+use Rattle.fix_values.specs.declared.values.Unread.{Unread}
 use Rattle.fix_wire.specs.Fields.{TagValue, fields_of_body}
 use Rattle.fix_wire.specs.Frames.{header, body_at}
-use Rattle.fix_wire.specs.Values.{number_in}
+use Rattle.fix_values.specs.Values.{number_in}
 
 -- the fields of a message
 abbrev pub fields : List ℕ → List TagValue

@@ -15,7 +15,7 @@ ghost use Rattle.fix_wire.specs.code.Scans.{scan_front, first_field, leading_fie
 
 use crate::marks::{Marks, next_soh};
 use crate::table::{FieldTable, are_fields};
-use crate::values::limited_digits;
+use fix_values::limited_digits;
 use host_base::bytes::SOH;
 use host_base::limits::{MAX_BODY_LENGTH, MIN_BODY_LENGTH};
 use memchr::memchr;

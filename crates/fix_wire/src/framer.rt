@@ -5,6 +5,7 @@ ghost use Rattle.std.specs.Borrow.{sem};
 ghost use Rattle.fix_wire.specs.Frames.{frames, frame_at};
 ghost use Rattle.fix_wire.specs.Held.{first_frame, from_first_start, after_first_frame};
 ghost use Rattle.fix_wire.specs.Next.{frame_in};
+ghost use Rattle.fix_wire.specs.Looks.{frame_from, place_after, EndsFirst, FollowsFrames};
 ghost use Rattle.fix_wire.specs.code.Tabled.{IsTableOf};
 ghost use denote.Follow.{follows_so};
 ghost use mathlib.Core.Option.{none};
@@ -45,6 +46,13 @@ impl Model for Framer {
 #[derive(Clone, Copy)]
 pub enum Next<'a> {
     Message(Message<'a>),
+    Need,
+}
+
+/// What a framer answers of a place: the first message from there on, with the place after it, or that none stands.
+#[derive(Clone, Copy)]
+pub enum Look<'a> {
+    Message(Message<'a>, usize),
     Need,
 }
 
@@ -156,6 +164,27 @@ impl Framer {
         self.peek(front_length)
     }
 
+    /// The first message from a place of the held bytes on, and the place after it. Nothing changes.
+    pub fn look(&self, at: usize) -> Look<'_>
+        requires { at ≤ length self.now }
+        ensures first { frame_from result ≡ first_frame (frames (drop at self.now)) }
+        ensures after { (n : ℕ) → place_after result ≡ Some n → EndsFirst self.now at n }
+    {
+        match first_message(&self.buffer[self.start + at..self.end]) {
+            Look::Message(message, length) => Look::Message(message, at + length),
+            Look::Need => Look::Need,
+        }
+    }
+
+    /// Goes past all bytes before a place, which stands just after one of the held frames.
+    pub fn pass_to(&mut self, at: usize)
+        requires { FollowsFrames self.old at }
+        ensures { self.new ≡ drop at self.old }
+    {
+        self.start += at;
+        self.front_length = 0;
+    }
+
     /// Goes past the message that `next` would answer.
     pub fn pass(&mut self) -> bool
         ensures stands { result ≡ is_some (first_frame (frames self.old)) }
@@ -211,6 +240,23 @@ fn first_start_in(
         → IsTableOf (from_first_start (slice_range buffer.now start end)) table.new }
 {
     first_start(&buffer[start..end], table)
+}
+
+/// The first message of a text, and the place after it.
+fn first_message(held: &[u8]) -> Look<'_>
+    requires { length held.now ≤ BUFFER_BYTES }
+    ensures first { frame_from result ≡ first_frame (frames held.now) }
+    ensures after { (n : ℕ) → place_after result ≡ Some n → EndsFirst held.now 0 n }
+{
+    let mut table = FieldTable::empty();
+    let (skip, length) = first_start(held, &mut table);
+    match length {
+        Some(length) => {
+            let end = skip + length;
+            Look::Message(Message::of_frame(&held[skip..end], &table), end)
+        }
+        None => Look::Need,
+    }
 }
 
 /// The first place at which a frame stands or may still begin, and the length and the table of the frame that stands there.

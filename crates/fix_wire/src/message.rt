@@ -9,7 +9,7 @@ ghost use Rattle.fix_wire.specs.Messages.{kind, get, number};
 use crate::frame::{FrameHeader, Scan, header_of, scan_front};
 use crate::table::{FieldTable, first_value, value_of};
 use crate::tags;
-use crate::values::read_number;
+use fix_values::read_number;
 
 /// The length of the longest frame: `8=FIX.4.2|9=`, eight digits, SOH, 4,096 bytes of body and seven of CheckSum.
 pub const MAX_FRAME_BYTES: usize = 4_124;

@@ -10,10 +10,10 @@ use Rattle.spread_rules.specs.Journal.{IsNumber, FitsTicket, FitsEvent, is_rejec
 use Rattle.spread_rules.specs.Prices.{IsOrderPrice}
 use Rattle.spread_rules.specs.declared.event.Event.{Event}
 use Rattle.spread_rules.specs.declared.event.Event.TheVariants as events
-use Rattle.fix_wire.specs.declared.values.Unread.{Unread}
-use Rattle.fix_wire.specs.declared.values.Unread.TheVariants.{Format, Range}
-use Rattle.fix_wire.specs.Texts.{is_point, is_zero, number_of}
-use Rattle.fix_wire.specs.Values.{is_number, within, number_in, quantity_in, hundredths, hundredths_in, signed, price_in}
+use Rattle.fix_values.specs.declared.values.Unread.{Unread}
+use Rattle.fix_values.specs.declared.values.Unread.TheVariants.{Format, Range}
+use Rattle.fix_values.specs.Digits.{is_point, is_zero, number_of}
+use Rattle.fix_values.specs.Values.{is_number, within, number_in, quantity_in, hundredths, hundredths_in, signed, price_in}
 use Rattle.fix_wire.specs.Messages.{get, kind}
 use Rattle.fix_session.specs.declared.table.Meaning.{Meaning}
 use Rattle.fix_session.specs.declared.table.Meaning.TheVariants.{Nothing, Gives, Fills}

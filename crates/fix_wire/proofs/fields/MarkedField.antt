@@ -10,7 +10,7 @@ use Rattle.fix_wire.specs.declared.frame.Tag.{Tag}
 use Rattle.fix_wire.specs.Texts.{is_soh}
 use Rattle.fix_wire.specs.Fields.{TagValue, field_of_text}
 use Rattle.fix_wire.specs.code.Scans.{first_field, field_up_to, tag_view, leading_field_view}
-use Rattle.fix_wire.proofs.texts.FirstPlace.{front_found, front_none}
+use Rattle.fix_values.proofs.FirstPlace.{front_found, front_none}
 use Rattle.fix_wire.proofs.fields.RowOfFields.{place_within, first_field_found}
 
 -- the body from a place on is the front of the text from there on

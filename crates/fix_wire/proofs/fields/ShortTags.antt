@@ -5,7 +5,7 @@ use Rattle.std.specs.List.{position_or_len, list_all}
 use Rattle.std.proofs.lemmas.Bool.Decides.{nat_tests}
 use Rattle.fix_wire.specs.Texts.{is_equals}
 use Rattle.fix_wire.specs.Fields.{field_of_text}
-use Rattle.fix_wire.proofs.texts.FirstPlace.{same}
+use Rattle.fix_values.proofs.FirstPlace.{same}
 use Rattle.fix_wire.proofs.fields.RowOfFields.{field_found}
 
 digit_is_not_equals : (b : ℕ) → is_ascii_digit b ≡ true → eqb b 61 ≡ false

@@ -5,9 +5,10 @@ use Rattle.std.specs.List.{position_or_len, list_all, flat_map}
 use Rattle.std.proofs.lemmas.List.{take_at, append_assoc}
 use Rattle.std.proofs.lemmas.Bool.{false≢true}
 use Rattle.std.proofs.lemmas.Bool.Decides.{nat_tests}
-use Rattle.fix_wire.specs.Texts.{is_equals, number_of}
+use Rattle.fix_wire.specs.Texts.{is_equals}
+use Rattle.fix_values.specs.Digits.{number_of}
 use Rattle.fix_wire.specs.Fields.{TagValue, field_texts, prepended, with_first, field_of_text, field_with, is_tag, fields_of_texts, fields_of_body}
-use Rattle.fix_wire.proofs.texts.Digits.{and_true}
+use Rattle.fix_values.proofs.SpelledNumbers.{and_true}
 
 grown_over : (b : ℕ) (p : List ℕ) (o : Option (List (List ℕ))) → option_and_then (prepended b) (option_map (with_first p) o) ≡ option_map (with_first (b ∷ p)) o
 grown_over b p None = refl

@@ -14,7 +14,7 @@ use Rattle.fix_wire.specs.declared.table.FieldPlace.{FieldPlace}
 use Rattle.fix_wire.specs.declared.table.FieldTable.{FieldTable}
 use Rattle.fix_wire.specs.Fields.{fields_of_body}
 use Rattle.fix_wire.proofs.fields.RowOfFields.{row_some, value_step, first_some}
-use Rattle.fix_wire.proofs.texts.FirstPlace.{same, differs}
+use Rattle.fix_values.proofs.FirstPlace.{same, differs}
 use Rattle.fix_wire.specs.code.Scans.{value_of, first_field, leading_field_view}
 use Rattle.fix_wire.specs.code.Tabled.{tabled_tags, is_same, index_of, nowhere, place_at, has_place, value_at, with_field, IsWithin, IsTable, IsTableOf}
 use Rattle.fix_wire.specs.Frames.{frame_at, header, frame_length}

@@ -46,3 +46,10 @@ skip_within f skip held full kept e l =
     let len = range_length f.buffer f.start f.end (omega (arith, full, kept.room)) in
     let same = ap length e in
     omega (arith, len, same, kept.order, l)
+
+-- what is held fits into the buffer
+pub held_short : (f : Inside) (held : List ℕ) → length f.buffer ≡ 8192 → IsKept f → held_of f ≡ held → length held ≤ 8192
+held_short f held full kept e =
+    let len = range_length f.buffer f.start f.end (omega (arith, full, kept.room)) in
+    let same = ap length e in
+    omega (arith, len, same, kept.room)

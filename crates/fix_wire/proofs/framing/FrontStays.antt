@@ -9,10 +9,11 @@ use Rattle.std.proofs.lemmas.Option.{none-some, option_and_then_some, cond_some,
 use Rattle.std.proofs.lemmas.Bool.{false≢true, cases_lt, eqb-true, leb-true, ltb-true, or_from, or_parts}
 use Rattle.std.proofs.lemmas.Bool.Decides.{nat_tests}
 use Rattle.fix_wire.specs.declared.frame.FrameHeader.{FrameHeader}
-use Rattle.fix_wire.specs.Texts.{strip_prefix, is_cut_short, is_soh, number_of}
+use Rattle.fix_wire.specs.Texts.{strip_prefix, is_cut_short, is_soh}
+use Rattle.fix_values.specs.Digits.{number_of}
 use Rattle.fix_wire.specs.Frames.{begin_text, header, header_after, header_with, is_body_length, is_length_open, is_unfinished, is_intact, is_body, body_at, intact_length, frame_length, frame_at, may_begin}
 use Rattle.fix_wire.proofs.fields.RowOfFields.{place_within}
-use Rattle.fix_wire.proofs.texts.Digits.{and_true}
+use Rattle.fix_values.proofs.SpelledNumbers.{and_true}
 
 -- a word that stands stays
 pub prefix_stays : (word text more rest : List ℕ) → strip_prefix word text ≡ Some rest → strip_prefix word (text ++ more) ≡ Some (rest ++ more)

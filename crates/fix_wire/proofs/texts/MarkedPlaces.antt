@@ -9,7 +9,7 @@ use Rattle.std.proofs.lemmas.Nat.{and_block}
 use lib.Bits.{bit_and, and_self}
 use Rattle.fix_wire.specs.Texts.{is_soh}
 use Rattle.fix_wire.specs.code.Marked.{marks_of, zeros}
-use Rattle.fix_wire.proofs.texts.FirstPlace.{front_none}
+use Rattle.fix_values.proofs.FirstPlace.{front_none}
 
 pub marks_are : (xs : List ℕ) → marks_of xs ≡ mask_l (map is_soh xs)
 marks_are [] = refl

@@ -8,6 +8,7 @@ use Rattle.fix_wire.specs.declared.writer.Head.{Head}
 use Rattle.fix_wire.specs.Fields.{TagValue}
 use Rattle.fix_wire.specs.Layout.{field, field_text, only_if, head_fields}
 use Rattle.fix_wire.specs.code.Spelling.{kind_text, orig_text}
+use Rattle.fix_values.proofs.Appended.{step}
 
 -- ---- the tags in digits
 
@@ -89,9 +90,6 @@ head_size h = ap length (line_is h.duplicate h.kind (decimal h.number) h.sender 
     by_flag false n sender stamp target = grind (arith, length-append)
 
 -- ---- as the code appends them
-
-pub step : (o o1 o2 a b : List ℕ) → o2 ≡ o1 ++ b → o1 ≡ o ++ a → o2 ≡ o ++ (a ++ b)
-step o o1 o2 a b e f = e ∙ ap (λ t. t ++ b) f ∙ append_assoc o a b
 
 pub head_appended : (h : Head) (o o1 o2 o3 o4 o5 o6 o7 o8 : List ℕ) →
     o1 ≡ o ++ kind_text h → o2 ≡ o1 ++ h.sender → o3 ≡ o2 ++ (1 ∷ 53 ∷ 50 ∷ 61 ∷ []) → o4 ≡ o3 ++ h.stamp → o5 ≡ o4 ++ (1 ∷ 53 ∷ 54 ∷ 61 ∷ []) → o6 ≡ o5 ++ h.target → o7 ≡ o6 ++ orig_text h → o8 ≡ o7 ++ (1 ∷ []) →

@@ -3,7 +3,7 @@ use Rattle.std.proofs.Common.{◌≡◌, ℕ, zero, suc, ◌+◌, ◌/◌, ◌%�
 use Rattle.std.proofs.lemmas.List.{take_at, take_all, take-take, length-take-le, set_at}
 use Rattle.fix_wire.specs.Frames.{begin_text}
 use Rattle.fix_wire.specs.Layout.{summed_text}
-use Rattle.fix_wire.proofs.texts.LastTwoDigits.{three_digits}
+use Rattle.fix_values.proofs.LastTwoDigits.{three_digits}
 
 -- where a part ends
 pub ends : (r r0 x : List ℕ) (end at : ℕ) → take end r ≡ take at r0 ++ x → end ≤ length r → at ≤ length r0 → end ≡ at + length x

@@ -1,14 +1,12 @@
--- What the code finds at the front of a text, and digits up to a limit.
+-- What the code finds at the front of a text.
 -- Words of the code alone.
-use Rattle.std.specs.Prelude.{ℕ, ◌+◌, Bool, ◌||◌, nat_lt, if◌then◌else◌, List, Option, Some, None, option_map, length, take, drop, find, unwrap_or, ◌==◌, [], min, slice_range}
-use Rattle.std.specs.Char.{is_ascii_digit}
-use Rattle.std.specs.List.{position_or_len, list_all}
+use Rattle.std.specs.Prelude.{ℕ, ◌+◌, Bool, ◌||◌, nat_lt, if◌then◌else◌, List, Option, Some, None, option_map, length, take, drop, find, unwrap_or, ◌==◌, [], slice_range}
+use Rattle.std.specs.List.{position_or_len}
 use Rattle.fix_wire.specs.declared.frame.Scan.{Scan}
 use Rattle.fix_wire.specs.declared.frame.Scan.TheVariants.{Frame, Incomplete, Garbled}
 use Rattle.fix_wire.specs.declared.frame.LeadingField.{LeadingField}
 use Rattle.fix_wire.specs.declared.frame.Tag.{Tag}
-use Rattle.fix_wire.specs.declared.values.TheConstants.{MAX_HUNDREDTHS}
-use Rattle.fix_wire.specs.Texts.{is_soh, number_of, strip_prefix, is_cut_short}
+use Rattle.fix_wire.specs.Texts.{is_soh, strip_prefix, is_cut_short}
 use Rattle.fix_wire.specs.Fields.{TagValue, fields_of_body, field_of_text}
 use Rattle.fix_wire.specs.Frames.{begin_text, frame_at, may_begin, is_length_open}
 
@@ -23,11 +21,6 @@ scan_front text = scan_with (may_begin text) (frame_at text)
 -- a text without a header may still begin a frame
 abbrev pub is_header_open : List ℕ → Bool
 is_header_open text = is_cut_short begin_text text || is_length_open (strip_prefix begin_text text)
-
--- the number that digits spell, or the greatest price where it is more
-abbrev pub limited_digits : List ℕ → Option ℕ
-limited_digits text =
-    if list_all is_ascii_digit text then Some (min (number_of text) MAX_HUNDREDTHS) else None
 
 abbrev pub field_up_to : ℕ → List ℕ → Option (TagValue × List ℕ)
 field_up_to end body =

@@ -9,8 +9,9 @@ use Rattle.fix_wire.specs.declared.writer.Value.TheVariants.{Text, Number, Price
 use Rattle.fix_wire.specs.declared.writer.Field as given
 use Rattle.fix_wire.specs.declared.writer.Head.{Head}
 use Rattle.fix_wire.specs.Fields.{TagValue}
-use Rattle.fix_wire.specs.Texts.{two_digits}
-use Rattle.fix_wire.specs.Layout.{value_text, field_text, field, only_if, head_fields, field_of_given, all_fields, body_text, price_text, FitsValue, FitsField}
+use Rattle.fix_values.specs.Digits.{two_digits}
+use Rattle.fix_wire.specs.Layout.{value_text, field_text, field, only_if, head_fields, field_of_given, all_fields, body_text, FitsValue, FitsField}
+use Rattle.fix_values.specs.Values.{price_text}
 
 -- a value of at most 41 bytes
 pub record IsShort (f : TagValue) : Type 0 where

@@ -1,5 +1,4 @@
-use Rattle.std.proofs.Common.{◌≡◌, ℕ, ◌≤◌, List, [], ◌∷◌, Result, Err, length, sym, ap, ◌∙◌, refl, arith}
-use Rattle.fix_session.specs.declared.table.Meaning.{Meaning}
+use Rattle.std.proofs.Common.{◌≡◌, ℕ, ◌≤◌, List, [], ◌∷◌, Err, length, ap, ◌∙◌, refl, arith}
 use Rattle.fix_session.specs.Table.{meaning_of_kind_text}
 use Rattle.fix_session.proofs.table.meaning_of_message.Goals as goal
 

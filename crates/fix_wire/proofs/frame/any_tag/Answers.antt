@@ -1,8 +1,8 @@
 use Rattle.std.proofs.Common.{◌+◌, sym, ◌∙◌, arith, take}
 use Rattle.std.proofs.lemmas.Grind.{common_steps}
 use Rattle.std.proofs.lemmas.List.{length-take-le}
-use Rattle.fix_wire.proofs.texts.Digits.{number_of_more, nine_digits}
-use Rattle.fix_wire.proofs.texts.FirstPlace.{before_more, first_here}
+use Rattle.fix_values.proofs.SpelledNumbers.{number_of_more, nine_digits}
+use Rattle.fix_values.proofs.FirstPlace.{before_more, first_here}
 use Rattle.fix_wire.proofs.fields.RowOfFields.{field_found, no_field, not_digits, too_long}
 use Rattle.fix_wire.proofs.frame.any_tag.Goals as goal
 use Rattle.fix_wire.proofs.frame.any_tag.Goals.{then-i-eq-MAX_TAG_DIGITS-via-then-i-eq-MAX_TAG_DIGITS, then-i-eq-MAX_TAG_DIGITS-via-else-i-eq-MAX_TAG_DIGITS+then-not-is_ascii_digit}

@@ -1,7 +1,7 @@
 use Rattle.std.proofs.Common.{◌≡◌, ℕ, ◌<◌, ◌≤◌, get_or, eqb, take, true, false}
 use Rattle.std.specs.Char.{is_ascii_digit}
 use Rattle.std.specs.List.{list_all}
-use Rattle.fix_wire.specs.Texts.{number_of}
+use Rattle.fix_values.specs.Digits.{number_of}
 use Rattle.fix_wire.proofs.frame.any_tag.Given as goal
 
 abbrev pub invariant-loop-i : goal.invariant-loop-i

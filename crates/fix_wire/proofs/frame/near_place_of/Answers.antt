@@ -1,4 +1,4 @@
-use Rattle.fix_wire.proofs.texts.FirstPlace.{before_more, first_here, first_nowhere}
+use Rattle.fix_values.proofs.FirstPlace.{before_more, first_here, first_nowhere}
 use Rattle.fix_wire.proofs.frame.near_place_of.Goals as goal
 
 pub loop-i-preserved : goal.loop-i-preserved

@@ -1,6 +1,6 @@
 use Rattle.std.proofs.Common.{sym}
 use Rattle.memchr.specs.Find.{is_byte}
-use Rattle.fix_wire.proofs.texts.FirstPlace.{place_found, place_not_found}
+use Rattle.fix_values.proofs.FirstPlace.{place_found, place_not_found}
 use Rattle.fix_wire.proofs.frame.place_of.Goals as goal
 
 pub returns-in-Some : goal.returns-in-Some

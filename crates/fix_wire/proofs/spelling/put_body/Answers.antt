@@ -1,6 +1,6 @@
 use Rattle.std.proofs.Common.{◌++◌, take, ap, ◌∙◌, arith}
 use Rattle.fix_wire.specs.Layout.{body_text}
-use Rattle.fix_wire.proofs.writing.HeadFields.{step}
+use Rattle.fix_values.proofs.Appended.{step}
 use Rattle.fix_wire.proofs.writing.WrittenMessage.{body_is}
 use Rattle.fix_wire.proofs.writing.PartsInRoom.{ends}
 use Rattle.fix_wire.proofs.spelling.put_body.Goals as goal

@@ -1,4 +1,4 @@
-use Rattle.std.proofs.Common.{List, ℕ, sym, ap, ◌∙◌}
+use Rattle.std.proofs.Common.{sym, ap, ◌∙◌}
 use Rattle.std.specs.Prelude.{option_map}
 use Rattle.fix_session.specs.code.Changes.{judgement_with}
 use Rattle.fix_session.specs.code.ReaderFields.{state_of}

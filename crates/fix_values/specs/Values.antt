@@ -1,12 +1,12 @@
--- What the text of a value means.
-use Rattle.std.specs.Prelude.{ℕ, ℤ, pos, neg_ℤ, ◌+◌, ◌*◌, Bool, true, false, ◌&&◌, ◌==◌, nat_le, nat_lt, if◌then◌else◌, List, [], ◌∷◌, ◌++◌, Result, Ok, Err, length, take, drop}
+-- What the text of a value means, and how a price is written.
+use Rattle.std.specs.Prelude.{ℕ, ℤ, pos, neg_ℤ, ◌+◌, ◌*◌, ◌/◌, ◌%◌, Bool, true, false, ◌&&◌, ◌==◌, nat_le, nat_lt, if◌then◌else◌, List, [], ◌∷◌, ◌++◌, Option, Some, None, Result, Ok, Err, length, take, drop, min, decimal, int_lt, unsigned_abs}
 use Rattle.std.specs.Char.{is_ascii_digit}
 use Rattle.std.specs.List.{list_all, before_first, after_first}
-use Rattle.host_base.specs.Ascii.{digit_zero, hyphen_minus}
-use Rattle.fix_wire.specs.declared.values.TheConstants.{MAX_NUMBER, MAX_HUNDREDTHS}
-use Rattle.fix_wire.specs.declared.values.Unread.{Unread}
-use Rattle.fix_wire.specs.declared.values.Unread.TheVariants.{Format, Range}
-use Rattle.fix_wire.specs.Texts.{is_point, is_zero, number_of}
+use Rattle.host_base.specs.Ascii.{digit_zero, hyphen_minus, point}
+use Rattle.fix_values.specs.declared.values.TheConstants.{MAX_NUMBER, MAX_HUNDREDTHS}
+use Rattle.fix_values.specs.declared.values.Unread.{Unread}
+use Rattle.fix_values.specs.declared.values.Unread.TheVariants.{Format, Range}
+use Rattle.fix_values.specs.Digits.{is_point, is_zero, number_of, two_digits}
 
 -- one or more digits
 abbrev pub is_number : List ℕ → Bool
@@ -54,3 +54,14 @@ abbrev pub price_in : List ℕ → Result ℤ Unread
 price_in [] = Err Format
 price_in (b ∷ bs) =
     if b == hyphen_minus then signed true (hundredths_in bs) else signed false (hundredths_in (b ∷ bs))
+
+-- the number that digits spell, or the greatest price where it is more
+abbrev pub limited_digits : List ℕ → Option ℕ
+limited_digits text =
+    if list_all is_ascii_digit text then Some (min (number_of text) MAX_HUNDREDTHS) else None
+
+-- a price: an optional `-`, the whole part, a point and two digits; 10000 is `100.00`, -5 is `-0.05`
+abbrev pub price_text : ℤ → List ℕ
+price_text z =
+    (if int_lt z (pos 0) then hyphen_minus ∷ [] else [])
+    ++ (decimal (unsigned_abs z / 100) ++ (point ∷ two_digits (unsigned_abs z % 100)))

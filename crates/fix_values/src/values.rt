@@ -2,9 +2,8 @@
 ghost use Rattle.std.specs.Prelude.{◌≡◌, ◌≤◌, ◌<◌, if◌then◌else◌, Option, Some, None, min, [], ◌∷◌, ◌++◌, take, true};
 ghost use Rattle.std.specs.Char.{is_ascii_digit};
 ghost use Rattle.std.specs.List.{list_all, before_first, after_first};
-ghost use Rattle.fix_wire.specs.Texts.{number_of, is_point, is_zero};
-ghost use Rattle.fix_wire.specs.Values.{number_in, quantity_in, price_in, within, hundredths_in, cents};
-ghost use Rattle.fix_wire.specs.code.Scans.{limited_digits};
+ghost use Rattle.fix_values.specs.Digits.{number_of, is_point, is_zero};
+ghost use Rattle.fix_values.specs.Values.{number_in, quantity_in, price_in, within, hundredths_in, cents, limited_digits};
 
 use memchr::memchr;
 
@@ -22,7 +21,7 @@ pub enum Unread {
 }
 
 /// The number that digits spell, or the greatest price where it is more.
-pub(crate) fn limited_digits(text: &[u8]) -> Option<u64>
+pub fn limited_digits(text: &[u8]) -> Option<u64>
     ensures { result ≡ limited_digits text.now }
 {
     let mut value: u64 = 0;

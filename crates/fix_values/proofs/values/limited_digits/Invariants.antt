@@ -1,8 +1,8 @@
 use Rattle.std.proofs.Common.{◌≡◌, true, take, min}
 use Rattle.std.specs.Char.{is_ascii_digit}
 use Rattle.std.specs.List.{list_all}
-use Rattle.fix_wire.specs.Texts.{number_of}
-use Rattle.fix_wire.proofs.values.limited_digits.Given as goal
+use Rattle.fix_values.specs.Digits.{number_of}
+use Rattle.fix_values.proofs.values.limited_digits.Given as goal
 
 abbrev pub invariant-loop-b : goal.invariant-loop-b
 invariant-loop-b l =

@@ -1,9 +1,9 @@
 use Rattle.std.proofs.Common.{◌+◌, length, sym, arith}
 use Rattle.std.proofs.lemmas.Grind.{common_steps}
 use Rattle.std.proofs.lemmas.List.{take_all, take_rest}
-use Rattle.fix_wire.specs.Texts.{is_point}
-use Rattle.fix_wire.proofs.texts.FirstPlace.{place_found, place_not_found}
-use Rattle.fix_wire.proofs.values.at_point.Goals as goal
+use Rattle.fix_values.specs.Digits.{is_point}
+use Rattle.fix_values.proofs.FirstPlace.{place_found, place_not_found}
+use Rattle.fix_values.proofs.values.at_point.Goals as goal
 
 pub returns-in-Some-clause-whole : goal.returns-in-Some-clause-whole
 returns-in-Some-clause-whole c = let p = place_found is_point c.args.text.now c.in-Some.at c.in-Some.ensures in rw p.0

@@ -1,7 +1,7 @@
 -- The table of pairs has the two digits of each number below 100.
 use Rattle.std.proofs.Common.{◌≡◌, ℕ, zero, suc, ◌+◌, ◌-◌, ◌*◌, ◌/◌, ◌%◌, ◌<◌, Bool, true, ◌&&◌, T, eqb, get_or, ap, ◌∙◌, inl, inr, arith, eq-zero-or-pos, eqb→eq}
 use lib.Ieee.Fits.{and_l, and_r}
-use Rattle.fix_wire.specs.declared.spelling.TheConstants.{PAIRS}
+use Rattle.fix_values.specs.declared.digits.TheConstants.{PAIRS}
 
 abbrev are_pairs : ℕ → Bool
 are_pairs zero = true

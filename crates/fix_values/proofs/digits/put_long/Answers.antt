@@ -1,7 +1,7 @@
 use Rattle.std.proofs.Common.{◌++◌, take, sym, ap, ◌∙◌}
-use Rattle.fix_wire.proofs.writing.HeadFields.{step}
-use Rattle.fix_wire.proofs.texts.LastTwoDigits.{four_more}
-use Rattle.fix_wire.proofs.spelling.put_long.Goals as goal
+use Rattle.fix_values.proofs.Appended.{step}
+use Rattle.fix_values.proofs.LastTwoDigits.{four_more}
+use Rattle.fix_values.proofs.digits.put_long.Goals as goal
 
 pub returns-then-number-lt100000000-clause-text : goal.returns-then-number-lt100000000-clause-text
 returns-then-number-lt100000000-clause-text c =

@@ -1,7 +1,7 @@
 use Rattle.std.proofs.Common.{◌++◌, ◌∷◌, [], take, ap, ◌∙◌}
-use Rattle.fix_wire.proofs.writing.HeadFields.{step}
-use Rattle.fix_wire.proofs.texts.PairsOfDigits.{tens_at, ones_at}
-use Rattle.fix_wire.proofs.spelling.put_two.Goals as goal
+use Rattle.fix_values.proofs.Appended.{step}
+use Rattle.fix_values.proofs.PairsOfDigits.{tens_at, ones_at}
+use Rattle.fix_values.proofs.digits.put_two.Goals as goal
 
 pub returns-clause-text : goal.returns-clause-text
 returns-clause-text c =

@@ -1,8 +1,8 @@
 use Rattle.std.proofs.Common.{◌++◌, take, sym, ap, ◌∙◌}
 use Rattle.std.proofs.lemmas.Fmt.{decimal_digit}
-use Rattle.fix_wire.proofs.writing.HeadFields.{step}
-use Rattle.fix_wire.proofs.texts.LastTwoDigits.{two_only, three_digits, four_digits}
-use Rattle.fix_wire.proofs.spelling.put_short.Goals as goal
+use Rattle.fix_values.proofs.Appended.{step}
+use Rattle.fix_values.proofs.LastTwoDigits.{two_only, three_digits, four_digits}
+use Rattle.fix_values.proofs.digits.put_short.Goals as goal
 
 pub returns-then-number-lt10-clause-text : goal.returns-then-number-lt10-clause-text
 returns-then-number-lt10-clause-text c =

@@ -6,9 +6,9 @@ use Rattle.std.proofs.lemmas.List.Folds.{list_all-append}
 use Rattle.std.proofs.Common.{Option, Some, None, not, is_some}
 use Rattle.std.proofs.lemmas.Option.{cond_some}
 use Rattle.std.proofs.lemmas.Bool.Decides.{nat_tests}
-use Rattle.fix_wire.specs.Texts.{is_zero, is_point, number_of}
-use Rattle.fix_wire.specs.Values.{within, hundredths, hundredths_in, is_number}
-use Rattle.fix_wire.specs.code.Scans.{limited_digits}
+use Rattle.fix_values.specs.Digits.{is_zero, is_point, number_of}
+use Rattle.fix_values.specs.Values.{within, hundredths, hundredths_in, is_number}
+use Rattle.fix_values.specs.Values.{limited_digits}
 
 pub within_capped : (n c : ℕ) → within 1000000000 (min n 1000000000 * 100 + c) ≡ within 1000000000 (100 * n + c)
 within_capped n c = grind (arith, nat_tests)

@@ -1,7 +1,7 @@
 use Rattle.std.proofs.Common.{arith}
 use Rattle.std.proofs.lemmas.Grind.{common_steps}
-use Rattle.fix_wire.proofs.texts.Digits.{number_of_more}
-use Rattle.fix_wire.proofs.values.limited_digits.Goals as goal
+use Rattle.fix_values.proofs.SpelledNumbers.{number_of_more}
+use Rattle.fix_values.proofs.values.limited_digits.Goals as goal
 
 pub loop-b-preserved : goal.loop-b-preserved
 loop-b-preserved c =

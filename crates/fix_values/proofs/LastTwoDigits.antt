@@ -1,7 +1,7 @@
 -- A number by its last two digits and those before.
 use Rattle.std.proofs.Common.{◌≡◌, ℕ, ◌/◌, ◌%◌, ◌+◌, ◌<◌, ◌≤◌, ◌^◌, [], ◌∷◌, ◌++◌, decimal, ap, ◌∙◌, arith, append_assoc}
 use Rattle.std.proofs.lemmas.Fmt.{decimal_step, decimal_digit}
-use Rattle.fix_wire.specs.Texts.{two_digits}
+use Rattle.fix_values.specs.Digits.{two_digits}
 
 tenth_small : (n : ℕ) → n < 2 ^ 64 → n / 10 < 2 ^ 64
 tenth_small n h = grind arith

@@ -1,0 +1,10 @@
+//! Numbers, quantities and prices as values of FIX fields: read from their text, and written as text.
+#![tactic(auto)]
+
+mod digits;
+mod values;
+
+pub use digits::{put, put_byte, put_number, put_price};
+pub use values::{
+    MAX_HUNDREDTHS, MAX_NUMBER, Unread, limited_digits, read_number, read_price, read_quantity,
+};
