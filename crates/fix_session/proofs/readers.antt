@@ -1,3 +1,4 @@
 pub mod FirstMessage
 pub mod BytesFed
 pub mod MessagesCopied
+pub mod JudgedAhead

@@ -5,3 +5,4 @@ pub mod Places
 pub mod Steps
 pub mod Streams
 pub mod Reading
+pub mod Ahead

@@ -1,3 +1,4 @@
 pub mod Shown
 pub mod ReaderFields
 pub mod Changes
+pub mod Judged

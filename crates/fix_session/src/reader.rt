@@ -7,9 +7,12 @@ ghost use Rattle.fix_wire.specs.Held.{first_frame, from_first_start};
 ghost use Rattle.fix_wire.specs.Pieces.{IsDrained};
 ghost use Rattle.fix_session.specs.Steps.{judge, ended, is_closed};
 ghost use Rattle.fix_session.specs.Reading.{ReaderState, new_reader, with_more, first_message, first_verdict, after_skipping, after_passing, Fed};
+ghost use Rattle.fix_wire.specs.Looks.{FollowsFrames};
+ghost use Rattle.fix_session.specs.Ahead.{IsAhead, after_ahead};
 ghost use Rattle.fix_session.specs.code.Changes.{judgement_with};
 ghost use Rattle.fix_session.specs.code.ReaderFields.{IsKept};
 
+use crate::ahead::{Ahead, count_messages, judge_ahead};
 use crate::session::{Change, Session, Verdict};
 use fix_wire::{Framer, Next};
 use host_base::NoMemory;
@@ -142,6 +145,33 @@ impl Reader {
         self.framer.pass();
         self.due = None;
         true
+    }
+
+    /// How many messages are held, or `most` where they are more.
+    pub fn standing(&self, most: usize) -> usize
+        ensures { result ≡ min most (length (frames self.now.held)) }
+    {
+        count_messages(&self.framer, most)
+    }
+
+    /// Judges the first messages that are held, at most so many, none past one that closes the session. Their events become
+    /// the first of the entries, as those of the session with this number. Nothing is passed.
+    pub fn judge_ahead(&self, number: u8, most: usize, entries: &mut [Entry]) -> Ahead
+        requires { most ≤ length entries.old }
+        ensures size { length entries.new ≡ length entries.old }
+        ensures ahead { IsAhead number most self.now entries.new result }
+    {
+        judge_ahead(&self.framer, self.session, number, most, entries)
+    }
+
+    /// Goes past the messages that were judged ahead, of which there is at least one.
+    pub fn pass_ahead(&mut self, ahead: &Ahead)
+        requires { FollowsFrames self.old.held ahead.now.place }
+        ensures { self.new ≡ after_ahead self.old ahead.now }
+    {
+        self.framer.pass_to(ahead.place);
+        self.session = ahead.session;
+        self.due = None;
     }
 
     /// What the session says if its stream ends here: Close 5 unless it is closed.

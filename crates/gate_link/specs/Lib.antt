@@ -1,9 +1,11 @@
 pub mod Rows
 pub mod Owed
 pub mod Gateways
+pub mod Bursts
 pub mod Inboxes
 pub mod Links
 pub mod Turns
+pub mod Slices
 pub mod Opening
 pub mod Schedules
 pub mod Counts

@@ -10,8 +10,17 @@ ghost use Rattle.std.specs.Prelude.{◌≡◌, ◌-◌, ◌↔◌, ℕ, List, �
 
 use fix_session::{Reader, Verdict};
 use rtrb::Producer;
-use spread_rules::Entry;
+use spread_rules::{Entry, Event};
 use std::alloc::Allocator;
+
+/// How many messages a gateway steps over at once, and how many events a sequencer takes at once, at most.
+pub const MAX_SLICE: usize = 64;
+
+/// An entry of no meaning, in whose place others are put.
+pub(crate) const NO_ENTRY: Entry = Entry {
+    session: 0,
+    event: Event::Close { reason: 0 },
+};
 
 /// Judges the bytes of one session and sends its events. It may move to another thread.
 #[derive(Drop)]
@@ -19,6 +28,8 @@ pub struct Gateway<A: Allocator> {
     session: u8,
     pub(crate) producer: Producer<Entry, A>,
     reader: Reader,
+    // The events of messages that are stepped over together, before they are sent.
+    slice: [Entry; MAX_SLICE],
     // It is closed exactly where its close was sent.
     ghost close_sent: { is_closed reader.session ≡ list_any is_close (entry_events (sent producer)) },
 }
@@ -38,10 +49,27 @@ pub enum Step {
     Closed,
 }
 
+/// What a gateway did with several messages at once.
+#[derive(Clone, Copy, PartialEq, Eq, Debug)]
+pub enum Burst {
+    /// So many events were pushed as one slice, and their messages passed.
+    Sent(u32),
+    /// Messages were passed, and none of them has an event.
+    Skipped,
+    /// No message stands.
+    Need,
+    /// The ring gave no room for the events of all messages; nothing was passed.
+    Full,
+    /// The session was closed before.
+    Closed,
+}
+
 impl<A: Allocator> Gateway<A> {
     ghost use Rattle.fix_session.specs.Steps.{new_session};
     ghost use Rattle.gate_link.specs.Gateways.{session_number, events_sent, free_slots, session_state, bytes_held, pending_events, is_over, SameGateway, OnlySkipped, Stepped, Ended};
     ghost use Rattle.gate_link.specs.Owed.{Stands};
+    ghost use Rattle.gate_link.specs.Bursts.{held_messages, SteppedMany};
+    ghost use Rattle.std.specs.Prelude.{◌≤◌};
     ghost use Rattle.std.specs.Prelude.{[], ◌⊎◌, false, MatchBool};
 
     pub(crate) fn new(session: u8, producer: Producer<Entry, A>) -> Gateway<A>
@@ -53,6 +81,7 @@ impl<A: Allocator> Gateway<A> {
             session,
             producer,
             reader: Reader::new(),
+            slice: [NO_ENTRY; MAX_SLICE],
         }
     }
 
@@ -130,6 +159,45 @@ impl<A: Allocator> Gateway<A> {
         };
         self.reader.pass();
         Step::Sent
+    }
+
+    /// How many messages are held, or `most` where they are more; 0 once the session is closed. Nothing changes.
+    pub fn standing(&mut self, most: u32) -> u32
+        ensures count { result ≡ held_messages most self.old }
+        ensures same { self.new ≡ self.old }
+    {
+        if self.reader.is_closed() {
+            return 0;
+        }
+        self.reader.standing(most as usize) as u32
+    }
+
+    /// Judges the first messages that are held, at most so many, none past a close, and sends their events as one slice: all
+    /// of them or none. At Full nothing changes, at Need nothing but bytes at which no frame stands.
+    pub fn step_many(&mut self, frames: u32) -> Burst
+        requires { (1 ≤ frames) × (frames ≤ MAX_SLICE) }
+        ensures gate { SameGateway self.old self.new }
+        ensures step { SteppedMany frames result self.old self.new }
+    {
+        if self.reader.is_closed() {
+            return Burst::Closed;
+        }
+        let ahead = self
+            .reader
+            .judge_ahead(self.session, frames as usize, &mut self.slice);
+        if ahead.messages == 0 {
+            self.reader.look();
+            return Burst::Need;
+        }
+        if ahead.events == 0 {
+            self.reader.pass_ahead(&ahead);
+            return Burst::Skipped;
+        }
+        let Ok(()) = self.producer.push_entire_slice(&self.slice[..ahead.events]) else {
+            return Burst::Full;
+        };
+        self.reader.pass_ahead(&ahead);
+        Burst::Sent(ahead.events as u32)
     }
 
     /// After the last byte was put: steps, and where no message stands sends the close at the end of a stream.
