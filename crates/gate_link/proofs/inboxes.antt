@@ -1,3 +1,4 @@
 pub mod AlongTwoLists
 pub mod Looked
 pub mod OneMore
+pub mod OneClose

@@ -2,6 +2,7 @@
 ghost use Rattle.std.specs.Prelude.{◌≡◌, ℕ, ◌<◌, ◌-◌, length, min, List, [], ◌∷◌, ◌++◌, true, false};
 ghost use Rattle.std.specs.List.{list_any, cons_option};
 ghost use Rattle.spread_rules.specs.declared.codes.close_reason.TheConstants.{STREAM_ENDED};
+ghost use Rattle.spread_rules.specs.declared.event.Event.{Event};
 ghost use Rattle.spread_rules.specs.declared.event.Event.TheVariants.{Close};
 ghost use Rattle.spread_rules.specs.Journal.{restricted, is_close};
 ghost use Rattle.fix_wire.specs.Frames.{frames};
@@ -11,7 +12,7 @@ ghost use Rattle.fix_session.specs.Streams.{whole};
 ghost use Rattle.fix_wire.specs.Pieces.{SplitsInto, IsDrained};
 ghost use Rattle.fix_wire.specs.declared.framer.TheConstants.{BUFFER_BYTES};
 ghost use Rattle.gate_link.specs.Owed.{events_left};
-ghost use Rattle.gate_link.specs.Schedules.{ScheduleStep, ScheduleState, no_events, Leads, IsClosed, IsInOrder};
+ghost use Rattle.gate_link.specs.Schedules.{ScheduleStep, send, take, ScheduleState, no_events, Leads, IsClosed, IsInOrder, in_a_row, SentTogether, TakenTogether};
 
 use fix_session::laws::judged;
 
@@ -51,4 +52,15 @@ pub fn schedule()
     ensures closed { (stream : ℕ → List ℕ) (steps : List ScheduleStep) (b : ScheduleState) (n s : ℕ) →
         Leads stream no_events steps b → IsClosed stream n b → s < n →
         (restricted s b.journal ≡ b.sent s) × (b.sent s ≡ whole (stream s)) }
+{}
+
+/// A slice is as many steps in a row: the next events of a session that are sent together, and the first events not yet taken
+/// that join the journal together.
+pub fn slices()
+    ensures sent { (stream : ℕ → List ℕ) (a b : ScheduleState) (s : ℕ) (e : Event) (es rest : List Event) →
+        whole (stream s) ≡ a.sent s ++ (e ∷ (es ++ rest)) → SentTogether s (e ∷ es) a b →
+        Leads stream a (in_a_row (send s) (e ∷ es)) b }
+    ensures taken { (stream : ℕ → List ℕ) (a b : ScheduleState) (s : ℕ) (e : Event) (es rest : List Event) →
+        a.sent s ≡ restricted s a.journal ++ (e ∷ (es ++ rest)) → TakenTogether s (e ∷ es) a b →
+        Leads stream a (in_a_row (take s) (e ∷ es)) b }
 {}

@@ -6,6 +6,7 @@ mod gateways;
 mod laws;
 mod links;
 mod ring_ends;
+mod slices;
 mod threads;
 
 const LOGON: &[u8] =

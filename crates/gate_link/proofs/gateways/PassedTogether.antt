@@ -1,16 +1,14 @@
 -- What a gateway has passed and sent once its first messages were judged ahead.
-use Rattle.std.proofs.Common.{◌≡◌, ◌≢◌, ℕ, ◌+◌, ◌≤◌, ◌<◌, List, [], ◌∷◌, ◌++◌, length, take, drop, map, refl, sym, ap, ◌∙◌, arith, append-nil}
+use Rattle.std.proofs.Common.{◌≡◌, ◌≢◌, ℕ, ◌≤◌, List, [], ◌∷◌, ◌++◌, length, take, refl, sym, ap, ◌∙◌, arith, append-nil}
 use Rattle.std.proofs.lemmas.List.{length-map, length-take-le, map-append, nil_from_length}
-use Rattle.rtrb.specs.Ring.{sent}
 use Rattle.spread_rules.specs.declared.event.Event.{Event}
 use Rattle.spread_rules.specs.declared.event.Entry.{Entry}
 use Rattle.fix_wire.specs.Frames.{frames}
 use Rattle.fix_session.specs.declared.ahead.Ahead.{Ahead}
-use Rattle.fix_session.specs.Steps.{session_after}
 use Rattle.fix_session.specs.Reading.{ReaderState, entries_of}
-use Rattle.fix_session.specs.Ahead.{after_frames, next_messages, next_events, IsAhead, after_ahead}
+use Rattle.fix_session.specs.Ahead.{after_frames, IsAhead, after_ahead}
 use Rattle.gate_link.specs.Rows.{entry_events, entry}
-use Rattle.gate_link.specs.Gateways.{bytes_held, session_state}
+use Rattle.gate_link.specs.Gateways.{bytes_held}
 use Rattle.gate_link.specs.Bursts.{first_messages, PassesMany}
 use Rattle.gate_link.specs.declared.gateway.Gateway.{Gateway}
 

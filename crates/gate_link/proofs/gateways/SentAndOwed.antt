@@ -6,6 +6,9 @@ use Rattle.spread_rules.specs.declared.event.Event.TheVariants as events
 use Rattle.fix_wire.specs.Frames.{frames}
 use Rattle.gate_link.proofs.gateways.StillOwed.{owes_nothing}
 use Rattle.gate_link.specs.Gateways.{events_sent, session_state, bytes_held, pending_events, is_over, OnlySkipped, Stepped, Ended}
+use Rattle.gate_link.specs.Bursts.{first_events, SteppedMany}
+use Rattle.gate_link.specs.declared.gateway.Burst.{Burst}
+use Rattle.gate_link.specs.declared.gateway.Burst.TheVariants as burst
 use Rattle.gate_link.specs.declared.gateway.Gateway.{Gateway}
 use Rattle.gate_link.specs.declared.gateway.Step.{Step}
 use Rattle.gate_link.specs.declared.gateway.Step.TheVariants.{Sent, Skipped, Need, Full, Closed}
@@ -36,6 +39,16 @@ kept_of_step Skipped a b s more = alike (events_sent a) (events_sent b) (pending
 kept_of_step Need a b s more = kept_of_rest a b s.skipped more
 kept_of_step Full a b s more = kept_of_rest a b s.skipped more
 kept_of_step Closed a b s more = ap (λ (g : Gateway _). events_sent g ++ pending_events g more) s.same
+
+-- several messages at once
+pub kept_of_burst : {A : Type 0} (most : ℕ) (r : Burst) (a b : Gateway A) → SteppedMany most r a b → (more : List ℕ) → events_sent b ++ pending_events b more ≡ events_sent a ++ pending_events a more
+kept_of_burst most (burst.Sent k) a b s more =
+    ap (λ (t : List Event). t ++ pending_events b more) s.sent
+    ∙ (append_assoc (events_sent a) (first_events most a) (pending_events b more) ∙ ap (λ (t : List Event). events_sent a ++ t) (s.pending more))
+kept_of_burst most burst.Skipped a b s more = alike (events_sent a) (events_sent b) (pending_events b more) (pending_events a more) s.sent (s.pending more)
+kept_of_burst most burst.Need a b s more = kept_of_rest a b s.skipped more
+kept_of_burst most burst.Full a b s more = alike (events_sent a) (events_sent b) (pending_events b more) (pending_events a more) s.sent (s.pending more)
+kept_of_burst most burst.Closed a b s more = ap (λ (g : Gateway _). events_sent g ++ pending_events g more) s.same
 
 pub kept_of_end : {A : Type 0} (r : Step) (a b : Gateway A) → Ended r a b → events_sent b ++ pending_events b [] ≡ events_sent a ++ pending_events a []
 kept_of_end Sent a b (inl s) = moved (events_sent a) (events_sent b) s.event (pending_events b []) (pending_events a []) s.sent (s.pending [])

@@ -143,3 +143,36 @@ fn a_day_cut_anywhere(rt: HostRuntime) -> Result<(), Fail> {
     }
     Ok(())
 }
+
+/// Messages are judged ahead, and nothing changes until they are passed.
+#[test]
+fn judged_ahead(rt: HostRuntime) -> Result<(), Fail> {
+    let day = bytes_of(rt.alloc(), DAY)?;
+    let mut reader = Reader::new();
+    assert!(rt; reader.put(&day) == 400);
+    assert!(rt; reader.standing(64) == 4);
+    assert!(rt; reader.standing(2) == 2);
+    let none = Entry {
+        session: 0,
+        event: close(0),
+    };
+    let mut entries = [none; 64];
+    let two = reader.judge_ahead(3, 2, &mut entries);
+    assert!(rt; (two.messages, two.events, two.place) == (2, 2, 206));
+    assert!(rt; entries[2] == none);
+    let all = reader.judge_ahead(3, 64, &mut entries);
+    assert!(rt; (all.messages, all.events, all.place) == (4, 4, 400));
+    for (n, event) in of_day().iter().enumerate() {
+        assert!(rt; (entries[n].session, entries[n].event) == (3, *event));
+    }
+    assert!(rt; reader.look() == Some(Verdict::Event(logon())));
+    reader.pass_ahead(&two);
+    assert!(rt; reader.look() == Some(Verdict::Event(order(b"b", Side::Buy))));
+    assert!(rt; !reader.is_closed());
+    let rest = reader.judge_ahead(3, 64, &mut entries);
+    assert!(rt; (rest.messages, rest.events) == (2, 2));
+    reader.pass_ahead(&rest);
+    assert!(rt; reader.is_closed());
+    assert!(rt; reader.standing(64) == 0);
+    Ok(())
+}

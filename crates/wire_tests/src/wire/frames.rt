@@ -1,6 +1,6 @@
 //! Frames of streams, cut and garbled.
 use super::{BUY, LOGON, LOGOUT, SELL, joined};
-use fix_wire::{Framer, Message, Next};
+use fix_wire::{Framer, Look, Message, Next};
 use host_base::NoMemory;
 use std::alloc::Allocator;
 use std::process::Abort;
@@ -174,5 +174,37 @@ fn a_full_buffer(rt: HostRuntime) -> Result<(), Fail> {
     assert!(rt; matches!(framer.next(), Next::Need));
     assert!(rt; !framer.pass());
     assert!(rt; framer.held() == 0);
+    Ok(())
+}
+
+/// What stands from a place on: the message and the place after it.
+fn expect_look(rt: &impl Abort, framer: &Framer, at: usize, want: Option<(&[u8], usize)>) {
+    match (framer.look(at), want) {
+        (Look::Message(message, after), Some((frame, place))) => {
+            assert!(rt; message.bytes() == frame);
+            assert!(rt; after == place);
+        }
+        (Look::Need, None) => {}
+        _ => assert!(rt; false, "what stands from {at} on"),
+    }
+}
+
+#[test]
+fn looked_at_from_a_place(rt: HostRuntime) -> Result<(), Fail> {
+    let day = joined(rt.alloc(), &[b"xx", LOGON, SELL, BUY])?;
+    let mut framer = Framer::new();
+    assert!(rt; framer.put(&day) == 335);
+    assert!(rt; framer.held() == 335);
+    expect_look(&rt, &framer, 0, Some((LOGON, 81)));
+    expect_look(&rt, &framer, 2, Some((LOGON, 81)));
+    expect_look(&rt, &framer, 3, Some((SELL, 208)));
+    expect_look(&rt, &framer, 81, Some((SELL, 208)));
+    expect_look(&rt, &framer, 208, Some((BUY, 335)));
+    expect_look(&rt, &framer, 335, None);
+    assert!(rt; framer.held() == 335);
+    framer.pass_to(208);
+    assert!(rt; framer.held() == 127);
+    expect_look(&rt, &framer, 0, Some((BUY, 127)));
+    expect_look(&rt, &framer, 1, None);
     Ok(())
 }
