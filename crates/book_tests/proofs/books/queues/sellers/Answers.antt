@@ -3,7 +3,7 @@ use Rattle.spread_rules.specs.declared.order.Order.{Order}
 use Rattle.spread_rules.specs.Clearing.{reduced, with_less_left}
 use Rattle.spread_rules.proofs.lists.Membership.{in_head, in_tail}
 use Rattle.order_tables.specs.Places.{HasMore, HasPlace}
-use Rattle.market_tests.proofs.books.queues.sellers.Goals as goal
+use Rattle.book_tests.proofs.books.queues.sellers.Goals as goal
 
 -- five are left of each of three
 five_left : (a b c : Order) → a.leaves ≡ 5 → b.leaves ≡ 5 → c.leaves ≡ 5 → (k : ℕ) (d : Order) → k < 3 → 2 < (get_or (a ∷ b ∷ c ∷ []) k d).leaves

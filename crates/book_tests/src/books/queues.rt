@@ -23,7 +23,8 @@ fn sell(place: u64, name: &[u8], price: i64) -> Order
     }
 }
 
-fn is(found: Option<Order>, want: &Order) -> bool {
+/// Whether that order was found.
+pub fn is(found: Option<Order>, want: &Order) -> bool {
     match found {
         Some(order) => order == *want,
         None => false,

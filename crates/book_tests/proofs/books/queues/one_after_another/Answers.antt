@@ -2,7 +2,7 @@ use Rattle.std.proofs.Common.{List, [], ◌∷◌, ◌++◌, sym, subst, ap, ◌
 use Rattle.spread_rules.specs.declared.order.Order.{Order}
 use Rattle.spread_rules.proofs.lists.Membership.{in_head, in_tail}
 use Rattle.order_tables.specs.Places.{HasPlace}
-use Rattle.market_tests.proofs.books.queues.one_after_another.Goals as goal
+use Rattle.book_tests.proofs.books.queues.one_after_another.Goals as goal
 
 pub remove-requires : goal.remove-requires
 remove-requires g c =

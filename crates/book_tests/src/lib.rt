@@ -1,0 +1,9 @@
+//! Tests of `row_index`, `order_tables` and `spread_books`.
+#![tactic(auto)]
+
+#[cfg(test)]
+mod books;
+#[cfg(test)]
+mod ids;
+#[cfg(test)]
+mod tables;
