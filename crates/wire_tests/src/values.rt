@@ -7,7 +7,7 @@ fn written_one_behind_the_other(rt: HostRuntime) {
     let word = put(&mut room, 1, b"AB");
     let byte = put_byte(&mut room, word, b'=');
     assert!(rt; (word, byte) == (3, 4));
-    assert!(rt; room[..5] == *b".AB=.");
+    assert!(rt; &room[..5] == b".AB=.".as_slice());
 }
 
 #[test]
