@@ -1,5 +1,4 @@
 use Rattle.std.proofs.Common.{◌≡◌, ◌≤◌, ◌∙◌, sym, ap, subst, ℕ, ◌<◌, List, length, arith, inl, inr, true, Vec}
-use Rattle.std.proofs.lemmas.List.{length-map}
 use mathlib.Core.List.{IsPrefix}
 use Rattle.spread_rules.specs.declared.event.Entry.{Entry}
 use Rattle.spread_rules.specs.Journal.{restricted}
@@ -19,11 +18,9 @@ use Rattle.day_threads.specs.declared.matching.MatchEnd.{MatchEnd}
 use Rattle.day_threads.specs.declared.matching.MatchEnd.TheVariants.{Whole, Stopped, Fault}
 use Rattle.day_threads.specs.declared.sequence.SequenceEnd.{SequenceEnd}
 use Rattle.day_threads.proofs.JoinedParts.{agrees_prefix, agrees_whole, parts_of_front, live_fault, most_applied}
+use Rattle.day_apply.proofs.EntryByEntry.{texts_length}
 use Rattle.day_threads.proofs.conclude.conclude.Goals as goal
 use Rattle.day_threads.proofs.conclude.conclude.Goals.{After-agree-agreed}
-
-texts_length : {A : Type 0} (lists : List (Vec ℕ A)) → length (texts_of lists) ≡ length lists
-texts_length {A} lists = length-map lists (λ (v : Vec ℕ A). v.items)
 
 -- of each session, what was taken is a beginning of its stream's events
 took_parts : (g : _) (c : After-agree-agreed g) → IsBeginningOf c.args.streams.now (taken c.args.matched.matcher)
