@@ -128,7 +128,7 @@ def frame():
 
 
 def threads():
-    it = Picture(1020, 390, "The threads of a day, and the rings between them")
+    it = Picture(1020, 500, "The threads of a day, and the rings between them")
     for n, name in enumerate(["0", "1", "15"]):
         y = 60 + 90 * n
         it.box(20, y, 130, 44, [f"bytes of session {name}"], size=13)
@@ -145,13 +145,22 @@ def threads():
     it.box(800, 236, 110, 32, ["ring"])
     it.arrow((855, 268), (855, 300))
     it.box(760, 300, 190, 50, ["Market, Desk"], STRONG)
+    for n, name in enumerate(["0", "1", "15"]):
+        y = 330 + 52 * n
+        it.box(510, y + 6, 110, 32, ["ring"])
+        it.box(330, y + 3, 130, 38, ["Writer"], STRONG)
+        it.box(150, y + 3, 130, 38, [f"bytes for session {name}"], size=13)
+        it.arrow((760, 325), (690, 325), (690, y + 22), (620, y + 22))
+        it.arrow((510, y + 22), (460, y + 22))
+        it.arrow((330, y + 22), (280, y + 22))
     it.lines(175, 30, ["a thread for each session"], size=13, colour=GREY)
     it.lines(760, 120, ["the thread that called run_day"], size=13, colour=GREY)
-    it.lines(855, 374, ["the matching thread; the text after the joins"], size=13, colour=GREY)
+    it.lines(855, 374, ["the matching thread"], size=13, colour=GREY)
+    it.lines(395, 312, ["a thread for each session's writer"], size=13, colour=GREY)
     it.lines(
-        290,
-        330,
-        ["A gateway whose ring is full waits;", "in each turn the sequencer takes one event of one ring."],
+        855,
+        420,
+        ["Who finds its ring full, or empty,", "yields and looks again.", "The text is written after the joins."],
         size=13,
         colour=GREY,
     )

@@ -1,1 +1,2 @@
 pub mod EntryByEntry
+pub mod HandedOn

@@ -1,21 +1,21 @@
 -- What the joined parts of a day come to.
-use Rattle.std.proofs.Common.{refl, ◌≡◌, ◌≤◌, ◌∙◌, sym, ap, ℕ, Bool, true, false, List, [], ◌++◌, length, arith, append-nil, inr, Vec}
+use Rattle.std.proofs.Common.{refl, ◌≡◌, ◌≤◌, ◌∙◌, sym, ap, ℕ, ◌+◌, ◌<◌, Bool, true, false, List, [], ◌++◌, length, arith, append-nil, inl, inr, Vec}
+use Rattle.std.proofs.Math.ListN.{set}
+use Rattle.std.proofs.lemmas.Bool.{cases_eq}
 use mathlib.Core.List.{IsPrefix}
 use Rattle.spread_rules.specs.declared.event.Entry.{Entry}
 use Rattle.spread_rules.specs.Journal.{restricted}
 use Rattle.spread_rules.specs.Rulebook.{Rules}
 use Rattle.gate_link.proofs.links.SeveralCalls.{prefix_trans}
-use Rattle.gate_link.proofs.links.PartOfASession.{restricted-append}
+use Rattle.gate_link.proofs.links.PartOfASession.{restricted-append, row_other, row_same}
+use Rattle.gate_link.specs.Rows.{row}
 use Rattle.stage_rings.specs.Feeding.{Agrees}
+use Rattle.stage_rings.specs.Posting.{Finishes}
 use Rattle.day_apply.specs.Applied.{IsApplyFault}
-use Rattle.day_apply.specs.Sending.{Sending, HasReported}
 use Rattle.day_apply.specs.declared.fault.ApplyFault.{ApplyFault}
 use Rattle.day_apply.specs.declared.fault.ApplyFault.TheVariants.{NoMemory, NumbersSpent}
 use Rattle.day_threads.specs.Streams.{IsBeginningOf, IsThreadsFault, whole_at}
 use Rattle.day_threads.specs.code.Concluding.{of_apply}
-use Rattle.day_threads.specs.code.Matching.{MatchEnds}
-use Rattle.day_threads.specs.declared.matching.MatchEnd.{MatchEnd}
-use Rattle.day_threads.specs.declared.matching.MatchEnd.TheVariants.{Whole, Stopped, Fault}
 
 pub agrees_prefix : (b ended : Bool) (gave took : List Entry) → Agrees b ended gave took → IsPrefix took gave
 agrees_prefix true ended gave took h = ([], append-nil took ∙ h.1)
@@ -35,11 +35,19 @@ parts_of_front streams front journal pre parts s = prefix_trans (restricted s fr
 -- the matching thread's fault is one of the day
 pub live_fault : {A : Type 0} (rules : Rules) (streams : List (Vec ℕ A)) (ring room : ℕ) (took : List Entry) (f : ApplyFault)
     → IsBeginningOf streams took → IsApplyFault rules took f → IsThreadsFault rules streams ring room (of_apply f)
-live_fault rules streams ring room took (NoMemory place) parts is = inr record { journal = took; parts = parts; within = is }
+live_fault rules streams ring room took (NoMemory place) parts is = inr record { journal = took; parts = parts; within = omega (arith, is) }
 live_fault rules streams ring room took (NumbersSpent place) parts is = record { journal = took; parts = parts; spends = is }
 
--- no more was applied than was taken
-pub most_applied : (end : MatchEnd) (took : List Entry) (s : Sending) → MatchEnds end took s → ((f : ApplyFault) → end ≡ Fault f → ⊥) → s.applied.count ≤ length took
-most_applied Whole took s h other = omega (arith, h.applied.count)
-most_applied Stopped took s h other = h
-most_applied (Fault f) took s h other = absurd (other f refl)
+-- a writer that took its end mark has what was given to it
+pub finishes_whole : (b ended : Bool) (gave wrote : List ℕ) → b ≡ true → Finishes b ended gave wrote → wrote ≡ gave
+finishes_whole true ended gave wrote is h = h.1
+finishes_whole false ended gave wrote is h = absurd (cc is)
+
+-- one more of the rows is alike
+pub row_written : {X Y Z : Type 0} (f : X → List Z) (g : Y → List Z) (xs : List X) (ys : List Y) (i : ℕ) (x : X) → i < length xs
+    → ((s : ℕ) → s < i → row f xs s ≡ row g ys s) → f x ≡ row g ys i → (s : ℕ) → s < i + 1 → row f (set xs i x) s ≡ row g ys s
+row_written f g xs ys i x here done now s below =
+    elim (cases_eq s i) [
+      | inl e ↦ rw e (row_same f xs i x here ∙ now)
+      | inr apart ↦ row_other f xs i x s apart ∙ done s (omega arith)
+    ]

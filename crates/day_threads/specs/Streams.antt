@@ -1,5 +1,5 @@
 -- The streams of a day in threads, its day, and why it has none.
-use Rattle.std.specs.Prelude.{◌≡◌, ℕ, ◌<◌, ◌≤◌, ◌⊎◌, List, length, Vec}
+use Rattle.std.specs.Prelude.{◌≡◌, ℕ, ◌+◌, ◌<◌, ◌≤◌, ◌⊎◌, List, length, Vec}
 use mathlib.Core.List.{IsPrefix}
 use Rattle.host_base.specs.declared.limits.TheConstants.{SESSIONS, MAX_RING, MAX_JOURNAL_ENTRIES}
 use Rattle.spread_rules.specs.declared.event.Event.{Event}
@@ -40,11 +40,11 @@ IsWithinLimits sessions ring journal =
 abbrev pub IsBeginningOf : {A : Type 0} → List (Vec ℕ A) → List Entry → Type 0
 IsBeginningOf streams journal = (s : ℕ) → IsPrefix (restricted s journal) (whole_at streams s)
 
--- a place of such a journal
+-- a place of such a journal, or the one behind its last entry
 pub record IsLivePlace {A : Type 0} (streams : List (Vec ℕ A)) (place : ℕ) : Type 0 where
   pub journal : List Entry
   pub parts : IsBeginningOf streams journal
-  pub within : place ≤ length journal
+  pub within : place ≤ length journal + 1
 
 -- at that place of such a journal a message would bear a number above 999,999,999
 pub record IsSpentLive {A : Type 0} (rules : Rules) (streams : List (Vec ℕ A)) (place : ℕ) : Type 0 where
@@ -52,11 +52,15 @@ pub record IsSpentLive {A : Type 0} (rules : Rules) (streams : List (Vec ℕ A))
   pub parts : IsBeginningOf streams journal
   pub spends : SpendsAt rules journal place
 
+-- a session's thread, the matching thread behind the last session's, or behind that one a session's writer's
+abbrev pub IsThread : ℕ → ℕ → Type 0
+IsThread sessions k = k ≤ sessions + sessions
+
 -- why threads gave no day of these streams, over rings and with a journal of these sizes: a full journal comes only
 -- where there are more events than it has room for
 abbrev pub IsThreadsFault : {A : Type 0} → Rules → List (Vec ℕ A) → ℕ → ℕ → ThreadsFault → Type 0
 IsThreadsFault rules streams ring journal (Link fault) = IsRefusal fault (length streams) ring journal
-IsThreadsFault rules streams ring journal (Spawn session) = session ≤ length streams
+IsThreadsFault rules streams ring journal (Spawn k) = IsThread (length streams) k
 IsThreadsFault rules streams ring journal JournalFull = journal < all_events streams
 IsThreadsFault rules streams ring journal (NoMemory place) = (place ≡ 0) ⊎ IsLivePlace streams place
 IsThreadsFault rules streams ring journal (NumbersSpent place) = IsSpentLive rules streams place

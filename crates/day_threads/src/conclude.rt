@@ -1,14 +1,19 @@
 //! A day from the joined parts of its threads.
-ghost use Rattle.std.specs.Prelude.{◌≡◌, ◌≤◌, ℕ, length, IfOk, IfErr};
+ghost use Rattle.std.specs.Prelude.{◌≡◌, ◌≤◌, ◌<◌, ℕ, length, true, IfOk, IfErr, vec_len};
+ghost use Rattle.spread_report.specs.Sessions.{bytes_of};
 ghost use Rattle.day_apply.specs.Sending.{sending_rules, stamp_of};
 ghost use Rattle.day_threads.specs.Streams.{IsDayOfSessions, IsThreadsFault};
 ghost use Rattle.day_threads.specs.code.Concluding.{AreJoined, of_apply};
+ghost use Rattle.day_threads.specs.code.Posting.{posted_at};
+ghost use Rattle.day_threads.specs.code.Writing.{AreJoinedPairs, written_at};
 
 use crate::fault::ThreadsFault;
 use crate::matching::{MatchEnd, Matched};
+use crate::posting::PostedEntries;
 use crate::sequence::{SequenceEnd, Sequenced};
+use crate::writing::Written;
 use day_apply::{ApplyFault, FillsAndMessages};
-use gate_link::agree;
+use gate_link::{Poster, agree, finished};
 use spread_rules::Entry;
 use std::alloc::Allocator;
 
@@ -29,19 +34,69 @@ pub(crate) fn of_apply(fault: ApplyFault) -> ThreadsFault
     }
 }
 
+/// Whether some writer found no memory.
+fn any_refused<A: Allocator>(written: &[Written<A>]) -> bool {
+    for one in written {
+        if one.refused {
+            return true;
+        }
+    }
+    false
+}
+
+/// Whether each writer took its end mark. Then each has what was given to it.
+fn all_finished<A: Allocator>(posters: &mut [Poster<A>], written: &mut [Written<A>]) -> bool
+    requires { AreJoinedPairs posters.old written.old }
+    ensures count { length written.new ≡ length written.old }
+    ensures finished { result ≡ true → (s : ℕ) → s < length written.old
+        → written_at written.new s ≡ posted_at posters.old s }
+{
+    for s in 0..written.len() {
+        let one = &mut written[s];
+        if !finished(&mut posters[s], &mut one.writer) {
+            return false;
+        }
+    }
+    true
+}
+
+/// These lists, of which the first are the writers'.
+fn with_written<A: Allocator>(
+    out: Vec<Vec<u8, A>, A>,
+    written: Vec<Written<A>, A>,
+) -> Vec<Vec<u8, A>, A>
+    requires { vec_len written ≤ vec_len out }
+    ensures count { vec_len result ≡ vec_len out }
+    ensures writers { (s : ℕ) → s < vec_len written
+        → bytes_of result.items s ≡ written_at written.items s }
+    ensures others { (s : ℕ) → vec_len written ≤ s
+        → bytes_of result.items s ≡ bytes_of out.items s }
+{
+    let mut out = out;
+    let mut s = 0usize;
+    for one in written {
+        let Written { writer, .. } = one;
+        out[s] = writer.into_bytes();
+        s += 1;
+    }
+    out
+}
+
 /// The day, or of the faults that arose the one with the least number.
 pub(crate) fn conclude<A: Allocator + Copy>(
     sequenced: Sequenced<A>,
     matched: Matched<'_, A>,
+    written: Vec<Written<A>, A>,
     streams: &[Vec<u8, A>],
     room: usize,
 ) -> Result<SessionsDay<A>, ThreadsFault>
-    requires { AreJoined room streams.now sequenced matched }
+    requires { AreJoined room streams.now sequenced matched written.items }
     ensures size { IfOk result (λ day. length day.journal.items ≤ room) }
-    ensures day { IfOk result (IsDayOfSessions (sending_rules matched.entry.reported)
-        (stamp_of matched.entry.reported) streams.entry.now) }
+    ensures day { IfOk result (IsDayOfSessions (sending_rules matched.entry.posted.reported)
+        (stamp_of matched.entry.posted.reported) streams.entry.now) }
     ensures fault { IfErr result (λ f. (ring : ℕ)
-        → IsThreadsFault (sending_rules matched.entry.reported) streams.entry.now ring room f) }
+        → IsThreadsFault (sending_rules matched.entry.posted.reported)
+        streams.entry.now ring room f) }
 {
     let Sequenced {
         journal,
@@ -50,27 +105,43 @@ pub(crate) fn conclude<A: Allocator + Copy>(
     } = sequenced;
     let Matched {
         matcher,
-        reported,
+        posted,
+        worked,
         end: matching,
     } = matched;
+    let PostedEntries { reported, posters } = posted;
     let mut feeder = feeder;
     let mut matcher = matcher;
+    let mut posters = posters;
+    let mut written = written;
     if let SequenceEnd::JournalFull = end {
         return Err(ThreadsFault::JournalFull);
     }
     let agreed = agree(&mut feeder, &mut matcher);
+    // Where the matching thread found no memory, its place is the same.
+    let refused = ThreadsFault::NoMemory(worked.saturating_add(1));
+    if any_refused(written.as_slice()) {
+        return Err(refused);
+    }
     if let MatchEnd::Fault(fault) = matching {
         return Err(of_apply(fault));
     }
-    // Neither thread stops but for a fault of its own or of the other.
+    // No thread stops but for a fault of its own or of another.
     if !agreed {
-        return Err(ThreadsFault::NoMemory(reported.count()));
+        return Err(refused);
+    }
+    if !all_finished(posters.as_mut_slice(), written.as_mut_slice()) {
+        return Err(refused);
     }
     match (end, matching) {
-        (SequenceEnd::Whole, MatchEnd::Whole) => Ok(SessionsDay {
-            journal,
-            applied: reported.into_parts(),
-        }),
-        _ => Err(ThreadsFault::NoMemory(reported.count())),
+        (SequenceEnd::Whole, MatchEnd::Whole) => {
+            let FillsAndMessages { fills, out } = reported.into_parts();
+            let out = with_written(out, written);
+            Ok(SessionsDay {
+                journal,
+                applied: FillsAndMessages { fills, out },
+            })
+        }
+        _ => Err(refused),
     }
 }

@@ -1,11 +1,15 @@
-//! The matching thread: it takes the journal's entries from a ring, applies them, and reports them.
-ghost use Rattle.std.specs.Prelude.{◌≡◌, IfSome};
-ghost use Rattle.day_apply.specs.Sending.{IsReporting, sending_rules, stamp_of};
+//! The matching thread: it takes the journal's entries from a ring, applies them, and gives what they send to the
+//! writers.
+ghost use Rattle.std.specs.Prelude.{◌≡◌, ℕ, List, IfSome};
+ghost use Rattle.spread_rules.specs.declared.event.Entry.{Entry};
+ghost use Rattle.day_apply.specs.Sending.{sending_rules, stamp_of};
 ghost use Rattle.day_threads.specs.code.Matching.{HasMatched, IsUnfed, StepEnds};
+ghost use Rattle.day_threads.specs.code.Posting.{CanPost, HasPosted, SamePosters};
 
+use crate::posting::{PostedEntries, end_each, post_each};
 use crate::range::fits_entry;
 use crate::worker::Gate;
-use day_apply::{ApplyFault, ReportedEntries};
+use day_apply::ApplyFault;
 use gate_link::{Matcher, Taken};
 use spread_rules::Entry;
 use std::alloc::Allocator;
@@ -18,7 +22,7 @@ use std::thread::{Promise, PromisedHandle, Scope, Threads};
 /// How the matching thread ended.
 #[derive(Clone, Copy, PartialEq, Eq, Debug)]
 pub(crate) enum MatchEnd {
-    /// The end mark was taken, and every entry applied.
+    /// The end mark was taken, and every entry applied and given to the writers.
     Whole,
     /// The flag was set, or an entry was none that a session sends.
     Stopped,
@@ -30,65 +34,86 @@ pub(crate) enum MatchEnd {
 #[derive(Drop)]
 pub(crate) struct Matched<'r, A: Allocator + Copy> {
     pub(crate) matcher: Matcher<A>,
-    pub(crate) reported: ReportedEntries<'r, A>,
+    pub(crate) posted: PostedEntries<'r, A>,
+    /// How many entries were applied and given to the writers.
+    pub(crate) worked: u64,
     pub(crate) end: MatchEnd,
 }
 
-/// What it promises: its own end of the ring, and what it made of the entries that it took.
+/// What it promises: its own ends of the rings, and what it made of the entries that it took.
 #[derive(Drop)]
 pub(crate) struct MatchPromise<'r, A: Allocator + Copy> {
     pub(crate) matcher: Snapshot<Matcher<A>>,
-    pub(crate) reported: Snapshot<ReportedEntries<'r, A>>,
+    pub(crate) posted: Snapshot<PostedEntries<'r, A>>,
 }
 
 impl<'r, A: Allocator + Copy> Promise<Matched<'r, A>> for MatchPromise<'r, A> {
-    ghost kept_by = { λ p r. HasMatched p.matcher.value p.reported.value r };
+    ghost kept_by = { λ p r. HasMatched p.matcher.value p.posted.value r };
 }
 
-/// Applies one entry, where it is one that a session sends.
-fn match_one<A: Allocator + Copy>(reported: &mut ReportedEntries<'_, A>, entry: &Entry) -> MatchEnd
-    requires { IsReporting reported.old }
-    ensures rules { sending_rules reported.new ≡ sending_rules reported.old }
-    ensures stamp { stamp_of reported.new ≡ stamp_of reported.old }
-    ensures step { StepEnds result entry.now reported.old reported.new }
+/// Applies one entry, where it is one that a session sends, and gives each session's bytes to its writer.
+fn match_one<R: Wait, A: Allocator + Copy>(
+    rt: &R,
+    stop: &AtomicBool,
+    posted: &mut PostedEntries<'_, A>,
+    entry: &Entry,
+) -> MatchEnd
+    requires posted { (entries : List Entry) × HasPosted entries posted.old }
+    requires rings { CanPost posted.old }
+    ensures rings { CanPost posted.new }
+    ensures writers { SamePosters posted.old.posters.items posted.new.posters.items }
+    ensures rules { sending_rules posted.new.reported ≡ sending_rules posted.old.reported }
+    ensures stamp { stamp_of posted.new.reported ≡ stamp_of posted.old.reported }
+    ensures step { StepEnds result entry.now posted.old posted.new }
 {
-    if !fits_entry(entry) || reported.count() == u64::MAX {
+    if !fits_entry(entry) || posted.reported.count() == u64::MAX {
         return MatchEnd::Stopped;
     }
-    match reported.apply(entry) {
-        Ok(()) => MatchEnd::Whole,
-        Err(fault) => MatchEnd::Fault(fault),
+    let PostedEntries { reported, posters } = posted;
+    if let Err(fault) = reported.apply(entry) {
+        return MatchEnd::Fault(fault);
     }
+    if !post_each(rt, stop, reported, posters.as_mut_slice()) {
+        return MatchEnd::Stopped;
+    }
+    MatchEnd::Whole
 }
 
-/// Applies the entries as they come, until the end mark is taken, the flag is set, or one cannot be applied: then it
-/// sets the flag.
+/// Applies the entries as they come, and gives what each of them sends to the writers before it takes the next, until
+/// the end mark is taken, the flag is set, or one cannot be applied: then it sets the flag.
 pub(crate) fn match_all<'r, R: Wait, G: Gate, A: Allocator + Copy>(
     rt: &R,
     gate: &G,
     stop: &AtomicBool,
     matcher: Matcher<A>,
-    reported: ReportedEntries<'r, A>,
+    posted: PostedEntries<'r, A>,
 ) -> Matched<'r, A>
-    requires { IsUnfed matcher reported }
-    ensures { HasMatched matcher reported.entry result }
+    requires { IsUnfed matcher posted }
+    ensures { HasMatched matcher posted.entry result }
 {
     let mut matcher = matcher;
-    let mut reported = reported;
+    let mut posted = posted;
+    let mut worked = 0u64;
     for _ in rt.forever() {
         if stop.load(Ordering::SeqCst) {
-            return ended(matcher, reported, MatchEnd::Stopped);
+            return ended(matcher, posted, worked, MatchEnd::Stopped);
         }
         match matcher.take() {
-            Taken::Entry(entry) => match match_one(&mut reported, &entry) {
-                MatchEnd::Whole => gate.matched(reported.count()),
+            Taken::Entry(entry) => match match_one(rt, stop, &mut posted, &entry) {
+                MatchEnd::Whole => {
+                    worked = posted.reported.count();
+                    gate.matched(worked);
+                }
                 end => {
                     stop.store(true, Ordering::SeqCst);
-                    return ended(matcher, reported, end);
+                    return ended(matcher, posted, worked, end);
                 }
             },
             Taken::Empty => thread::yield_now(),
-            Taken::Ended => return ended(matcher, reported, MatchEnd::Whole),
+            Taken::Ended => {
+                end_each(rt, stop, posted.posters.as_mut_slice());
+                return ended(matcher, posted, worked, MatchEnd::Whole);
+            }
         }
     }
     unreachable!()
@@ -96,14 +121,17 @@ pub(crate) fn match_all<'r, R: Wait, G: Gate, A: Allocator + Copy>(
 
 fn ended<'r, A: Allocator + Copy>(
     matcher: Matcher<A>,
-    reported: ReportedEntries<'r, A>,
+    posted: PostedEntries<'r, A>,
+    worked: u64,
     end: MatchEnd,
 ) -> Matched<'r, A>
-    ensures { (result.matcher ≡ matcher) × (result.reported ≡ reported.entry) × (result.end ≡ end) }
+    ensures { (result.matcher ≡ matcher) × (result.posted ≡ posted.entry)
+        × (result.worked ≡ worked) × (result.end ≡ end) }
 {
     Matched {
         matcher,
-        reported,
+        posted,
+        worked,
         end,
     }
 }
@@ -121,22 +149,22 @@ pub(crate) fn start_matching<
     gate: &'s G,
     stop: &'s AtomicBool,
     matcher: Matcher<A>,
-    reported: ReportedEntries<'s, A>,
+    posted: PostedEntries<'s, A>,
 ) -> Option<PromisedHandle<Matched<'s, A>, MatchPromise<'s, A>>>
-    requires { IsUnfed matcher reported }
+    requires { IsUnfed matcher posted }
     ensures { IfSome result (λ h. (h.promise.matcher.value ≡ matcher)
-        × (h.promise.reported.value ≡ reported.entry)) }
+        × (h.promise.posted.value ≡ posted.entry)) }
 {
     let promise = MatchPromise {
         matcher: Snapshot::of(&matcher),
-        reported: Snapshot::of(&reported),
+        posted: Snapshot::of(&posted),
     };
     let started = scope.spawn_with(
         promise,
         move || -> Matched<A>
-            requires { IsUnfed matcher reported }
-            ensures { HasMatched matcher reported.entry result }
-        { match_all(rt, gate, stop, matcher, reported) },
+            requires { IsUnfed matcher posted }
+            ensures { HasMatched matcher posted.entry result }
+        { match_all(rt, gate, stop, matcher, posted) },
     );
     started.ok()
 }

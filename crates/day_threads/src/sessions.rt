@@ -1,25 +1,26 @@
-//! A thread for each session, one that matches, and the sequencer in the caller's.
+//! A thread for each session, one that matches, one for each writer, and the sequencer in the caller's.
 ghost use Rattle.std.specs.Prelude.{◌≡◌, ◌<◌, ◌≤◌, ℕ, length, IfOk, IfErr, IfNone, IfSome, OnOk, vec_len, vec_capacity};
 ghost use Rattle.spread_rules.specs.Journal.{IsLawful};
 ghost use Rattle.host_base.specs.declared.limits.TheConstants.{SESSIONS};
 ghost use Rattle.gate_link.specs.declared.gateway.Gateway.{Gateway};
 ghost use Rattle.gate_link.specs.Opening.{AreFresh};
-ghost use Rattle.day_threads.specs.code.Handing.{AreStarted, AreKept};
 ghost use Rattle.day_apply.specs.Sending.{sending_rules, stamp_of};
-ghost use Rattle.day_threads.specs.code.Concluding.{AreReady, IsMade, IsStagesFault};
+ghost use Rattle.day_threads.specs.code.Concluding.{AreReady};
+ghost use Rattle.day_threads.specs.code.Handing.{AreStarted, AreKept, IsRoom};
 ghost use Rattle.day_threads.specs.Streams.{IsDayOfSessions, IsWithinLimits, IsThreadsFault};
 ghost use Rattle.day_threads.specs.declared.fault.ThreadsFault.TheVariants.{Spawn};
 
-use crate::conclude::{SessionsDay, conclude, of_apply};
+use crate::conclude::{SessionsDay, conclude};
 use crate::fault::ThreadsFault;
 use crate::matching::start_matching;
 use crate::sequence::{SequenceEnd, sequence};
+use crate::stages::{Stages, stages_of};
 use crate::worker::{Gate, WorkerPromise, start};
-use day_apply::ReportedEntries;
-use gate_link::{Feeder, Gateway, Matcher, Sequencer, feed_ring, link};
+use crate::writing::{StartedWriters, WritingHandle, Written, join_writers, start_writers};
+use gate_link::Gateway;
 use host_base::Id;
 use spread_rules::Rulebook;
-use std::alloc::Allocator;
+use std::alloc::{AllocError, Allocator};
 use std::sync::Wait;
 use std::sync::atomic::{AtomicBool, Ordering};
 use std::thread;
@@ -54,24 +55,18 @@ pub(crate) struct Workers<'s, A: Allocator> {
     pub(crate) room: Vec<Gateway<A>, A>,
 }
 
+/// The handles of all writers' threads, and room for what they hand back.
+#[derive(Drop)]
+struct Writing<A: Allocator> {
+    handles: Vec<WritingHandle<A>, A>,
+    room: Vec<Written<A>, A>,
+}
+
 /// The rulebook of a day, and the SendingTime (tag 52) of all its messages.
 #[derive(Clone, Copy)]
 pub struct DayRules<'r> {
     pub rulebook: &'r Rulebook,
     pub stamp: Id,
-}
-
-/// What the threads of a day work with: the sessions' gateways and their sequencer, the ring that gives the journal on,
-/// and what applies it.
-#[derive(Drop)]
-pub(crate) struct Stages<'r, A: Allocator + Copy> {
-    pub(crate) gateways: Vec<Gateway<A>, A>,
-    pub(crate) sequencer: Sequencer<A>,
-    pub(crate) feeder: Feeder<A>,
-    pub(crate) matcher: Matcher<A>,
-    pub(crate) reported: ReportedEntries<'r, A>,
-    /// How many entries the journal has room for.
-    pub(crate) room: usize,
 }
 
 /// Starts a thread for each gateway, up to the first that is refused.
@@ -129,58 +124,45 @@ pub(crate) fn join_all<'s, R: Threads, A: Allocator>(
     joined
 }
 
-/// Tells the threads that run to stop, and joins them, since this one could not be started.
+/// Tells the threads that run to stop, and joins them, since the one of this number could not be started.
 fn stop_workers<R: Threads, G, A: Allocator>(
     shared: &Shared<'_, '_, R, G>,
     workers: Workers<'_, A>,
-    session: u8,
+    number: u8,
 ) -> ThreadsFault
     requires { (vec_len workers.room ≡ 0) × (vec_len workers.handles ≤ vec_capacity workers.room) }
-    ensures { result ≡ Spawn session }
+    ensures { result ≡ Spawn number }
 {
     shared.stop.store(true, Ordering::SeqCst);
     drop(join_all(shared.rt, workers.handles, workers.room));
-    ThreadsFault::Spawn(session)
+    ThreadsFault::Spawn(number)
 }
 
-/// The stages of a day that has not begun.
-fn stages_of<'r, A: Allocator + Copy>(
+/// Room for the handles of the sessions' threads and of the writers', and for what they hand back.
+fn rooms_of<'s, A: Allocator + Copy>(
     alloc: A,
-    rules: &DayRules<'r>,
     sessions: usize,
-    caps: Caps,
-) -> Result<Stages<'r, A>, ThreadsFault>
-    ensures limits { OnOk result (IsWithinLimits sessions caps.ring caps.journal) }
-    ensures count { IfOk result (λ s. length s.gateways.items ≡ sessions) }
-    ensures ready { IfOk result (λ s. IsMade caps.ring s) }
-    ensures room { IfOk result (λ s. s.room ≡ caps.journal) }
-    ensures rules { IfOk result (λ s. sending_rules s.reported ≡ rules.now.rulebook.now) }
-    ensures stamp { IfOk result (λ s. stamp_of s.reported ≡ rules.now.stamp) }
-    ensures fault { IfErr result (IsStagesFault sessions caps.ring caps.journal) }
+) -> Result<(Workers<'s, A>, Writing<A>), AllocError>
+    ensures workers { IfOk result (λ r.
+        IsRoom sessions (vec_len r.0.handles) (vec_capacity r.0.handles)
+        × IsRoom sessions (vec_len r.0.room) (vec_capacity r.0.room)) }
+    ensures writers { IfOk result (λ r.
+        IsRoom sessions (vec_len r.1.handles) (vec_capacity r.1.handles)
+        × IsRoom sessions (vec_len r.1.room) (vec_capacity r.1.room)) }
 {
-    let (gateways, sequencer) = match link(alloc, sessions, caps.ring, caps.journal) {
-        Ok(made) => made,
-        Err(fault) => return Err(ThreadsFault::Link(fault)),
+    let workers = Workers {
+        handles: Vec::with_capacity(alloc, sessions)?,
+        room: Vec::with_capacity(alloc, sessions)?,
     };
-    let (feeder, matcher) = match feed_ring(alloc, caps.ring) {
-        Ok(made) => made,
-        Err(fault) => return Err(ThreadsFault::Link(fault)),
+    let writing = Writing {
+        handles: Vec::with_capacity(alloc, sessions)?,
+        room: Vec::with_capacity(alloc, sessions)?,
     };
-    let reported = match ReportedEntries::new(alloc, rules.rulebook, rules.stamp) {
-        Ok(reported) => reported,
-        Err(fault) => return Err(of_apply(fault)),
-    };
-    Ok(Stages {
-        gateways,
-        sequencer,
-        feeder,
-        matcher,
-        reported,
-        room: caps.journal,
-    })
+    Ok((workers, writing))
 }
 
-/// The sessions of a scope: a thread for each, one that matches, and the sequencer's turns in this one.
+/// The sessions of a scope: a thread for each, one that matches, one for each writer, and the sequencer's turns in this
+/// one.
 fn sessions_in<'r: 's, 's, E, R: Wait + Threads + Sync, G: Gate, A: Allocator + Copy + Send + 's>(
     scope: &Scope<'s, E>,
     shared: &Shared<'r, 's, R, G>,
@@ -189,11 +171,11 @@ fn sessions_in<'r: 's, 's, E, R: Wait + Threads + Sync, G: Gate, A: Allocator + 
     alloc: A,
 ) -> Result<SessionsDay<A>, ThreadsFault>
     requires { AreReady streams.now stages }
-    ensures day { IfOk result (IsDayOfSessions (sending_rules stages.entry.reported)
-        (stamp_of stages.entry.reported) streams.entry.now) }
+    ensures day { IfOk result (IsDayOfSessions (sending_rules stages.entry.posted.reported)
+        (stamp_of stages.entry.posted.reported) streams.entry.now) }
     ensures size { IfOk result (λ day. length day.journal.items ≤ stages.entry.room) }
     ensures fault { IfErr result (λ f. (ring : ℕ)
-        → IsThreadsFault (sending_rules stages.entry.reported)
+        → IsThreadsFault (sending_rules stages.entry.posted.reported)
         streams.entry.now ring stages.entry.room f) }
 {
     let Stages {
@@ -201,45 +183,50 @@ fn sessions_in<'r: 's, 's, E, R: Wait + Threads + Sync, G: Gate, A: Allocator + 
         sequencer,
         feeder,
         matcher,
-        reported,
+        posted,
+        writers,
         room: size,
     } = stages;
     let sessions = gateways.len();
-    let Ok(handles) = Vec::with_capacity(alloc, sessions) else {
+    let Ok((workers, writing)) = rooms_of(alloc, sessions) else {
         return Err(ThreadsFault::NoMemory(0));
     };
-    let Ok(room) = Vec::with_capacity(alloc, sessions) else {
-        return Err(ThreadsFault::NoMemory(0));
-    };
+    let Workers { handles, room } = workers;
     let Started { handles, refused } = start_all(scope, shared, gateways, streams, handles);
     let workers = Workers { handles, room };
     if let Some(session) = refused {
         return Err(stop_workers(shared, workers, session));
     }
-    let Some(matching) = start_matching(
-        scope,
-        shared.rt,
-        shared.gate,
-        shared.stop,
-        matcher,
-        reported,
-    ) else {
+    let Shared { rt, gate, stop } = *shared;
+    let Some(matching) = start_matching(scope, rt, gate, stop, matcher, posted) else {
         return Err(stop_workers(shared, workers, sessions as u8));
     };
-    let sequenced = sequence(shared.rt, shared.stop, sequencer, feeder, workers, streams);
-    if sequenced.end != SequenceEnd::Whole {
-        shared.stop.store(true, Ordering::SeqCst);
+    let Writing { handles, room } = writing;
+    let StartedWriters { handles, refused } = start_writers(
+        scope, rt, gate, stop, writers, handles,
+    );
+    let writing = Writing { handles, room };
+    if let Some(session) = refused {
+        let fault = stop_workers(shared, workers, sessions as u8 + 1 + session);
+        drop(matching.join(rt));
+        drop(join_writers(rt, writing.handles, writing.room));
+        return Err(fault);
     }
-    let matched = matching.join(shared.rt);
-    conclude(sequenced, matched, streams, size)
+    let sequenced = sequence(rt, stop, sequencer, feeder, workers, streams);
+    if sequenced.end != SequenceEnd::Whole {
+        stop.store(true, Ordering::SeqCst);
+    }
+    let matched = matching.join(rt);
+    let written = join_writers(rt, writing.handles, writing.room);
+    conclude(sequenced, matched, written, streams, size)
 }
 
-/// Runs a thread for each of 1 to 16 streams, session 0 first, one that matches, and the sequencer in the caller's. The
-/// journal has, of each session, exactly the events of its stream, its close included; the fills, and what each session is
-/// sent, are those of the journal.
+/// Runs a thread for each of 1 to 16 streams, session 0 first, one that matches, one for each session's writer, and
+/// the sequencer in the caller's. The journal has, of each session, exactly the events of its stream, its close
+/// included; the fills, and what each session is sent, are those of the journal.
 ///
-/// Link and NoMemory(0) come before any thread is started. After each later fault the threads that run are told to stop,
-/// and joined; of several faults the one with the least number is answered.
+/// Link and NoMemory(0) come before any thread is started. After each later fault the threads that run are told to
+/// stop, and joined; of several faults the one with the least number is answered.
 pub fn run_sessions<'r, R: Threads + Wait + Sync, G: Gate, A: Allocator + Copy + Send>(
     rt: &'r R,
     alloc: A,
@@ -273,11 +260,11 @@ pub fn run_sessions<'r, R: Threads + Wait + Sync, G: Gate, A: Allocator + Copy +
         rt,
         |scope| -> Result<SessionsDay<A>, ThreadsFault>
             requires { AreReady all.now stages }
-            ensures day { IfOk result (IsDayOfSessions (sending_rules stages.entry.reported)
-                (stamp_of stages.entry.reported) all.entry.now) }
+            ensures day { IfOk result (IsDayOfSessions (sending_rules stages.entry.posted.reported)
+                (stamp_of stages.entry.posted.reported) all.entry.now) }
             ensures size { IfOk result (λ day. length day.journal.items ≤ stages.entry.room) }
             ensures fault { IfErr result (λ f. (ring : ℕ)
-                → IsThreadsFault (sending_rules stages.entry.reported)
+                → IsThreadsFault (sending_rules stages.entry.posted.reported)
                 all.entry.now ring stages.entry.room f) }
         { sessions_in(scope, &shared, stages, all, alloc) },
     )

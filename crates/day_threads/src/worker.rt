@@ -13,14 +13,18 @@ use std::sync::atomic::{AtomicBool, Ordering};
 use std::thread;
 use std::thread::{Promise, PromisedHandle, Scope, Threads};
 
-/// Sees each message of each session before it is judged, and each entry after it was matched, and may hold the thread
-/// that it is called in.
+/// Sees each message of each session before it is judged, each entry after it was matched, and each piece of a
+/// session's outgoing bytes after it was taken, and may hold the thread that it is called in.
 pub trait Gate: Sync {
     /// Called once before a session first steps on a message. Messages count from 0, and stay at the greatest u32.
     fn before(&self, session: u8, message: u32);
 
-    /// Called by the matching thread after the entry of that place was applied and reported.
+    /// Called by the matching thread after the entry of that place was applied, and all that it sends was given to the
+    /// writers.
     fn matched(&self, _place: u64) {}
+
+    /// Called by the thread of a session's writer after it took more bytes: so many it has in all.
+    fn written(&self, _session: u8, _total: u64) {}
 }
 
 /// What a worker's thread gives back: its own gateway, with what it sent of its own stream.

@@ -14,6 +14,8 @@ mod faults;
 mod live;
 mod no_memory;
 mod replay;
+mod reported;
+mod writers;
 
 /// The journal of a text.
 fn read_again(alloc: Global, text: &[u8]) -> Result<Vec<Entry>, Fail>

@@ -1,4 +1,5 @@
-//! A day in threads: one for each session, one that matches, and the sequencer in the caller's.
+//! A day in threads: one for each session, one that matches, one for each session's writer, and the sequencer in the
+//! caller's.
 ghost use Rattle.std.specs.Prelude.{◌≡◌, ◌<◌, ◌≤◌, ℕ, [], length, IfOk, IfErr, OnOk};
 ghost use Rattle.host_base.specs.declared.limits.TheConstants.{SESSIONS};
 ghost use Rattle.day_threads.specs.Streams.{IsWithinLimits};
@@ -17,12 +18,14 @@ use std::sync::Wait;
 use std::thread::Threads;
 
 /// Runs a day in threads: one for each of 1 to 16 streams, session 0 first, one that applies the journal's entries while
-/// it grows, and the sequencer in the caller's.
+/// it grows, one for each session that collects what it is sent, and the sequencer in the caller's.
 ///
-/// Faults: Link, where the number of streams or a cap is out of range, or its memory ran out; Spawn, naming the session
-/// whose thread could not be started, or for the matching thread the number of sessions; JournalFull; NoMemory, its place
-/// 0 where no entry was begun, else that of the first entry not worked through; NumbersSpent. After a fault the threads
-/// that run are told to stop, and joined; of several faults the one with the least number is answered.
+/// Faults: Link, where the number of streams or a cap is out of range, or its memory ran out; Spawn, naming the thread
+/// that could not be started: a session's by the session, the matching thread by the number of sessions, the writer's of
+/// session s by the number of sessions + 1 + s; JournalFull; NoMemory, its place 0 where no entry was begun, else that of
+/// the first entry not worked through, where a writer found none one more than the number of entries worked through;
+/// NumbersSpent. After a fault the threads that run are told to stop, and joined; of several faults the one with the least
+/// number is answered.
 pub fn run_day<R: Threads + Wait + Sync, G: Gate, A: Allocator + Copy + Send>(
     rt: &R,
     alloc: A,

@@ -11,11 +11,13 @@ use Rattle.day_apply.specs.declared.fault.ApplyFault.TheVariants as apply
 use Rattle.day_threads.specs.Streams.{IsBeginningOf}
 use Rattle.day_threads.specs.code.Matching.{IsUnfed, MatchEnds}
 use Rattle.day_threads.specs.code.Sequencing.{SequenceEnds}
+use Rattle.day_threads.specs.code.Writing.{AreJoinedPairs, ArePostPairs}
 use Rattle.day_threads.specs.declared.fault.ThreadsFault.{ThreadsFault}
 use Rattle.day_threads.specs.declared.fault.ThreadsFault.TheVariants.{Link, NoMemory, NumbersSpent}
 use Rattle.day_threads.specs.declared.matching.Matched.{Matched}
 use Rattle.day_threads.specs.declared.sequence.Sequenced.{Sequenced}
-use Rattle.day_threads.specs.declared.sessions.Stages.{Stages}
+use Rattle.day_threads.specs.declared.stages.Stages.{Stages}
+use Rattle.day_threads.specs.declared.writing.Written.{Written}
 
 -- the stages of a day that has not begun
 pub record IsMade {A : Type 0} (ring : ℕ) (stages : Stages A) : Type 0 where
@@ -24,7 +26,9 @@ pub record IsMade {A : Type 0} (ring : ℕ) (stages : Stages A) : Type 0 where
   pub room : room_of stages.sequencer ≡ stages.room
   pub feed : AreFeedPair stages.feeder stages.matcher
   pub given_none : given stages.feeder ≡ []
-  pub unfed : IsUnfed stages.matcher stages.reported
+  pub unfed : IsUnfed stages.matcher stages.posted
+  pub posts : ArePostPairs stages.posted.posters.items stages.writers.items
+  pub writer_count : length stages.writers.items ≡ length stages.gateways.items
 
 -- why there are none
 abbrev pub IsStagesFault : ℕ → ℕ → ℕ → ThreadsFault → Type 0
@@ -39,14 +43,17 @@ pub record AreReady {A : Type 0} (streams : List (Vec ℕ A)) (stages : Stages A
   pub stream_count : length stages.gateways.items ≡ length streams
   pub few : length streams ≤ SESSIONS
 
--- both ends of the ring in one thread again, with what each part promised
-pub record AreJoined {A : Type 0} (room : ℕ) (streams : List (Vec ℕ A)) (q : Sequenced A) (m : Matched A) : Type 0 where
+-- both ends of each ring in one thread again, with what each part promised
+pub record AreJoined {A : Type 0} (room : ℕ) (streams : List (Vec ℕ A)) (q : Sequenced A) (m : Matched A) (ws : List (Written A)) : Type 0 where
   pub feed : AreFeedPair q.feeder m.matcher
+  pub posts : AreJoinedPairs m.posted.posters.items ws
+  pub few_writers : length ws ≤ SESSIONS
+  pub few : m.worked ≤ length (taken m.matcher)
   pub given_on : IsPrefix (given q.feeder) q.journal.items
   pub parts : IsBeginningOf streams q.journal.items
   pub size : length q.journal.items ≤ room
   pub sequenced : SequenceEnds q.end room streams q.journal.items q.feeder
-  pub matched : MatchEnds m.end (taken m.matcher) m.reported
+  pub matched : MatchEnds m.end (taken m.matcher) m.posted
 
 -- the fault of the day whose matching thread had this one
 abbrev pub of_apply : ApplyFault → ThreadsFault

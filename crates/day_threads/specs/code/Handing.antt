@@ -1,6 +1,6 @@
 -- What the handles of started workers promise, and what the joined workers gave back.
 -- Words of the code alone.
-use Rattle.std.specs.Prelude.{◌≡◌, ℕ, ◌<◌, List, length, slice_index_or, Vec}
+use Rattle.std.specs.Prelude.{◌≡◌, ℕ, ◌<◌, ◌≤◌, List, length, slice_index_or, Vec}
 use Rattle.std.specs.declared.thread.PromisedHandle.{PromisedHandle}
 use Rattle.gate_link.specs.declared.gateway.Gateway.{Gateway}
 use Rattle.day_threads.specs.declared.worker.WorkerPromise.{WorkerPromise}
@@ -30,3 +30,7 @@ AreSent streams before after =
     × ((s : ℕ) (v : Vec ℕ _) (g h : Gateway _) → s < length before
     → HasSent (slice_index_or streams s v).items (slice_index_or before s g)
     (slice_index_or after s h))
+
+-- an empty list with room for so many
+abbrev pub IsRoom : ℕ → ℕ → ℕ → Type 0
+IsRoom count len capacity = (len ≡ 0) × (count ≤ capacity)

@@ -89,7 +89,7 @@ impl Gate for Open {
 }
 
 /// Waits until the flag is set, and says whether it came within ten million turns.
-fn comes(flag: &AtomicU32) -> bool {
+pub fn comes(flag: &AtomicU32) -> bool {
     for _ in 0..10_000_000 {
         if flag.load(Ordering::SeqCst) == 1 {
             return true;

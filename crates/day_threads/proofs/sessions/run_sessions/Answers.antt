@@ -1,8 +1,10 @@
-use Rattle.std.proofs.Common.{arith, ◌≡◌, ◌≤◌, length, subst, ℕ, List, Vec}
-use Rattle.std.specs.Prelude.{IfErr}
+use Rattle.std.proofs.Common.{arith, ◌≡◌, ◌≤◌, ◌∙◌, length, subst, ℕ, List, Result, Ok, Err, Vec}
+use Rattle.std.specs.Prelude.{IfErr, OnOk}
+use denote.Param.Always.{Once-at_one}
 use Rattle.spread_rules.specs.Rulebook.{Rules}
 use Rattle.day_apply.specs.Sending.{sending_rules, stamp_of}
-use Rattle.day_threads.specs.Streams.{IsThreadsFault}
+use Rattle.day_threads.specs.Streams.{IsThreadsFault, IsWithinLimits}
+use Rattle.day_threads.specs.code.Concluding.{AreReady}
 use Rattle.day_threads.proofs.LawfulJournal.{lawful_result, fault_result}
 use Rattle.day_threads.proofs.sessions.run_sessions.Goals as goal
 
@@ -13,13 +15,13 @@ returns-clause-lawful g c =
     let stages = c.in-Ok.stages in
     let all = c.as_slice-all.result.now in
     let few : length all ≤ 16 = omega (arith, c.as_slice-all.ensures.len, c.len.ensures, made.limits.0.1) in
-    lawful_result c.scoped.result (sending_rules stages.reported) (stamp_of stages.reported) all stages.room few (omega (arith, made.room, made.limits.2)) e.0 e.1.0
+    lawful_result c.scoped.result (sending_rules stages.posted.reported) (stamp_of stages.posted.reported) all stages.room few (omega (arith, made.room, made.limits.2)) e.0 e.1.0
 
 pub returns-clause-fault : goal.returns-clause-fault
 returns-clause-fault g c =
     let made = c.in-Ok.ensures in
     let stages = c.in-Ok.stages in
-    let rules = sending_rules stages.reported in
+    let rules = sending_rules stages.posted.reported in
     let ring = c.args.caps.ring in
     let told = c.scoped.result in
     let streams = c.args.streams.items in
@@ -27,3 +29,26 @@ returns-clause-fault g c =
     (subst (λ (k : ℕ). IfErr told (IsThreadsFault rules streams ring k)) made.room
     (subst (λ (s : List (Vec ℕ g.row.A.Denot)). IfErr told (IsThreadsFault rules s ring stages.room)) c.as_slice-all.ensures.value
     (fault_result told rules c.as_slice-all.result.now ring stages.room c.scoped.ensures.1.1.1)))
+
+pub scoped-requires : goal.scoped-requires
+scoped-requires g c =
+    let b = c.type_bounds in
+    let made = c.in-Ok.ensures in
+    let stages = c.in-Ok.stages in
+    let all = c.as_slice-all.result.now in
+    let is : AreReady all stages = record {
+      ring = c.args.caps.ring;
+      made = made.ready;
+      stream_count = omega (arith, made.count, c.len.ensures, c.as_slice-all.ensures.len);
+      few = omega (arith, c.as_slice-all.ensures.len, c.len.ensures, made.limits.0.1);
+    } in
+    Once-at_one _ _ (λ scope. (is, (b.send-A, record { shared = b.sync-R.shared }, record { shared = b.sync-G.shared }, b.frees-A-Allocator)))
+
+on_any : {T E P : Type 0} (r : Result T E) → P → OnOk r P
+on_any (Ok x) h = h
+on_any (Err x) h = tt
+
+pub returns-clause-limits : goal.returns-clause-limits
+returns-clause-limits g c =
+    on_any c.scoped.result
+    (subst (λ (n : ℕ). IsWithinLimits n c.args.caps.ring c.args.caps.journal) (c.len.ensures ∙ c.args.streams.ok.0) c.in-Ok.ensures.limits)

@@ -1,0 +1,13 @@
+use Rattle.std.proofs.Common.{◌≡◌, ◌≤◌, ◌<◌, ℕ, length, get_or}
+use Rattle.stage_rings.specs.declared.post.Poster.{Poster}
+use Rattle.day_threads.specs.code.Posting.{posted_at}
+use Rattle.day_threads.specs.code.Writing.{written_at}
+use Rattle.day_threads.specs.declared.writing.Written.{Written}
+use Rattle.day_threads.proofs.conclude.all_finished.Given as goal
+
+abbrev pub invariant-loop-s : goal.invariant-loop-s
+invariant-loop-s g l = record {
+  done : (s : ℕ) → s < l.s → written_at l.written s ≡ posted_at l.initial.posters s;
+  posters_left : (s : ℕ) (p : Poster _) → l.s ≤ s → get_or l.posters s p ≡ get_or l.initial.posters s p;
+  written_left : (s : ℕ) (w : Written _) → l.s ≤ s → get_or l.written s w ≡ get_or l.initial.written s w;
+}

@@ -1,0 +1,50 @@
+use Rattle.std.proofs.Common.{◌≡◌, ◌≤◌, refl, sym, subst, arith, length, vec_len, ℕ, Option, Some, None}
+use Rattle.std.specs.Prelude.{IfErr, IfNone}
+use Rattle.spread_rules.specs.Rulebook.{Rules}
+use Rattle.day_apply.specs.Sending.{sending_rules}
+use Rattle.day_threads.specs.Streams.{IsThreadsFault}
+use Rattle.day_threads.specs.code.Matching.{HasMatched}
+use Rattle.day_threads.specs.code.Sequencing.{SequenceEnds}
+use Rattle.day_threads.proofs.PostPairs.{posts_kept}
+use Rattle.day_threads.proofs.RingEnds.{feed_kept}
+use Rattle.day_threads.proofs.sessions.sessions_in.Goals as goal
+use Rattle.day_threads.proofs.sessions.sessions_in.Goals.{After-join-matched}
+
+none_left : {P : Type 0} (o : Option ℕ) → ((x : ℕ) → o ≡ Some x → ⊥) → IfNone o P → P
+none_left None other h = h
+none_left (Some x) other h = absurd (other x refl)
+
+-- what the matching thread promised
+matched : (g : _) (c : After-join-matched g) → HasMatched c.args.stages.matcher c.args.stages.posted c.join-matched.result
+matched g c = let h = c.in-Some-start_matching.ensures in rw (← h.0, ← h.1) c.join-matched.ensures
+
+pub conclude-requires : goal.conclude-requires
+conclude-requires g c =
+    let r = c.requires in
+    let stages = c.args.stages in
+    let m = matched g (goal.at.conclude-requires g c).After-join-matched in
+    let q = c.sequence-sequenced.ensures in
+    let hs = c.start_writers-handles.result.handles in
+    let ws = stages.writers in
+    let rs = c.join_writers-written.result in
+    let all : vec_len hs ≡ vec_len ws = none_left c.start_writers-handles.result.refused c.in_default-refused-2.not-Some c.start_writers-handles.ensures.all in
+    let lh : length hs.items ≡ length ws.items = omega (arith, hs.ok.0, ws.ok.0, all) in
+    let lr : length rs.items ≡ length hs.items = omega (arith, rs.ok.0, hs.ok.0, c.join_writers-written.ensures.len) in
+    record {
+      feed = feed_kept stages.feeder c.sequence-sequenced.result.feeder stages.matcher c.join-matched.result.matcher q.ring m.ring r.made.feed;
+      posts =
+          posts_kept stages.posted.posters.items c.join-matched.result.posted.posters.items ws.items hs.items rs.items lh lr r.made.posts m.writers
+          c.start_writers-handles.ensures.started c.join_writers-written.ensures.kept;
+      few_writers = omega (arith, lr, lh, r.made.writer_count, r.stream_count, r.few);
+      few = m.few;
+      given_on = q.given_on;
+      parts = q.parts;
+      size = subst (λ (n : ℕ). length c.sequence-sequenced.result.journal.items ≤ n) r.made.room q.size;
+      sequenced = subst (λ (n : ℕ). SequenceEnds c.sequence-sequenced.result.end n c.args.streams.now c.sequence-sequenced.result.journal.items c.sequence-sequenced.result.feeder) r.made.room q.ends;
+      matched = m.ends;
+    }
+
+pub returns-clause-fault : goal.returns-clause-fault
+returns-clause-fault g c =
+    let m = matched g (goal.at.returns-clause-fault g c).After-join-matched in
+    subst (λ (rules : Rules). IfErr c.conclude.result (λ f. (ring : ℕ) → IsThreadsFault rules c.args.streams.now ring c.args.stages.room f)) m.rules c.conclude.ensures.fault
