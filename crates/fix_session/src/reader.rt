@@ -154,8 +154,8 @@ impl Reader {
         count_messages(&self.framer, most)
     }
 
-    /// Judges the first messages that are held, at most so many, none past one that closes the session. Their events become
-    /// the first of the entries, as those of the session with this number. Nothing is passed.
+    /// Judges the first messages that are held, at most so many, none past one that closes the session. Their events
+    /// become the first of the entries, as those of the session with this number. Nothing is passed.
     pub fn judge_ahead(&self, number: u8, most: usize, entries: &mut [Entry]) -> Ahead
         requires { most ≤ length entries.old }
         ensures size { length entries.new ≡ length entries.old }

@@ -1,5 +1,5 @@
-//! Numbers and prices written as digits into room. A writer is told where to begin, and tells where it ended: so the place
-//! stays in a register, which a list's own length would not.
+//! Numbers and prices written as digits into room. A writer is told where to begin, and tells where it ended: so the
+//! place stays in a register, which a list's own length would not.
 ghost use Rattle.std.specs.Prelude.{◌≡◌, ◌++◌, ◌∷◌, [], ◌<◌, ◌≤◌, ◌+◌, take, length, decimal};
 ghost use Rattle.fix_values.specs.Digits.{two_digits};
 ghost use Rattle.fix_values.specs.Values.{price_text};

@@ -172,8 +172,8 @@ impl<A: Allocator> Gateway<A> {
         self.reader.standing(most as usize) as u32
     }
 
-    /// Judges the first messages that are held, at most so many, none past a close, and sends their events as one slice: all
-    /// of them or none. At Full nothing changes, at Need nothing but bytes at which no frame stands.
+    /// Judges the first messages that are held, at most so many, none past a close, and sends their events as one slice:
+    /// all of them or none. At Full nothing changes, at Need nothing but bytes at which no frame stands.
     pub fn step_many(&mut self, frames: u32) -> Burst
         requires { (1 ≤ frames) × (frames ≤ MAX_SLICE) }
         ensures gate { SameGateway self.old self.new }

@@ -54,15 +54,15 @@ pub fn schedule()
         (restricted s b.journal ≡ b.sent s) × (b.sent s ≡ whole (stream s)) }
 {}
 
-/// A slice is as many steps in a row: the next events of a session that are sent together, and the first events not yet taken
-/// that join the journal together.
+/// A slice is as many steps in a row: the next events of a session that are sent together, and the first events not yet
+/// taken that join the journal together.
 pub fn slices()
-    ensures sent { (stream : ℕ → List ℕ) (a b : ScheduleState)
-        (s : ℕ) (e : Event) (es rest : List Event) →
+    ensures sent { (stream : ℕ → List ℕ) (a b : ScheduleState) (s : ℕ) (e : Event)
+        (es rest : List Event) →
         whole (stream s) ≡ a.sent s ++ (e ∷ (es ++ rest)) → SentTogether s (e ∷ es) a b →
         Leads stream a (in_a_row (send s) (e ∷ es)) b }
-    ensures taken { (stream : ℕ → List ℕ) (a b : ScheduleState)
-        (s : ℕ) (e : Event) (es rest : List Event) →
+    ensures taken { (stream : ℕ → List ℕ) (a b : ScheduleState) (s : ℕ) (e : Event)
+        (es rest : List Event) →
         a.sent s ≡ restricted s a.journal ++ (e ∷ (es ++ rest)) → TakenTogether s (e ∷ es) a b →
         Leads stream a (in_a_row (take s) (e ∷ es)) b }
 {}

@@ -18,7 +18,8 @@ AllOpen s [] = Unit {0}
 AllOpen s (f ∷ fs) = (is_closed s ≡ false) × AllOpen (judge s f).1 fs
 
 -- so many messages were judged, whose events are the first of the entries
-pub record HasJudgedFirst (number n : ℕ) (s : Session) (held : List ℕ) (entries : List Entry) (a : Ahead) : Type 0 where
+pub record HasJudgedFirst (number n : ℕ) (s : Session) (held : List ℕ) (entries : List Entry)
+    (a : Ahead) : Type 0 where
   pub passed : List (List ℕ)
   pub count : length passed ≡ n
   pub messages : a.messages ≡ n
@@ -37,7 +38,8 @@ pub record JudgesOne (number : ℕ) (held : List ℕ) (entries : List Entry) (a 
   pub stands : first_frame (frames (drop a.place held)) ≡ Some message
   pub messages : b.messages ≡ a.messages + 1
   pub events : take b.events entries_next
-      ≡ take a.events entries ++ entries_of number (cons_option (event_in (judge a.session message).0) [])
+      ≡ take a.events entries
+      ++ entries_of number (cons_option (event_in (judge a.session message).0) [])
   pub few : b.events ≤ a.events + 1
   pub session : b.session ≡ (judge a.session message).1
   pub place : b.place ≤ length held
