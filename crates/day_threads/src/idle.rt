@@ -1,0 +1,21 @@
+//! What a thread does that finds nothing to do.
+use std::sync::Wait;
+use std::thread;
+use std::thread::Parker;
+use std::time::Duration;
+
+/// So many looks in a row that find nothing are followed by a yield alone.
+const EAGER_LOOKS: u32 = 100;
+
+/// How many microseconds a thread sleeps after each look behind them.
+const SLEEP_MICROS: u64 = 50;
+
+/// Leaves the processor to the other threads, after so many looks in a row that found nothing, and counts this one.
+pub(crate) fn rest<R: Wait>(rt: &R, looks: u32) -> u32 {
+    if looks < EAGER_LOOKS {
+        thread::yield_now();
+        return looks + 1;
+    }
+    Parker::new().park_timeout(rt, Duration::from_micros(SLEEP_MICROS));
+    looks
+}
