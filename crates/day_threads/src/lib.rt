@@ -4,6 +4,7 @@
 
 mod conclude;
 mod fault;
+mod idle;
 mod matching;
 mod posting;
 mod range;

@@ -5,6 +5,7 @@ ghost use Rattle.stage_rings.specs.declared.post.Writer.{Writer};
 ghost use Rattle.stage_rings.specs.Posting.{SameWriter};
 ghost use Rattle.day_threads.specs.code.Writing.{AreWriting, AreWritten};
 
+use crate::idle::Idle;
 use crate::worker::Gate;
 use gate_link::{Writer, Wrote};
 use std::alloc::Allocator;
@@ -54,15 +55,19 @@ fn write_all<R: Wait, G: Gate, A: Allocator>(
     ensures { SameWriter writer result.writer }
 {
     let mut writer = writer;
+    let mut idle = Idle::new();
     for _ in rt.forever() {
         match writer.take() {
-            Ok(Wrote::Bytes(_)) => gate.written(session, writer.bytes().len() as u64),
+            Ok(Wrote::Bytes(_)) => {
+                idle.found(1);
+                gate.written(session, writer.bytes().len() as u64);
+            }
             Ok(Wrote::Ended) => return handed(writer, false),
             Ok(Wrote::Empty) => {
                 if stop.load(Ordering::SeqCst) {
                     return handed(writer, false);
                 }
-                thread::yield_now();
+                idle.rest(rt);
             }
             Err(_) => {
                 stop.store(true, Ordering::SeqCst);
