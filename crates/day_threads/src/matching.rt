@@ -6,7 +6,7 @@ ghost use Rattle.day_apply.specs.Sending.{sending_rules, stamp_of};
 ghost use Rattle.day_threads.specs.code.Matching.{HasMatched, IsUnfed, StepEnds};
 ghost use Rattle.day_threads.specs.code.Posting.{CanPost, HasPosted, SamePosters};
 
-use crate::idle::Idle;
+use crate::idle::rest;
 use crate::posting::{PostedEntries, end_each, post_each};
 use crate::range::fits_entry;
 use crate::worker::Gate;
@@ -95,7 +95,7 @@ pub(crate) fn match_all<'r, R: Wait, G: Gate, A: Allocator + Copy>(
     let mut matcher = matcher;
     let mut posted = posted;
     let mut worked = 0u64;
-    let mut idle = Idle::new();
+    let mut looks = 0u32;
     for _ in rt.forever() {
         if stop.load(Ordering::SeqCst) {
             return ended(matcher, posted, worked, MatchEnd::Stopped);
@@ -103,7 +103,7 @@ pub(crate) fn match_all<'r, R: Wait, G: Gate, A: Allocator + Copy>(
         match matcher.take() {
             Taken::Entry(entry) => match match_one(rt, stop, &mut posted, &entry) {
                 MatchEnd::Whole => {
-                    idle.found(1);
+                    looks = 0;
                     worked = posted.reported.count();
                     gate.matched(worked);
                 }
@@ -112,7 +112,7 @@ pub(crate) fn match_all<'r, R: Wait, G: Gate, A: Allocator + Copy>(
                     return ended(matcher, posted, worked, end);
                 }
             },
-            Taken::Empty => idle.rest(rt),
+            Taken::Empty => looks = rest(rt, looks),
             Taken::Ended => {
                 end_each(rt, stop, posted.posters.as_mut_slice());
                 return ended(matcher, posted, worked, MatchEnd::Whole);

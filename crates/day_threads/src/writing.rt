@@ -5,7 +5,7 @@ ghost use Rattle.stage_rings.specs.declared.post.Writer.{Writer};
 ghost use Rattle.stage_rings.specs.Posting.{SameWriter};
 ghost use Rattle.day_threads.specs.code.Writing.{AreWriting, AreWritten};
 
-use crate::idle::Idle;
+use crate::idle::rest;
 use crate::worker::Gate;
 use gate_link::{Writer, Wrote};
 use std::alloc::Allocator;
@@ -55,11 +55,11 @@ fn write_all<R: Wait, G: Gate, A: Allocator>(
     ensures { SameWriter writer result.writer }
 {
     let mut writer = writer;
-    let mut idle = Idle::new();
+    let mut looks = 0u32;
     for _ in rt.forever() {
         match writer.take() {
             Ok(Wrote::Bytes(_)) => {
-                idle.found(1);
+                looks = 0;
                 gate.written(session, writer.bytes().len() as u64);
             }
             Ok(Wrote::Ended) => return handed(writer, false),
@@ -67,7 +67,7 @@ fn write_all<R: Wait, G: Gate, A: Allocator>(
                 if stop.load(Ordering::SeqCst) {
                     return handed(writer, false);
                 }
-                idle.rest(rt);
+                looks = rest(rt, looks);
             }
             Err(_) => {
                 stop.store(true, Ordering::SeqCst);
