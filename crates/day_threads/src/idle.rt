@@ -7,7 +7,7 @@ use std::time::Duration;
 /// So many looks in a row that find nothing are followed by a yield alone.
 const EAGER_LOOKS: u32 = 100;
 
-/// How many microseconds a thread sleeps after each look behind them.
+/// How many microseconds a thread sleeps after each look behind those.
 const SLEEP_MICROS: u64 = 50;
 
 /// Leaves the processor to the other threads, after so many looks in a row that found nothing, and counts this one.
