@@ -149,7 +149,7 @@ def threads():
         y = 330 + 52 * n
         it.box(510, y + 6, 110, 32, ["ring"])
         it.box(330, y + 3, 130, 38, ["Writer"], STRONG)
-        it.box(150, y + 3, 130, 38, [f"bytes for session {name}"], size=13)
+        it.box(150, y + 3, 130, 38, [f"sent to session {name}"], size=13)
         it.arrow((760, 325), (690, 325), (690, y + 22), (620, y + 22))
         it.arrow((510, y + 22), (460, y + 22))
         it.arrow((330, y + 22), (280, y + 22))
@@ -160,7 +160,7 @@ def threads():
     it.lines(
         855,
         420,
-        ["Who finds its ring full, or empty,", "yields and looks again.", "The text is written after the joins."],
+        ["Who finds its ring full, or empty,", "waits and looks again.", "The text is written after the joins."],
         size=13,
         colour=GREY,
     )
