@@ -179,6 +179,7 @@ fn a_full_buffer(rt: HostRuntime) -> Result<(), Fail> {
 
 /// What stands from a place on: the message and the place after it.
 fn expect_look(rt: &impl Abort, framer: &Framer, at: usize, want: Option<(&[u8], usize)>) {
+    assert!(rt; at <= framer.held());
     match (framer.look(at), want) {
         (Look::Message(message, after), Some((frame, place))) => {
             assert!(rt; message.bytes() == frame);
@@ -202,9 +203,5 @@ fn looked_at_from_a_place(rt: HostRuntime) -> Result<(), Fail> {
     expect_look(&rt, &framer, 208, Some((BUY, 335)));
     expect_look(&rt, &framer, 335, None);
     assert!(rt; framer.held() == 335);
-    framer.pass_to(208);
-    assert!(rt; framer.held() == 127);
-    expect_look(&rt, &framer, 0, Some((BUY, 127)));
-    expect_look(&rt, &framer, 1, None);
     Ok(())
 }

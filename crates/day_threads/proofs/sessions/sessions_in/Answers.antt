@@ -1,6 +1,7 @@
 use Rattle.std.proofs.Common.{◌≡◌, ◌≤◌, refl, sym, subst, arith, length, vec_len, ℕ, Option, Some, None}
 use Rattle.std.specs.Prelude.{IfErr, IfNone}
 use Rattle.spread_rules.specs.Rulebook.{Rules}
+use Rattle.gate_link.specs.Links.{journal_of}
 use Rattle.day_apply.specs.Sending.{sending_rules}
 use Rattle.day_threads.specs.Streams.{IsThreadsFault}
 use Rattle.day_threads.specs.code.Matching.{HasMatched}
@@ -17,6 +18,10 @@ none_left (Some x) other h = absurd (other x refl)
 -- what the matching thread promised
 matched : (g : _) (c : After-join-matched g) → HasMatched c.args.stages.matcher c.args.stages.posted c.join-matched.result
 matched g c = let h = c.in-Some-start_matching.ensures in rw (← h.0, ← h.1) c.join-matched.ensures
+
+-- nothing was given yet
+pub sequence-sequenced-requires-clause-prefix : goal.sequence-sequenced-requires-clause-prefix
+sequence-sequenced-requires-clause-prefix g c = rw c.requires.made.given_none (journal_of c.args.stages.sequencer, refl)
 
 pub conclude-requires : goal.conclude-requires
 conclude-requires g c =
