@@ -14,7 +14,8 @@ use Rattle.stage_rings.specs.Posting.{Finishes}
 use Rattle.day_apply.specs.Applied.{IsApplyFault}
 use Rattle.day_apply.specs.declared.fault.ApplyFault.{ApplyFault}
 use Rattle.day_apply.specs.declared.fault.ApplyFault.TheVariants.{NoMemory, NumbersSpent}
-use Rattle.day_threads.specs.Streams.{IsBeginningOf, IsThreadsFault, whole_at}
+use Rattle.session_threads.specs.Streams.{IsBeginningOf, whole_at}
+use Rattle.day_threads.specs.Streams.{IsThreadsFault}
 use Rattle.day_threads.specs.code.Concluding.{of_apply}
 
 pub agrees_prefix : (b ended : Bool) (gave took : List Entry) → Agrees b ended gave took → IsPrefix took gave

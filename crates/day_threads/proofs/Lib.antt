@@ -1,12 +1,6 @@
 pub mod CollectedBytes
-pub mod ElementByElement
-pub mod FullJournal
 pub mod JoinedParts
-pub mod JoinedWorkers
 pub mod LawfulJournal
 pub mod PostPairs
 pub mod Posters
 pub mod RingEnds
-pub mod SentAndOwed
-pub mod StartedWorkers
-pub mod Writers

@@ -1,44 +1,24 @@
--- The streams of a day in threads, its day, and why it has none.
+-- The day of streams in threads, and why it has none.
 use Rattle.std.specs.Prelude.{◌≡◌, ℕ, ◌+◌, ◌<◌, ◌≤◌, ◌⊎◌, List, length, Vec}
-use mathlib.Core.List.{IsPrefix}
 use Rattle.host_base.specs.declared.limits.TheConstants.{SESSIONS, MAX_RING, MAX_JOURNAL_ENTRIES}
-use Rattle.spread_rules.specs.declared.event.Event.{Event}
 use Rattle.spread_rules.specs.declared.event.Entry.{Entry}
 use Rattle.spread_rules.specs.Journal.{restricted}
 use Rattle.spread_rules.specs.Meaning.{meaning_of_journal}
 use Rattle.spread_rules.specs.Rulebook.{Rules}
-use Rattle.fix_session.specs.Streams.{whole}
 use Rattle.spread_report.specs.Messages.{IsRow, messages_to}
 use Rattle.spread_report.specs.Sessions.{bytes_of}
 use Rattle.day_apply.specs.Applied.{SpendsAt, applied_entries, outgoing_bytes}
-use Rattle.gate_link.specs.Counts.{sum_over}
 use Rattle.gate_link.specs.Opening.{IsRefusal}
 use Rattle.stage_rings.specs.Faults.{Between}
-use Rattle.gate_link.specs.Rows.{row}
+use Rattle.session_threads.specs.Streams.{IsBeginningOf, all_events, whole_at}
 use Rattle.day_threads.specs.declared.fault.ThreadsFault.{ThreadsFault}
 use Rattle.day_threads.specs.declared.fault.ThreadsFault.TheVariants.{Link, Spawn, JournalFull, NoMemory, NumbersSpent}
 use Rattle.day_threads.specs.declared.conclude.SessionsDay.{SessionsDay}
-
--- the events of a stream, its close included
-abbrev pub whole_stream : {A : Type 0} → Vec ℕ A → List Event
-whole_stream v = whole v.items
-
--- those of stream s, and none where there is no such stream
-abbrev pub whole_at : {A : Type 0} → List (Vec ℕ A) → ℕ → List Event
-whole_at streams s = row whole_stream streams s
-
--- how many events all streams have together
-abbrev pub all_events : {A : Type 0} → List (Vec ℕ A) → ℕ
-all_events streams = sum_over (λ s. length (whole_at streams s)) (length streams)
 
 -- this many sessions, a ring of this size and a journal of this size are within the limits
 abbrev pub IsWithinLimits : ℕ → ℕ → ℕ → Type 0
 IsWithinLimits sessions ring journal =
     Between 1 SESSIONS sessions × Between 1 MAX_RING ring × (journal ≤ MAX_JOURNAL_ENTRIES)
-
--- of each session, the journal has a beginning of the events of its stream
-abbrev pub IsBeginningOf : {A : Type 0} → List (Vec ℕ A) → List Entry → Type 0
-IsBeginningOf streams journal = (s : ℕ) → IsPrefix (restricted s journal) (whole_at streams s)
 
 -- a place of such a journal, or the one behind its last entry
 pub record IsLivePlace {A : Type 0} (streams : List (Vec ℕ A)) (place : ℕ) : Type 0 where

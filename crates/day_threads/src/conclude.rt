@@ -5,15 +5,14 @@ ghost use Rattle.day_apply.specs.Sending.{sending_rules, stamp_of};
 ghost use Rattle.day_threads.specs.Streams.{IsDayOfSessions, IsThreadsFault};
 ghost use Rattle.day_threads.specs.code.Concluding.{AreJoined, of_apply};
 ghost use Rattle.day_threads.specs.code.Posting.{posted_at};
-ghost use Rattle.day_threads.specs.code.Writing.{AreJoinedPairs, written_at};
+ghost use Rattle.session_threads.specs.code.Writing.{AreJoinedPairs, written_at};
 
 use crate::fault::ThreadsFault;
 use crate::matching::{MatchEnd, Matched};
 use crate::posting::PostedEntries;
-use crate::sequence::{SequenceEnd, Sequenced};
-use crate::writing::Written;
 use day_apply::{ApplyFault, FillsAndMessages};
 use gate_link::{Poster, agree, finished};
+use session_threads::{SequenceEnd, Sequenced, Written};
 use spread_rules::Entry;
 use std::alloc::Allocator;
 

@@ -6,13 +6,11 @@ ghost use Rattle.day_apply.specs.Sending.{sending_rules, stamp_of};
 ghost use Rattle.day_threads.specs.code.Matching.{HasMatched, IsUnfed, StepEnds};
 ghost use Rattle.day_threads.specs.code.Posting.{CanPost, HasPosted, SamePosters};
 
-use crate::idle::rest;
 use crate::posting::{PostedEntries, end_each, post_each};
-use crate::range::fits_entry;
-use crate::worker::Gate;
 use day_apply::ApplyFault;
-use gate_link::{Matcher, Taken};
+use session_threads::{Gate, found, rest};
 use spread_rules::Entry;
+use stage_rings::{Matcher, Taken, fits_entry};
 use std::alloc::Allocator;
 use std::snapshot::Snapshot;
 use std::sync::Wait;
@@ -103,7 +101,7 @@ pub(crate) fn match_all<'r, R: Wait, G: Gate, A: Allocator + Copy>(
         match matcher.take() {
             Taken::Entry(entry) => match match_one(rt, stop, &mut posted, &entry) {
                 MatchEnd::Whole => {
-                    looks = 0;
+                    looks = found(looks);
                     worked = posted.reported.count();
                     gate.matched(worked);
                 }

@@ -2,57 +2,33 @@
 ghost use Rattle.std.specs.Prelude.{◌≡◌, ◌<◌, ◌≤◌, ℕ, length, IfOk, IfErr, IfNone, IfSome, OnOk, vec_len, vec_capacity};
 ghost use Rattle.spread_rules.specs.Journal.{IsLawful};
 ghost use Rattle.host_base.specs.declared.limits.TheConstants.{SESSIONS};
-ghost use Rattle.gate_link.specs.declared.gateway.Gateway.{Gateway};
-ghost use Rattle.gate_link.specs.Opening.{AreFresh};
 ghost use Rattle.day_apply.specs.Sending.{sending_rules, stamp_of};
 ghost use Rattle.day_threads.specs.code.Concluding.{AreReady};
-ghost use Rattle.day_threads.specs.code.Handing.{AreStarted, AreKept, IsRoom};
+ghost use Rattle.session_threads.specs.code.Handing.{IsRoom};
 ghost use Rattle.day_threads.specs.Streams.{IsDayOfSessions, IsWithinLimits, IsThreadsFault};
 ghost use Rattle.day_threads.specs.declared.fault.ThreadsFault.TheVariants.{Spawn};
 
 use crate::conclude::{SessionsDay, conclude};
 use crate::fault::ThreadsFault;
 use crate::matching::start_matching;
-use crate::sequence::{SequenceEnd, sequence};
 use crate::stages::{Stages, stages_of};
-use crate::worker::{Gate, WorkerPromise, start};
-use crate::writing::{StartedWriters, WritingHandle, Written, join_writers, start_writers};
-use gate_link::Gateway;
 use host_base::Id;
+use session_threads::{
+    Gate, SequenceEnd, Shared, Started, StartedWriters, Workers, WritingHandle, Written, join_all,
+    join_writers, sequence, start_all, start_writers,
+};
 use spread_rules::Rulebook;
 use std::alloc::{AllocError, Allocator};
 use std::sync::Wait;
 use std::sync::atomic::{AtomicBool, Ordering};
 use std::thread;
-use std::thread::{PromisedHandle, Scope, Threads};
+use std::thread::{Scope, Threads};
 
 /// How many events each ring takes, 1 to 4,096, and how many entries the journal, at most 1,000,000.
 #[derive(Clone, Copy, Debug, PartialEq, Eq)]
 pub struct Caps {
     pub ring: usize,
     pub journal: usize,
-}
-
-/// What the threads of all sessions share.
-#[derive(Drop)]
-struct Shared<'r, 's, R, G> {
-    rt: &'r R,
-    gate: &'r G,
-    stop: &'s AtomicBool,
-}
-
-/// The handles of the threads that were started, and the session of the one that was refused.
-#[derive(Drop)]
-struct Started<'s, A: Allocator> {
-    handles: Vec<PromisedHandle<Gateway<A>, WorkerPromise<'s, A>>, A>,
-    refused: Option<u8>,
-}
-
-/// The handles of all threads of sessions, and room for the gateways that they hand back.
-#[derive(Drop)]
-pub(crate) struct Workers<'s, A: Allocator> {
-    pub(crate) handles: Vec<PromisedHandle<Gateway<A>, WorkerPromise<'s, A>>, A>,
-    pub(crate) room: Vec<Gateway<A>, A>,
 }
 
 /// The handles of all writers' threads, and room for what they hand back.
@@ -67,61 +43,6 @@ struct Writing<A: Allocator> {
 pub struct DayRules<'r> {
     pub rulebook: &'r Rulebook,
     pub stamp: Id,
-}
-
-/// Starts a thread for each gateway, up to the first that is refused.
-fn start_all<'r: 's, 's, E, R: Wait + Threads + Sync, G: Gate, A: Allocator + Send + 's>(
-    scope: &Scope<'s, E>,
-    shared: &Shared<'r, 's, R, G>,
-    gateways: Vec<Gateway<A>, A>,
-    streams: &'s [Vec<u8, A>],
-    handles: Vec<PromisedHandle<Gateway<A>, WorkerPromise<'s, A>>, A>,
-) -> Started<'s, A>
-    requires fresh { (ring : ℕ) × AreFresh ring gateways.items }
-    requires streams { vec_len gateways ≡ length streams.now }
-    requires few { vec_len gateways ≤ SESSIONS }
-    requires room { (vec_len handles ≡ 0) × (vec_len gateways ≤ vec_capacity handles) }
-    ensures most { vec_len result.handles ≤ vec_len gateways }
-    ensures all { IfNone result.refused (vec_len result.handles ≡ vec_len gateways) }
-    ensures refused { IfSome result.refused
-        (λ session. (session ≡ vec_len result.handles) × (session < length streams.entry.now)) }
-    ensures started { AreStarted streams.entry.now gateways.items result.handles.items }
-{
-    let mut handles = handles;
-    for gateway in gateways {
-        let s = handles.len();
-        let stream = streams[s].as_slice();
-        match start(scope, shared.rt, shared.gate, shared.stop, gateway, stream) {
-            Some(handle) => handles.push_reserved(handle),
-            None => {
-                return Started {
-                    handles,
-                    refused: Some(s as u8),
-                };
-            }
-        }
-    }
-    Started {
-        handles,
-        refused: None,
-    }
-}
-
-/// Joins each thread.
-pub(crate) fn join_all<'s, R: Threads, A: Allocator>(
-    rt: &R,
-    handles: Vec<PromisedHandle<Gateway<A>, WorkerPromise<'s, A>>, A>,
-    joined: Vec<Gateway<A>, A>,
-) -> Vec<Gateway<A>, A>
-    requires { (vec_len joined ≡ 0) × (vec_len handles ≤ vec_capacity joined) }
-    ensures len { vec_len result ≡ vec_len handles.entry }
-    ensures kept { AreKept handles.entry.items result.items }
-{
-    let mut joined = joined;
-    for handle in handles {
-        joined.push_reserved(handle.join(rt));
-    }
-    joined
 }
 
 /// Tells the threads that run to stop, and joins them, since the one of this number could not be started.
@@ -197,7 +118,7 @@ fn sessions_in<'r: 's, 's, E, R: Wait + Threads + Sync, G: Gate, A: Allocator + 
     if let Some(session) = refused {
         return Err(stop_workers(shared, workers, session));
     }
-    let Shared { rt, gate, stop } = *shared;
+    let Shared { rt, gate, stop, .. } = *shared;
     let Some(matching) = start_matching(scope, rt, gate, stop, matcher, posted) else {
         return Err(stop_workers(shared, workers, sessions as u8));
     };
@@ -253,6 +174,7 @@ pub fn run_sessions<'r, R: Threads + Wait + Sync, G: Gate, A: Allocator + Copy +
         rt,
         gate,
         stop: &flag,
+        ring: caps.ring,
     };
     let all = streams.as_slice();
     thread::scope(

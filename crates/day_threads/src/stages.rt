@@ -5,7 +5,7 @@ ghost use Rattle.stage_rings.specs.Faults.{IsRingRefusal, IsRingSize};
 ghost use Rattle.day_threads.specs.Streams.{IsWithinLimits};
 ghost use Rattle.day_threads.specs.code.Concluding.{IsMade, IsStagesFault};
 ghost use Rattle.day_threads.specs.code.Posting.{NoneEnded, posted_at};
-ghost use Rattle.day_threads.specs.code.Writing.{ArePostPairs};
+ghost use Rattle.session_threads.specs.code.Writing.{ArePostPairs};
 
 use crate::conclude::of_apply;
 use crate::fault::ThreadsFault;

@@ -18,7 +18,7 @@ ghost use Rattle.spread_journal.specs.JournalText.{journal_text};
 ghost use Rattle.day_apply.specs.Applied.{outgoing_bytes, applied_entries};
 ghost use Rattle.day_lines.specs.Reading.{IsJournalOf, HasParts};
 ghost use Rattle.day_text.specs.DayText.{AreShown, texts_of};
-ghost use Rattle.day_threads.specs.Streams.{whole_at, all_events};
+ghost use Rattle.session_threads.specs.Streams.{whole_at, all_events};
 ghost use Rattle.spread_host.specs.Days.{IsReplayFault, IsPartOut, text_of_day, texts_below};
 ghost use Rattle.spread_host.specs.LiveDays.{IsRunDayFault};
 ghost use Rattle.spread_host.specs.declared.fault.HostFault.{HostFault};

@@ -17,7 +17,7 @@ use Rattle.spread_report.specs.Sessions.{bytes_of}
 use Rattle.day_apply.specs.Applied.{outgoing_bytes, applied_entries}
 use Rattle.day_text.specs.DayText.{AreShown, texts_of}
 use Rattle.day_lines.specs.Reading.{IsJournalOf, HasParts}
-use Rattle.day_threads.specs.Streams.{whole_at}
+use Rattle.session_threads.specs.Streams.{whole_at}
 use Rattle.spread_host.specs.Days.{texts_below}
 
 -- ---- the promises

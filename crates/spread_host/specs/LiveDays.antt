@@ -3,7 +3,8 @@ use Rattle.std.specs.Prelude.{◌≡◌, ℕ, ◌<◌, ◌≤◌, ◌⊎◌, Lis
 use Rattle.std.specs.declared.vec.Vec.{Vec}
 use Rattle.spread_rules.specs.Rulebook.{Rules}
 use Rattle.gate_link.specs.Opening.{IsRefusal}
-use Rattle.day_threads.specs.Streams.{all_events, IsLivePlace, IsSpentLive, IsThread}
+use Rattle.session_threads.specs.Streams.{all_events}
+use Rattle.day_threads.specs.Streams.{IsLivePlace, IsSpentLive, IsThread}
 use Rattle.spread_host.specs.declared.fault.HostFault.{HostFault}
 use Rattle.spread_host.specs.declared.fault.HostFault.TheVariants.{Link, Spawn, JournalFull, NoMemory, NumbersSpent}
 

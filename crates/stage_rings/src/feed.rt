@@ -1,6 +1,7 @@
 //! The ring to the thread that matches: its items are the journal's entries, and one mark that ends them.
-ghost use Rattle.std.specs.Prelude.{◌≡◌, [], length, true};
-ghost use Rattle.rtrb.specs.Ring.{sent, received};
+ghost use Rattle.std.specs.Prelude.{◌≡◌, ◌<◌, [], length, true};
+ghost use Rattle.std.specs.Bool.{OnFalse};
+ghost use Rattle.rtrb.specs.Ring.{sent, received, known_free, ProducerLooked};
 ghost use Rattle.stage_rings.specs.Marks.{ends};
 ghost use Rattle.stage_rings.specs.Feeds.{entries, is_end};
 
@@ -60,6 +61,17 @@ pub enum Taken {
     Ended,
 }
 
+/// Whether the ring is known to have room for so many items, or is found to have it.
+fn has_room<A: Allocator>(producer: &mut Producer<Fed, A>, items: usize) -> bool
+    ensures looked { ProducerLooked producer.old producer.new }
+    ensures room { OnFalse result (known_free producer.new < items) }
+{
+    if items <= producer.cached_slots() {
+        return true;
+    }
+    items <= producer.slots()
+}
+
 impl<A: Allocator> Feeder<A> {
     ghost use Rattle.std.specs.Prelude.{false};
     ghost use mathlib.Core.List.{IsPrefix};
@@ -92,6 +104,9 @@ impl<A: Allocator> Feeder<A> {
         }
         let rest = &journal[self.count..];
         let most = rest.len().min(SLICE).min(self.producer.capacity());
+        if !has_room(&mut self.producer, most) {
+            return Give::Full;
+        }
         let mut items = [Fed::End; SLICE];
         for i in 0..most {
             items[i] = Fed::Entry(rest[i]);

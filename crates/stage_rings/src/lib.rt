@@ -7,9 +7,11 @@ mod feed;
 mod feed_pair;
 mod post;
 mod post_pair;
+mod range;
 
 pub use fault::LinkFault;
 pub use feed::{Feeder, Give, Matcher, Taken};
 pub use feed_pair::{agree, feed_ring};
 pub use post::{Post, Poster, Writer, Wrote};
 pub use post_pair::{finished, post_ring};
+pub use range::fits_entry;

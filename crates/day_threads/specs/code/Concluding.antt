@@ -8,16 +8,16 @@ use Rattle.gate_link.specs.Opening.{AreFresh, IsRefusal}
 use Rattle.stage_rings.specs.Feeding.{given, taken, AreFeedPair}
 use Rattle.day_apply.specs.declared.fault.ApplyFault.{ApplyFault}
 use Rattle.day_apply.specs.declared.fault.ApplyFault.TheVariants as apply
-use Rattle.day_threads.specs.Streams.{IsBeginningOf}
+use Rattle.session_threads.specs.Streams.{IsBeginningOf}
 use Rattle.day_threads.specs.code.Matching.{IsUnfed, MatchEnds}
-use Rattle.day_threads.specs.code.Sequencing.{SequenceEnds}
-use Rattle.day_threads.specs.code.Writing.{AreJoinedPairs, ArePostPairs}
+use Rattle.session_threads.specs.code.Sequencing.{SequenceEnds}
+use Rattle.session_threads.specs.code.Writing.{AreJoinedPairs, ArePostPairs}
 use Rattle.day_threads.specs.declared.fault.ThreadsFault.{ThreadsFault}
 use Rattle.day_threads.specs.declared.fault.ThreadsFault.TheVariants.{Link, NoMemory, NumbersSpent}
 use Rattle.day_threads.specs.declared.matching.Matched.{Matched}
-use Rattle.day_threads.specs.declared.sequence.Sequenced.{Sequenced}
+use Rattle.session_threads.specs.declared.sequencing.Sequenced.{Sequenced}
 use Rattle.day_threads.specs.declared.stages.Stages.{Stages}
-use Rattle.day_threads.specs.declared.writing.Written.{Written}
+use Rattle.session_threads.specs.declared.writing.Written.{Written}
 
 -- the stages of a day that has not begun
 pub record IsMade {A : Type 0} (ring : ℕ) (stages : Stages A) : Type 0 where

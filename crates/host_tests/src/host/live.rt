@@ -161,6 +161,10 @@ impl Gate for MatchedMeanwhile {
         }
     }
 
+    fn most(&self) -> u32 {
+        1
+    }
+
     fn matched(&self, place: u64) {
         if place == 1 {
             self.matched.store(1, Ordering::SeqCst);
@@ -171,11 +175,25 @@ impl Gate for MatchedMeanwhile {
     }
 }
 
-/// Counts the messages of session 0, and notes any that comes out of turn.
+/// Counts the messages of session 0, and notes any that comes out of turn, and how many had come when the first entry was
+/// matched. So many are stepped on together.
 #[derive(Drop)]
 struct InTurn {
+    most: u32,
     next: AtomicU32,
     wrong: AtomicU32,
+    at_first: AtomicU32,
+}
+
+impl InTurn {
+    fn of(most: u32) -> InTurn {
+        InTurn {
+            most,
+            next: AtomicU32::new(0),
+            wrong: AtomicU32::new(0),
+            at_first: AtomicU32::new(0),
+        }
+    }
 }
 
 impl Gate for InTurn {
@@ -183,6 +201,17 @@ impl Gate for InTurn {
         let due = self.next.fetch_add(1, Ordering::SeqCst);
         if session != 0 || message != due {
             self.wrong.store(1, Ordering::SeqCst);
+        }
+    }
+
+    fn most(&self) -> u32 {
+        self.most
+    }
+
+    fn matched(&self, place: u64) {
+        if place == 1 {
+            let come = self.next.load(Ordering::SeqCst);
+            self.at_first.store(come, Ordering::SeqCst);
         }
     }
 }
@@ -248,13 +277,10 @@ fn numbers_of_streams(rt: HostRuntime) -> Result<(), Fail> {
     Ok(())
 }
 
-/// The gate sees each message once, in order.
+/// The gate sees each message once, in order, and all that are stepped on together before the first of them is.
 #[test]
 fn each_message_once(rt: HostRuntime) -> Result<(), Fail> {
-    let gate = InTurn {
-        next: AtomicU32::new(0),
-        wrong: AtomicU32::new(0),
-    };
+    let gate = InTurn::of(64);
     let rulebook = Rulebook::read(THREE_MONTHS)?;
     let rules = DayRules {
         rulebook: &rulebook,
@@ -263,6 +289,7 @@ fn each_message_once(rt: HostRuntime) -> Result<(), Fail> {
     let streams = streams_of(rt.alloc(), 1, FIRST_TRADE)?;
     let day = run_sessions(&rt, rt.alloc(), &rules, streams, &gate, USUAL)?;
     assert!(rt; gate.next.load(Ordering::SeqCst) == 4);
+    assert!(rt; gate.at_first.load(Ordering::SeqCst) == 4);
     assert!(rt; gate.wrong.load(Ordering::SeqCst) == 0);
     assert!(rt; day.applied.fills.len() == 2);
     let events = part(rt.alloc(), &day.journal, 0)?;
@@ -291,24 +318,24 @@ fn test_requests(alloc: Global, count: u32) -> Result<Vec<u8>, Fail> {
     Ok(stream)
 }
 
-/// The gate sees each message once also where the ring is full and a message has to be stepped on again.
+/// The gate sees each message once also where the ring is full and messages have to be stepped on again, however many are
+/// stepped on together.
 #[test]
 fn each_message_once_over_a_full_ring(rt: HostRuntime) -> Result<(), Fail> {
-    let gate = InTurn {
-        next: AtomicU32::new(0),
-        wrong: AtomicU32::new(0),
-    };
-    let mut streams = Vec::new(rt.alloc());
-    streams.push(test_requests(rt.alloc(), 300)?)?;
-    let caps = Caps {
-        ring: 1,
-        journal: 1_000,
-    };
     let rulebook = Rulebook::read(THREE_MONTHS)?;
-    let day = run_day(&rt, rt.alloc(), &rulebook, stamp(), streams, &gate, caps)?;
-    assert!(rt; day.journal.len() == 302);
-    assert!(rt; gate.next.load(Ordering::SeqCst) == 301);
-    assert!(rt; gate.wrong.load(Ordering::SeqCst) == 0);
+    for (ring, most) in [(1, 64), (4, 3), (4, 64), (64, 1), (256, 0), (256, u32::MAX)] {
+        let gate = InTurn::of(most);
+        let mut streams = Vec::new(rt.alloc());
+        streams.push(test_requests(rt.alloc(), 300)?)?;
+        let caps = Caps {
+            ring,
+            journal: 1_000,
+        };
+        let day = run_day(&rt, rt.alloc(), &rulebook, stamp(), streams, &gate, caps)?;
+        assert!(rt; day.journal.len() == 302);
+        assert!(rt; gate.next.load(Ordering::SeqCst) == 301);
+        assert!(rt; gate.wrong.load(Ordering::SeqCst) == 0);
+    }
     Ok(())
 }
 
@@ -380,7 +407,8 @@ fn journal_of_just_enough(rt: HostRuntime) -> Result<(), Fail> {
     Ok(())
 }
 
-/// Sixteen sessions over rings of one event.
+/// Sixteen sessions and their writers over rings of one item, more threads than processors: each session is answered,
+/// its Logon first.
 #[test]
 fn sixteen_sessions(rt: HostRuntime) -> Result<(), Fail> {
     let rulebook = Rulebook::read(THREE_MONTHS)?;
@@ -391,6 +419,10 @@ fn sixteen_sessions(rt: HostRuntime) -> Result<(), Fail> {
     };
     let day = run_day(&rt, rt.alloc(), &rulebook, stamp(), streams, &Open, caps)?;
     assert!(rt; day.journal.len() == 64);
+    assert!(rt; day.out.len() == 16);
+    for list in &day.out {
+        assert!(rt; list.starts_with(b"8=FIX.4.2\x019=57\x0135=A\x0134=1\x01"));
+    }
     let want = first_trade();
     for session in 0..16u8 {
         let events = part(rt.alloc(), &day.journal, session)?;

@@ -1,5 +1,5 @@
 //! The writers of what the sessions are sent. Each day ends by itself, whatever the schedule.
-use super::live::{Open, USUAL, comes, streams_of};
+use super::live::{USUAL, comes, streams_of};
 use super::reported::{FIRST_TRADE_SENT, lists_with_bytes};
 use day_threads::{Caps, Gate};
 use spread_host::run_day;
@@ -91,24 +91,6 @@ fn totals_grow(rt: HostRuntime) -> Result<(), Fail> {
         assert!(rt; gate.last.load(Ordering::SeqCst) == FIRST_TRADE_SENT.len() as u64);
         let first = day.out.first().ok_or("a list")?;
         assert!(rt; first.as_slice() == FIRST_TRADE_SENT);
-    }
-    Ok(())
-}
-
-/// Sixteen sessions and their writers, more threads than processors, over rings of one item: each session is
-/// answered, its Logon first.
-#[test]
-fn sixteen_writers(rt: HostRuntime) -> Result<(), Fail> {
-    let rulebook = Rulebook::read(THREE_MONTHS)?;
-    let streams = streams_of(rt.alloc(), 16, FIRST_TRADE)?;
-    let caps = Caps {
-        ring: 1,
-        journal: 64,
-    };
-    let day = run_day(&rt, rt.alloc(), &rulebook, stamp(), streams, &Open, caps)?;
-    assert!(rt; day.out.len() == 16);
-    for list in &day.out {
-        assert!(rt; list.starts_with(b"8=FIX.4.2\x019=57\x0135=A\x0134=1\x01"));
     }
     Ok(())
 }

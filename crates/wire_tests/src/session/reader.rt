@@ -144,7 +144,7 @@ fn a_day_cut_anywhere(rt: HostRuntime) -> Result<(), Fail> {
     Ok(())
 }
 
-/// Messages are judged ahead, and nothing changes. A gateway's tests pass them.
+/// Messages are judged ahead, and nothing changes.
 #[test]
 fn judged_ahead(rt: HostRuntime) -> Result<(), Fail> {
     let day = bytes_of(rt.alloc(), DAY)?;
@@ -167,5 +167,26 @@ fn judged_ahead(rt: HostRuntime) -> Result<(), Fail> {
     }
     assert!(rt; reader.look() == Some(Verdict::Event(logon())));
     assert!(rt; reader.standing(64) == 4);
+    Ok(())
+}
+
+/// The messages that were judged ahead are passed together.
+#[test]
+fn passed_ahead(rt: HostRuntime) -> Result<(), Fail> {
+    let day = bytes_of(rt.alloc(), DAY)?;
+    let mut reader = Reader::new();
+    assert!(rt; reader.put(&day) == 400);
+    let none = Entry {
+        session: 0,
+        event: close(0),
+    };
+    let mut entries = [none; 64];
+    let two = reader.judge_ahead(3, 2, &mut entries);
+    if two.messages == 0 {
+        return Err("no message stands".into());
+    }
+    reader.pass_ahead(&two);
+    assert!(rt; reader.standing(64) == 2);
+    assert!(rt; reader.look() == Some(Verdict::Event(order(b"b", Side::Buy))));
     Ok(())
 }

@@ -12,14 +12,15 @@ use Rattle.day_apply.specs.Applied.{IsApplyFault, applied_entries, outgoing_byte
 use Rattle.day_apply.specs.Sending.{sending_rules, stamp_of}
 use Rattle.day_apply.proofs.EntryByEntry.{texts_length}
 use Rattle.day_apply.proofs.HandedOn.{behind_length}
-use Rattle.day_threads.specs.Streams.{IsBeginningOf, IsLivePlace, IsThreadsFault}
+use Rattle.session_threads.specs.Streams.{IsBeginningOf}
+use Rattle.day_threads.specs.Streams.{IsLivePlace, IsThreadsFault}
 use Rattle.day_threads.specs.code.Matching.{MatchEnds}
 use Rattle.day_threads.specs.code.Posting.{HasPosted, posted_at}
-use Rattle.day_threads.specs.code.Sequencing.{SequenceEnds}
-use Rattle.day_threads.specs.code.Writing.{written_at}
+use Rattle.session_threads.specs.code.Sequencing.{SequenceEnds}
+use Rattle.session_threads.specs.code.Writing.{written_at}
 use Rattle.day_threads.specs.declared.matching.MatchEnd.{MatchEnd}
-use Rattle.day_threads.specs.declared.sequence.SequenceEnd.{SequenceEnd}
-use Rattle.day_threads.specs.declared.writing.Written.{Written}
+use Rattle.session_threads.specs.declared.sequencing.SequenceEnd.{SequenceEnd}
+use Rattle.session_threads.specs.declared.writing.Written.{Written}
 use Rattle.day_threads.proofs.CollectedBytes.{collected}
 use Rattle.day_threads.proofs.JoinedParts.{agrees_prefix, agrees_whole, parts_of_front, live_fault}
 use Rattle.day_threads.proofs.conclude.conclude.Goals as goal

@@ -2,8 +2,8 @@ use Rattle.std.proofs.Common.{arith, ◌≡◌, ◌≢◌, ◌<◌, ◌≤◌, �
 use Rattle.std.specs.Vec.Iter.{into_iter_items}
 use Rattle.spread_report.specs.Sessions.{bytes_of}
 use Rattle.gate_link.proofs.links.PartOfASession.{row_at, row_other}
-use Rattle.day_threads.specs.code.Writing.{bytes_written, written_at}
-use Rattle.day_threads.proofs.ElementByElement.{next_is}
+use Rattle.session_threads.specs.code.Writing.{bytes_written, written_at}
+use Rattle.session_threads.proofs.ElementByElement.{next_is}
 use Rattle.day_threads.proofs.JoinedParts.{row_written}
 use Rattle.day_threads.proofs.conclude.with_written.Goals as goal
 

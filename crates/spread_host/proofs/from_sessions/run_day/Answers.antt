@@ -1,6 +1,6 @@
 use Rattle.std.proofs.Common.{◌∙◌}
 use Rattle.gate_link.proofs.links.PartOfASession.{row_past}
-use Rattle.day_threads.specs.Streams.{whole_stream}
+use Rattle.session_threads.specs.Streams.{whole_stream}
 use Rattle.spread_host.proofs.DayOfParts.{DayHolds, day_holds}
 use Rattle.spread_host.proofs.SessionsWithoutEntries.{silent}
 use Rattle.spread_host.proofs.from_sessions.run_day.Goals as goal

@@ -1,6 +1,7 @@
-use Rattle.std.proofs.Common.{true, arith, ◌≡◌, ◌∙◌, sym, ap, length, ◌≤◌, ◌++◌, take, subst}
+use Rattle.std.proofs.Common.{true, arith, List, ◌≡◌, ◌∙◌, sym, ap, length, ◌≤◌, ◌++◌, take, subst}
 use Rattle.rtrb.specs.Ring.{sent}
 use Rattle.stage_rings.specs.Feeds.{entries, is_end}
+use Rattle.stage_rings.specs.declared.feed.Fed.{Fed}
 use Rattle.stage_rings.specs.Marks.{ends}
 use Rattle.stage_rings.proofs.Feeds.{items_of, slice_more}
 use Rattle.stage_rings.proofs.Giving.{left, length-left, gave, front_prefix, gave_length}
@@ -16,7 +17,7 @@ whole g c =
 pushed : (g : _) (c : In-Ok g) → (ends is_end (sent c.push_entire_slice.new.self) c.args.self.now.ended ≡ true) × (entries (sent c.push_entire_slice.new.self) ≡ entries (sent c.args.self.now.producer) ++ take c.min-most.result (left c.args.journal.now c.args.self.now.count))
 pushed g c =
     let f = c.args.self.now in
-    slice_more (sent f.producer) (sent c.push_entire_slice.new.self) (take c.min-most.result c.loop-i.items) (take c.min-most.result (left c.args.journal.now f.count)) f.ended f.shape c.if-self.false c.in-Ok.ensures.ok.0 (whole g c)
+    slice_more (sent f.producer) (sent c.push_entire_slice.new.self) (take c.min-most.result c.loop-i.items) (take c.min-most.result (left c.args.journal.now f.count)) f.ended f.shape c.if-self.false (c.in-Ok.ensures.ok.0 ∙ ap (λ (xs : List Fed). xs ++ take c.min-most.result c.loop-i.items) c.has_room.ensures.looked.1) (whole g c)
 
 few : (g : _) (c : In-Ok g) → c.min-most.result ≤ length (left c.args.journal.now c.args.self.now.count)
 few g c = omega (arith, c.min-most.ensures, c.min.ensures)

@@ -1,0 +1,7 @@
+pub mod ElementByElement
+pub mod FullJournal
+pub mod JoinedWorkers
+pub mod SentAndOwed
+pub mod SequencedJournal
+pub mod StartedWorkers
+pub mod Writers

@@ -1,0 +1,39 @@
+-- What a worker hands back.
+use Rattle.std.proofs.Common.{◌≡◌, ℕ, ◌+◌, ◌-◌, List, ◌++◌, length, take, drop, sym, ap, ◌∙◌}
+use Rattle.std.proofs.lemmas.List.{drop-drop, length-drop, take-append-drop}
+use Rattle.std.proofs.Math.Seq.{take-length}
+use Rattle.fix_session.specs.Steps.{new_session}
+use Rattle.spread_rules.specs.declared.event.Event.{Event}
+use Rattle.fix_wire.specs.Frames.{frames}
+use Rattle.fix_session.specs.declared.session.Session.{Session}
+use Rattle.fix_session.proofs.events.StateOfPlaces.{whole_law}
+use Rattle.gate_link.specs.Owed.{events_left}
+use Rattle.fix_session.specs.Streams.{whole}
+use Rattle.gate_link.specs.Gateways.{events_sent, pending_events, session_state, bytes_held, SameGateway}
+use Rattle.gate_link.specs.declared.gateway.Gateway.{Gateway}
+use Rattle.gate_link.proofs.gateways.SentAndOwed.{kept_of_put, sent_is_prefix, sent_is_whole}
+use Rattle.session_threads.specs.code.Workers.{HasSent, IsUnused, sent_and_pending}
+
+pub sent_of : {A : Type 0} (stream : List ℕ) (a b : Gateway A) (rest : List ℕ) → SameGateway a b → sent_and_pending b rest ≡ whole stream → HasSent stream a b
+sent_of stream a b rest same total = (same, sent_is_prefix b rest (whole stream) total, sent_is_whole b rest (whole stream) total)
+
+-- what a gateway that has done nothing has left to say is all events of its stream
+pub unused_owes : {A : Type 0} (stream : List ℕ) (g : Gateway A) → IsUnused g → sent_and_pending g stream ≡ whole stream
+unused_owes stream g is =
+    ap (λ (t : List Event). t ++ events_left (session_state g) (bytes_held g) stream) is.0
+    ∙ (ap (λ (s : Session). events_left s (bytes_held g) stream) is.1
+    ∙ (ap (λ (held : List ℕ). events_left new_session held stream) is.2 ∙ whole_law (frames stream)))
+
+-- bytes that were put are no longer to come
+pub fed : {A : Type 0} (a b : Gateway A) (stream : List ℕ) (put n : ℕ) → events_sent b ≡ events_sent a
+    → ((more : List ℕ) → pending_events b more ≡ pending_events a (take n (take (length stream - put) (drop put stream)) ++ more))
+    → sent_and_pending b (drop (put + n) stream) ≡ sent_and_pending a (drop put stream)
+fed a b stream put n sent owed =
+    let rest = drop put stream in
+    let piece = take (length stream - put) rest in
+    let later = drop (put + n) stream in
+    let all : piece ≡ rest = ap (λ k. take k rest) (sym (length-drop put stream)) ∙ take-length rest in
+    kept_of_put a b (take n piece) later sent (owed later)
+    ∙ (ap (λ (t : List ℕ). events_sent a ++ pending_events a (take n t ++ later)) all
+    ∙ (ap (λ (t : List ℕ). events_sent a ++ pending_events a (take n rest ++ t)) (sym (drop-drop n put stream))
+    ∙ ap (λ (t : List ℕ). events_sent a ++ pending_events a t) (take-append-drop n rest)))

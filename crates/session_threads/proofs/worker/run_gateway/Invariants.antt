@@ -1,0 +1,13 @@
+use Rattle.std.proofs.Common.{◌≡◌, ◌≤◌, ◌++◌, length, drop}
+use Rattle.fix_session.specs.Streams.{whole}
+use Rattle.gate_link.specs.Gateways.{events_sent, pending_events, SameGateway}
+use Rattle.gate_link.specs.declared.gateway.TheConstants.{MAX_SLICE}
+use Rattle.session_threads.proofs.worker.run_gateway.Given as goal
+
+abbrev pub invariant-loop : goal.invariant-loop
+invariant-loop g l = record {
+  gate : SameGateway l.initial.gateway l.gateway;
+  put : l.put ≤ length l.stream;
+  total : events_sent l.gateway ++ pending_events l.gateway (drop l.put l.stream) ≡ whole l.stream;
+  seen : l.seen ≤ MAX_SLICE;
+}

@@ -1,0 +1,18 @@
+//! The threads of the sessions: one that judges each session's stream and sends its events, the turns that make one
+//! journal of them, and one for each session that takes what it is sent.
+#![tactic(auto)]
+
+mod idle;
+mod sequencing;
+mod turns;
+mod worker;
+mod workers;
+mod writing;
+
+pub use idle::{found, rest};
+pub use sequencing::{SequenceEnd, Sequenced, sequence};
+pub use worker::{Gate, WorkerPromise};
+pub use workers::{Shared, Started, WorkerHandle, Workers, join_all, start_all};
+pub use writing::{
+    StartedWriters, WritePromise, WritingHandle, Written, join_writers, start_writers,
+};

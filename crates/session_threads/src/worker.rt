@@ -1,0 +1,187 @@
+//! One session's thread: it judges the session's stream and sends its events.
+ghost use Rattle.std.specs.Prelude.{◌≡◌, ◌≤◌, ℕ, List, length, drop, true, IfSome};
+ghost use Rattle.gate_link.specs.declared.gateway.Gateway.{Gateway};
+ghost use Rattle.gate_link.specs.declared.gateway.Step.TheVariants.{Closed};
+ghost use Rattle.gate_link.specs.declared.gateway.TheConstants.{MAX_SLICE};
+ghost use Rattle.gate_link.specs.Gateways.{is_over};
+ghost use Rattle.session_threads.specs.code.Workers.{IsUnused, HasSent, SameEvents};
+
+use crate::idle::{found, rest};
+use crate::workers::{Shared, WorkerHandle};
+use gate_link::{Burst, Gateway, MAX_SLICE, Step};
+use std::alloc::Allocator;
+use std::snapshot::Snapshot;
+use std::sync::Wait;
+use std::sync::atomic::{AtomicBool, Ordering};
+use std::thread::{Promise, Scope, Threads};
+
+/// Sees each message of each session before it is judged, each entry after it was matched, and each piece of a
+/// session's outgoing bytes after it was taken, and may hold the thread that it is called in.
+pub trait Gate: Sync {
+    /// Called once before a session first steps on a message. Messages count from 0, and stay at the greatest u32. Of
+    /// messages that are stepped on together each is named before the first of them is stepped on, also one behind a
+    /// message that closes the session.
+    fn before(&self, session: u8, message: u32);
+
+    /// How many messages a session steps on together: 1 to 64, and no more than its ring takes. What lies beyond counts as
+    /// the bound.
+    fn most(&self) -> u32 {
+        MAX_SLICE as u32
+    }
+
+    /// Called by the matching thread after the entry of that place was applied, and all that it sends was given to the
+    /// writers.
+    fn matched(&self, _place: u64) {}
+
+    /// Called by the thread of a session's writer after it took more bytes: so many it has in all.
+    fn written(&self, _session: u8, _total: u64) {}
+}
+
+/// What a worker's thread gives back: its own gateway, with what it sent of its own stream.
+#[derive(Drop)]
+pub struct WorkerPromise<'a, A: Allocator> {
+    pub gateway: Snapshot<Gateway<A>>,
+    pub stream: &'a [u8],
+}
+
+impl<'a, A: Allocator> Promise<Gateway<A>> for WorkerPromise<'a, A> {
+    ghost kept_by = { λ p g. HasSent p.stream.now p.gateway.value g };
+}
+
+/// Puts the stream into the gateway and sends its events, so many messages at once, until the gateway is closed or the
+/// flag is set.
+pub fn run_gateway<R: Wait, G: Gate, A: Allocator>(
+    rt: &R,
+    gate: &G,
+    stop: &AtomicBool,
+    most: u32,
+    gateway: Gateway<A>,
+    stream: &[u8],
+) -> Gateway<A>
+    requires unused { IsUnused gateway }
+    requires most { most ≤ MAX_SLICE }
+    ensures { HasSent stream.now gateway result }
+{
+    let mut gateway = gateway;
+    let mut put = 0usize;
+    let mut message = 0u32;
+    let mut seen = 0u32;
+    let mut looks = 0u32;
+    for _ in rt.forever() {
+        if stop.load(Ordering::SeqCst) {
+            return gateway;
+        }
+        if seen == 0 {
+            seen = call_gate(gate, &mut gateway, most, message);
+        }
+        match step_or_end(&mut gateway, seen, &stream[put..]) {
+            Step::Sent | Step::Skipped => {
+                message = message.saturating_add(seen);
+                seen = 0;
+                looks = found(looks);
+            }
+            Step::Need => put = put_bytes(&mut gateway, stream, put),
+            Step::Full => looks = rest(rt, looks),
+            Step::Closed => return gateway,
+        }
+    }
+    unreachable!()
+}
+
+/// Puts what it can of the stream from here on, and says how far it has come.
+fn put_bytes<A: Allocator>(gateway: &mut Gateway<A>, stream: &[u8], put: usize) -> usize
+    requires { put ≤ length stream.now }
+    ensures within { result ≤ length stream.now }
+    ensures kept { SameEvents gateway.old (drop put stream.now) gateway.new
+        (drop result stream.now) }
+{
+    put + gateway.put(&stream[put..])
+}
+
+/// Calls the gate for each message that is held, at most so many, and says how many they are.
+fn call_gate<G: Gate, A: Allocator>(
+    gate: &G,
+    gateway: &mut Gateway<A>,
+    most: u32,
+    message: u32,
+) -> u32
+    ensures few { result ≤ most }
+    ensures same { gateway.new ≡ gateway.old }
+{
+    let held = gateway.standing(most);
+    for k in 0..held {
+        gate.before(gateway.session(), message.saturating_add(k));
+    }
+    held
+}
+
+/// Makes a step on the messages that were seen, or where there are none on what is held, which is the end where nothing
+/// is left of the stream.
+fn step_or_end<A: Allocator>(gateway: &mut Gateway<A>, seen: u32, rest: &[u8]) -> Step
+    requires { seen ≤ MAX_SLICE }
+    ensures kept { SameEvents gateway.old rest.now gateway.new rest.now }
+    ensures closed { result ≡ Closed → is_over gateway.new ≡ true }
+{
+    if 0 < seen {
+        return step_together(gateway, seen);
+    }
+    if rest.is_empty() {
+        return gateway.end();
+    }
+    gateway.step()
+}
+
+/// Makes a step on so many messages.
+fn step_together<A: Allocator>(gateway: &mut Gateway<A>, seen: u32) -> Step
+    requires { (1 ≤ seen) × (seen ≤ MAX_SLICE) }
+    ensures kept { (rest : List ℕ) → SameEvents gateway.old rest gateway.new rest }
+    ensures closed { result ≡ Closed → is_over gateway.new ≡ true }
+{
+    match gateway.step_many(seen) {
+        Burst::Sent(_) => Step::Sent,
+        Burst::Skipped => Step::Skipped,
+        Burst::Need => Step::Need,
+        Burst::Full => Step::Full,
+        Burst::Closed => Step::Closed,
+    }
+}
+
+/// How many messages a session steps on together, where the gate and the ring have these bounds.
+fn slice_of(asked: u32, ring: usize) -> u32
+    ensures { (1 ≤ result) × (result ≤ MAX_SLICE) }
+{
+    ring.min(MAX_SLICE).min(asked as usize).max(1) as u32
+}
+
+/// A thread of the scope for one session.
+pub fn start<'r: 's, 's, E, R: Wait + Threads + Sync, G: Gate, A: Allocator + Send + 's>(
+    scope: &Scope<'s, E>,
+    shared: &Shared<'r, 's, R, G>,
+    gateway: Gateway<A>,
+    stream: &'s [u8],
+) -> Option<WorkerHandle<'s, A>>
+    requires { IsUnused gateway }
+    ensures { IfSome result
+        (λ h. (h.promise.gateway.value ≡ gateway) × (h.promise.stream.now ≡ stream.entry.now)) }
+{
+    let promise = WorkerPromise {
+        gateway: Snapshot::of(&gateway),
+        stream,
+    };
+    let Shared {
+        rt,
+        gate,
+        stop,
+        ring,
+    } = *shared;
+    let most = slice_of(gate.most(), ring);
+    let started = scope.spawn_with(
+        promise,
+        move || -> Gateway<A>
+            requires unused { IsUnused gateway }
+            requires most { most ≤ MAX_SLICE }
+            ensures { HasSent stream.entry.now gateway result }
+        { run_gateway(rt, gate, stop, most, gateway, stream) },
+    );
+    started.ok()
+}

@@ -1,0 +1,95 @@
+//! A thread for each session's stream: all are started, and all are joined.
+ghost use Rattle.std.specs.Prelude.{◌≡◌, ◌<◌, ◌≤◌, ℕ, length, IfNone, IfSome, vec_len, vec_capacity};
+ghost use Rattle.host_base.specs.declared.limits.TheConstants.{SESSIONS};
+ghost use Rattle.gate_link.specs.declared.gateway.Gateway.{Gateway};
+ghost use Rattle.gate_link.specs.Opening.{AreFresh};
+ghost use Rattle.session_threads.specs.code.Handing.{AreStarted, AreKept};
+
+use crate::worker::{Gate, WorkerPromise, start};
+use gate_link::Gateway;
+use std::alloc::Allocator;
+use std::sync::Wait;
+use std::sync::atomic::AtomicBool;
+use std::thread::{PromisedHandle, Scope, Threads};
+
+/// The handle of a session's thread.
+pub type WorkerHandle<'s, A> = PromisedHandle<Gateway<A>, WorkerPromise<'s, A>>;
+
+/// What the threads of all sessions share.
+#[derive(Drop)]
+pub struct Shared<'r, 's, R, G> {
+    pub rt: &'r R,
+    pub gate: &'r G,
+    pub stop: &'s AtomicBool,
+    /// How many items each ring takes.
+    pub ring: usize,
+}
+
+/// The handles of the threads that were started, and the session of the one that was refused.
+#[derive(Drop)]
+pub struct Started<'s, A: Allocator> {
+    pub handles: Vec<WorkerHandle<'s, A>, A>,
+    pub refused: Option<u8>,
+}
+
+/// The handles of all threads of sessions, and room for the gateways that they hand back.
+#[derive(Drop)]
+pub struct Workers<'s, A: Allocator> {
+    pub handles: Vec<WorkerHandle<'s, A>, A>,
+    pub room: Vec<Gateway<A>, A>,
+}
+
+/// Starts a thread for each gateway, up to the first that is refused.
+pub fn start_all<'r: 's, 's, E, R: Wait + Threads + Sync, G: Gate, A: Allocator + Send + 's>(
+    scope: &Scope<'s, E>,
+    shared: &Shared<'r, 's, R, G>,
+    gateways: Vec<Gateway<A>, A>,
+    streams: &'s [Vec<u8, A>],
+    handles: Vec<WorkerHandle<'s, A>, A>,
+) -> Started<'s, A>
+    requires fresh { (ring : ℕ) × AreFresh ring gateways.items }
+    requires streams { vec_len gateways ≡ length streams.now }
+    requires few { vec_len gateways ≤ SESSIONS }
+    requires room { (vec_len handles ≡ 0) × (vec_len gateways ≤ vec_capacity handles) }
+    ensures most { vec_len result.handles ≤ vec_len gateways }
+    ensures all { IfNone result.refused (vec_len result.handles ≡ vec_len gateways) }
+    ensures refused { IfSome result.refused
+        (λ session. (session ≡ vec_len result.handles) × (session < length streams.entry.now)) }
+    ensures started { AreStarted streams.entry.now gateways.items result.handles.items }
+{
+    let mut handles = handles;
+    for gateway in gateways {
+        let s = handles.len();
+        let stream = streams[s].as_slice();
+        match start(scope, shared, gateway, stream) {
+            Some(handle) => handles.push_reserved(handle),
+            None => {
+                return Started {
+                    handles,
+                    refused: Some(s as u8),
+                };
+            }
+        }
+    }
+    Started {
+        handles,
+        refused: None,
+    }
+}
+
+/// Joins each thread.
+pub fn join_all<'s, R: Threads, A: Allocator>(
+    rt: &R,
+    handles: Vec<WorkerHandle<'s, A>, A>,
+    joined: Vec<Gateway<A>, A>,
+) -> Vec<Gateway<A>, A>
+    requires { (vec_len joined ≡ 0) × (vec_len handles ≤ vec_capacity joined) }
+    ensures len { vec_len result ≡ vec_len handles.entry }
+    ensures kept { AreKept handles.entry.items result.items }
+{
+    let mut joined = joined;
+    for handle in handles {
+        joined.push_reserved(handle.join(rt));
+    }
+    joined
+}

@@ -1,0 +1,160 @@
+//! One session's writer, in a thread of its own.
+ghost use Rattle.std.specs.Prelude.{◌≡◌, ◌<◌, ◌≤◌, IfSome, IfNone, vec_len, vec_capacity};
+ghost use Rattle.host_base.specs.declared.limits.TheConstants.{SESSIONS};
+ghost use Rattle.stage_rings.specs.declared.post.Writer.{Writer};
+ghost use Rattle.stage_rings.specs.Posting.{SameWriter};
+ghost use Rattle.session_threads.specs.code.Writing.{AreWriting, AreWritten};
+
+use crate::idle::{found, rest};
+use crate::worker::Gate;
+use gate_link::{Writer, Wrote};
+use std::alloc::Allocator;
+use std::snapshot::Snapshot;
+use std::sync::Wait;
+use std::sync::atomic::{AtomicBool, Ordering};
+use std::thread;
+use std::thread::{Promise, PromisedHandle, Scope, Threads};
+
+/// What a writer's thread hands back: its own end of the ring, with the bytes that it took, and whether it found no
+/// memory for more.
+#[derive(Drop)]
+pub struct Written<A: Allocator> {
+    pub writer: Writer<A>,
+    pub refused: bool,
+}
+
+/// What it promises: its own end of the ring.
+#[derive(Drop)]
+pub struct WritePromise<A: Allocator> {
+    pub writer: Snapshot<Writer<A>>,
+}
+
+impl<A: Allocator> Promise<Written<A>> for WritePromise<A> {
+    ghost kept_by = { λ p r. SameWriter p.writer.value r.writer };
+}
+
+/// The handle of a writer's thread.
+pub type WritingHandle<A> = PromisedHandle<Written<A>, WritePromise<A>>;
+
+/// The handles of the writers' threads that were started, and the session of the one that was refused.
+#[derive(Drop)]
+pub struct StartedWriters<A: Allocator> {
+    pub handles: Vec<WritingHandle<A>, A>,
+    pub refused: Option<u8>,
+}
+
+/// Takes the bytes as they come, until the end mark is taken, or the flag is set and none is there; where it finds no
+/// memory it sets the flag.
+fn write_all<R: Wait, G: Gate, A: Allocator>(
+    rt: &R,
+    gate: &G,
+    stop: &AtomicBool,
+    session: u8,
+    writer: Writer<A>,
+) -> Written<A>
+    ensures { SameWriter writer result.writer }
+{
+    let mut writer = writer;
+    let mut looks = 0u32;
+    for _ in rt.forever() {
+        match writer.take() {
+            Ok(Wrote::Bytes(_)) => {
+                looks = found(looks);
+                gate.written(session, writer.bytes().len() as u64);
+            }
+            Ok(Wrote::Ended) => return handed(writer, false),
+            Ok(Wrote::Empty) => {
+                if stop.load(Ordering::SeqCst) {
+                    return handed(writer, false);
+                }
+                looks = rest(rt, looks);
+            }
+            Err(_) => {
+                stop.store(true, Ordering::SeqCst);
+                return handed(writer, true);
+            }
+        }
+    }
+    unreachable!()
+}
+
+fn handed<A: Allocator>(writer: Writer<A>, refused: bool) -> Written<A>
+    ensures { (result.writer ≡ writer) × (result.refused ≡ refused) }
+{
+    Written { writer, refused }
+}
+
+/// A thread of the scope for one session's writer.
+fn start_writer<'s, E, R: Wait + Threads + Sync, G: Gate, A: Allocator + Send + 's>(
+    scope: &Scope<'s, E>,
+    rt: &'s R,
+    gate: &'s G,
+    stop: &'s AtomicBool,
+    session: u8,
+    writer: Writer<A>,
+) -> Option<WritingHandle<A>>
+    ensures { IfSome result (λ h. h.promise.writer.value ≡ writer) }
+{
+    let promise = WritePromise {
+        writer: Snapshot::of(&writer),
+    };
+    let started = scope.spawn_with(
+        promise,
+        move || -> Written<A>
+            ensures { SameWriter writer result.writer }
+        { write_all(rt, gate, stop, session, writer) },
+    );
+    started.ok()
+}
+
+/// Starts a thread for each writer, up to the first that is refused.
+pub fn start_writers<'s, E, R: Wait + Threads + Sync, G: Gate, A: Allocator + Send + 's>(
+    scope: &Scope<'s, E>,
+    rt: &'s R,
+    gate: &'s G,
+    stop: &'s AtomicBool,
+    writers: Vec<Writer<A>, A>,
+    handles: Vec<WritingHandle<A>, A>,
+) -> StartedWriters<A>
+    requires few { vec_len writers ≤ SESSIONS }
+    requires room { (vec_len handles ≡ 0) × (vec_len writers ≤ vec_capacity handles) }
+    ensures most { vec_len result.handles ≤ vec_len writers }
+    ensures all { IfNone result.refused (vec_len result.handles ≡ vec_len writers) }
+    ensures refused { IfSome result.refused (λ session. session < vec_len writers) }
+    ensures started { AreWriting writers.items result.handles.items }
+{
+    let mut handles = handles;
+    for writer in writers {
+        let session = handles.len() as u8;
+        match start_writer(scope, rt, gate, stop, session, writer) {
+            Some(handle) => handles.push_reserved(handle),
+            None => {
+                return StartedWriters {
+                    handles,
+                    refused: Some(session),
+                };
+            }
+        }
+    }
+    StartedWriters {
+        handles,
+        refused: None,
+    }
+}
+
+/// Joins each writer's thread.
+pub fn join_writers<R: Threads, A: Allocator>(
+    rt: &R,
+    handles: Vec<WritingHandle<A>, A>,
+    joined: Vec<Written<A>, A>,
+) -> Vec<Written<A>, A>
+    requires { (vec_len joined ≡ 0) × (vec_len handles ≤ vec_capacity joined) }
+    ensures len { vec_len result ≡ vec_len handles }
+    ensures kept { AreWritten handles.items result.items }
+{
+    let mut joined = joined;
+    for handle in handles {
+        joined.push_reserved(handle.join(rt));
+    }
+    joined
+}
