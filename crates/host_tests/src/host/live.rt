@@ -175,6 +175,19 @@ impl Gate for MatchedMeanwhile {
     }
 }
 
+/// So many messages are stepped on together.
+struct Together {
+    most: u32,
+}
+
+impl Gate for Together {
+    fn before(&self, _session: u8, _message: u32) {}
+
+    fn most(&self) -> u32 {
+        self.most
+    }
+}
+
 /// Counts the messages of session 0, and notes any that comes out of turn, and how many had come when the first entry was
 /// matched. So many are stepped on together.
 #[derive(Drop)]
@@ -335,6 +348,51 @@ fn each_message_once_over_a_full_ring(rt: HostRuntime) -> Result<(), Fail> {
         assert!(rt; day.journal.len() == 302);
         assert!(rt; gate.next.load(Ordering::SeqCst) == 301);
         assert!(rt; gate.wrong.load(Ordering::SeqCst) == 0);
+    }
+    Ok(())
+}
+
+/// The events of a Logon and so many TestRequests.
+fn said_by_requests(alloc: Global, count: u32) -> Result<Vec<Event>, AllocError> {
+    let mut events = Vec::new(alloc);
+    events.push(Event::Logon {
+        client: id(b"C1"),
+        host: id(b"HOST"),
+        beat: 30,
+    })?;
+    for _ in 0..count {
+        events.push(Event::TestReply { text: id(b"T") })?;
+    }
+    events.push(Event::Close { reason: 5 })?;
+    Ok(events)
+}
+
+/// However many messages are stepped on together, over a ring of any size, a session's part is what its stream says.
+#[test]
+fn slices_of_every_size(rt: HostRuntime) -> Result<(), Fail> {
+    let rulebook = Rulebook::read(THREE_MONTHS)?;
+    let first_said = said_by_requests(rt.alloc(), 70)?;
+    let second_said = first_trade();
+    for ring in [1, 2, 5, 64, 4_096] {
+        for most in 1..=64u32 {
+            let mut streams = Vec::new(rt.alloc());
+            streams.push(test_requests(rt.alloc(), 70)?)?;
+            streams.push(Vec::from_slice(rt.alloc(), FIRST_TRADE)?)?;
+            let caps = Caps { ring, journal: 100 };
+            let day = run_day(
+                &rt,
+                rt.alloc(),
+                &rulebook,
+                stamp(),
+                streams,
+                &Together { most },
+                caps,
+            )?;
+            let first = part(rt.alloc(), &day.journal, 0)?;
+            assert!(rt; first.as_slice() == first_said.as_slice());
+            let second = part(rt.alloc(), &day.journal, 1)?;
+            assert!(rt; second.as_slice() == second_said.as_slice());
+        }
     }
     Ok(())
 }
