@@ -176,6 +176,7 @@ impl Gate for MatchedMeanwhile {
 }
 
 /// So many messages are stepped on together.
+#[derive(Drop)]
 struct Together {
     most: u32,
 }
