@@ -25,7 +25,7 @@ fn apply_all<A: Allocator + Copy>(
 ) -> Result<Applied<A>, Fault>
     requires { All FitsEntry journal.now }
 {
-    let mut market = Market::new(alloc, rulebook, IndexBook::new(alloc));
+    let mut market = Market::new(alloc, rulebook, IndexBook::new(alloc, rulebook)?);
     let mut fills = Vec::new(alloc);
     let mut outcomes = Vec::new(alloc);
     for n in 0..journal.len() {
@@ -43,7 +43,7 @@ fn match_all<A: Allocator + Copy>(
 ) -> Result<u64, Fault>
     requires { All FitsEntry journal.now }
 {
-    let mut market = Market::new(alloc, rulebook, IndexBook::new(alloc));
+    let mut market = Market::new(alloc, rulebook, IndexBook::new(alloc, rulebook)?);
     let mut fills = Vec::new(alloc);
     let mut count = 0u64;
     for n in 0..journal.len() {

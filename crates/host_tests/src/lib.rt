@@ -1,8 +1,6 @@
-//! Tests of `gate_link` and `spread_host`.
+//! Tests of the days and of `spread_host`.
 #![tactic(auto)]
 
 pub mod headline;
 #[cfg(test)]
 mod host;
-#[cfg(test)]
-mod link;

@@ -14,6 +14,7 @@ use test_support::{THREE_MONTHS, id};
 
 mod market;
 mod memory_refused;
+mod quotes;
 mod refusals;
 mod rows;
 mod sizes;

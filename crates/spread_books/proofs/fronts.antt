@@ -1,3 +1,5 @@
-pub mod Changes
-pub mod FoldGivesFront
-pub mod TableHoldsFronts
+pub mod PairCost
+pub mod BeatAnyPair
+pub mod Levels
+pub mod Suffice
+pub mod MonthPairs

@@ -1,2 +1,4 @@
-pub mod Index
-pub mod FrontPrices
+pub mod Best
+pub mod Cheapest
+pub mod QuoteTable
+pub mod PairQuote

@@ -1,14 +1,13 @@
-//! Books of resting orders by price and time.
+//! The book of a market: resting orders by price and time, and what the fronts of their queues together offer.
 #![tactic(auto)]
 
-mod book;
-mod front_book;
+mod best;
+mod cheapest;
 mod index;
-mod list;
-mod tree;
+mod pair_quote;
+mod quote_table;
+mod quoted_book;
 
-pub use book::Book;
-pub use front_book::FrontBook;
+pub use best::best_candidate;
 pub use index::IndexBook;
-pub use list::ListBook;
-pub use tree::TreeBook;
+pub use order_books::{Book, FrontBook, ListBook, TreeBook};

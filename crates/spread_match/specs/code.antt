@@ -1,4 +1,3 @@
-pub mod Best
 pub mod StateAfter
 pub mod Statuses
 pub mod Turns

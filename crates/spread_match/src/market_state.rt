@@ -9,7 +9,8 @@ ghost use Rattle.spread_rules.specs.Prices.{IsOrderPrice};
 ghost use Rattle.spread_rules.specs.Meaning.{has_id, refusal_or_instrument, outcome_of, order_of};
 ghost use Rattle.spread_rules.specs.Rulebook.{month_count, find_symbol};
 ghost use Rattle.spread_match.specs.State.{empty_state};
-ghost use Rattle.spread_match.specs.Trade.{IsInMonths, IsNearBeforeFar, IsPriced};
+ghost use Rattle.spread_books.specs.Listed.{IsInMonths, IsNearBeforeFar};
+ghost use Rattle.spread_match.specs.Trade.{IsPriced};
 ghost use Rattle.spread_match.specs.code.StateAfter.{statuses_after, with_order, with_refusal, refusal_in, matched_in, cancel_in, meaning_in, state_after, state_with, orders_after_trading, IsReady};
 ghost use Rattle.spread_match.specs.code.Turns.{IsNewest};
 

@@ -1,9 +1,11 @@
-//! What tests share: an allocator that refuses one request, ends that fail, and the worked examples' samples.
+//! What tests share: an allocator that refuses one request, ends that fail, choices by seed, and the worked examples' samples.
 #![tactic(auto)]
 
+mod chance;
 mod refusing;
 mod samples;
 
+pub use chance::Chance;
 pub use host_base::{TestSink, TestSource};
 pub use refusing::Refusing;
 pub use samples::{

@@ -5,11 +5,11 @@ use super::checked::{add, amend, reduce, remove};
 use super::queues::is;
 use host_base::{Id, NoMemory};
 use spread_books::{Book, FrontBook, IndexBook, ListBook, TreeBook};
-use spread_rules::{Instrument, Order, Side};
+use spread_rules::{Instrument, Order, Rulebook, Side};
 use std::alloc::Allocator;
 use std::process::Abort;
 use std::test::Fail;
-use test_support::{Refusing, id};
+use test_support::{Chance, Refusing, THREE_MONTHS, id};
 
 fn sell(place: u64, name: &[u8]) -> Order {
     Order {
@@ -79,32 +79,12 @@ fn stand<B: Book>(
     Ok(())
 }
 
-/// Numbers without a pattern.
-#[derive(Drop)]
-struct Chance {
-    state: u64,
-}
-
-impl Chance {
-    /// The next one, below that.
-    fn below(&mut self, most: usize) -> usize
-        requires { 0 < most }
-        ensures { result < most }
-    {
-        self.state = self
-            .state
-            .wrapping_mul(6_364_136_223_846_793_005)
-            .wrapping_add(1_442_695_040_888_963_407);
-        (self.state >> 33) as usize % most
+/// One of so many orders.
+fn one_of(chance: &mut Chance, resting: usize) -> usize {
+    if resting == 0 {
+        return 0;
     }
-
-    /// One of so many orders.
-    fn order(&mut self, resting: usize) -> usize {
-        if resting == 0 {
-            return 0;
-        }
-        self.below(resting)
-    }
+    chance.below(resting)
 }
 
 /// A change of one order.
@@ -148,7 +128,7 @@ fn order(chance: &mut Chance, place: u64) -> Order {
 
 /// A change of a book with so many orders. More than a third of them amend one.
 fn next_change(chance: &mut Chance, place: u64, resting: usize) -> Change {
-    let n = chance.order(resting);
+    let n = one_of(chance, resting);
     match chance.below(8) {
         0 | 1 | 2 => Change::Add(order(chance, place)),
         3 => Change::Reduce(n, chance.below(5) as u32),
@@ -198,7 +178,7 @@ fn run<B: Book, A: Allocator + Copy>(
     seed: u64,
 ) -> Result<usize, Fail> {
     let mut list = ListBook::new(alloc);
-    let mut chance = Chance { state: seed };
+    let mut chance = Chance::new(seed);
     let mut amended: usize = 0;
     for place in 1..80 {
         let next = next_change(&mut chance, place, list.len());
@@ -227,26 +207,40 @@ fn amended_by_hand(rt: HostRuntime) -> Result<(), Fail> {
     amended_in_place(&rt, &mut ListBook::new(rt.alloc()))?;
     amended_in_place(&rt, &mut TreeBook::new(rt.alloc()))?;
     amended_in_place(&rt, &mut FrontBook::new(rt.alloc()))?;
-    amended_in_place(&rt, &mut IndexBook::new(rt.alloc()))
+    let rules = Rulebook::read(THREE_MONTHS)?;
+    amended_in_place(&rt, &mut IndexBook::new(rt.alloc(), &rules)?)
 }
 
 #[test]
 fn amended_at_random(rt: HostRuntime) -> Result<(), Fail> {
+    let rules = Rulebook::read(THREE_MONTHS)?;
     for seed in 0..6 {
         assert!(rt; run(&rt, &mut TreeBook::new(rt.alloc()), rt.alloc(), seed)? > 5);
         assert!(rt; run(&rt, &mut FrontBook::new(rt.alloc()), rt.alloc(), seed)? > 5);
-        assert!(rt; run(&rt, &mut IndexBook::new(rt.alloc()), rt.alloc(), seed)? > 5);
+        assert!(rt;
+            run(
+                &rt,
+                &mut IndexBook::new(rt.alloc(), &rules)?,
+                rt.alloc(),
+                seed
+            )? > 5
+        );
     }
     Ok(())
 }
 
 #[test]
 fn amended_without_memory(rt: HostRuntime) -> Result<(), Fail> {
+    let rules = Rulebook::read(THREE_MONTHS)?;
     for number in 1..20 {
         let heap = Refusing::new(rt.alloc(), number);
         run(&rt, &mut TreeBook::new(&heap), rt.alloc(), number)?;
         let heap = Refusing::new(rt.alloc(), number);
-        run(&rt, &mut IndexBook::new(&heap), rt.alloc(), number)?;
+        if let Ok(mut book) = IndexBook::new(&heap, &rules) {
+            run(&rt, &mut book, rt.alloc(), number)?;
+        } else {
+            assert!(rt; heap.has_refused());
+        }
     }
     Ok(())
 }

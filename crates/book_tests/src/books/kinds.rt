@@ -3,8 +3,9 @@ use super::queues::{
     buyers, last_leaves, one_after_another, one_comes_behind, queues_apart, sellers,
 };
 use spread_books::{FrontBook, IndexBook, ListBook, TreeBook};
-use spread_rules::Instrument;
+use spread_rules::{Instrument, Rulebook};
 use std::test::Fail;
+use test_support::THREE_MONTHS;
 
 #[test]
 fn list_book(rt: HostRuntime) -> Result<(), Fail> {
@@ -47,13 +48,14 @@ fn front_book(rt: HostRuntime) -> Result<(), Fail> {
 
 #[test]
 fn index_book(rt: HostRuntime) -> Result<(), Fail> {
-    sellers(&rt, &mut IndexBook::new(rt.alloc()))?;
-    buyers(&rt, &mut IndexBook::new(rt.alloc()))?;
-    queues_apart(&rt, &mut IndexBook::new(rt.alloc()))?;
-    one_after_another(&rt, &mut IndexBook::new(rt.alloc()))?;
+    let rules = Rulebook::read(THREE_MONTHS)?;
+    sellers(&rt, &mut IndexBook::new(rt.alloc(), &rules)?)?;
+    buyers(&rt, &mut IndexBook::new(rt.alloc(), &rules)?)?;
+    queues_apart(&rt, &mut IndexBook::new(rt.alloc(), &rules)?)?;
+    one_after_another(&rt, &mut IndexBook::new(rt.alloc(), &rules)?)?;
     for queue in [Instrument::Outright(0), Instrument::Spread(1, 24)] {
-        last_leaves(&rt, &mut IndexBook::new(rt.alloc()), queue)?;
-        one_comes_behind(&rt, &mut IndexBook::new(rt.alloc()), queue)?;
+        last_leaves(&rt, &mut IndexBook::new(rt.alloc(), &rules)?, queue)?;
+        one_comes_behind(&rt, &mut IndexBook::new(rt.alloc(), &rules)?, queue)?;
     }
     Ok(())
 }

@@ -22,7 +22,7 @@ fn expect_resting(
 ) -> Result<(), Fail>
     requires { All FitsEntry journal.now }
 {
-    let mut applied = AppliedEntries::new(alloc, rules);
+    let mut applied = AppliedEntries::new(alloc, rules)?;
     for entry in journal {
         applied.apply(entry)?;
     }

@@ -93,7 +93,7 @@ fn apply_all(
 ) -> Result<Vec<Fill>, Fail>
     requires { All FitsEntry journal.now }
 {
-    let mut applied = AppliedEntries::new(alloc, rules);
+    let mut applied = AppliedEntries::new(alloc, rules)?;
     let mut seen = 0usize;
     for entry in journal {
         applied.apply(entry)?;

@@ -1,5 +1,5 @@
 //! Each request for memory that a market makes, refused in turn.
-ghost use Rattle.std.specs.Prelude.{◌<◌, ◌≡◌, OnOk};
+ghost use Rattle.std.specs.Prelude.{◌<◌, ◌≡◌, [], IfOk, OnOk};
 ghost use Rattle.spread_match.specs.Trade.{ArePriced, IsPriced};
 
 use super::{are_priced, buy, sell};
@@ -42,6 +42,16 @@ fn apply_again<B: Allocator, A: Allocator + Copy>(
     }
 }
 
+/// An empty book, made again where a request was refused.
+fn empty_book<A: Allocator + Copy>(heap: A, rules: &Rulebook) -> Result<IndexBook<A>, NoMemory>
+    ensures { IfOk result (λ b. b ≡ []) }
+{
+    match IndexBook::new(heap, rules) {
+        Ok(book) => Ok(book),
+        Err(NoMemory) => IndexBook::new(heap, rules),
+    }
+}
+
 /// How many fills the entries of a journal come to over this heap.
 fn fills_of<B: Allocator>(
     rt: &impl Abort,
@@ -51,7 +61,7 @@ fn fills_of<B: Allocator>(
 ) -> Result<usize, Fail>
     requires { ArePriced journal.now }
 {
-    let mut market = Market::new(heap, rules, IndexBook::new(heap));
+    let mut market = Market::new(heap, rules, empty_book(heap, rules)?);
     let mut fills = Vec::new(heap);
     for n in 0..journal.len() {
         apply_again(rt, heap, &mut market, n as u64 + 1, &journal[n], &mut fills)?;

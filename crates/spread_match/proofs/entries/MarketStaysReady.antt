@@ -17,7 +17,8 @@ use Rattle.spread_rules.specs.Meaning.{is_own, has_id, is_refused, refusal_or_in
 use Rattle.spread_rules.specs.Rulebook.{Rules, month_count, references_of, find_symbol}
 use Rattle.spread_rules.proofs.clearings.TurnsEnd.{keeps_turns, members_rest, next_meets}
 use Rattle.spread_match.specs.State.{MarketState}
-use Rattle.spread_match.specs.Trade.{IsNearFirst, IsInMonths, IsNearBeforeFar, IsTradable, IsPriced}
+use Rattle.spread_books.specs.Listed.{IsNearFirst, IsInMonths, IsNearBeforeFar}
+use Rattle.spread_match.specs.Trade.{IsTradable, IsPriced}
 use Rattle.spread_match.specs.code.StateAfter.{IsReady, first_status, state_after, meaning_in}
 use Rattle.spread_match.proofs.status_rows.InOrder.{renewed_within}
 use Rattle.spread_match.proofs.turns.NotAgainstItself.{are_apart}

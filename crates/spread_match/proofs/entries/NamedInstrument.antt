@@ -8,7 +8,7 @@ use Rattle.spread_rules.specs.declared.order.Instrument.{Instrument}
 use Rattle.spread_rules.specs.declared.order.Instrument.TheVariants.{Outright, Spread}
 use Rattle.spread_rules.specs.Rulebook.{Rules, month_count, instruments_of, IsListed, symbol_of, find_symbol, references_of, IsRules, IsMonth}
 use Rattle.spread_rules.proofs.rulebook_texts.SymbolsNameOne.{from_instruments}
-use Rattle.spread_match.specs.Trade.{IsInMonths, IsNearBeforeFar}
+use Rattle.spread_books.specs.Listed.{IsInMonths, IsNearBeforeFar}
 use Rattle.spread_match.proofs.entries.FoundStands.{find_stands}
 
 pub listed_found : (rules : Rules) (symbol : List ℕ) (i : Instrument) → find_symbol rules symbol ≡ Some i → IsListed rules i

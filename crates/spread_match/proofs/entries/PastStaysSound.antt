@@ -17,7 +17,8 @@ use Rattle.spread_rules.specs.declared.event.Event.{Event}
 use Rattle.spread_rules.specs.declared.event.Event.TheVariants.{Logon, New, Cancel, TestReply, Gap, Resend, Reject, Close}
 use Rattle.spread_rules.specs.declared.outcome.Outcome.{Outcome}
 use Rattle.spread_rules.specs.declared.outcome.Outcome.TheVariants.{Refused, Session}
-use Rattle.spread_match.specs.Trade.{IsNearFirst, IsInMonths, IsNearBeforeFar, IsTradable, IsPriced}
+use Rattle.spread_books.specs.Listed.{IsNearFirst, IsInMonths, IsNearBeforeFar}
+use Rattle.spread_match.specs.Trade.{IsTradable, IsPriced}
 use Rattle.spread_match.specs.code.StateAfter.{statuses_after, first_status, meaning_in, state_after}
 use Rattle.spread_match.specs.Sound.{IsSound, IsCounted, IsEntered, KeepsLimit, IsStateOf, IsEntryApplied}
 use Rattle.spread_match.proofs.status_rows.FillsAndStatuses.{IsRunning, running}

@@ -28,7 +28,7 @@ use Rattle.spread_rules.proofs.clearings.BoughtIsSold.{on_price}
 use Rattle.spread_match.specs.Sound.{IsSound, IsCounted, IsFillWithinLimits}
 use Rattle.spread_match.specs.Trade.{IsPriced, ArePriced}
 use Rattle.spread_match.proofs.status_rows.FillsAndStatuses.{IsRunning, running_with}
-use Rattle.spread_match.proofs.fronts.PairCost.{so_is}
+use Rattle.spread_books.proofs.fronts.PairCost.{so_is}
 use Rattle.spread_match.proofs.entries.NewOrder.{taken_is, not_refused, traded_all}
 use Rattle.spread_match.proofs.entries.NamedInstrument.{listed_found, small_references}
 use Rattle.spread_match.proofs.entries.PastStaysSound.{started, entry_kept, rests_all}

@@ -4,9 +4,9 @@ use Rattle.spread_rules.specs.declared.order.Order.{Order}
 use Rattle.order_tables.specs.Amended.{amended, with_quantity}
 use Rattle.order_tables.specs.Places.{Ascends}
 use Rattle.order_tables.proofs.places.Ascending.{ascends_changed}
-use Rattle.spread_books.specs.Queues.{CanAmend}
-use Rattle.spread_books.proofs.keys.TablesThroughChanges.{from_both}
-use Rattle.spread_books.proofs.places.LastOrder.{changed_newest, changed_before, amend_before}
+use Rattle.order_books.specs.Queues.{CanAmend}
+use Rattle.order_books.proofs.keys.TablesThroughChanges.{from_both}
+use Rattle.order_books.proofs.places.LastOrder.{changed_newest, changed_before, amend_before}
 use Rattle.spread_books.proofs.index.IndexBookBook.amend.Goals as goal
 
 pub returns-in-Some-clause-ok : goal.returns-in-Some-clause-ok

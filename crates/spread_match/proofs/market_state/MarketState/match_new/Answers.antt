@@ -3,7 +3,8 @@ use Rattle.spread_rules.specs.declared.order.Order.{Order}
 use Rattle.spread_rules.specs.declared.fill.Fill.{Fill}
 use Rattle.spread_rules.specs.Clearing.{clear, removed, Trading, begin}
 use Rattle.spread_rules.specs.declared.outcome.OrderStatus.{OrderStatus}
-use Rattle.spread_match.specs.Trade.{IsTradable, IsNearFirst, IsInMonths}
+use Rattle.spread_books.specs.Listed.{IsNearFirst, IsInMonths}
+use Rattle.spread_match.specs.Trade.{IsTradable}
 use Rattle.spread_match.specs.code.StateAfter.{orders_after_trading, statuses_after, entered_status, state_with, refused_if_used}
 use Rattle.spread_rules.specs.Candidates.{HasOrderPrice, all_on}
 use Rattle.spread_match.proofs.entries.NewOrder.{tradable_more, settled_is, newest_after, dropped, turns_most, below_new, clear_same, rest_is, room_new, first_is_four}

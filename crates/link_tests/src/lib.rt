@@ -1,0 +1,5 @@
+//! Tests of `gate_link` and `stage_rings`.
+#![tactic(auto)]
+
+#[cfg(test)]
+mod link;

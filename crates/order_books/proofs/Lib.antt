@@ -1,0 +1,3 @@
+pub mod places
+pub mod fronts
+pub mod keys

@@ -1,0 +1,70 @@
+//! What a book of resting orders does.
+ghost use Rattle.std.specs.Prelude.{◌≡◌, ℕ, ◌<◌, ◌++◌, ◌∷◌, [], List, length, slice_get, OnOk, OnErr, All};
+ghost use Rattle.std.specs.List.{find};
+ghost use Rattle.spread_rules.specs.Clearing.{reduced, removed};
+ghost use Rattle.spread_rules.specs.Meaning.{is_own};
+ghost use Rattle.spread_rules.specs.declared.order.Order.{Order};
+ghost use Rattle.order_tables.specs.Amended.{amended};
+ghost use Rattle.order_books.specs.Queues.{CanAmend, IsFront, IsFrontLevel};
+ghost use Rattle.order_tables.specs.Places.{HasMore, HasPlace};
+
+use host_base::{Id, NoMemory};
+use spread_rules::{Instrument, Level, Order, Side};
+
+/// Resting orders, seen as the list of them in order of place.
+pub trait Book {
+    ghost orders: { Self → List Order };
+
+    /// The front of a queue: the best price for who meets it, then the earliest place. None where no order of that
+    /// instrument and side rests. Takes no memory.
+    fn front(&self, instrument: Instrument, side: Side) -> Option<Order>
+        ensures { IsFront (orders self.now) instrument side result };
+
+    /// Where the front of a queue stands, for who asks no more of it than its price. None where no order of that
+    /// instrument and side rests. Takes no memory.
+    fn front_level(&self, instrument: Instrument, side: Side) -> Option<Level>
+        ensures { IsFrontLevel (orders self.now) instrument side result }
+    {
+        match self.front(instrument, side) {
+            None => None,
+            Some(order) => Some(order.level()),
+        }
+    }
+
+    /// The session's resting order with that id. Takes no memory.
+    fn find(&self, session: u8, id: &Id) -> Option<Order>
+        ensures { result ≡ find (is_own session id.now) (orders self.now) };
+
+    /// The order rests, behind all others: its place is above theirs. All growth comes before the change, so after
+    /// NoMemory nothing has changed.
+    fn add(&mut self, order: Order) -> Result<(), NoMemory>
+        requires { All (λ o. o.place < order.place) (orders self.old) }
+        ensures ok { OnOk result (orders self.new ≡ orders self.old ++ order ∷ []) }
+        ensures err { OnErr result (orders self.new ≡ orders self.old) };
+
+    /// So many lots fewer are left of the order of that place, which rests with more left. Takes no memory.
+    fn reduce(&mut self, place: u64, by: u32)
+        requires { HasMore (orders self.old) place by }
+        ensures { orders self.new ≡ reduced place by (orders self.old) };
+
+    /// The order of that place takes that id and that quantity, what is filled included, and keeps its place. All growth
+    /// comes before the change, so after NoMemory nothing has changed.
+    fn amend(&mut self, place: u64, id: Id, quantity: u32) -> Result<(), NoMemory>
+        requires { CanAmend (orders self.old) place id quantity }
+        ensures ok { OnOk result
+            (orders self.new ≡ amended place id quantity (orders self.old)) }
+        ensures err { OnErr result (orders self.new ≡ orders self.old) };
+
+    /// The order of that place rests no longer. Takes no memory.
+    fn remove(&mut self, place: u64)
+        requires { HasPlace (orders self.old) place }
+        ensures { orders self.new ≡ removed place (orders self.old) };
+
+    /// The n-th resting order from 0 in order of place. Takes no memory.
+    fn walk(&self, n: usize) -> Option<Order>
+        ensures { result ≡ slice_get (orders self.now) n };
+
+    /// How many orders rest. Takes no memory.
+    fn len(&self) -> usize
+        ensures { result ≡ length (orders self.now) };
+}

@@ -1,0 +1,14 @@
+//! Books of resting orders by price and time: one list, ordered tables, and tables with the best prices at hand.
+#![tactic(auto)]
+
+mod book;
+mod front_book;
+mod list;
+mod queue;
+mod tree;
+
+pub use book::Book;
+pub use front_book::FrontBook;
+pub use list::ListBook;
+pub use queue::{front_with, is_in, is_own};
+pub use tree::TreeBook;

@@ -1,0 +1,155 @@
+//! A book over ordered tables: its orders by place, and their keys by queue and by id.
+ghost use Rattle.std.specs.Prelude.{◌≡◌, ◌<◌, ◌^◌, ◌==◌, [], length};
+ghost use Rattle.std.specs.List.{find};
+ghost use Rattle.spread_rules.specs.Clearing.{reduced, removed};
+ghost use Rattle.order_tables.specs.Places.{HasMore, HasPlace, Ascends};
+
+use crate::book::Book;
+use host_base::{Id, NoMemory};
+use order_tables::{OwnKey, PlaceRows, QueueKey, first_from, with_quantity};
+use spread_rules::{Instrument, Order, Side};
+use std::alloc::Allocator;
+use std::collections::BTreeSet;
+use std::marker::Model;
+
+/// Resting orders by place, and their keys by queue and by id.
+#[derive(Drop)]
+pub struct TreeBook<A: Allocator + Copy> {
+    orders: PlaceRows<A>,
+    queues: BTreeSet<QueueKey, A>,
+    ids: BTreeSet<OwnKey, A>,
+}
+
+impl<A: Allocator + Copy> Model for TreeBook<A> {
+    ghost use Rattle.std.specs.Prelude.{List};
+    ghost use Rattle.spread_rules.specs.declared.order.Order.{Order};
+    ghost use Rattle.order_books.specs.code.Index.{IsIndex};
+
+    ghost Value = { List Order };
+
+    ghost view = { λ b. b.orders };
+
+    ghost invariant = { λ b. IsIndex b.orders b.queues b.ids };
+}
+
+impl<A: Allocator + Copy> TreeBook<A> {
+    /// A book in which no order rests. Takes no memory yet.
+    pub fn new(alloc: A) -> Self
+        ensures { result ≡ [] }
+    {
+        TreeBook {
+            orders: PlaceRows::new(alloc),
+            queues: BTreeSet::new(alloc),
+            ids: BTreeSet::new(alloc),
+        }
+    }
+
+    /// As `len`. There is no memory for as many as a `usize` counts.
+    pub(crate) fn count(&self) -> usize
+        ensures count { result ≡ length self.now }
+        ensures small { result < 2 ^ 63 }
+    {
+        self.orders.count()
+    }
+
+    /// The order of that place. Takes no memory.
+    pub(crate) fn order_at(&self, place: u64) -> Option<Order>
+        ensures value { result ≡ find (λ o. o.place == place) self.now }
+        ensures ordered { Ascends self.now }
+    {
+        self.orders.get(place)
+    }
+
+    /// As `reduce`, and tells which order it was. Takes no memory.
+    pub(crate) fn reduce_order(&mut self, place: u64, by: u32) -> Option<Order>
+        requires { HasMore self.old place by }
+        ensures book { self.new ≡ reduced place by self.old }
+        ensures was { result ≡ find (λ o. o.place == place) self.old }
+        ensures ordered { Ascends self.old }
+    {
+        self.orders.reduce(place, by)
+    }
+
+    /// As `remove`, and gives the order. Takes no memory.
+    pub(crate) fn remove_order(&mut self, place: u64) -> Option<Order>
+        requires { HasPlace self.old place }
+        ensures book { self.new ≡ removed place self.old }
+        ensures was { result ≡ find (λ o. o.place == place) self.old }
+        ensures ordered { Ascends self.old }
+    {
+        if let Some(order) = self.orders.remove(place) {
+            self.queues.remove(&QueueKey::new(&order));
+            self.ids.remove(&OwnKey::new(&order));
+            return Some(order);
+        }
+        None
+    }
+}
+
+impl<A: Allocator + Copy> Book for TreeBook<A> {
+    ghost orders = { λ b. b };
+
+    fn front(&self, instrument: Instrument, side: Side) -> Option<Order> {
+        let start = QueueKey::start(instrument, side);
+        let key = first_from(&self.queues, start)?;
+        if !key.is_in_queue_of(&start) {
+            return None;
+        }
+        self.order_at(key.place())
+    }
+
+    fn find(&self, session: u8, id: &Id) -> Option<Order> {
+        let start = OwnKey::start(session, id);
+        let key = first_from(&self.ids, start)?;
+        if !key.has_id_of(&start) {
+            return None;
+        }
+        self.order_at(key.place())
+    }
+
+    fn add(&mut self, order: Order) -> Result<(), NoMemory> {
+        let queue = QueueKey::new(&order);
+        let own = OwnKey::new(&order);
+        if self.queues.insert(queue).is_err() {
+            return Err(NoMemory);
+        }
+        if self.ids.insert(own).is_err() {
+            self.queues.remove(&queue);
+            return Err(NoMemory);
+        }
+        if self.orders.push(order).is_err() {
+            self.ids.remove(&own);
+            self.queues.remove(&queue);
+            return Err(NoMemory);
+        }
+        Ok(())
+    }
+
+    fn reduce(&mut self, place: u64, by: u32) {
+        self.reduce_order(place, by);
+    }
+
+    fn amend(&mut self, place: u64, id: Id, quantity: u32) -> Result<(), NoMemory> {
+        if let Some(was) = self.orders.get(place) {
+            let amended = with_quantity(&was, id, quantity);
+            if self.ids.insert(OwnKey::new(&amended)).is_err() {
+                return Err(NoMemory);
+            }
+            self.ids.remove(&OwnKey::new(&was));
+            self.orders.amend(place, id, quantity);
+        }
+        Ok(())
+    }
+
+    fn remove(&mut self, place: u64) {
+        self.remove_order(place);
+    }
+
+    fn walk(&self, n: usize) -> Option<Order> {
+        self.orders.nth(n)
+    }
+
+    fn len(&self) -> usize {
+        self.count()
+    }
+}

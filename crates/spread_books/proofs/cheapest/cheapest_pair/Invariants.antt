@@ -1,0 +1,7 @@
+use Rattle.spread_books.specs.code.Cheapest.{IsCheapest}
+use Rattle.spread_books.proofs.cheapest.cheapest_pair.Given as goal
+
+abbrev pub invariant-loop-other_month : goal.invariant-loop-other_month
+invariant-loop-other_month g l = record {
+  cheapest : IsCheapest (g.B.Book.orders l.book) l.side l.month l.other_month l.least;
+}

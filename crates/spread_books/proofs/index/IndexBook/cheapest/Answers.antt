@@ -1,0 +1,39 @@
+use Rattle.std.proofs.Common.{◌≡◌, ℕ, List, ◌++◌, Option, Some, sym, ap, subst, ◌∙◌}
+use Rattle.std.specs.Option.{option_to_list}
+use Rattle.host_base.specs.declared.limits.TheConstants.{MAX_MONTHS}
+use Rattle.spread_rules.specs.declared.order.Order.{Order}
+use Rattle.spread_books.specs.code.Cheapest.{KeepsCost}
+use Rattle.spread_books.specs.code.QuoteTable.{ChangesOneQueue}
+use Rattle.spread_books.proofs.quotes.Costs.{others_when_it_comes}
+use Rattle.spread_books.proofs.quotes.Columns.{kept_row}
+use Rattle.spread_books.proofs.quotes.Tables.{column_kept}
+use Rattle.spread_books.proofs.index.IndexBook.cheapest.Goals as goal
+
+-- with the newest order the others' fronts cost what they did, but for one queue
+with_newest : (xs zs : List Order) (newest : Option Order) (o : Order) → newest ≡ Some o → xs ++ option_to_list newest ≡ zs → ChangesOneQueue xs zs o.instrument o.side
+with_newest xs zs newest o is whole j t other =
+    subst (λ (ys : List Order). KeepsCost xs ys j t) (ap (λ (r : Option Order). xs ++ option_to_list r) (sym is) ∙ whole) (others_when_it_comes xs o j t other)
+
+one_month : (via k : ℕ) → Some via ≡ Some k → k ≡ via
+one_month via k e = cc
+
+pub returns-in-None : goal.returns-in-None
+returns-in-None g c =
+    let xs = c.self.inside.others in
+    let zs = c.args.self.now in
+    let o = c.in-Some-newest.newest in
+    let one = with_newest xs zs c.self.inside.newest o c.in-Some-newest.is c.self.view_is in
+    kept_row xs zs c.args.side c.args.month MAX_MONTHS c.in-Some.held
+    (λ k lt. column_kept xs zs o.instrument o.side c.args.side c.args.month k one (λ at. let none = sym c.in-None.is ∙ c.other_month_of.ensures k at in cc))
+    c.in-Some.ensures
+
+pub returns-in-Some-other_month_of : goal.returns-in-Some-other_month_of
+returns-in-Some-other_month_of g c =
+    let xs = c.self.inside.others in
+    let zs = c.args.self.now in
+    let o = c.in-Some-newest.newest in
+    let via = c.in-Some-other_month_of.via in
+    let one = with_newest xs zs c.self.inside.newest o c.in-Some-newest.is c.self.view_is in
+    c.renewed_pair.ensures xs
+    (λ k other. column_kept xs zs o.instrument o.side c.args.side c.args.month k one (λ at. other (one_month via k (sym c.in-Some-other_month_of.is ∙ c.other_month_of.ensures k at))))
+    c.in-Some.ensures

@@ -1,0 +1,39 @@
+use Rattle.std.proofs.Common.{ℕ, refl, sym, subst, ◌∙◌, arith, inl, inr}
+use Rattle.spread_rules.specs.Candidates.{all_on}
+use Rattle.spread_books.specs.code.Cheapest.{KeepsOthers}
+use Rattle.spread_books.specs.code.QuoteTable.{HasCheapest}
+use Rattle.spread_books.proofs.fronts.Suffice.{less_or_same}
+use Rattle.spread_books.proofs.quotes.Tables.{cell_as}
+use Rattle.spread_books.proofs.quote_table.QuoteTable.renew_months.Goals as goal
+
+pub loop-month-init : goal.loop-month-init
+loop-month-init g c = record {
+  rest = λ t m other. refl;
+  later = λ m lt. refl;
+  own = λ xs m lt. absurd (omega (arith, lt));
+}
+
+pub loop-month-preserved : goal.loop-month-preserved
+loop-month-preserved g c =
+    let ys = g.B.Book.orders c.args.book.now in
+    let s = c.args.side in
+    let k = c.loop-month.month in
+    let was = c.loop-month.invariant in
+    let one = c.renew_cell.ensures in
+    record {
+      rest = λ t m other. one.rest t m (λ q. other q.0) ∙ was.rest t m other;
+      later = λ m lt. one.rest s m (λ q. let e = q.1 in omega (arith, lt, e)) ∙ was.later m (omega (arith, lt));
+      own = λ xs m lt keep h.
+          elim (less_or_same all_on m k lt) [
+            | inl before ↦ cell_as c.args.months ys c.loop-month.self c.renew_cell.new.self s m (one.rest s m (λ q. let e = q.1 in omega (arith, before, e))) (was.own xs m before keep h)
+            | inr e ↦
+                let mine : HasCheapest c.args.months xs c.loop-month.self s k = cell_as c.args.months xs c.args.self.now c.loop-month.self s k (was.later k (omega arith)) (subst (λ (j : ℕ). HasCheapest c.args.months xs c.args.self.now s j) e h) in
+                subst (λ (j : ℕ). HasCheapest c.args.months ys c.renew_cell.new.self s j) (sym e) (one.own xs (subst (λ (j : ℕ). KeepsOthers xs ys s j c.args.via) e keep) mine)
+          ];
+    }
+
+pub returns-clause-rest : goal.returns-clause-rest
+returns-clause-rest g c = c.loop-month.invariant.rest
+
+pub returns-clause-own : goal.returns-clause-own
+returns-clause-own g c = λ xs m lt keep h. (let end = c.loop-month-test.false in c.loop-month.invariant.own xs m (omega (arith, lt, end)) keep h)

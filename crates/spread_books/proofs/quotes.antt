@@ -1,0 +1,4 @@
+pub mod Costs
+pub mod Columns
+pub mod Tables
+pub mod Implied

@@ -1,8 +1,0 @@
-use Rattle.spread_books.proofs.keys.TablesThroughChanges.{index_reduced}
-use Rattle.std.proofs.Common.{List, sym, subst}
-use Rattle.spread_rules.specs.declared.order.Order.{Order}
-use Rattle.spread_books.specs.code.Index.{IsIndex}
-use Rattle.spread_books.proofs.tree.TreeBook.reduce_order.Goals as goal
-
-pub invariant_of-self : goal.invariant_of-self
-invariant_of-self g c = subst (λ (xs : List Order). IsIndex xs c.self.inside.queues c.self.inside.ids) (sym c.reduce.ensures.book) (index_reduced c.self.inside.orders c.self.inside.queues c.self.inside.ids c.args.place c.args.by c.self.invariant)

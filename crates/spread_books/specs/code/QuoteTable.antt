@@ -1,0 +1,75 @@
+-- A table of the pairs of fronts that cost the least, one for each month and side, and when it stays one.
+-- Words of the code alone.
+use Rattle.std.specs.Prelude.{◌≡◌, ℕ, ◌+◌, ◌*◌, ◌<◌, ◌≤◌, int_le, Bool, true, false, List, [], ◌∷◌, ◌++◌, Contains, All, Option, Some, None, slice_get}
+use Rattle.host_base.specs.declared.limits.TheConstants as limits
+use Rattle.spread_rules.specs.declared.order.Side.{Side}
+use Rattle.spread_rules.specs.declared.order.Instrument.{Instrument}
+use Rattle.spread_rules.specs.declared.order.Order.{Order}
+use Rattle.spread_rules.specs.declared.order.Level.{Level}
+use Rattle.spread_rules.specs.Candidates.{cost, HasOrderPrice}
+use Rattle.spread_rules.specs.Clearing.{removed}
+use Rattle.spread_rules.specs.Legs.{other_side}
+use Rattle.order_tables.specs.Places.{Ascends}
+use Rattle.order_tables.specs.QueueKeys.{side_index}
+use Rattle.order_books.specs.Queues.{IsFrontLevel}
+use Rattle.spread_books.specs.Listed.{IsInMonths}
+use Rattle.spread_books.specs.code.Cheapest.{IsCheapest, KeepsCost}
+use Rattle.spread_books.specs.declared.cheapest.PairCost.{PairCost}
+
+abbrev pub cell_of : Side → ℕ → ℕ
+cell_of side month = month * 2 + side_index side
+
+-- what the cell of that side and month has, none where the table has no such month
+abbrev pub known_pair : List (Option PairCost) → Side → ℕ → Option (Option PairCost)
+known_pair cells side month = slice_get cells (cell_of side month)
+
+-- what it has costs the least
+abbrev pub HasCheapest : ℕ → List Order → List (Option PairCost) → Side → ℕ → Type 0
+HasCheapest months xs cells side month =
+    (least : Option PairCost)
+    → known_pair cells side month ≡ Some least → IsCheapest xs side month months least
+
+-- and so in each cell
+abbrev pub AreCheapest : ℕ → List Order → List (Option PairCost) → Type 0
+AreCheapest months xs cells =
+    (side : Side) (month : ℕ) → month < months → HasCheapest months xs cells side month
+
+-- in no queue but that one the front costs something else
+abbrev pub ChangesOneQueue : List Order → List Order → Instrument → Side → Type 0
+ChangesOneQueue xs ys instrument side =
+    (j : Instrument) (t : Side) → ((instrument ≡ j) × (side ≡ t) → ⊥) → KeepsCost xs ys j t
+
+-- whether an order at that level is as good as this one for who meets it
+abbrev pub is_as_good : Option Level → Order → Bool
+is_as_good None o = false
+is_as_good (Some l) o =
+    int_le (cost (other_side o.side) l.price) (cost (other_side o.side) o.price)
+
+-- the order came, and the front of those that were in its queue stands there
+pub record HasCome (xs ys : List Order) (o : Order) (others : Option Level) : Type 0 where
+  pub is : ys ≡ xs ++ o ∷ []
+  pub front : IsFrontLevel xs o.instrument o.side others
+
+-- the order left, and the front of those that are in its queue stands there
+pub record HasLeft (xs ys : List Order) (o : Order) (others : Option Level) : Type 0 where
+  pub is : ys ≡ removed o.place xs
+  pub ordered : Ascends xs
+  pub stood : Contains xs o
+  pub front : IsFrontLevel ys o.instrument o.side others
+
+-- an order of so many months, at a price of orders
+pub record IsListed (months : ℕ) (o : Order) : Type 0 where
+  pub within : IsInMonths months o.instrument
+  pub small : HasOrderPrice o
+
+-- the orders are of so many months and at prices of orders, and each cell has what costs the least
+pub record IsQuoted (months : ℕ) (xs : List Order) (cells : List (Option PairCost)) : Type 0 where
+  pub small : All HasOrderPrice xs
+  pub within : All (λ o. IsInMonths months o.instrument) xs
+  pub cheapest : AreCheapest months xs cells
+
+-- so it is as long as each order that came was of these months and at such a price
+pub record KeepsTable
+    (listed : Bool) (months : ℕ) (xs : List Order) (cells : List (Option PairCost)) : Type 0 where
+  pub most : months ≤ limits.MAX_MONTHS
+  pub quoted : listed ≡ true → IsQuoted months xs cells

@@ -1,0 +1,183 @@
+//! The least candidate, over fronts alone.
+ghost use Rattle.std.specs.Prelude.{◌≡◌, ℕ, ◌<◌, ◌+ℤ◌, List, All, IfSome, Contains, None, false};
+ghost use Rattle.spread_rules.specs.Candidates.{all_on, candidate_of, better_of, cost, HasOrderPrice, HasLegPrice, IsBest};
+ghost use Rattle.spread_rules.specs.Prices.{IsOrderPrice, IsLegPrice};
+ghost use Rattle.spread_rules.specs.declared.candidate.Counterparty.TheVariants.{Implied};
+ghost use Rattle.spread_rules.specs.Legs.{other_side};
+ghost use Rattle.spread_rules.specs.declared.order.Instrument.TheVariants.{Outright};
+ghost use Rattle.spread_books.specs.Listed.{IsInMonths, IsNearFirst};
+ghost use Rattle.spread_books.specs.code.Best.{IsFair, IsBeyond, Offers, CoversOne, CoversTwo, CoversBelow};
+ghost use Rattle.spread_books.specs.code.Cheapest.{spread_of, spread_side, CostsOfFront, CostsOfFronts, cheaper_of, IsCheapest};
+
+use crate::cheapest::{Queue, cheapest_pair, spreads_with};
+use order_books::Book;
+use spread_rules::{
+    Candidate, Counterparty, Instrument, Order, Side, better, candidate_for, is_within, levels_meet,
+};
+
+/// Whether the front of the new order's own instrument stands within its limit. Only its price is read: most fronts do
+/// not.
+#[inline(always)]
+fn front_is_within<B: Book>(book: &B, new: &Order, side: Side) -> bool
+    requires { All HasOrderPrice (B.orders book.now) }
+    ensures { result ≡ false
+        → IsBeyond (B.orders book.now) new.now.instrument side new.now }
+{
+    match book.front_level(new.instrument, side) {
+        None => false,
+        Some(level) => is_within(new, level.price),
+    }
+}
+
+/// The best with the direct candidates.
+fn with_direct<B: Book>(book: &B, new: &Order) -> Option<Candidate>
+    requires { All HasOrderPrice (B.orders book.now) }
+    ensures fair { IsFair all_on new.now (B.orders book.now) result }
+    ensures small { IfSome result HasLegPrice }
+    ensures covers { CoversOne all_on new.now (B.orders book.now)
+        new.now.instrument (other_side new.now.side) result }
+{
+    let side = new.side.opposite();
+    if !front_is_within(book, new, side) {
+        return None;
+    }
+    match book.front(new.instrument, side) {
+        None => None,
+        Some(order) => candidate_for(new, Counterparty::Direct(order)),
+    }
+}
+
+/// The pair takes the place of the best, where it ranks before it.
+fn offer_pair(new: &Order, best: &mut Option<Candidate>, first: Order, second: Order)
+    requires first { HasOrderPrice first }
+    requires second { HasOrderPrice second }
+    requires best { IfSome best.old HasLegPrice }
+    ensures value { best.new
+        ≡ better_of new.now best.old (candidate_of all_on new.now (Implied first second)) }
+    ensures small { IfSome best.new HasLegPrice }
+{
+    let pair = candidate_for(new, Counterparty::Implied(first, second));
+    *best = better(new, *best, pair);
+}
+
+/// Whether the fronts of two queues make an implied candidate. Where they do not, no pair of these queues does. Only
+/// prices are read: most pairs do not meet a new order.
+#[inline(always)]
+fn fronts_meet<B: Book>(book: &B, new: &Order, first: Queue, second: Queue) -> bool
+    requires { All HasOrderPrice (B.orders book.now) }
+    ensures { result ≡ false
+        → CoversTwo all_on new.now (B.orders book.now)
+        first.instrument first.side second.instrument second.side None }
+{
+    let Some(a) = book.front_level(first.instrument, first.side) else {
+        return false;
+    };
+    let Some(b) = book.front_level(second.instrument, second.side) else {
+        return false;
+    };
+    levels_meet(new, &a, &b)
+}
+
+/// The best with the fronts of two queues.
+#[inline(never)]
+fn with_fronts<B: Book>(
+    book: &B,
+    new: &Order,
+    best: &mut Option<Candidate>,
+    first: Queue,
+    second: Queue,
+)
+    requires small { All HasOrderPrice (B.orders book.now) }
+    requires fair { IsFair all_on new.now (B.orders book.now) best.old }
+    requires best { IfSome best.old HasLegPrice }
+    ensures { Offers all_on new.now (B.orders book.now) best.old best.new
+        (CoversTwo all_on new.now (B.orders book.now)
+        first.instrument first.side second.instrument second.side) }
+{
+    if let Some(a) = book.front(first.instrument, first.side) {
+        if let Some(b) = book.front(second.instrument, second.side) {
+            offer_pair(new, best, a, b);
+        }
+    }
+}
+
+/// The best with the pairs of two queues.
+#[inline(always)]
+fn with_queues<B: Book>(
+    book: &B,
+    new: &Order,
+    best: &mut Option<Candidate>,
+    first: Queue,
+    second: Queue,
+)
+    requires small { All HasOrderPrice (B.orders book.now) }
+    requires fair { IsFair all_on new.now (B.orders book.now) best.old }
+    requires best { IfSome best.old HasLegPrice }
+    ensures { Offers all_on new.now (B.orders book.now) best.old best.new
+        (CoversTwo all_on new.now (B.orders book.now)
+        first.instrument first.side second.instrument second.side) }
+{
+    if fronts_meet(book, new, first, second) {
+        with_fronts(book, new, best, first, second);
+    }
+}
+
+/// The price at which who trades on that side pays so much.
+fn price_for(side: Side, paid: i64) -> i64
+    requires { IsLegPrice paid }
+    ensures { result ≡ cost side paid }
+{
+    match side {
+        Side::Buy => paid,
+        Side::Sell => -paid,
+    }
+}
+
+/// The best with the pairs of all other months. Whole orders are read of one month alone.
+fn with_months<B: Book>(book: &B, months: u8, new: &Order, best: &mut Option<Candidate>, month: u8)
+    requires small { All HasOrderPrice (B.orders book.now) }
+    requires listed { All IsNearFirst (B.orders book.now) }
+    requires new { new.now.instrument ≡ Outright month }
+    requires fair { IsFair all_on new.now (B.orders book.now) best.old }
+    requires best { IfSome best.old HasLegPrice }
+    ensures { Offers all_on new.now (B.orders book.now) best.old best.new
+        (CoversBelow all_on new.now (B.orders book.now) months) }
+{
+    if let Some(pair) = cheapest_pair(book, months, new.side, month) {
+        if is_within(new, price_for(new.side, pair.cost)) {
+            let other_month = pair.other_month as u8;
+            let spreads = spreads_with(new.side, month, other_month);
+            let outrights = Queue {
+                instrument: Instrument::Outright(other_month),
+                side: new.side.opposite(),
+            };
+            with_fronts(book, new, best, spreads, outrights);
+        }
+    }
+}
+
+/// The least eligible candidate, over fronts alone.
+pub fn best_candidate<B: Book>(book: &B, months: u8, new: &Order) -> Option<Candidate>
+    requires small { All HasOrderPrice (B.orders book.now) }
+    requires listed { All IsNearFirst (B.orders book.now) }
+    requires months { All (λ o. IsInMonths months o.instrument) (B.orders book.now) }
+    ensures best { IsBest all_on new.now (B.orders book.now) result }
+    ensures small { IfSome result HasLegPrice }
+{
+    let mut best = with_direct(book, new);
+    match new.instrument {
+        Instrument::Outright(month) => with_months(book, months, new, &mut best, month),
+        Instrument::Spread(near, far) => {
+            let near = Queue {
+                instrument: Instrument::Outright(near),
+                side: new.side.opposite(),
+            };
+            let far = Queue {
+                instrument: Instrument::Outright(far),
+                side: new.side,
+            };
+            with_queues(book, new, &mut best, near, far);
+        }
+    }
+    best
+}

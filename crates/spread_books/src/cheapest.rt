@@ -1,0 +1,188 @@
+//! The pair of fronts that costs the least among those of all other months.
+ghost use Rattle.std.specs.Prelude.{◌≡◌, ℕ, ◌+ℤ◌, List, All, IfSome, None};
+ghost use Rattle.spread_rules.specs.Candidates.{cost, HasOrderPrice};
+ghost use Rattle.spread_rules.specs.Prices.{IsOrderPrice, IsLegPrice};
+ghost use Rattle.spread_rules.specs.Legs.{other_side};
+ghost use Rattle.spread_rules.specs.declared.order.Order.{Order};
+ghost use Rattle.spread_books.specs.code.Cheapest.{spread_of, spread_side, CostsOfFront, CostsOfFronts, cheaper_of, IsCheapest, KeepsOthers, must_search, sooner_of};
+
+use order_books::Book;
+use spread_rules::{Instrument, Side};
+
+/// The orders of one instrument and side.
+#[derive(Clone, Copy)]
+pub struct Queue {
+    pub instrument: Instrument,
+    pub side: Side,
+}
+
+/// What a pair of that other month costs who meets it.
+#[derive(Clone, Copy)]
+pub struct PairCost {
+    pub cost: i64,
+    /// As wide as the cost: a record with a gap in it is copied slowly, and one is copied in each turn of the search.
+    pub other_month: u64,
+}
+
+/// What an order of a queue of that side costs who meets it.
+#[inline(always)]
+fn cost_in(side: Side, price: i64) -> i64
+    requires { IsOrderPrice price }
+    ensures cost { result ≡ cost (other_side side) price }
+    ensures small { IsOrderPrice result }
+{
+    match side {
+        Side::Buy => -price,
+        Side::Sell => price,
+    }
+}
+
+/// What the front of a queue costs who meets it.
+#[inline(always)]
+fn front_cost<B: Book>(book: &B, instrument: Instrument, side: Side) -> Option<i64>
+    requires { All HasOrderPrice (B.orders book.now) }
+    ensures cost { CostsOfFront (B.orders book.now) instrument side result }
+    ensures small { IfSome result IsOrderPrice }
+{
+    match book.front_level(instrument, side) {
+        None => None,
+        Some(level) => Some(cost_in(side, level.price)),
+    }
+}
+
+/// What two orders together cost.
+#[inline(always)]
+fn together(first: i64, second: i64) -> i64
+    requires first { IsOrderPrice first }
+    requires second { IsOrderPrice second }
+    ensures sum { result ≡ first +ℤ second }
+    ensures small { IsLegPrice result }
+{
+    first + second
+}
+
+/// The queue of spreads that meet an order of that side and month, together with outrights of the other month.
+#[inline(always)]
+pub fn spreads_with(side: Side, month: u8, other_month: u8) -> Queue
+    ensures instrument { result.instrument ≡ spread_of month other_month }
+    ensures side { result.side ≡ spread_side side month other_month }
+{
+    if month < other_month {
+        Queue {
+            instrument: Instrument::Spread(month, other_month),
+            side: side.opposite(),
+        }
+    } else {
+        Queue {
+            instrument: Instrument::Spread(other_month, month),
+            side,
+        }
+    }
+}
+
+/// What the fronts of an other month's two queues together cost an order of that side and month. Only prices are read.
+#[inline(always)]
+pub fn pair_cost<B: Book>(book: &B, side: Side, month: u8, other_month: u8) -> Option<i64>
+    requires { All HasOrderPrice (B.orders book.now) }
+    ensures cost { CostsOfFronts (B.orders book.now) side month other_month result }
+    ensures small { IfSome result IsLegPrice }
+{
+    let spreads = spreads_with(side, month, other_month);
+    let opposite = side.opposite();
+    let Some(first) = front_cost(book, spreads.instrument, spreads.side) else {
+        return None;
+    };
+    let Some(second) = front_cost(book, Instrument::Outright(other_month), opposite) else {
+        return None;
+    };
+    Some(together(first, second))
+}
+
+/// The one of two that costs less, the earlier one where they cost the same.
+#[inline(always)]
+pub fn cheaper(least: Option<PairCost>, cost: Option<i64>, other_month: u64) -> Option<PairCost>
+    ensures { result ≡ cheaper_of least cost other_month }
+{
+    match (least, cost) {
+        (least, None) => least,
+        (None, Some(cost)) => Some(PairCost { cost, other_month }),
+        (Some(held), Some(cost)) => {
+            if cost < held.cost {
+                Some(PairCost { cost, other_month })
+            } else {
+                Some(held)
+            }
+        }
+    }
+}
+
+/// What costs the least among the fronts of all other months, and the earliest month where several cost the same.
+pub fn cheapest_pair<B: Book>(book: &B, months: u8, side: Side, month: u8) -> Option<PairCost>
+    requires { All HasOrderPrice (B.orders book.now) }
+    ensures { IsCheapest (B.orders book.now) side month months result }
+{
+    let mut least = None;
+    for other_month in 0..months {
+        let cost = pair_cost(book, side, month, other_month);
+        least = cheaper(least, cost, u64::from(other_month));
+    }
+    least
+}
+
+/// Whether what cost the least is of that month, and costs more now or is there no longer. Then what costs the least may
+/// be of any month.
+fn must_search(held: &PairCost, cost: Option<i64>, via: u64) -> bool
+    ensures { result ≡ must_search held.now cost via }
+{
+    match cost {
+        None => held.other_month == via,
+        Some(cost) => held.other_month == via && held.cost < cost,
+    }
+}
+
+/// The one of two that costs less, the earlier month where they cost the same.
+fn sooner(held: PairCost, cost: Option<i64>, via: u64) -> PairCost
+    ensures { result ≡ sooner_of held cost via }
+{
+    match cost {
+        None => held,
+        Some(cost) => {
+            if cost < held.cost || (cost == held.cost && via < held.other_month) {
+                PairCost {
+                    cost,
+                    other_month: via,
+                }
+            } else {
+                held
+            }
+        }
+    }
+}
+
+/// What costs the least, where that is known from before the fronts of one other month changed.
+pub fn renewed_pair<B: Book>(
+    book: &B,
+    months: u8,
+    side: Side,
+    month: u8,
+    via: u8,
+    held: Option<PairCost>,
+) -> Option<PairCost>
+    requires { All HasOrderPrice (B.orders book.now) }
+    ensures { (xs : List Order)
+        → KeepsOthers xs (B.orders book.now) side month via
+        → IsCheapest xs side month months held
+        → IsCheapest (B.orders book.now) side month months result }
+{
+    if via >= months {
+        return held;
+    }
+    let cost = pair_cost(book, side, month, via);
+    let Some(pair) = held else {
+        return cheaper(None, cost, u64::from(via));
+    };
+    if must_search(&pair, cost, u64::from(via)) {
+        return cheapest_pair(book, months, side, month);
+    }
+    Some(sooner(pair, cost, u64::from(via)))
+}

@@ -1,0 +1,138 @@
+//! A book that has the cheapest pairs of its fronts at hand.
+ghost use Rattle.std.specs.Prelude.{◌≡◌, ◌<◌, ◌^◌, [], List, All, IfOk, IfSome, true, length};
+ghost use Rattle.host_base.specs.declared.limits.TheConstants.{MAX_MONTHS};
+ghost use Rattle.spread_rules.specs.Candidates.{HasOrderPrice};
+ghost use Rattle.spread_books.specs.Listed.{IsInMonths};
+ghost use Rattle.spread_books.specs.code.Cheapest.{IsCheapest};
+ghost use Rattle.spread_books.specs.code.QuoteTable.{IsListed};
+
+use crate::cheapest::PairCost;
+use crate::quote_table::QuoteTable;
+use host_base::limits::MAX_PRICE;
+use host_base::{Id, NoMemory};
+use order_books::{Book, FrontBook};
+use spread_rules::{Instrument, Level, Order, Rulebook, Side};
+use std::alloc::Allocator;
+use std::marker::Model;
+
+/// Resting orders, and the pairs of fronts that cost the least. Once an order came that no market takes, of a month that
+/// the rulebook does not have or at a price beyond the limits, no pairs are kept.
+#[derive(Drop)]
+pub struct QuotedBook<A: Allocator + Copy> {
+    book: FrontBook<A>,
+    quotes: QuoteTable<A>,
+    months: u8,
+    listed: bool,
+}
+
+impl<A: Allocator + Copy> Model for QuotedBook<A> {
+    ghost use Rattle.std.specs.Prelude.{List};
+    ghost use Rattle.spread_rules.specs.declared.order.Order.{Order};
+    ghost use Rattle.spread_books.specs.code.QuoteTable.{KeepsTable};
+
+    ghost Value = { List Order };
+
+    ghost view = { λ b. b.book };
+
+    ghost invariant = { λ b. KeepsTable b.listed b.months b.book b.quotes };
+}
+
+/// Whether the order is of so many months, at a price of orders.
+fn is_listed(order: &Order, months: u8) -> bool
+    ensures { result ≡ true → IsListed months order.now }
+{
+    let month = match order.instrument {
+        Instrument::Outright(month) => month,
+        Instrument::Spread(_, far) => far,
+    };
+    month < months && -MAX_PRICE <= order.price && order.price <= MAX_PRICE
+}
+
+impl<A: Allocator + Copy> QuotedBook<A> {
+    /// A book in which no order rests, for the months of the rulebook.
+    pub fn new(alloc: A, rules: &Rulebook) -> Result<Self, NoMemory>
+        ensures { IfOk result (λ b. b ≡ []) }
+    {
+        let months = rules.months();
+        let quotes = QuoteTable::new(alloc, months)?;
+        Ok(QuotedBook {
+            book: FrontBook::new(alloc),
+            quotes,
+            months,
+            listed: true,
+        })
+    }
+
+    /// As `len`. There is no memory for as many as a `usize` counts.
+    pub fn count(&self) -> usize
+        ensures count { result ≡ length self.now }
+        ensures small { result < 2 ^ 63 }
+    {
+        self.book.count()
+    }
+
+    /// What costs an order of that side and month the least, where it is at hand. Takes no memory.
+    pub fn known_pair(&self, side: Side, month: u8) -> Option<Option<PairCost>>
+        ensures { IfSome result (IsCheapest self.now side month MAX_MONTHS) }
+    {
+        if self.listed && month < self.months {
+            self.quotes.known_pair(side, month)
+        } else {
+            None
+        }
+    }
+}
+
+impl<A: Allocator + Copy> Book for QuotedBook<A> {
+    ghost orders = { λ b. b };
+
+    fn front(&self, instrument: Instrument, side: Side) -> Option<Order> {
+        self.book.front(instrument, side)
+    }
+
+    #[inline(always)]
+    fn front_level(&self, instrument: Instrument, side: Side) -> Option<Level> {
+        self.book.front_level(instrument, side)
+    }
+
+    fn find(&self, session: u8, id: &Id) -> Option<Order> {
+        self.book.find(session, id)
+    }
+
+    fn add(&mut self, order: Order) -> Result<(), NoMemory> {
+        let others = self.book.front_level(order.instrument, order.side);
+        self.book.add(order)?;
+        self.listed = self.listed && is_listed(&order, self.months);
+        if self.listed {
+            self.quotes
+                .renew_for(&self.book, self.months, &order, others);
+        }
+        Ok(())
+    }
+
+    fn reduce(&mut self, place: u64, by: u32) {
+        self.book.reduce(place, by);
+    }
+
+    fn amend(&mut self, place: u64, id: Id, quantity: u32) -> Result<(), NoMemory> {
+        self.book.amend(place, id, quantity)
+    }
+
+    fn remove(&mut self, place: u64) {
+        if let Some(order) = self.book.remove_order(place) {
+            if self.listed {
+                let others = self.book.front_level(order.instrument, order.side);
+                self.quotes
+                    .renew_for(&self.book, self.months, &order, others);
+            }
+        }
+    }
+
+    fn walk(&self, n: usize) -> Option<Order> {
+        self.book.walk(n)
+    }
+
+    fn len(&self) -> usize {
+        self.book.count()
+    }
+}

@@ -1,7 +1,0 @@
-use Rattle.spread_match.specs.code.Best.{IsCheapest}
-use Rattle.spread_match.proofs.best.cheapest_pair.Given as goal
-
-abbrev pub invariant-loop-other_month : goal.invariant-loop-other_month
-invariant-loop-other_month g l = record {
-  cheapest : IsCheapest (g.B.Book.orders l.book) l.side l.month l.other_month l.least;
-}

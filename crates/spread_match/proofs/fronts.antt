@@ -1,5 +1,0 @@
-pub mod PairCost
-pub mod BeatAnyPair
-pub mod Levels
-pub mod Suffice
-pub mod MonthPairs
