@@ -4,7 +4,7 @@ ghost use Rattle.std.specs.List.{find};
 ghost use Rattle.spread_rules.specs.Clearing.{reduced, removed};
 ghost use Rattle.spread_rules.specs.Meaning.{is_own};
 ghost use Rattle.spread_rules.specs.declared.order.Order.{Order};
-ghost use Rattle.order_tables.specs.Amended.{amended};
+ghost use Rattle.spread_rules.specs.Amended.{amended};
 ghost use Rattle.order_books.specs.Queues.{CanAmend, IsFront, IsFrontLevel};
 ghost use Rattle.order_tables.specs.Places.{HasMore, HasPlace};
 

@@ -4,7 +4,7 @@ ghost use Rattle.std.specs.List.{find};
 ghost use Rattle.spread_rules.specs.Clearing.{reduced, removed, with_less_left};
 ghost use Rattle.spread_rules.specs.Candidates.{better_by, cost, HasOrderPrice};
 ghost use Rattle.spread_rules.specs.Meaning.{is_own};
-ghost use Rattle.order_tables.specs.Amended.{amended, amended_at};
+ghost use Rattle.spread_rules.specs.Amended.{amended, amended_at};
 ghost use Rattle.order_books.specs.Queues.{IsFront, is_ahead, is_in, front_step};
 ghost use Rattle.order_tables.specs.Places.{HasMore, HasPlace};
 ghost use Rattle.spread_rules.specs.Legs.{other_side};

@@ -1,4 +1,3 @@
-pub mod Amended
 pub mod Places
 pub mod FrontTable
 pub mod Firsts

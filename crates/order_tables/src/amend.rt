@@ -1,6 +1,6 @@
 //! An order under another id and with another quantity.
 ghost use Rattle.std.specs.Prelude.{◌≡◌};
-ghost use Rattle.order_tables.specs.Amended.{with_quantity};
+ghost use Rattle.spread_rules.specs.Amended.{with_quantity};
 
 use host_base::Id;
 use spread_rules::Order;

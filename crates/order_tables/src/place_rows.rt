@@ -8,7 +8,7 @@ ghost use Rattle.std.specs.List.{find};
 ghost use Rattle.spread_rules.specs.declared.order.Order.{Order};
 ghost use Rattle.spread_rules.specs.Clearing.{reduced, removed};
 ghost use Rattle.order_tables.specs.declared.row.Row.{Row};
-ghost use Rattle.order_tables.specs.Amended.{amended};
+ghost use Rattle.spread_rules.specs.Amended.{amended};
 ghost use Rattle.order_tables.specs.Places.{HasMore, HasPlace, Ascends};
 ghost use Rattle.order_tables.specs.code.Rows.{live, Rises};
 

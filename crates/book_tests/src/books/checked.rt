@@ -1,7 +1,7 @@
 //! Changes of a book that look first whether they may be made.
 ghost use Rattle.std.specs.Prelude.{◌≡◌, ◌<◌, ℕ, true, false, Some, All, slice_get};
 ghost use Rattle.spread_rules.specs.declared.order.Order.{Order};
-ghost use Rattle.order_tables.specs.Amended.{done};
+ghost use Rattle.spread_rules.specs.Amended.{done};
 
 use host_base::limits::MAX_ORDER_QTY;
 use host_base::{Id, NoMemory};

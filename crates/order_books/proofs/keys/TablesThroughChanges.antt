@@ -19,7 +19,7 @@ use Rattle.order_books.specs.code.Index.{queue_key_cmp, own_key_cmp, IsKept, IsI
 use Rattle.order_tables.proofs.places.Ascending.{ascends_changed, find_first, is_so}
 use Rattle.order_books.proofs.keys.SetOfKeys.{keys_added, keys_removed, keys_changed, from_removed}
 use Rattle.order_tables.proofs.places.ChangedAt.{less, keys_kept}
-use Rattle.order_tables.specs.Amended.{amended, amended_at, with_quantity}
+use Rattle.spread_rules.specs.Amended.{amended, amended_at, with_quantity}
 use Rattle.host_base.specs.IdKeys.{IsIdBytes}
 use Rattle.host_base.proofs.IdKeyOnce.{one_key}
 use Rattle.order_books.proofs.keys.TotalOrders.{queue_key_total, queue_key_exact, own_key_total, own_key_exact}

@@ -9,7 +9,7 @@ use Rattle.std.proofs.lemmas.List.Folds.{find-append}
 use Rattle.spread_rules.specs.declared.order.Order.{Order}
 use Rattle.spread_rules.specs.Clearing.{removed}
 use Rattle.spread_rules.specs.Meaning.{is_own}
-use Rattle.order_tables.specs.Amended.{done}
+use Rattle.spread_rules.specs.Amended.{done}
 use Rattle.order_books.specs.Queues.{CanAmend}
 use Rattle.spread_rules.proofs.lists.Membership.{not_in_nil, in_cons_cases}
 use Rattle.order_tables.specs.Places.{HasMore, HasPlace, Ascends}

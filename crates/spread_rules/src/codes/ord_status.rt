@@ -8,4 +8,6 @@ pub const FILLED: u8 = 2;
 
 pub const CANCELED: u8 = 4;
 
+pub const REPLACED: u8 = 5;
+
 pub const REJECTED: u8 = 8;

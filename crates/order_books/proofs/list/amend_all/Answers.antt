@@ -1,4 +1,4 @@
-use Rattle.order_tables.specs.Amended.{amended_at}
+use Rattle.spread_rules.specs.Amended.{amended_at}
 use Rattle.order_books.proofs.places.InTurn.{next}
 use Rattle.order_books.proofs.list.amend_all.Goals as goal
 

@@ -1,5 +1,5 @@
 use Rattle.std.proofs.Common.{◌≡◌, ◌++◌, take, drop}
-use Rattle.order_tables.specs.Amended.{amended}
+use Rattle.spread_rules.specs.Amended.{amended}
 use Rattle.order_books.proofs.list.amend_all.Given as goal
 
 abbrev pub invariant-loop-order : goal.invariant-loop-order

@@ -1,6 +1,6 @@
 use Rattle.std.proofs.Common.{List, refl, sym, subst}
 use Rattle.spread_rules.specs.declared.order.Order.{Order}
-use Rattle.order_tables.specs.Amended.{with_quantity}
+use Rattle.spread_rules.specs.Amended.{with_quantity}
 use Rattle.order_books.specs.code.FrontPrices.{HoldsPrices}
 use Rattle.order_books.proofs.fronts.TableHoldsFronts.{prices_changed}
 use Rattle.order_books.proofs.keys.TablesThroughChanges.{from_both}

@@ -5,7 +5,7 @@ use Rattle.std.specs.BTreeSet.{contains}
 use Rattle.host_base.specs.IdKeys.{IsIdBytes}
 use Rattle.spread_rules.specs.declared.order.Order.{Order}
 use Rattle.order_tables.specs.declared.own_key.OwnKey.{OwnKey}
-use Rattle.order_tables.specs.Amended.{amended}
+use Rattle.spread_rules.specs.Amended.{amended}
 use Rattle.order_tables.specs.OwnKeys.{own_key}
 use Rattle.order_tables.proofs.places.RowsByPlace.{missing}
 use Rattle.order_books.specs.Queues.{CanAmend}

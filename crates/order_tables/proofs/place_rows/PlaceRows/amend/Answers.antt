@@ -2,7 +2,7 @@ use Rattle.std.proofs.Common.{◌≡◌, ◌≢◌, ◌==◌, ◌<◌, cond, ℕ
 use Rattle.std.specs.List.{find}
 use Rattle.spread_rules.specs.declared.order.Order.{Order}
 use Rattle.order_tables.specs.declared.row.Row.{Row}
-use Rattle.order_tables.specs.Amended.{amended, with_quantity}
+use Rattle.spread_rules.specs.Amended.{amended, with_quantity}
 use Rattle.order_tables.specs.Places.{Ascends}
 use Rattle.order_tables.specs.code.Rows.{live, Rises}
 use Rattle.order_tables.proofs.places.ChangedAt.{changed}

@@ -1,7 +1,7 @@
 use Rattle.std.proofs.Common.{List, ◌++◌, ◌∷◌, [], refl, sym, ap, ◌∙◌, subst}
 use Rattle.std.specs.Option.{option_to_list}
 use Rattle.spread_rules.specs.declared.order.Order.{Order}
-use Rattle.order_tables.specs.Amended.{amended, with_quantity}
+use Rattle.spread_rules.specs.Amended.{amended, with_quantity}
 use Rattle.order_tables.specs.Places.{Ascends}
 use Rattle.order_tables.proofs.places.Ascending.{ascends_changed}
 use Rattle.order_books.specs.Queues.{CanAmend}
