@@ -1,4 +1,5 @@
 pub mod Keys
 pub mod Lines
 pub mod Places
+pub mod TakenBack
 pub mod Tables

@@ -8,6 +8,8 @@ use Rattle.std.proofs.lemmas.List.Elements.{All-set, All-append, All-take, All-r
 use Rattle.std.proofs.lemmas.Option.{get_or_from_slice_get, slice_get_within}
 use Rattle.host_base.specs.declared.id_key.IdKey.{IdKey}
 use Rattle.row_index.specs.declared.id_table.Line.{Line}
+use Rattle.row_index.specs.declared.id_table.Noted.{Noted}
+use Rattle.row_index.specs.Notes.{is_known}
 use Rattle.row_index.specs.declared.id_table.TheConstants.{ROWS}
 use Rattle.row_index.specs.Ids.{is_key, first_row}
 use Rattle.row_index.specs.Tables.{tag_of, line_of, names_key, named_row, HasEnd, numbers_of, line_for, NamesBelow, AreOfRows}
@@ -27,7 +29,7 @@ line_named lines n key h = at (slice_get lines (line_of (length lines) key)) ref
     at None e = λ k d lt. absurd (omega arith)
     at (Some l) e = has_all (λ (m : Line). All (NamesBelow n) m.numbers) lines (line_of (length lines) key) l e h
 
-set_same : (lines : List Line) (j : ℕ) (l : Line) → j < length lines → slice_get (set lines j l) j ≡ Some l
+pub set_same : (lines : List Line) (j : ℕ) (l : Line) → j < length lines → slice_get (set lines j l) j ≡ Some l
 set_same [] j l lt = absurd (omega arith)
 set_same (m ∷ lines) zero l lt = refl
 set_same (m ∷ lines) (suc j) l lt = set_same lines j l (omega arith)
@@ -261,7 +263,7 @@ pub on_ok : {T E : Type 0} (r : Result T E) (P Q : Type 0) → (P → Q) → OnO
 on_ok (Ok x) P Q f h = f h
 on_ok (Err x) P Q f h = tt
 
-pub if_used : {E : Type 0} (r : Result Bool E) (a b : Bool) → a ≡ b → IfOk r (λ (used : Bool). used ≡ a) → IfOk r (λ (used : Bool). used ≡ b)
+pub if_used : {E : Type 0} (r : Result Noted E) (a b : Bool) → a ≡ b → IfOk r (λ (noted : Noted). is_known noted ≡ a) → IfOk r (λ (noted : Noted). is_known noted ≡ b)
 if_used (Ok x) a b e h = h ∙ e
 if_used (Err x) a b e h = tt
 

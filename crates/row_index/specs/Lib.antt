@@ -1,4 +1,5 @@
 pub mod Ids
 pub mod Places
 pub mod Tables
+pub mod Notes
 pub mod code

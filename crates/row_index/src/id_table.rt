@@ -6,6 +6,8 @@ ghost use Rattle.host_base.specs.declared.id_key.IdKey.{IdKey};
 ghost use Rattle.host_base.specs.IdKeys.{id_key_cmp};
 ghost use Rattle.row_index.specs.Ids.{is_key, first_row};
 ghost use Rattle.row_index.specs.Tables.{line_of, line_for, tag_of, is_row_of, names_key, named_row, HasEnd, IsTableOf};
+ghost use Rattle.row_index.specs.declared.id_table.Line.{Line};
+ghost use Rattle.row_index.specs.Notes.{is_known, lines_before, rest_before, CanTakeBack};
 ghost use Rattle.row_index.specs.code.Seeks.{IsSeek, with_number};
 
 use crate::rows::IdRows;
@@ -43,6 +45,29 @@ pub enum Seek {
     Open(usize),
     /// No row that is named has it, and the line is full.
     Full,
+}
+
+/// How a key was noted.
+#[derive(Clone, Copy)]
+pub enum Noted {
+    /// A row before it has the key, and nothing was noted.
+    Known,
+    /// As a number of that line.
+    InLine { line: usize, at: usize },
+    /// In the ordered table.
+    Behind,
+}
+
+impl Noted {
+    /// Whether a row before it has the key.
+    pub fn is_known(&self) -> bool
+        ensures { result ≡ is_known self.now }
+    {
+        match self {
+            Noted::Known => true,
+            _ => false,
+        }
+    }
 }
 
 /// Of each session and id the first row that has them. The rows themselves are somebody else's, and are shown at each
@@ -107,13 +132,17 @@ fn number_of(tag: u32, row: usize) -> u32
     tag * 1_048_576 + row as u32
 }
 
-/// Notes a row of a key, where the key has none yet. Answers whether it had one.
+/// Notes a row of a key, where the key has none yet.
 fn note_first<A: Allocator + Copy>(
     behind: &mut BTreeMap<IdKey, usize, A>,
     key: &IdKey,
     row: usize,
-) -> Result<bool, NoMemory>
-    ensures used { IfOk result (λ used. used ≡ is_some (get id_key_cmp behind.old key.now)) }
+) -> Result<Noted, NoMemory>
+    ensures used { IfOk result (λ noted.
+        is_known noted ≡ is_some (get id_key_cmp behind.old key.now)) }
+    ensures back { IfOk result (λ noted. (q : IdKey)
+        → rest_before noted key.now (get id_key_cmp behind.new) q ≡ get id_key_cmp behind.old q) }
+    ensures lines { IfOk result (λ noted. (lines : List Line) → lines_before noted lines ≡ lines) }
     ensures ok { OnOk result ((q : IdKey)
         → get id_key_cmp behind.new q
         ≡ option_or (get id_key_cmp behind.old q) (cond (is_key key.now q) (Some row) None)) }
@@ -123,9 +152,18 @@ fn note_first<A: Allocator + Copy>(
     if let Some(earlier) = behind.insert(*key, row)? {
         // A key that the table has takes no memory.
         behind.insert(*key, earlier)?;
-        return Ok(true);
+        return Ok(Noted::Known);
     }
-    Ok(false)
+    Ok(Noted::Behind)
+}
+
+/// Clears a number of the line, where it has so many.
+fn clear_at(line: &mut Line, at: usize)
+    ensures { line.new.numbers ≡ set line.old.numbers at 0 }
+{
+    if at < WIDTH {
+        line.numbers[at] = 0;
+    }
 }
 
 impl<A: Allocator + Copy> IdTable<A> {
@@ -189,21 +227,26 @@ impl<A: Allocator + Copy> IdTable<A> {
         self.standing = self.standing.saturating_add(1);
     }
 
-    /// Notes that the row has that key, where none of the rows before it has. Answers whether one has.
-    fn note_row<R: IdRows>(&mut self, rows: &R, row: usize, key: &IdKey) -> Result<bool, NoMemory>
+    /// Notes that the row has that key, where none of the rows before it has.
+    fn note_row<R: IdRows>(&mut self, rows: &R, row: usize, key: &IdKey) -> Result<Noted, NoMemory>
         requires row { row ≤ length (R.keys rows.now) }
         requires table { IsTableOf self.old (take row (R.keys rows.now)) }
-        ensures used { IfOk result (λ used.
-            used ≡ is_some (first_row key.now (take row (R.keys rows.now)))) }
+        ensures used { IfOk result (λ noted.
+            is_known noted ≡ is_some (first_row key.now (take row (R.keys rows.now)))) }
+        ensures back { IfOk result (λ noted.
+            CanTakeBack self.new noted key.now (take row (R.keys rows.now))) }
         ensures ok { OnOk result (IsTableOf self.new (take row (R.keys rows.now) ++ key.now ∷ [])) }
         ensures err { OnErr result (IsTableOf self.new (take row (R.keys rows.now))) }
     {
         let spot = spot_of(self.lines.len(), key);
         match self.seek(spot, rows, key) {
-            Seek::Found(_) => Ok(true),
+            Seek::Found(_) => Ok(Noted::Known),
             Seek::Open(at) if row < ROWS => {
                 self.put_number(spot.line, at, number_of(spot.tag, row));
-                Ok(false)
+                Ok(Noted::InLine {
+                    line: spot.line,
+                    at,
+                })
             }
             _ => note_first(&mut self.behind, key, row),
         }
@@ -253,16 +296,42 @@ impl<A: Allocator + Copy> IdTable<A> {
         Ok(())
     }
 
-    /// Notes that the row behind all others, which is about to come, has that key. Answers whether one of the others
-    /// has it already. All growth comes before the change, so after NoMemory look-ups answer as before.
-    pub fn note<R: IdRows>(&mut self, rows: &R, key: &IdKey) -> Result<bool, NoMemory>
+    /// Notes that the row behind all others, which is about to come, has that key. Answers how, and so whether one of
+    /// the others has it already. All growth comes before the change, so after NoMemory look-ups answer as before.
+    pub fn note<R: IdRows>(&mut self, rows: &R, key: &IdKey) -> Result<Noted, NoMemory>
         requires { IsTableOf self.old (R.keys rows.now) }
-        ensures used { IfOk result (λ used.
-            used ≡ is_some (first_row key.now (R.keys rows.now))) }
+        ensures used { IfOk result (λ noted.
+            is_known noted ≡ is_some (first_row key.now (R.keys rows.now))) }
+        ensures back { IfOk result (λ noted. CanTakeBack self.new noted key.now (R.keys rows.now)) }
         ensures ok { OnOk result (IsTableOf self.new (R.keys rows.now ++ key.now ∷ [])) }
         ensures err { OnErr result (IsTableOf self.new (R.keys rows.now)) }
     {
         self.make_room(rows)?;
         self.note_row(rows, rows.len(), key)
+    }
+
+    /// Takes back what was noted last: the row with that key does not come.
+    pub fn take_back(&mut self, key: &IdKey, noted: Noted)
+        ensures { (keys : List IdKey)
+            → CanTakeBack self.old noted key.now keys → IsTableOf self.new keys }
+    {
+        match noted {
+            Noted::Known => {}
+            Noted::InLine { line, at } => self.clear_number(line, at),
+            Noted::Behind => {
+                self.behind.remove(key);
+            }
+        }
+    }
+
+    /// Clears a number of a line.
+    fn clear_number(&mut self, line: usize, at: usize)
+        ensures lines { self.new.lines.items ≡ with_number self.old.lines.items line at 0 }
+        ensures behind { self.new.behind ≡ self.old.behind }
+    {
+        self.standing = self.standing.saturating_sub(1);
+        if let Some(line) = self.lines.get_mut(line) {
+            clear_at(line, at);
+        }
     }
 }

@@ -7,5 +7,5 @@ mod rows;
 mod spot;
 
 pub use hints::Hints;
-pub use id_table::IdTable;
+pub use id_table::{IdTable, Noted};
 pub use rows::{IdRows, PlacedRows};

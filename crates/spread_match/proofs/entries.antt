@@ -1,7 +1,10 @@
+pub mod FillsCounted
 pub mod FoundStands
+pub mod Replaces
 pub mod NewOrder
 pub mod IdNotUsed
 pub mod NamedInstrument
 pub mod MarketStaysReady
 pub mod PastStaysSound
+pub mod ReplacedStates
 pub mod NewEntriesStand

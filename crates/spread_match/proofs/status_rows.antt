@@ -1,5 +1,4 @@
-pub mod InOrder
 pub mod ByClOrdId
-pub mod PlacesNearIndex
-pub mod FillsThatRenewNone
-pub mod FillsAndStatuses
+pub mod MarkedRows
+pub mod MarksOfEntries
+pub mod StatusesOfThePast

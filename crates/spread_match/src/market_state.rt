@@ -1,29 +1,36 @@
 //! The state of a market, and what each kind of entry does to it.
-ghost use Rattle.std.specs.Prelude.{◌≡◌, ℕ, ℤ, pos, ◌<ℤ◌, ◌<◌, ◌≤◌, List, All, OnOk, OnErr, IfOk, ◌++◌, ◌∷◌, [], drop, length, cond, is_some, None, true, false};
+ghost use Rattle.std.specs.Prelude.{◌≡◌, ℕ, ℤ, pos, ◌<ℤ◌, ◌<◌, ◌≤◌, ◌+◌, ◌*◌, min, List, All, Contains, OnOk, OnErr, IfOk, ◌++◌, ◌∷◌, [], drop, length, cond, is_some, Option, None, true, false};
 ghost use Rattle.std.specs.List.{find};
+ghost use Rattle.std.specs.Vec.{vec_len, vec_capacity};
+ghost use Rattle.host_base.specs.declared.limits.TheConstants.{MAX_ORDER_QTY};
 ghost use Rattle.spread_rules.specs.declared.codes.ord_rej_reason.TheConstants.{DUPLICATE_ORDER};
 ghost use Rattle.spread_rules.specs.declared.order.Order.{Order};
-ghost use Rattle.spread_rules.specs.declared.event.Event.TheVariants.{New, Cancel};
+ghost use Rattle.spread_rules.specs.declared.outcome.OrderStatus.{OrderStatus};
+ghost use Rattle.spread_rules.specs.declared.event.Event.TheVariants.{New, Cancel, Replace};
 ghost use Rattle.spread_rules.specs.declared.outcome.Outcome.TheVariants.{Refused};
+ghost use Rattle.spread_rules.specs.Amended.{done};
+ghost use Rattle.spread_rules.specs.Candidates.{PlacesDiffer};
+ghost use Rattle.spread_rules.specs.Clearing.{removed};
 ghost use Rattle.spread_rules.specs.Prices.{IsOrderPrice};
-ghost use Rattle.spread_rules.specs.Meaning.{has_id, refusal_or_instrument, outcome_of, order_of};
+ghost use Rattle.spread_rules.specs.Meaning.{has_id, is_refused, refusal_or_instrument, outcome_of, order_of, resting, resting_status, may_replace, keeps_place, moved_to, keeping_means, cancel_of_nothing_resting, unchanged_with};
 ghost use Rattle.spread_rules.specs.Rulebook.{month_count, find_symbol};
 ghost use Rattle.spread_match.specs.State.{empty_state};
 ghost use Rattle.spread_books.specs.Listed.{IsInMonths, IsNearBeforeFar};
-ghost use Rattle.spread_match.specs.Trade.{IsPriced};
-ghost use Rattle.spread_match.specs.code.StateAfter.{statuses_after, with_order, with_refusal, refusal_in, matched_in, cancel_in, meaning_in, state_after, state_with, orders_after_trading, IsReady};
+ghost use Rattle.spread_match.specs.Trade.{IsPriced, IsTradable};
+ghost use Rattle.spread_match.specs.code.StateAfter.{statuses_after, with_order, with_refusal, refusal_in, matched_in, cancel_in, replace_refusal, replaced_in, moved_in, trading_in, meaning_in, state_after, state_with, orders_after_trading, IsKnown, IsReady};
 ghost use Rattle.spread_match.specs.code.Turns.{IsNewest};
 
 use crate::statuses::Statuses;
 use crate::trade::trade;
 use host_base::{Id, NoMemory, limits};
+use order_tables::with_quantity;
 use spread_books::Book;
 use spread_rules::codes::{cxl_rej_reason, ord_rej_reason, ord_status};
 use spread_rules::{Entry, Event, Fill, Instrument, Order, OrderStatus, Outcome, Rulebook, Ticket};
 use std::alloc::Allocator;
 use std::marker::Model;
 
-/// Resting orders, the status of each New entry so far, and the greatest place that was given.
+/// Resting orders, the status of each New and Replace entry so far, and the greatest place that was given.
 #[derive(Drop)]
 pub struct MarketState<B: Book, A: Allocator + Copy> {
     book: B,
@@ -117,6 +124,79 @@ fn new_order(place: u64, session: u8, ticket: &Ticket, instrument: Instrument) -
     }
 }
 
+/// So much of an order is filled.
+fn filled_of(order: &Order) -> u32
+    ensures { result ≡ done order.now }
+{
+    order.quantity.saturating_sub(order.leaves)
+}
+
+/// How a resting order stands.
+fn resting_status(order: &Order) -> u8
+    ensures { result ≡ resting_status order.now }
+{
+    if filled_of(order) == 0 {
+        ord_status::NEW
+    } else {
+        ord_status::PARTIALLY_FILLED
+    }
+}
+
+/// Whether the ticket, whose id may have been used, could be a new day order of the resting order's instrument and side.
+fn may_replace(rules: &Rulebook, ticket: &Ticket, resting: &Order, used: bool) -> bool
+    ensures { (earlier : Option OrderStatus) → used ≡ is_some earlier
+        → result ≡ may_replace ticket.now resting.now
+        (refusal_or_instrument rules.now ticket.now earlier
+        (find_symbol rules.now ticket.now.symbol)) }
+{
+    if used || ticket.immediate || ticket.side != resting.side {
+        return false;
+    }
+    match judge(rules, ticket) {
+        Ok(instrument) => instrument == resting.instrument,
+        Err(_) => false,
+    }
+}
+
+/// Why the replace of a resting order is refused, if it is.
+fn replace_refusal(
+    rules: &Rulebook,
+    ticket: &Ticket,
+    resting: &Order,
+    used: bool,
+) -> Option<u8>
+    ensures { (earlier : Option OrderStatus) → used ≡ is_some earlier
+        → result ≡ replace_refusal ticket.now resting.now
+        (refusal_or_instrument rules.now ticket.now earlier
+        (find_symbol rules.now ticket.now.symbol)) }
+{
+    if !may_replace(rules, ticket, resting, used) {
+        Some(cxl_rej_reason::BROKER_OPTION)
+    } else if ticket.quantity <= filled_of(resting) {
+        Some(cxl_rej_reason::TOO_LATE)
+    } else {
+        None
+    }
+}
+
+/// Whether the order keeps its place: at the same price, and for no more.
+fn keeps_place(ticket: &Ticket, resting: &Order) -> bool
+    ensures { result ≡ keeps_place ticket.now resting.now }
+{
+    ticket.price == resting.price && ticket.quantity <= resting.quantity
+}
+
+/// The resting order at that place, under the ticket's id and with its quantity and price.
+fn moved_order(place: u64, ticket: &Ticket, resting: &Order) -> Order
+    ensures { result ≡ moved_to place ticket.now resting.now }
+{
+    Order {
+        place,
+        price: ticket.price,
+        ..with_quantity(resting, ticket.id, ticket.quantity)
+    }
+}
+
 /// The new order rests with what is left, or goes.
 fn rest_or_remove<B: Book>(book: &mut B, immediate: bool, own: &Order, left: u32)
     requires newest { IsNewest own.now (B.orders book.old) }
@@ -158,8 +238,6 @@ impl<B: Book, A: Allocator + Copy> MarketState<B, A> {
         ticket: &Ticket,
         reason: u8,
     ) -> Result<Outcome, NoMemory>
-        requires noted { All (λ s. s.place ≤ self.old.last) self.old.statuses }
-        requires place { self.old.last < place }
         ensures outcome { IfOk result (λ outcome.
             outcome ≡ (refusal_in self.old session ticket.now reason).outcome) }
         ensures after { OnOk result (self.new
@@ -181,7 +259,6 @@ impl<B: Book, A: Allocator + Copy> MarketState<B, A> {
     /// answer is true.
     fn add_to_book(&mut self, order: &Order) -> Result<bool, NoMemory>
         requires orders { All (λ o. o.place < order.now.place) self.old.orders }
-        requires statuses { All (λ s. s.place < order.now.place) self.old.statuses }
         ensures used { IfOk result (λ used.
             used ≡ is_some (find (has_id order.now.session order.now.id) self.old.statuses)) }
         ensures stands { IfOk result (λ used.
@@ -202,6 +279,36 @@ impl<B: Book, A: Allocator + Copy> MarketState<B, A> {
             self.book.remove(place);
         }
         noted
+    }
+
+    /// The newest order, which stands in the book and among the statuses, is traded, and rests with what is left or
+    /// goes. Answers how much is left. There is room for three fills of each other order.
+    fn trade_newest(
+        &mut self,
+        rules: &Rulebook,
+        order: &Order,
+        immediate: bool,
+        fills: &mut Vec<Fill, A>,
+    ) -> u32
+        requires newest { IsNewest order.now self.old.orders }
+        requires tradable { IsTradable (month_count rules.now) self.old.orders }
+        requires room { vec_len fills.old
+            + 3 * min order.now.leaves (length (removed order.now.place self.old.orders))
+            ≤ vec_capacity fills.old }
+        ensures left { result ≡ (trading_in rules.now self.old order.now).new.leaves }
+        ensures fills { fills.new.items
+            ≡ fills.old.items ++ (trading_in rules.now self.old order.now).fills }
+        ensures orders { self.new.orders
+            ≡ resting immediate (trading_in rules.now self.old order.now) }
+        ensures statuses { self.new.statuses
+            ≡ statuses_after (trading_in rules.now self.old order.now).fills self.old.statuses }
+        ensures last { self.new.last ≡ self.old.last }
+    {
+        let before = fills.len();
+        let left = trade(&mut self.book, rules.months(), rules, *order, fills);
+        rest_or_remove(&mut self.book, immediate, order, left.leaves);
+        mark_filled_from(&mut self.statuses, fills, before);
+        left.leaves
     }
 
     /// Clears a ticket of that instrument, which is refused only where its id was used. All growth comes first.
@@ -231,7 +338,6 @@ impl<B: Book, A: Allocator + Copy> MarketState<B, A> {
         ensures err { OnErr result (self.new ≡ self.old) }
         ensures no_fills { OnErr result (fills.new.items ≡ fills.old.items) }
     {
-        let before = fills.len();
         fills.reserve(3 * self.book.len().min(ticket.quantity as usize))?;
         let order = new_order(place, session, ticket, instrument);
         let used = self.add_to_book(&order)?;
@@ -239,11 +345,9 @@ impl<B: Book, A: Allocator + Copy> MarketState<B, A> {
             self.last = place;
             return Ok(Outcome::Refused(ord_rej_reason::DUPLICATE_ORDER));
         }
-        let left = trade(&mut self.book, rules.months(), rules, order, fills);
-        rest_or_remove(&mut self.book, ticket.immediate, &order, left.leaves);
-        mark_filled_from(&mut self.statuses, fills, before);
+        let left = self.trade_newest(rules, &order, ticket.immediate, fills);
         self.last = place;
-        Ok(outcome_with(ticket.immediate, left.leaves))
+        Ok(outcome_with(ticket.immediate, left))
     }
 
     /// A New entry: refused, or traded.
@@ -274,6 +378,25 @@ impl<B: Book, A: Allocator + Copy> MarketState<B, A> {
         }
     }
 
+    /// What a request says of an order that does not rest.
+    fn refusal_of(&self, session: u8, original: &Id) -> Outcome
+        ensures { result
+            ≡ cancel_of_nothing_resting (find (has_id session original.now) self.now.statuses) }
+    {
+        match self.statuses.find(session, original) {
+            Some(status) => Outcome::CancelRefused {
+                reason: cxl_rej_reason::TOO_LATE,
+                place: status.place,
+                status: status.status,
+            },
+            None => Outcome::CancelRefused {
+                reason: cxl_rej_reason::UNKNOWN_ORDER,
+                place: 0,
+                status: ord_status::REJECTED,
+            },
+        }
+    }
+
     /// Ends the resting order with the original id.
     fn cancel(&mut self, place: u64, session: u8, id: &Id, original: &Id) -> Outcome
         requires { self.old.last < place }
@@ -288,18 +411,148 @@ impl<B: Book, A: Allocator + Copy> MarketState<B, A> {
                 self.book.remove(order.place);
                 Outcome::Cancelled(order)
             }
-            None => match self.statuses.find(session, original) {
-                Some(status) => Outcome::CancelRefused {
-                    reason: cxl_rej_reason::TOO_LATE,
-                    place: status.place,
-                    status: status.status,
-                },
-                None => Outcome::CancelRefused {
-                    reason: cxl_rej_reason::UNKNOWN_ORDER,
-                    place: 0,
-                    status: ord_status::REJECTED,
-                },
-            },
+            None => self.refusal_of(session, original),
+        }
+    }
+
+    /// A replace that is refused keeps its id used.
+    fn refuse_replace(
+        &mut self,
+        place: u64,
+        session: u8,
+        ticket: &Ticket,
+        refusal: Outcome,
+    ) -> Result<Outcome, NoMemory>
+        requires { is_refused refusal ≡ true }
+        ensures outcome { IfOk result (λ outcome. outcome ≡ refusal) }
+        ensures after { OnOk result ((original : List ℕ) → self.new
+            ≡ state_with self.old place session (Replace original ticket.now)
+            (unchanged_with refusal self.old.orders)) }
+        ensures err { OnErr result (self.new ≡ self.old) }
+    {
+        self.statuses.add(OrderStatus {
+            session,
+            id: ticket.id,
+            place,
+            status: ord_status::REJECTED,
+        })?;
+        self.last = place;
+        Ok(refusal)
+    }
+
+    /// The resting order keeps its place, under the ticket's id, which was not used, and with its quantity. All growth
+    /// comes first.
+    fn keep_place(
+        &mut self,
+        place: u64,
+        ticket: &Ticket,
+        resting: &Order,
+    ) -> Result<Outcome, NoMemory>
+        requires places { PlacesDiffer self.old.orders }
+        requires known { All (λ o. IsKnown self.old.statuses o.session o.id) self.old.orders }
+        requires rests { Contains self.old.orders resting.now }
+        requires unused { find (has_id resting.now.session ticket.now.id) self.old.statuses
+            ≡ None }
+        requires more { done resting.now < ticket.now.quantity }
+        requires most { ticket.now.quantity ≤ MAX_ORDER_QTY }
+        ensures outcome { IfOk result (λ outcome.
+            outcome ≡ (keeping_means self.old.orders ticket.now resting.now).outcome) }
+        ensures after { OnOk result (self.new
+            ≡ state_with self.old place resting.now.session (Replace resting.now.id ticket.now)
+            (keeping_means self.old.orders ticket.now resting.now)) }
+        ensures err { OnErr result (self.new ≡ self.old) }
+    {
+        let status = OrderStatus {
+            session: resting.session,
+            id: ticket.id,
+            place: resting.place,
+            status: ord_status::CANCELED,
+        };
+        self.statuses.add_amended(&mut self.book, status, ticket.quantity)?;
+        self.statuses.mark_replaced(resting);
+        self.last = place;
+        Ok(Outcome::Replaced(with_quantity(
+            resting,
+            ticket.id,
+            ticket.quantity,
+        )))
+    }
+
+    /// The resting order loses its place, and is traded as a new one. All growth comes first.
+    fn lose_place(
+        &mut self,
+        rules: &Rulebook,
+        place: u64,
+        ticket: &Ticket,
+        resting: &Order,
+        fills: &mut Vec<Fill, A>,
+    ) -> Result<Outcome, NoMemory>
+        requires ready { IsReady (month_count rules.now) self.old }
+        requires rests { Contains self.old.orders resting.now }
+        requires unused { find (has_id resting.now.session ticket.now.id) self.old.statuses
+            ≡ None }
+        requires price { IsOrderPrice ticket.now.price }
+        requires more { done resting.now < ticket.now.quantity }
+        requires place { self.old.last < place }
+        ensures outcome { IfOk result (λ outcome.
+            outcome ≡ (moved_in rules.now self.old place ticket.now resting.now).outcome) }
+        ensures fills { OnOk result (fills.new.items
+            ≡ fills.old.items
+            ++ (moved_in rules.now self.old place ticket.now resting.now).fills) }
+        ensures after { OnOk result (self.new
+            ≡ state_with self.old place resting.now.session (Replace resting.now.id ticket.now)
+            (moved_in rules.now self.old place ticket.now resting.now)) }
+        ensures err { OnErr result (self.new ≡ self.old) }
+        ensures no_fills { OnErr result (fills.new.items ≡ fills.old.items) }
+    {
+        fills.reserve(3 * self.book.len().min(ticket.quantity as usize))?;
+        let order = moved_order(place, ticket, resting);
+        self.add_to_book(&order)?;
+        self.book.remove(resting.place);
+        self.statuses.mark_replaced(resting);
+        self.trade_newest(rules, &order, false, fills);
+        self.last = place;
+        Ok(Outcome::Replaced(order))
+    }
+
+    /// A Replace entry that names a resting order.
+    fn replace_resting(
+        &mut self,
+        rules: &Rulebook,
+        place: u64,
+        ticket: &Ticket,
+        resting: &Order,
+        fills: &mut Vec<Fill, A>,
+    ) -> Result<Outcome, NoMemory>
+        requires ready { IsReady (month_count rules.now) self.old }
+        requires rests { Contains self.old.orders resting.now }
+        requires price { IsOrderPrice ticket.now.price }
+        requires place { self.old.last < place }
+        ensures outcome { IfOk result (λ outcome. outcome
+            ≡ (replaced_in rules.now self.old place ticket.now resting.now).outcome) }
+        ensures fills { OnOk result (fills.new.items
+            ≡ fills.old.items
+            ++ (replaced_in rules.now self.old place ticket.now resting.now).fills) }
+        ensures after { OnOk result (self.new
+            ≡ state_with self.old place resting.now.session (Replace resting.now.id ticket.now)
+            (replaced_in rules.now self.old place ticket.now resting.now)) }
+        ensures err { OnErr result (self.new ≡ self.old) }
+        ensures no_fills { OnErr result (fills.new.items ≡ fills.old.items) }
+    {
+        let session = resting.session;
+        let used = self.statuses.find(session, &ticket.id).is_some();
+        if let Some(reason) = replace_refusal(rules, ticket, resting, used) {
+            let refusal = Outcome::CancelRefused {
+                reason,
+                place: resting.place,
+                status: resting_status(resting),
+            };
+            return self.refuse_replace(place, session, ticket, refusal);
+        }
+        if keeps_place(ticket, resting) {
+            self.keep_place(place, ticket, resting)
+        } else {
+            self.lose_place(rules, place, ticket, resting, fills)
         }
     }
 
@@ -327,6 +580,13 @@ impl<B: Book, A: Allocator + Copy> MarketState<B, A> {
         match &entry.event {
             Event::New(ticket) => self.apply_new(rules, place, entry.session, ticket, fills),
             Event::Cancel { id, original } => Ok(self.cancel(place, entry.session, id, original)),
+            Event::Replace { original, ticket } => match self.book.find(entry.session, original) {
+                Some(resting) => self.replace_resting(rules, place, ticket, &resting, fills),
+                None => {
+                    let refusal = self.refusal_of(entry.session, original);
+                    self.refuse_replace(place, entry.session, ticket, refusal)
+                }
+            },
             _ => {
                 self.last = place;
                 Ok(Outcome::Session)

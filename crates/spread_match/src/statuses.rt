@@ -1,20 +1,23 @@
-//! How each New entry so far stands, found by its session and id, and by its place.
-ghost use Rattle.std.specs.Prelude.{◌≡◌, ◌≢◌, ◌<◌, ◌≤◌, length, take, slice_get, slice_index_or, List, All, [], ◌++◌, ◌∷◌, map, OnOk, OnErr, IfSome, IfNone, ℕ, cond, is_some, Some, None, IfOk};
+//! How the order of each New and Replace entry so far stands, found by its session and id.
+ghost use Rattle.std.specs.Prelude.{◌≡◌, ◌≢◌, ◌<◌, ◌≤◌, length, take, slice_get, slice_index_or, List, All, [], ◌++◌, ◌∷◌, map, OnOk, OnErr, IfSome, IfNone, ℕ, cond, is_some, Some, None, IfOk, true, false};
 ghost use Rattle.spread_rules.specs.declared.codes.ord_status.TheConstants.{REJECTED};
 ghost use Rattle.spread_rules.specs.declared.outcome.OrderStatus.{OrderStatus};
 ghost use Rattle.std.specs.List.{find};
 ghost use Rattle.spread_rules.specs.Meaning.{has_id};
-ghost use Rattle.spread_match.specs.code.Statuses.{key_of_status};
-ghost use Rattle.spread_match.specs.code.StateAfter.{status_after_fill, statuses_after, AreInOrder};
+ghost use Rattle.spread_match.specs.code.Statuses.{key_of_status, IsIndex, IsOpenRow};
+ghost use Rattle.spread_match.specs.code.StateAfter.{is_open, status_after_fill, status_after_replace, statuses_after, AreRefusedLater};
+ghost use Rattle.spread_rules.specs.Amended.{amended};
+ghost use Rattle.order_books.specs.Queues.{CanAmend};
 
 use host_base::{Id, IdKey, NoMemory};
 use row_index::{Hints, IdRows, IdTable, PlacedRows};
 use spread_rules::codes::ord_status;
-use spread_rules::{Fill, OrderStatus};
+use spread_books::Book;
+use spread_rules::{Fill, Order, OrderStatus};
 use std::alloc::Allocator;
 use std::marker::Model;
 
-/// The status of each New entry so far, in order of place.
+/// The status of each New and Replace entry so far, in their order.
 #[derive(Drop)]
 pub struct Statuses<A: Allocator + Copy> {
     rows: Vec<OrderStatus, A>,
@@ -27,7 +30,7 @@ pub struct Statuses<A: Allocator + Copy> {
 impl<A: Allocator + Copy> Model for Statuses<A> {
     ghost use Rattle.std.specs.Prelude.{List};
     ghost use Rattle.spread_rules.specs.declared.outcome.OrderStatus.{OrderStatus};
-    ghost use Rattle.spread_match.specs.code.StateAfter.{AreInOrder};
+    ghost use Rattle.spread_match.specs.code.StateAfter.{AreRefusedLater};
     ghost use Rattle.spread_match.specs.code.Statuses.{IsIndex};
 
     ghost Value = { List OrderStatus };
@@ -35,10 +38,10 @@ impl<A: Allocator + Copy> Model for Statuses<A> {
     ghost view = { λ m. m.rows.items };
 
     ghost invariant = { λ m.
-        AreInOrder m.rows.items × IsIndex m.first m.rows.items };
+        AreRefusedLater m.rows.items × IsIndex m.first m.rows.items };
 }
 
-/// Statuses, to be looked up by session and id, or by place.
+/// Statuses, to be looked up by session and id, or where a place may be.
 #[derive(Clone, Copy)]
 struct StatusRows<'a> {
     rows: &'a [OrderStatus],
@@ -86,62 +89,61 @@ fn status_at(statuses: &[OrderStatus], at: usize) -> Option<OrderStatus>
     statuses.get(at).copied()
 }
 
-/// No row before this one has that place: two rows differ in place by at least as much as in index.
-fn first_possible(statuses: &[OrderStatus], place: u64) -> usize
-    requires { AreInOrder statuses.now }
-    ensures within { result ≤ length statuses.now }
-    ensures others { All (λ s. s.place ≢ place) (take result statuses.now) }
+fn has_id(status: &OrderStatus, session: u8, id: &Id) -> bool
+    ensures { result ≡ has_id session id.now status.now }
 {
-    match statuses.last() {
-        Some(newest) if place <= newest.place => {
-            let past = (newest.place - place) as usize;
-            (statuses.len() - 1).saturating_sub(past)
-        }
-        _ => statuses.len(),
-    }
+    status.session == session && status.id.is(id)
 }
 
-/// Where the status of that place stands.
-fn place_in<A: Allocator + Copy>(
-    statuses: &[OrderStatus],
+/// Whether it is the status of the order of that session and id, which was not refused.
+fn is_open(status: &OrderStatus, session: u8, id: &Id) -> bool
+    ensures { result ≡ is_open session id.now status.now }
+{
+    has_id(status, session, id) && status.status != ord_status::REJECTED
+}
+
+/// The row at that place, where it is that of the order of that session and id.
+fn row_at_place<A: Allocator + Copy>(
+    rows: &[OrderStatus],
     hints: &Hints<A>,
     place: u64,
+    session: u8,
+    id: &Id,
 ) -> Option<usize>
-    requires { AreInOrder statuses.now }
-    ensures within { IfSome result (λ i. i < length statuses.now) }
-    ensures at { (d : OrderStatus)
-        → IfSome result (λ i. (slice_index_or statuses.now i d).place ≡ place) }
-    ensures none { IfNone result (All (λ s. s.place ≢ place) statuses.now) }
+    ensures { IfSome result (IsOpenRow rows.now session id.now) }
 {
-    if let Some(at) = hints.find(&StatusRows { rows: statuses }, place) {
-        return Some(at);
-    }
-    let from = first_possible(statuses, place);
-    match statuses[from..].binary_search_by_key(&place, |status| status.place) {
-        Ok(at) => Some(from + at),
-        Err(_) => None,
+    let at = hints.find(&StatusRows { rows }, place)?;
+    let status = rows.get(at)?;
+    if is_open(status, session, id) {
+        Some(at)
+    } else {
+        None
     }
 }
 
-/// An order whose fill leaves nothing is filled.
-fn mark_filled<A: Allocator + Copy>(
-    statuses: &mut Vec<OrderStatus, A>,
-    hints: &Hints<A>,
-    fill: &Fill,
-)
-    requires { AreInOrder statuses.old.items }
-    ensures { statuses.new.items ≡ map (status_after_fill fill.now) statuses.old.items }
+/// The row of the order of that session and id, unless it was refused.
+fn open_row<A: Allocator + Copy>(
+    rows: &[OrderStatus],
+    first: &IdTable<A>,
+    session: u8,
+    id: &Id,
+) -> Option<usize>
+    requires index { IsIndex first.now rows.now }
+    requires later { AreRefusedLater rows.now }
+    ensures stands { IfSome result (IsOpenRow rows.now session id.now) }
+    ensures none { IfNone result (All (λ s. is_open session id.now s ≡ false) rows.now) }
 {
-    if fill.leaves > 0 {
-        return;
-    }
-    if let Some(at) = place_in(statuses, hints, fill.order) {
-        statuses[at].status = ord_status::FILLED;
+    let at = first.find(&StatusRows { rows }, &IdKey::new(session, id))?;
+    let status = rows.get(at)?;
+    if is_open(status, session, id) {
+        Some(at)
+    } else {
+        None
     }
 }
 
 impl<A: Allocator + Copy> Statuses<A> {
-    /// Before the first New entry. Takes no memory yet.
+    /// Before the first entry. Takes no memory yet.
     pub fn new(alloc: A) -> Self
         ensures { result ≡ [] }
     {
@@ -163,10 +165,8 @@ impl<A: Allocator + Copy> Statuses<A> {
         }
     }
 
-    /// The status of one entry more, whose place is above all others. Where its session and id have one already, it is
-    /// refused, and the answer is true.
+    /// The status of one entry more. Where its session and id have one already, it is refused, and the answer is true.
     pub fn add(&mut self, status: OrderStatus) -> Result<bool, NoMemory>
-        requires { All (λ s. s.place < status.place) self.old }
         ensures used { IfOk result (λ used.
             used ≡ is_some (find (has_id status.session status.id) self.old)) }
         ensures ok { IfOk result (λ used. self.new
@@ -175,10 +175,62 @@ impl<A: Allocator + Copy> Statuses<A> {
     {
         self.rows.reserve(1)?;
         let key = IdKey::new(status.session, &status.id);
-        let used = self.first.note(&StatusRows { rows: &self.rows }, &key)?;
+        let noted = self.first.note(&StatusRows { rows: &self.rows }, &key)?;
+        let used = noted.is_known();
         self.hints.note(status.place, self.rows.len());
         self.rows.push_reserved(if_refused(status, used));
         Ok(used)
+    }
+
+    /// The status of an order that keeps its place under another id and with this quantity, in the book too. No status
+    /// has its session and id yet. After NoMemory nothing has changed, here and in the book.
+    pub fn add_amended<B: Book>(
+        &mut self,
+        book: &mut B,
+        status: OrderStatus,
+        quantity: u32,
+    ) -> Result<(), NoMemory>
+        requires unused { find (has_id status.session status.id) self.old ≡ None }
+        requires amend { CanAmend (B.orders book.old) status.place status.id quantity }
+        ensures statuses { OnOk result (self.new ≡ self.old ++ status ∷ []) }
+        ensures orders { OnOk result
+            (B.orders book.new ≡ amended status.place status.id quantity (B.orders book.old)) }
+        ensures err { OnErr result (self.new ≡ self.old) }
+        ensures as_before { OnErr result (B.orders book.new ≡ B.orders book.old) }
+    {
+        self.rows.reserve(1)?;
+        let key = IdKey::new(status.session, &status.id);
+        let noted = self.first.note(&StatusRows { rows: &self.rows }, &key)?;
+        if book.amend(status.place, status.id, quantity).is_err() {
+            self.first.take_back(&key, noted);
+            return Err(NoMemory);
+        }
+        self.hints.note(status.place, self.rows.len());
+        self.rows.push_reserved(status);
+        Ok(())
+    }
+
+    /// Where the order of that session and id stands, unless it was refused. It may be where that place was.
+    fn row_of(&self, place: u64, session: u8, id: &Id) -> Option<usize>
+        ensures stands { IfSome result (IsOpenRow self.now session id.now) }
+        ensures none { IfNone result (All (λ s. is_open session id.now s ≡ false) self.now) }
+    {
+        match row_at_place(&self.rows, &self.hints, place, session, id) {
+            Some(at) => Some(at),
+            None => open_row(&self.rows, &self.first, session, id),
+        }
+    }
+
+    /// An order whose fill leaves nothing is filled.
+    fn mark_fill(&mut self, fill: &Fill)
+        ensures { self.new ≡ map (status_after_fill fill.now) self.old }
+    {
+        if fill.leaves > 0 {
+            return;
+        }
+        if let Some(at) = self.row_of(fill.order, fill.session, &fill.id) {
+            self.rows[at].status = ord_status::FILLED;
+        }
     }
 
     /// After these fills.
@@ -186,7 +238,19 @@ impl<A: Allocator + Copy> Statuses<A> {
         ensures { self.new ≡ statuses_after fills.now self.old }
     {
         for fill in fills {
-            mark_filled(&mut self.rows, &self.hints, fill);
+            self.mark_fill(fill);
+        }
+    }
+
+    /// Another order came in the place of that one.
+    pub fn mark_replaced(&mut self, order: &Order)
+        ensures { self.new
+            ≡ map (status_after_replace order.now.session order.now.id) self.old }
+    {
+        if let Some(at) = self.row_of(order.place, order.session, &order.id) {
+            if self.rows[at].status == ord_status::CANCELED {
+                self.rows[at].status = ord_status::REPLACED;
+            }
         }
     }
 }

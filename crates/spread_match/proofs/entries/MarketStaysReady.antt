@@ -1,5 +1,5 @@
 -- a market that can be worked on still can after an entry
-use Rattle.std.proofs.Common.{◌≡◌, ℕ, zero, suc, ◌==◌, ◌<◌, ◌≤◌, ℤ, not, ◌||◌, cond, List, [], ◌++◌, length, get_or, All, Option, Some, None, Result, Ok, Err, refl, subst, sym, ap, arith}
+use Rattle.std.proofs.Common.{◌≡◌, ℕ, zero, suc, ◌==◌, ◌<◌, ◌≤◌, ℤ, Bool, true, false, not, ◌||◌, cond, List, [], ◌∷◌, ◌++◌, map, length, get_or, Contains, All, inl, inr, ◌∙◌, Option, Some, None, Result, Ok, Err, refl, subst, sym, ap, arith}
 use Rattle.std.proofs.lemmas.List.Elements.{All-nil, All-cons, All-append, All-contains, All-filter, Contains-get_or}
 use Rattle.std.specs.List.{find}
 use Rattle.spread_rules.specs.declared.order.Order.{Order}
@@ -7,25 +7,31 @@ use Rattle.spread_rules.specs.declared.order.Instrument.{Instrument}
 use Rattle.spread_rules.specs.declared.candidate.Candidate.{Candidate}
 use Rattle.spread_rules.specs.declared.event.Ticket.{Ticket}
 use Rattle.spread_rules.specs.declared.event.Event.{Event}
-use Rattle.spread_rules.specs.declared.event.Event.TheVariants.{Logon, New, Cancel, TestReply, Gap, Resend, Reject, Close}
+use Rattle.spread_rules.specs.declared.event.Event.TheVariants.{Logon, New, Cancel, Replace, TestReply, Gap, Resend, Reject, Close}
 use Rattle.spread_rules.specs.declared.outcome.OrderStatus.{OrderStatus}
 use Rattle.spread_rules.specs.declared.outcome.Outcome.{Outcome}
-use Rattle.spread_rules.specs.Candidates.{all_on, HasOrderPrice}
-use Rattle.spread_rules.specs.Clearing.{Trading, next_candidate, turn, turns, after_match, begin, clear}
+use Rattle.spread_rules.specs.Candidates.{all_on, HasOrderPrice, PlacesDiffer}
+use Rattle.spread_rules.specs.Clearing.{Trading, next_candidate, turn, turns, after_match, begin, clear, removed}
 use Rattle.spread_rules.specs.Prices.{IsOrderPrice}
-use Rattle.spread_rules.specs.Meaning.{is_own, has_id, is_refused, refusal_or_instrument, order_of, resting, new_order_means, cancel_means}
+use Rattle.spread_rules.specs.Meaning.{EntryMeaning, cancel_means, has_id, is_own, is_refused, moved_to, new_order_means, order_of, original_of, place_left, refusal_or_instrument, replace_means, resting, ticket_of}
 use Rattle.spread_rules.specs.Rulebook.{Rules, month_count, references_of, find_symbol}
 use Rattle.spread_rules.proofs.clearings.TurnsEnd.{keeps_turns, members_rest, next_meets}
 use Rattle.spread_match.specs.State.{MarketState}
 use Rattle.spread_books.specs.Listed.{IsNearFirst, IsInMonths, IsNearBeforeFar}
 use Rattle.spread_match.specs.Trade.{IsTradable, IsPriced}
-use Rattle.spread_match.specs.code.StateAfter.{IsReady, first_status, state_after, meaning_in}
-use Rattle.spread_match.proofs.status_rows.InOrder.{renewed_within}
+use Rattle.spread_match.specs.code.StateAfter.{IsKnown, IsReady, first_status, meaning_in, state_after, state_with, status_after_fill, status_after_replace, statuses_after, statuses_after_replace}
+use Rattle.spread_match.proofs.status_rows.MarkedRows.{KeepsName, has_id_kept, has_own_id}
+use Rattle.spread_match.proofs.status_rows.MarksOfEntries.{fill_keeps, replace_keeps}
 use Rattle.spread_match.proofs.turns.NotAgainstItself.{are_apart}
 use Rattle.spread_match.proofs.turns.StaysTradable.{still_tradable}
 use Rattle.spread_match.proofs.entries.NewOrder.{turns_all, below_new, taken_is}
 use Rattle.spread_match.proofs.entries.NamedInstrument.{listed_found, near_of, months_of}
-use Rattle.spread_match.proofs.entries.PastStaysSound.{later_all, removed_tradable, rests_all, rest_tradable}
+use Rattle.spread_match.proofs.entries.PastStaysSound.{MayRest, later_all, moved_rests, new_rests, removed_tradable, rests_all, rest_tradable}
+use Rattle.spread_match.proofs.entries.FoundStands.{find_stands}
+use Rattle.spread_match.proofs.entries.Replaces.{all_amended, amended_tradable, by_replace, from_amended, own_is}
+use Rattle.spread_rules.specs.Amended.{amended, done}
+use Rattle.spread_rules.specs.declared.fill.Fill.{Fill}
+use Rattle.std.specs.Option.{is_some}
 
 traded_tradable : (references : List ℤ) (months : ℕ) (t : Trading) (r : Option Candidate) → next_candidate all_on t ≡ r → IsTradable months t.orders → IsTradable months (after_match references t r).orders
 traded_tradable references months t None e h = h
@@ -42,19 +48,19 @@ record AreReady (months : ℕ) (xs : List Order) (last : ℕ) : Type 0 where
   pub tradable : IsTradable months xs
   pub below : All (λ o. o.place ≤ last) xs
 
-cleared_ready : (references : List ℤ) (months : ℕ) (xs : List Order) (last place session : ℕ) (t : Ticket) (i : Instrument) → last < place → AreReady months xs last → IsOrderPrice t.price → IsNearBeforeFar i → IsInMonths months i →
-    AreReady months (resting t.immediate (clear all_on references (order_of place session t i) xs)) place
-cleared_ready references months xs last place session t i l r small listed within =
-    let n = order_of place session t i in
+-- an order of that place that is traded with those of earlier places
+cleared_ready : (references : List ℤ) (months : ℕ) (xs : List Order) (last place : ℕ) (n : Order) (immediate : Bool) → last < place → n.place ≡ place → AreReady months xs last → MayRest months n → AreReady months (resting immediate (clear all_on references n xs)) place
+cleared_ready references months xs last place n immediate l placed r rests =
     let d = clear all_on references n xs in
     let below : All (λ o. o.place < place) d.orders = turns_all all_on (λ (o : Order). o.place < place) (λ o k h. h) references (length xs) (begin n xs) (below_new all_on xs last place r.below l) in
     let new : d.new ≡ record n { leaves = d.new.leaves } = (keeps_turns all_on references (length xs) (begin n xs)).new in
-    let at : place ≡ d.new.place = sym (ap (λ (o : Order). o.place) new) in
+    let at : place ≡ d.new.place = sym placed ∙ sym (ap (λ (o : Order). o.place) new) in
     record {
-      tradable = rest_tradable months d t.immediate (d.new.leaves == 0) refl (turns_tradable references months (length xs) (begin n xs) r.tradable) (subst (λ (k : ℕ). All (λ (o : Order). o.place < k) d.orders) at below)
-          (subst HasOrderPrice (sym new) (record { low = small.low; high = small.high })) (subst IsNearFirst (sym new) (record { near_before_far = listed })) (subst (λ (o : Order). IsInMonths months o.instrument) (sym new) within);
-      below = λ k e lt. rests_all (λ (o : Order). o.place ≤ place) d t.immediate (λ o c. let a = All-contains (λ (w : Order). w.place < place) d.orders o below c in omega arith) (omega arith) (d.new.leaves == 0 || t.immediate)
-          (get_or (resting t.immediate d) k e) (Contains-get_or (resting t.immediate d) k e lt);
+      tradable = rest_tradable months d immediate (d.new.leaves == 0) refl (turns_tradable references months (length xs) (begin n xs) r.tradable) (subst (λ (k : ℕ). All (λ (o : Order). o.place < k) d.orders) at below)
+          (subst HasOrderPrice (sym new) (let k = rests.small in record { low = k.low; high = k.high })) (subst IsNearFirst (sym new) (let k = rests.listed in record { near_before_far = k.near_before_far }))
+          (subst (λ (o : Order). IsInMonths months o.instrument) (sym new) rests.within);
+      below = λ k e lt. rests_all (λ (o : Order). o.place ≤ place) d immediate (λ o c. let a = All-contains (λ (w : Order). w.place < place) d.orders o below c in omega arith) (omega arith) (d.new.leaves == 0 || immediate)
+          (get_or (resting immediate d) k e) (Contains-get_or (resting immediate d) k e lt);
     }
 
 later_ready : (months : ℕ) (xs : List Order) (last place : ℕ) → last < place → AreReady months xs last → AreReady months xs place
@@ -65,7 +71,7 @@ entered_ready : (rules : Rules) (xs : List Order) (last place session : ℕ) (t 
 entered_ready rules xs last place session t earlier (Err reason) e l h k = later_ready (month_count rules) xs last place l h
 entered_ready rules xs last place session t earlier (Ok i) e l h k =
     let listed = listed_found rules t.symbol i (taken_is all_on rules t earlier i e).names in
-    cleared_ready (references_of rules) (month_count rules) xs last place session t i l h k (near_of rules i listed) (months_of rules i listed)
+    cleared_ready (references_of rules) (month_count rules) xs last place (order_of place session t i) t.immediate l refl h (new_rests (month_count rules) place session t i k (near_of rules i listed) (months_of rules i listed))
 
 cancelled_ready : (months : ℕ) (xs : List Order) (last place : ℕ) (earlier : Option OrderStatus) (found : Option Order) → last < place → AreReady months xs last → AreReady months (cancel_means xs earlier found).orders place
 cancelled_ready months xs last place earlier (Some o) l h = record {
@@ -74,9 +80,29 @@ cancelled_ready months xs last place earlier (Some o) l h = record {
 }
 cancelled_ready months xs last place earlier None l h = later_ready months xs last place l h
 
+removed_ready : (months : ℕ) (xs : List Order) (last gone : ℕ) → AreReady months xs last → AreReady months (removed gone xs) last
+removed_ready months xs last gone h = record { tradable = removed_tradable months gone xs h.tradable; below = All-filter (λ (w : Order). not (w.place == gone)) (λ (w : Order). w.place ≤ last) xs h.below }
+
+amended_ready : (months : ℕ) (xs : List Order) (last place : ℕ) (r : Order) (id : List ℕ) (quantity : ℕ) → last < place → Contains xs r → done r < quantity → AreReady months xs last → AreReady months (amended r.place id quantity xs) place
+amended_ready months xs last place r id quantity l stands more h = record {
+  tradable = amended_tradable months xs r id quantity h.tradable stands more;
+  below = all_amended (λ (o : Order). o.place ≤ place) xs r.place id quantity (λ o k. k) (later_all xs last place l h.below);
+}
+
+replaced_ready : (rules : Rules) (xs : List Order) (last place session : ℕ) (original : List ℕ) (t : Ticket) (r : Result Instrument ℕ) (earlier : Option OrderStatus) (found : Option Order) → find (is_own session original) xs ≡ found → last < place →
+    AreReady (month_count rules) xs last → IsOrderPrice t.price → AreReady (month_count rules) (replace_means rules xs place t r earlier found).orders place
+replaced_ready rules xs last place session original t r earlier None e l h k = later_ready (month_count rules) xs last place l h
+replaced_ready rules xs last place session original t r earlier (Some o) e l h k =
+    let stands : Contains xs o = find_stands (is_own session original) xs o e in
+    by_replace (λ (m : EntryMeaning). AreReady (month_count rules) m.orders place) rules xs place t r o
+    (λ reason. later_ready (month_count rules) xs last place l h)
+    (λ a b. amended_ready (month_count rules) xs last place o t.id t.quantity l stands a.more h)
+    (λ a. cleared_ready (references_of rules) (month_count rules) (removed o.place xs) last place (moved_to place t o) false l refl (removed_ready (month_count rules) xs last o.place h) (moved_rests (month_count rules) place xs t o h.tradable stands k))
+
 event_ready : (rules : Rules) (m : MarketState) (place session : ℕ) (event : Event) → m.last < place → AreReady (month_count rules) m.orders m.last → IsPriced event → AreReady (month_count rules) (meaning_in rules m place session event).orders place
 event_ready rules m place session (New t) l h k = entered_ready rules m.orders m.last place session t (find (has_id session t.id) m.statuses) (refusal_or_instrument rules t (find (has_id session t.id) m.statuses) (find_symbol rules t.symbol)) refl l h k
 event_ready rules m place session (Cancel id original) l h k = cancelled_ready (month_count rules) m.orders m.last place (find (has_id session original) m.statuses) (find (is_own session original) m.orders) l h
+event_ready rules m place session (Replace original t) l h k = replaced_ready rules m.orders m.last place session original t _ (find (has_id session original) m.statuses) (find (is_own session original) m.orders) refl l h k
 event_ready rules m place session (Logon client host beat) l h k = later_ready (month_count rules) m.orders m.last place l h
 event_ready rules m place session (TestReply text) l h k = later_ready (month_count rules) m.orders m.last place l h
 event_ready rules m place session (Gap first) l h k = later_ready (month_count rules) m.orders m.last place l h
@@ -84,24 +110,120 @@ event_ready rules m place session (Resend first until) l h k = later_ready (mont
 event_ready rules m place session (Reject number reason) l h k = later_ready (month_count rules) m.orders m.last place l h
 event_ready rules m place session (Close reason) l h k = later_ready (month_count rules) m.orders m.last place l h
 
-noted_first : (place session : ℕ) (outcome : Outcome) (event : Event) → All (λ s. s.place ≤ place) (first_status place session outcome event)
-noted_first place session outcome (New t) =
-    All-cons (λ (s : OrderStatus). s.place ≤ place) (record { session = session; id = t.id; place = place; status = cond (is_refused outcome) 8 4 }) [] (omega arith) (All-nil (λ (s : OrderStatus). s.place ≤ place))
-noted_first place session outcome (Cancel id original) = All-nil (λ (s : OrderStatus). s.place ≤ place)
-noted_first place session outcome (Logon client host beat) = All-nil (λ (s : OrderStatus). s.place ≤ place)
-noted_first place session outcome (TestReply text) = All-nil (λ (s : OrderStatus). s.place ≤ place)
-noted_first place session outcome (Gap first) = All-nil (λ (s : OrderStatus). s.place ≤ place)
-noted_first place session outcome (Resend first until) = All-nil (λ (s : OrderStatus). s.place ≤ place)
-noted_first place session outcome (Reject number reason) = All-nil (λ (s : OrderStatus). s.place ≤ place)
-noted_first place session outcome (Close reason) = All-nil (λ (s : OrderStatus). s.place ≤ place)
+-- ---- the statuses of what rests are kept
 
-noted_after : (rules : Rules) (m : MarketState) (place session : ℕ) (event : Event) → m.last < place → All (λ s. s.place ≤ m.last) m.statuses → All (λ s. s.place ≤ place) (state_after rules m place session event).statuses
-noted_after rules m place session event l h =
-    let e = meaning_in rules m place session event in
-    let earlier : All (λ (s : OrderStatus). s.place ≤ place) m.statuses = λ k d lt. let a = h k d lt in omega (arith, a, l) in
-    renewed_within place e.fills (m.statuses ++ first_status place session e.outcome event) (All-append (λ (s : OrderStatus). s.place ≤ place) m.statuses (first_status place session e.outcome event) earlier (noted_first place session e.outcome event))
+-- what keeps session and id of each status
+found_marked : (g : OrderStatus → OrderStatus) (ss : List OrderStatus) (session : ℕ) (id : List ℕ) → KeepsName g → is_some (find (has_id session id) (map g ss)) ≡ is_some (find (has_id session id) ss)
+found_marked g [] session id k = refl
+found_marked g (s ∷ ss) session id k = ap (λ (b : Bool). is_some (cond b (Some (g s)) (find (has_id session id) (map g ss)))) (has_id_kept g session id s k) ∙ by_test (has_id session id s) (found_marked g ss session id k)
+  where
+    by_test : (b : Bool) → is_some (find (has_id session id) (map g ss)) ≡ is_some (find (has_id session id) ss) → is_some (cond b (Some (g s)) (find (has_id session id) (map g ss))) ≡ is_some (cond b (Some s) (find (has_id session id) ss))
+    by_test true h = refl
+    by_test false h = h
+
+known_filled : (fs : List Fill) (ss : List OrderStatus) (session : ℕ) (id : List ℕ) → IsKnown ss session id → IsKnown (statuses_after fs ss) session id
+known_filled [] ss session id h = h
+known_filled (f ∷ fs) ss session id h = known_filled fs (map (status_after_fill f) ss) session id (found_marked (status_after_fill f) ss session id (fill_keeps f) ∙ h)
+
+known_replaced : (own : ℕ) (outcome : Outcome) (original : Option (List ℕ)) (ss : List OrderStatus) (session : ℕ) (id : List ℕ) → IsKnown ss session id → IsKnown (statuses_after_replace own outcome original ss) session id
+known_replaced own outcome None ss session id h = h
+known_replaced own outcome (Some original) ss session id h = by_test (is_refused outcome)
+  where
+    by_test : (b : Bool) → IsKnown (cond b ss (map (status_after_replace own original) ss)) session id
+    by_test true = h
+    by_test false = found_marked (status_after_replace own original) ss session id (replace_keeps own original) ∙ h
+
+known_more : (ss more : List OrderStatus) (session : ℕ) (id : List ℕ) → IsKnown ss session id → IsKnown (ss ++ more) session id
+known_more [] more session id h = cc
+known_more (s ∷ ss) more session id h = by_test (has_id session id s) (known_more ss more session id) h
+  where
+    by_test : (b : Bool) → (IsKnown ss session id → IsKnown (ss ++ more) session id) → is_some (cond b (Some s) (find (has_id session id) ss)) ≡ true → is_some (cond b (Some s) (find (has_id session id) (ss ++ more))) ≡ true
+    by_test true on k = refl
+    by_test false on k = on k
+
+known_last : (ss : List OrderStatus) (s : OrderStatus) → IsKnown (ss ++ s ∷ []) s.session s.id
+known_last [] s = ap (λ (b : Bool). is_some (cond b (Some s) None)) (has_own_id s)
+known_last (x ∷ ss) s = by_test (has_id s.session s.id x) (known_last ss s)
+  where
+    by_test : (b : Bool) → IsKnown (ss ++ s ∷ []) s.session s.id → is_some (cond b (Some x) (find (has_id s.session s.id) (ss ++ s ∷ []))) ≡ true
+    by_test true h = refl
+    by_test false h = h
+
+-- what was known still is
+known_still : (m : MarketState) (place session : ℕ) (event : Event) (e : EntryMeaning) (own : ℕ) (id : List ℕ) → IsKnown m.statuses own id → IsKnown (state_with m place session event e).statuses own id
+known_still m place session event e own id h =
+    known_filled e.fills _ own id (known_replaced session e.outcome (original_of event) _ own id (known_more m.statuses (first_status place session e.outcome (ticket_of event)) own id h))
+
+-- the ticket's id is known
+known_now : (m : MarketState) (place session : ℕ) (event : Event) (e : EntryMeaning) (t : Ticket) → ticket_of event ≡ Some t → IsKnown (state_with m place session event e).statuses session t.id
+known_now m place session event e t asks =
+    let s : OrderStatus = record { session = session; id = t.id; place = place_left place e.outcome; status = cond (is_refused e.outcome) 8 4 } in
+    known_filled e.fills _ session t.id (known_replaced session e.outcome (original_of event) _ session t.id
+    (subst (λ (o : Option Ticket). IsKnown (m.statuses ++ first_status place session e.outcome o) session t.id) (sym asks) (known_last m.statuses s)))
+
+-- each order is one that rested, or bears the ticket's id
+
+traded_come : (references : List ℤ) (n : Order) (xs : List Order) (immediate : Bool) (P : ℕ → List ℕ → Type 0) → All (λ o. P o.session o.id) xs → P n.session n.id → All (λ o. P o.session o.id) (resting immediate (clear all_on references n xs))
+traded_come references n xs immediate P h own =
+    let d = clear all_on references n xs in
+    let all : All (λ o. P o.session o.id) d.orders = turns_all all_on (λ (o : Order). P o.session o.id) (λ o k w. w) references (length xs) (begin n xs) h in
+    let new : d.new ≡ record n { leaves = d.new.leaves } = (keeps_turns all_on references (length xs) (begin n xs)).new in
+    λ k e lt. rests_all (λ (o : Order). P o.session o.id) d immediate (λ o c. All-contains (λ (w : Order). P w.session w.id) d.orders o all c) (subst (λ (o : Order). P o.session o.id) (sym new) own) (d.new.leaves == 0 || immediate)
+        (get_or (resting immediate d) k e) (Contains-get_or (resting immediate d) k e lt)
+
+new_come : (rules : Rules) (xs : List Order) (place session : ℕ) (t : Ticket) (r : Result Instrument ℕ) (P : ℕ → List ℕ → Type 0) → All (λ o. P o.session o.id) xs → P session t.id → All (λ o. P o.session o.id) (new_order_means rules xs place session t r).orders
+new_come rules xs place session t (Err reason) P h own = h
+new_come rules xs place session t (Ok i) P h own = traded_come (references_of rules) (order_of place session t i) xs t.immediate P h own
+
+cancel_come : (xs : List Order) (earlier : Option OrderStatus) (found : Option Order) (P : ℕ → List ℕ → Type 0) → All (λ o. P o.session o.id) xs → All (λ o. P o.session o.id) (cancel_means xs earlier found).orders
+cancel_come xs earlier (Some o) P h = All-filter (λ (w : Order). not (w.place == o.place)) (λ (w : Order). P w.session w.id) xs h
+cancel_come xs earlier None P h = h
+
+replace_come : (rules : Rules) (xs : List Order) (place session : ℕ) (original : List ℕ) (t : Ticket) (r : Result Instrument ℕ) (earlier : Option OrderStatus) (found : Option Order) → find (is_own session original) xs ≡ found → PlacesDiffer xs →
+    (P : ℕ → List ℕ → Type 0) → All (λ o. P o.session o.id) xs → P session t.id → All (λ o. P o.session o.id) (replace_means rules xs place t r earlier found).orders
+replace_come rules xs place session original t r earlier None e differ P h own = h
+replace_come rules xs place session original t r earlier (Some o) e differ P h own =
+    let stands : Contains xs o = find_stands (is_own session original) xs o e in
+    let mine : P o.session t.id = subst (λ (n : ℕ). P n t.id) (sym (own_is xs session original o e).session_is) own in
+    by_replace (λ (m : EntryMeaning). All (λ w. P w.session w.id) m.orders) rules xs place t r o
+    (λ reason. h)
+    (λ a b. λ k d lt.
+    let w = get_or (amended o.place t.id t.quantity xs) k d in
+    let c = from_amended xs o.place t.id t.quantity w (Contains-get_or (amended o.place t.id t.quantity xs) k d lt) in
+    elim c.is [
+      | inl f ↦ subst (λ (v : Order). P v.session v.id) f.1 (subst (λ (v : Order). P v.session t.id) (sym (differ c.was o c.stands stands f.0)) mine)
+      | inr f ↦ subst (λ (v : Order). P v.session v.id) f.1 (All-contains (λ (v : Order). P v.session v.id) xs c.was h c.stands)
+    ])
+    (λ a. traded_come (references_of rules) (moved_to place t o) (removed o.place xs) false P (All-filter (λ (w : Order). not (w.place == o.place)) (λ (w : Order). P w.session w.id) xs h) mine)
+
+known_after : (rules : Rules) (m : MarketState) (place session : ℕ) (event : Event) → PlacesDiffer m.orders → All (λ o. IsKnown m.statuses o.session o.id) m.orders →
+    All (λ o. IsKnown (state_after rules m place session event).statuses o.session o.id) (meaning_in rules m place session event).orders
+known_after rules m place session event differ h = by_event event refl
+  where
+    e : EntryMeaning
+    e = meaning_in rules m place session event
+
+    P : ℕ → List ℕ → Type 0
+    P own id = IsKnown (state_after rules m place session event).statuses own id
+
+    all : All (λ o. P o.session o.id) m.orders
+    all = λ k d lt. known_still m place session event e (get_or m.orders k d).session (get_or m.orders k d).id (h k d lt)
+
+    now : (t : Ticket) → ticket_of event ≡ Some t → P session t.id
+    now t asks = known_now m place session event e t asks
+
+    by_event : (v : Event) → event ≡ v → All (λ o. P o.session o.id) (meaning_in rules m place session v).orders
+    by_event (New t) f = new_come rules m.orders place session t _ P all (now t (ap ticket_of f))
+    by_event (Replace original t) f = replace_come rules m.orders place session original t _ (find (has_id session original) m.statuses) (find (is_own session original) m.orders) refl differ P all (now t (ap ticket_of f))
+    by_event (Cancel id original) f = cancel_come m.orders (find (has_id session original) m.statuses) (find (is_own session original) m.orders) P all
+    by_event (Logon client host beat) f = all
+    by_event (TestReply text) f = all
+    by_event (Gap first) f = all
+    by_event (Resend first until) f = all
+    by_event (Reject number reason) f = all
+    by_event (Close reason) f = all
 
 pub ready_after : (rules : Rules) (m : MarketState) (place session : ℕ) (event : Event) → IsReady (month_count rules) m → m.last < place → IsPriced event → IsReady (month_count rules) (state_after rules m place session event)
 ready_after rules m place session event r l k =
     let a = event_ready rules m place session event l (record { tradable = r.tradable; below = r.below }) k in
-    record { tradable = a.tradable; below = a.below; noted = noted_after rules m place session event l r.noted }
+    record { tradable = a.tradable; below = a.below; known = known_after rules m place session event r.tradable.places r.known }

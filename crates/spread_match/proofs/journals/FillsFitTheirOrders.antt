@@ -14,24 +14,28 @@ use Rattle.spread_rules.specs.declared.candidate.Counterparty.{Counterparty}
 use Rattle.spread_rules.specs.declared.candidate.Counterparty.TheVariants.{Direct, Implied}
 use Rattle.spread_rules.specs.declared.event.Entry.{Entry}
 use Rattle.spread_rules.specs.declared.event.Event.{Event}
-use Rattle.spread_rules.specs.declared.event.Event.TheVariants.{Logon, New, Cancel, TestReply, Gap, Resend, Reject, Close}
+use Rattle.spread_rules.specs.declared.event.Event.TheVariants.{Logon, New, Cancel, Replace, TestReply, Gap, Resend, Reject, Close}
 use Rattle.spread_rules.specs.declared.event.Ticket.{Ticket}
 use Rattle.spread_rules.specs.declared.outcome.OrderStatus.{OrderStatus}
 use Rattle.spread_rules.specs.Candidates.{all_on, takes_part, implied_price, price_of, least_left, month_of, AllStandIn}
 use Rattle.spread_rules.specs.Prices.{IsLegPrice, IsOrderPrice}
-use Rattle.spread_rules.specs.Clearing.{Trading, next_candidate, turn, turns, after_match, begin, clear, fills_of, fill_of, leg_prices, leg_prices_of_fill, leg_prices_of_single, leg_prices_of_pair}
-use Rattle.spread_rules.specs.Meaning.{JournalState, PastNew, no_entries, is_own, has_id, statuses_of, refusal_or_instrument, order_of, outcome_of, resting, new_order_means, cancel_means, meaning_of, after_entry, after_entries, meaning_of_journal}
+use Rattle.spread_rules.specs.Clearing.{Trading, next_candidate, turn, turns, after_match, begin, clear, removed, fills_of, fill_of, leg_prices, leg_prices_of_fill, leg_prices_of_single, leg_prices_of_pair}
+use Rattle.spread_rules.specs.Meaning.{EntryMeaning, JournalState, PastTicket, after_entries, after_entry, cancel_means, has_id, is_own, meaning_of, meaning_of_journal, moved_to, new_order_means, no_entries, order_of, refusal_or_instrument, replace_means, resting, statuses_of}
 use Rattle.spread_rules.specs.Rulebook.{Rules, IsRules, IsListed, month_count, references_of, find_symbol}
 use Rattle.spread_rules.proofs.lists.Membership.{in_cons_cases, in_head, in_tail, not_in_nil}
-use Rattle.spread_rules.proofs.clearings.TurnsEnd.{members_rest, next_meets}
+use Rattle.spread_rules.proofs.clearings.TurnsEnd.{in_filter, members_rest, next_meets}
 use Rattle.spread_rules.proofs.clearings.BoughtIsSold.{on_price}
 use Rattle.spread_match.specs.Sound.{IsSound, IsCounted, IsFillWithinLimits}
-use Rattle.spread_match.specs.Trade.{IsPriced, ArePriced}
-use Rattle.spread_match.proofs.status_rows.FillsAndStatuses.{IsRunning, running_with}
+use Rattle.spread_match.specs.Trade.{IsPriced, IsTradable, ArePriced}
+use Rattle.spread_match.proofs.entries.FillsCounted.{IsRunning, running_with}
 use Rattle.spread_books.proofs.fronts.PairCost.{so_is}
-use Rattle.spread_match.proofs.entries.NewOrder.{taken_is, not_refused, traded_all}
+use Rattle.spread_match.proofs.entries.NewOrder.{taken_is, traded_all}
 use Rattle.spread_match.proofs.entries.NamedInstrument.{listed_found, small_references}
-use Rattle.spread_match.proofs.entries.PastStaysSound.{started, entry_kept, rests_all}
+use Rattle.spread_match.proofs.entries.PastStaysSound.{AsksFor, started, entry_kept, moved_asks, new_asks, removed_tradable, rests_all}
+use Rattle.spread_match.proofs.entries.FoundStands.{find_stands}
+use Rattle.spread_match.proofs.entries.Replaces.{all_amended, by_replace, own_is}
+use Rattle.spread_rules.specs.Amended.{amended}
+use Rattle.spread_rules.specs.declared.outcome.Outcome.TheVariants.{Rested}
 use Rattle.spread_match.proofs.journals.AfterEveryEntry.{none_sound}
 
 -- ---- prices
@@ -146,10 +150,10 @@ record AllFit (rules : Rules) (t : Trading) : Type 0 where
 less_fits : (rules : Rules) (o : Order) (k : ℕ) → FitsOrder rules o → FitsOrder rules (record o { leaves = k })
 less_fits rules o k h = record { quantity = h.quantity; low = h.low; high = h.high; listed = h.listed }
 
-no_more : (ps : List PastNew) (fs : List Fill) (o : Order) → IsCounted ps fs o → o.leaves ≤ o.quantity
+no_more : (ps : List PastTicket) (fs : List Fill) (o : Order) → IsCounted ps fs o → o.leaves ≤ o.quantity
 no_more ps fs o c = let k = c.counts in omega arith
 
-traded_fits : (rules : Rules) (ps : List PastNew) (past : List Fill) (t : Trading) (r : Option Candidate) → next_candidate all_on t ≡ r → IsRules rules → IsRunning all_on (month_count rules) ps past t → AllFit rules t → AllFit rules (after_match (references_of rules) t r)
+traded_fits : (rules : Rules) (ps : List PastTicket) (past : List Fill) (t : Trading) (r : Option Candidate) → next_candidate all_on t ≡ r → IsRules rules → IsRunning all_on (month_count rules) ps past t → AllFit rules t → AllFit rules (after_match (references_of rules) t r)
 traded_fits rules ps past t None e lawful run h = h
 traded_fits rules ps past t (Some o) e lawful run h = record {
   own = less_fits rules t.new _ h.own;
@@ -160,7 +164,7 @@ traded_fits rules ps past t (Some o) e lawful run h = record {
   ];
 }
 
-turns_fits : (rules : Rules) (ps : List PastNew) (past : List Fill) (k : ℕ) (t : Trading) → IsRules rules → IsRunning all_on (month_count rules) ps past t → AllFit rules t → AllFit rules (turns all_on (references_of rules) k t)
+turns_fits : (rules : Rules) (ps : List PastTicket) (past : List Fill) (k : ℕ) (t : Trading) → IsRules rules → IsRunning all_on (month_count rules) ps past t → AllFit rules t → AllFit rules (turns all_on (references_of rules) k t)
 turns_fits rules ps past zero t lawful run h = h
 turns_fits rules ps past (suc k) t lawful run h =
     turns_fits rules ps past k (turn all_on (references_of rules) t) lawful (running_with all_on (references_of rules) (month_count rules) ps past t (next_candidate all_on t) refl run) (traded_fits rules ps past t (next_candidate all_on t) refl lawful run h)
@@ -171,15 +175,14 @@ record PastFits (rules : Rules) (xs : List Order) (fs : List Fill) : Type 0 wher
   pub orders : All (FitsOrder rules) xs
   pub fills : (f : Fill) → Contains fs f → IsFillWithinLimits rules f
 
-cleared_fits : (rules : Rules) (past : JournalState) (last place session : ℕ) (t : Ticket) (i : Instrument) → IsRules rules → last < place → IsSound (month_count rules) past last → All (FitsOrder rules) past.orders → FitsOrder rules (order_of place session t i) →
-    PastFits rules (new_order_means rules past.orders place session t (Ok i)).orders (new_order_means rules past.orders place session t (Ok i)).fills
-cleared_fits rules past last place session t i lawful l s h own =
-    let n = order_of place session t i in
-    let d = clear all_on (references_of rules) n past.orders in
-    let all : AllFit rules d = turns_fits rules _ past.fills (length past.orders) (begin n past.orders) lawful (started (month_count rules) past last place session t i (outcome_of false 0) l (not_refused all_on false 0) s)
-    (record { own = own; each = h; fills = λ f c. absurd (not_in_nil f c) }) in
+cleared_fits : (rules : Rules) (past : JournalState) (last place : ℕ) (p : PastTicket) (n : Order) (xs : List Order) (immediate : Bool) → IsRules rules → last < place → AsksFor place p n → IsSound (month_count rules) past last →
+    IsTradable (month_count rules) xs → ((o : Order) → Contains xs o → Contains past.orders o) → All (FitsOrder rules) xs → FitsOrder rules n →
+    PastFits rules (resting immediate (clear all_on (references_of rules) n xs)) (clear all_on (references_of rules) n xs).fills
+cleared_fits rules past last place p n xs immediate lawful l a s t on h own =
+    let d = clear all_on (references_of rules) n xs in
+    let all : AllFit rules d = turns_fits rules _ past.fills (length xs) (begin n xs) lawful (started (month_count rules) past last place p n xs l a s t on) (record { own = own; each = h; fills = λ f c. absurd (not_in_nil f c) }) in
     record {
-      orders = λ k z lt. rests_all (FitsOrder rules) d t.immediate (λ o c. All-contains (FitsOrder rules) d.orders o all.each c) all.own (d.new.leaves == 0 || t.immediate) (get_or (resting t.immediate d) k z) (Contains-get_or (resting t.immediate d) k z lt);
+      orders = λ k z lt. rests_all (FitsOrder rules) d immediate (λ o c. All-contains (FitsOrder rules) d.orders o all.each c) all.own (d.new.leaves == 0 || immediate) (get_or (resting immediate d) k z) (Contains-get_or (resting immediate d) k z lt);
       fills = all.fills;
     }
 
@@ -188,16 +191,39 @@ entered_fits : (rules : Rules) (past : JournalState) (last place session : ℕ) 
 entered_fits rules past last place session t earlier (Err reason) e lawful l s h k = record { orders = h; fills = λ f c. absurd (not_in_nil f c) }
 entered_fits rules past last place session t earlier (Ok i) e lawful l s h k =
     let w = taken_is all_on rules t earlier i e in
-    cleared_fits rules past last place session t i lawful l s h (record { quantity = w.most; low = k.low; high = k.high; listed = listed_found rules t.symbol i w.names })
+    cleared_fits rules past last place _ (order_of place session t i) past.orders t.immediate lawful l (new_asks place session t i Rested) s s.tradable (λ o c. c) h
+    (record { quantity = w.most; low = k.low; high = k.high; listed = listed_found rules t.symbol i w.names })
 
 cancelled_fits : (rules : Rules) (xs : List Order) (earlier : Option OrderStatus) (found : Option Order) → All (FitsOrder rules) xs → PastFits rules (cancel_means xs earlier found).orders (cancel_means xs earlier found).fills
 cancelled_fits rules xs earlier (Some o) h = record { orders = All-filter (λ (w : Order). not (w.place == o.place)) (FitsOrder rules) xs h; fills = λ f c. absurd (not_in_nil f c) }
 cancelled_fits rules xs earlier None h = record { orders = h; fills = λ f c. absurd (not_in_nil f c) }
 
+-- an order under another id and with another quantity
+amended_fits : (rules : Rules) (xs : List Order) (place : ℕ) (id : List ℕ) (quantity : ℕ) → quantity ≤ 999999 → All (FitsOrder rules) xs → All (FitsOrder rules) (amended place id quantity xs)
+amended_fits rules xs place id quantity most h = all_amended (FitsOrder rules) xs place id quantity (λ o f. record { quantity = most; low = f.low; high = f.high; listed = f.listed }) h
+
+replaced_fits : (rules : Rules) (past : JournalState) (last place session : ℕ) (original : List ℕ) (t : Ticket) (earlier other : Option OrderStatus) (found : Option Order) → find (is_own session original) past.orders ≡ found → IsRules rules → last < place →
+    IsSound (month_count rules) past last → All (FitsOrder rules) past.orders → IsOrderPrice t.price →
+    PastFits rules (replace_means rules past.orders place t (refusal_or_instrument rules t earlier (find_symbol rules t.symbol)) other found).orders (replace_means rules past.orders place t (refusal_or_instrument rules t earlier (find_symbol rules t.symbol)) other found).fills
+replaced_fits rules past last place session original t earlier other None e lawful l s h k = record { orders = h; fills = λ f c. absurd (not_in_nil f c) }
+replaced_fits rules past last place session original t earlier other (Some o) e lawful l s h k =
+    let instrument = refusal_or_instrument rules t earlier (find_symbol rules t.symbol) in
+    let stands : Contains past.orders o = find_stands (is_own session original) past.orders o e in
+    let own = All-contains (FitsOrder rules) past.orders o h stands in
+    by_replace (λ (m : EntryMeaning). PastFits rules m.orders m.fills) rules past.orders place t instrument o
+    (λ reason. record { orders = h; fills = λ f c. absurd (not_in_nil f c) })
+    (λ a b. record { orders = amended_fits rules past.orders o.place t.id t.quantity (taken_is all_on rules t earlier o.instrument a.fits).most h; fills = λ f c. absurd (not_in_nil f c) })
+    (λ a. cleared_fits rules past last place _ (moved_to place t o) (removed o.place past.orders) false lawful l
+    (moved_asks place session original t o Rested (own_is past.orders session original o e).session_is a.side) s (removed_tradable (month_count rules) o.place past.orders s.tradable)
+    (λ w c. in_filter all_on (λ (x : Order). not (x.place == o.place)) past.orders w c) (All-filter (λ (w : Order). not (w.place == o.place)) (FitsOrder rules) past.orders h)
+    (record { quantity = (taken_is all_on rules t earlier o.instrument a.fits).most; low = k.low; high = k.high; listed = own.listed }))
+
 event_fits : (rules : Rules) (past : JournalState) (last place session : ℕ) (event : Event) → IsRules rules → last < place → IsSound (month_count rules) past last → All (FitsOrder rules) past.orders → IsPriced event →
     PastFits rules (meaning_of rules past place (record { session = session; event = event })).orders (meaning_of rules past place (record { session = session; event = event })).fills
 event_fits rules past last place session (New t) lawful l s h k = entered_fits rules past last place session t (find (has_id session t.id) (statuses_of past)) (refusal_or_instrument rules t (find (has_id session t.id) (statuses_of past)) (find_symbol rules t.symbol)) refl lawful l s h k
 event_fits rules past last place session (Cancel id original) lawful l s h k = cancelled_fits rules past.orders (find (has_id session original) (statuses_of past)) (find (is_own session original) past.orders) h
+event_fits rules past last place session (Replace original t) lawful l s h k =
+    replaced_fits rules past last place session original t (find (has_id session t.id) (statuses_of past)) (find (has_id session original) (statuses_of past)) (find (is_own session original) past.orders) refl lawful l s h k
 event_fits rules past last place session (Logon client host beat) lawful l s h k = record { orders = h; fills = λ f c. absurd (not_in_nil f c) }
 event_fits rules past last place session (TestReply text) lawful l s h k = record { orders = h; fills = λ f c. absurd (not_in_nil f c) }
 event_fits rules past last place session (Gap first) lawful l s h k = record { orders = h; fills = λ f c. absurd (not_in_nil f c) }

@@ -1,30 +1,35 @@
--- The market's state after an entry: the orders that rest, and a status for each New entry in place of the past.
+-- The market's state after an entry: the orders that rest, and a status for each New and Replace entry in place of the
+-- past.
 -- Words of the code alone.
-use Rattle.std.specs.Prelude.{ℕ, ◌-◌, ◌==◌, ◌≤◌, Bool, ◌&&◌, ◌||◌, cond, if◌then◌else◌, List, [], ◌∷◌, ◌++◌, map, fold, All, Option, Some, None}
+use Rattle.std.specs.Prelude.{◌≡◌, ℕ, ◌-◌, ◌==◌, ◌≤◌, nat_le, ⊤, Bool, true, not, ◌&&◌, ◌||◌, cond, if◌then◌else◌, List, [], ◌∷◌, ◌++◌, map, fold, All, Option, Some, None, is_some, Result}
 use Rattle.std.specs.List.{find}
-use Rattle.row_index.specs.Places.{RisesBy}
+use Rattle.spread_rules.specs.declared.codes.cxl_rej_reason.TheConstants as cxl_rej_reason
 use Rattle.spread_rules.specs.declared.codes.ord_rej_reason.TheConstants as ord_rej_reason
 use Rattle.spread_rules.specs.declared.codes.ord_status.TheConstants as ord_status
 use Rattle.spread_rules.specs.declared.order.Order.{Order}
 use Rattle.spread_rules.specs.declared.fill.Fill.{Fill}
 use Rattle.spread_rules.specs.Candidates.{all_on}
-use Rattle.spread_rules.specs.Clearing.{clear, removed, reduced}
+use Rattle.spread_rules.specs.Clearing.{clear, removed, reduced, Trading}
 use Rattle.spread_rules.specs.declared.outcome.OrderStatus.{OrderStatus}
 use Rattle.spread_rules.specs.declared.order.Instrument.{Instrument}
 use Rattle.spread_rules.specs.declared.event.Ticket.{Ticket}
 use Rattle.spread_rules.specs.declared.event.Event.{Event}
-use Rattle.spread_rules.specs.declared.event.Event.TheVariants.{New}
 use Rattle.spread_rules.specs.declared.outcome.Outcome.{Outcome}
 use Rattle.spread_rules.specs.declared.outcome.Outcome.TheVariants.{Refused}
 use Rattle.spread_match.specs.Trade.{IsTradable}
-use Rattle.spread_rules.specs.Meaning.{EntryMeaning, has_id, is_own, is_refused, meaning_with, order_of, unchanged_with, clearing_means, cancel_means}
+use Rattle.spread_rules.specs.Amended.{done}
+use Rattle.spread_rules.specs.Meaning.{EntryMeaning, has_id, instrument_or_refusal_of, is_own, is_refused, may_replace, meaning_with, moved_to, moving_means, order_of, original_of, place_left, replace_of_resting, ticket_of, unchanged_with, clearing_means, cancel_means}
 use Rattle.spread_rules.specs.Rulebook.{Rules, references_of}
 use Rattle.spread_match.specs.State.{MarketState}
+
+-- the order of that session and id, which was not refused
+abbrev pub is_open : ℕ → List ℕ → OrderStatus → Bool
+is_open session id s = has_id session id s && not (s.status == ord_status.REJECTED)
 
 -- an order whose fill leaves nothing is filled
 abbrev pub status_after_fill : Fill → OrderStatus → OrderStatus
 status_after_fill f s =
-    cond (s.place == f.order && f.leaves == 0) (record s { status = ord_status.FILLED }) s
+    cond (is_open f.session f.id s && f.leaves == 0) (record s { status = ord_status.FILLED }) s
 
 abbrev pub statuses_after_fill : List OrderStatus → Fill → List OrderStatus
 statuses_after_fill ss f = map (status_after_fill f) ss
@@ -32,16 +37,28 @@ statuses_after_fill ss f = map (status_after_fill f) ss
 abbrev pub statuses_after : List Fill → List OrderStatus → List OrderStatus
 statuses_after fills ss = fold statuses_after_fill ss fills
 
+-- an order in whose place another came is replaced
+abbrev pub status_after_replace : ℕ → List ℕ → OrderStatus → OrderStatus
+status_after_replace session id s =
+    cond (has_id session id s && s.status == ord_status.CANCELED)
+    (record s { status = ord_status.REPLACED }) s
+
+abbrev pub statuses_after_replace :
+    ℕ → Outcome → Option (List ℕ) → List OrderStatus → List OrderStatus
+statuses_after_replace session outcome None ss = ss
+statuses_after_replace session outcome (Some original) ss =
+    cond (is_refused outcome) ss (map (status_after_replace session original) ss)
+
 -- the status that an entry brings with it
-abbrev pub first_status : ℕ → ℕ → Outcome → Event → List OrderStatus
-first_status place session outcome (New t) =
+abbrev pub first_status : ℕ → ℕ → Outcome → Option Ticket → List OrderStatus
+first_status place session outcome None = []
+first_status place session outcome (Some t) =
     record {
       session = session;
       id = t.id;
-      place = place;
+      place = place_left place outcome;
       status = cond (is_refused outcome) ord_status.REJECTED ord_status.CANCELED;
     } ∷ []
-first_status place session outcome _ = []
 
 -- what an event comes to in that state
 abbrev pub meaning_in : Rules → MarketState → ℕ → ℕ → Event → EntryMeaning
@@ -72,11 +89,38 @@ cancel_in m session original =
     (find (has_id session original) m.statuses)
     (find (is_own session original) m.orders)
 
+-- why a replace of that resting order is refused, if it is
+abbrev pub replace_refusal : Ticket → Order → Result Instrument ℕ → Option ℕ
+replace_refusal t r instrument =
+    if not (may_replace t r instrument) then Some cxl_rej_reason.BROKER_OPTION
+    else if nat_le t.quantity (done r) then Some cxl_rej_reason.TOO_LATE
+    else None
+
+-- what a replace of that resting order comes to, where it is not refused and loses its place
+abbrev pub moved_in : Rules → MarketState → ℕ → Ticket → Order → EntryMeaning
+moved_in rules m place t r =
+    moving_means (moved_to place t r)
+    (clear all_on (references_of rules) (moved_to place t r) (removed r.place m.orders))
+
+-- what a replace of that resting order comes to
+abbrev pub replaced_in : Rules → MarketState → ℕ → Ticket → Order → EntryMeaning
+replaced_in rules m place t r =
+    replace_of_resting rules m.orders place t
+    (instrument_or_refusal_of rules m.statuses r.session t) r
+
+-- how that order is traded with all other orders
+abbrev pub trading_in : Rules → MarketState → Order → Trading
+trading_in rules m order =
+    clear all_on (references_of rules) order (removed order.place m.orders)
+
 -- the state after an entry that came to this
 abbrev pub state_with : MarketState → ℕ → ℕ → Event → EntryMeaning → MarketState
 state_with m place session event e = record {
   orders = e.orders;
-  statuses = statuses_after e.fills (m.statuses ++ first_status place session e.outcome event);
+  statuses =
+      statuses_after e.fills
+      (statuses_after_replace session e.outcome (original_of event)
+      (m.statuses ++ first_status place session e.outcome (ticket_of event)));
   last = place;
 }
 
@@ -105,9 +149,12 @@ with_refusal m o =
       statuses = m.statuses ++ record (entered_status o) { status = ord_status.REJECTED } ∷ [];
     }
 
--- each status stands before those of later places
-abbrev pub AreInOrder : List OrderStatus → Type 0
-AreInOrder ss = RisesBy (λ s. s.place) ss
+-- of one session and id, all but the first were refused
+abbrev pub AreRefusedLater : List OrderStatus → Type 0
+AreRefusedLater [] = ⊤
+AreRefusedLater (s ∷ ss) =
+    All (λ t. has_id s.session s.id t ≡ true → t.status ≡ ord_status.REJECTED) ss
+    × AreRefusedLater ss
 
 -- what the book does with the new order once it has traded
 abbrev pub orders_after_trading : Bool → Order → ℕ → List Order → List Order
@@ -116,8 +163,12 @@ orders_after_trading immediate own left xs =
     else if left == own.leaves then xs
     else reduced own.place (own.leaves - left) xs
 
+-- the status of that session and id is kept
+abbrev pub IsKnown : List OrderStatus → ℕ → List ℕ → Type 0
+IsKnown ss session id = is_some (find (has_id session id) ss) ≡ true
+
 -- what has to hold of a market, so that the next entry can be applied
 pub record IsReady (months : ℕ) (m : MarketState) : Type 0 where
   pub tradable : IsTradable months m.orders
   pub below : All (λ o. o.place ≤ m.last) m.orders
-  pub noted : All (λ s. s.place ≤ m.last) m.statuses
+  pub known : All (λ o. IsKnown m.statuses o.session o.id) m.orders

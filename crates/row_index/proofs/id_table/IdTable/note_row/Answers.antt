@@ -1,4 +1,5 @@
 use Rattle.std.proofs.Common.{◌≡◌, ◌≢◌, ℕ, List, ◌++◌, ◌∷◌, [], ◌≤◌, take, length, Some, None, All, cond, inl, inr, ◌⊎◌, subst, sym, ap, ◌∙◌, arith, rules}
+use Rattle.std.specs.Prelude.{slice_get}
 use Rattle.std.specs.Option.{option_or, is_some}
 use Rattle.std.specs.BTreeMap.{get}
 use Rattle.std.specs.BTreeMap.{BTreeMap}
@@ -8,8 +9,9 @@ use Rattle.std.proofs.lemmas.List.{length-take-le}
 use Rattle.host_base.specs.declared.id_key.IdKey.{IdKey}
 use Rattle.host_base.specs.IdKeys.{id_key_cmp}
 use Rattle.row_index.specs.Ids.{first_row, is_key}
-use Rattle.row_index.specs.Tables.{AreOfRows, named_row, line_for, line_of}
-use Rattle.row_index.specs.code.Seeks.{IsSeek, with_number}
+use Rattle.row_index.specs.Tables.{AreOfRows, named_row, line_for, line_of, numbers_of}
+use Rattle.row_index.specs.code.Seeks.{IsSeek, EndsAt, with_number}
+use Rattle.row_index.proofs.TakenBack.{can_take_back, number_cleared}
 use Rattle.row_index.proofs.Tables.{line_same, found_is_first, behind_is_first, open_is_none, noted_used, noted_open, noted_behind, on_ok, if_used}
 use Rattle.row_index.proofs.id_table.IdTable.note_row.Goals as goal
 use Rattle.row_index.proofs.id_table.IdTable.note_row.Given.{Over}
@@ -31,7 +33,7 @@ returns-in-Found g c =
     let line = line_for lines key in
     let sought = subst (IsSeek (named_row ks key line) line) c.in-Found.is c.seek.ensures in
     let used = ap is_some (found_is_first lines rest (take c.args.row ks) key c.in-Found.field-0 c.requires.table (sym (line_same lines rest ks c.args.row key c.requires.row c.requires.table) ∙ sought)) in
-    record { used = used; ok = noted_used lines rest (take c.args.row ks) key c.requires.table (sym used); err = tt }
+    record { used = used; back = c.requires.table; ok = noted_used lines rest (take c.args.row ks) key c.requires.table (sym used); err = tt }
 
 pub returns-in-Open : goal.returns-in-Open
 returns-in-Open g c =
@@ -52,6 +54,8 @@ returns-in-Open g c =
     c.spot_of-spot.ensures.tag c.spot_of-spot.ensures.some (sym many) few in
     record {
       used = ap is_some (open_is_none lines rest (take c.args.row ks) key c.in-Open.at c.requires.table (sym (line_same lines rest ks c.args.row key c.requires.row c.requires.table) ∙ sought.0) sought.1 (omega (arith, many, few)));
+      back = subst (λ (ls : List Line). AreOfRows ls (get id_key_cmp c.put_number.new.self.behind) (take c.args.row ks)) (sym (ap (λ (ls : List Line). with_number ls spot.line c.in-Open.at 0) (now ∙ ap (λ (n : ℕ). with_number lines n c.in-Open.at c.number_of.result) (sym at_line)) ∙ number_cleared lines spot.line c.in-Open.at c.number_of.result (subst (λ (n : ℕ). EndsAt (numbers_of (slice_get lines n)) c.in-Open.at) (sym at_line) sought.1)))
+          (subst (λ (b : BTreeMap IdKey ℕ). AreOfRows lines (get id_key_cmp b) (take c.args.row ks)) (sym c.put_number.ensures.behind) c.requires.table);
       ok = subst (λ (ls : List Line). AreOfRows ls (get id_key_cmp c.put_number.new.self.behind) (take c.args.row ks ++ key ∷ [])) (sym now)
           (subst (λ (b : BTreeMap IdKey ℕ). AreOfRows (with_number lines (line_of (length lines) key) c.in-Open.at c.number_of.result) (get id_key_cmp b) (take c.args.row ks ++ key ∷ [])) (sym c.put_number.ensures.behind) noted);
       err = tt;
@@ -69,6 +73,12 @@ beyond g c =
       | in_default-via-in-Open+else-row-lt-ROWS w ↦ let few = w.if-row-lt-ROWS.false in ((subst (IsSeek (named_row ks c.args.key.now line) line) w.in-Open.is c.seek.ensures).0, inr (omega (arith, many, few)))
       | in_default-via-in_default w ↦ let full = subst (IsSeek (named_row ks c.args.key.now line) line) w.in_default.is c.seek.ensures in (full.0, inl full.1)
     ]
+
+pub returns-in_default-clause-back : goal.returns-in_default-clause-back
+returns-in_default-clause-back g c =
+    let ks = g.R.IdRows.keys c.args.rows.now in
+    can_take_back c.note_first.result c.args.self.now.lines.items (get id_key_cmp c.args.self.now.behind) (get id_key_cmp c.note_first.new.behind) c.args.key.now (take c.args.row ks) c.requires.table
+    c.note_first.ensures.lines c.note_first.ensures.back
 
 pub returns-in_default-clause-used : goal.returns-in_default-clause-used
 returns-in_default-clause-used g c =

@@ -1,4 +1,4 @@
--- what a fill does to what was filled, and to the status of its order
+-- what a fill does to what was filled
 use Rattle.std.proofs.Common.{◌≡◌, ◌≢◌, ℕ, zero, suc, ◌==◌, ◌+◌, ◌-◌, ◌<◌, ◌≤◌, ℤ, Bool, true, false, not, ◌&&◌, cond, List, [], ◌∷◌, ◌++◌, map, fold, Contains, Option, Some, None, refl, subst, sym, ap, ◌∙◌, arith, inl, inr, append_assoc}
 use Rattle.std.proofs.lemmas.Bool.Decides.{nat_tests}
 use Rattle.std.proofs.lemmas.List.Sums.{fold-append}
@@ -19,12 +19,12 @@ use Rattle.spread_rules.specs.declared.outcome.OrderStatus.{OrderStatus}
 use Rattle.spread_match.specs.Trade.{IsTradable}
 use Rattle.spread_match.specs.code.StateAfter.{statuses_after, status_after_fill, statuses_after_fill}
 use Rattle.spread_match.specs.code.Turns.{AreApart}
-use Rattle.spread_match.specs.Sound.{IsCounted, KeepsLimit}
+use Rattle.spread_match.specs.Sound.{IsCounted, IsNamed, KeepsLimit}
 use Rattle.spread_match.proofs.turns.NotAgainstItself.{are_apart}
 use Rattle.spread_match.proofs.turns.StaysTradable.{still_tradable}
 use Rattle.spread_match.proofs.turns.OneTurn.{least_some}
 use Rattle.spread_match.proofs.turns.StaysAfterAFill.{still_there, still_differ}
-use Rattle.spread_rules.specs.Meaning.{PastNew, filled, is_refused, status_at, status_of}
+use Rattle.spread_rules.specs.Meaning.{PastTicket, filled}
 
 module _ (on : Pairs) where
   pub filled_push : (place : ℕ) (fs : List Fill) (f : Fill) → filled place (fs ++ f ∷ []) ≡ filled place fs + cond (f.order == place) f.quantity 0
@@ -46,50 +46,10 @@ module _ (on : Pairs) where
   pub filled_other : (place : ℕ) (fs : List Fill) (f : Fill) → f.order ≢ place → filled place (fs ++ f ∷ []) ≡ filled place fs
   filled_other place fs f h = let e = ap (λ (t : Bool). filled place fs + cond t f.quantity 0) (test_other f.order place h) in let k = filled_push place fs f in omega arith
 
-  -- ---- the status of its order
-
-  -- a fill of this order of the past: it was taken up, and this much of it was filled before
-  pub record IsFillOf (fs : List Fill) (f : Fill) (p : PastNew) : Type 0 where
-    pub taken : is_refused p.outcome ≡ false
-    pub counts : filled p.place fs + (f.quantity + f.leaves) ≡ p.ticket.quantity
-
-  status_left : (done quantity left q : ℕ) (b : Bool) → (left == 0) ≡ b → 0 < q → done + (q + left) ≡ quantity → ◌≡◌ {A = ℕ} (cond b 2 (cond (done == quantity) 2 4)) (cond ((done + q) == quantity) 2 4)
-  status_left done quantity left q true e s h = let t : ((done + q) == quantity) ≡ true = grind (arith, nat_tests) in rw t refl
-  status_left done quantity left q false e s h =
-      let t : ((done + q) == quantity) ≡ false = grind (arith, nat_tests) in
-      let u : (done == quantity) ≡ false = grind (arith, nat_tests) in rw (t, u) refl
-
-  put_status : (b : Bool) (s : OrderStatus) → cond b (record s { status = 2 }) s ≡ record s { status = cond b 2 s.status }
-  put_status true s = refl
-  put_status false s = refl
-
-  renewed_at : (fs : List Fill) (f : Fill) (p : PastNew) (b : Bool) → (p.place == f.order) ≡ b → 0 < f.quantity → (p.place ≡ f.order → IsFillOf fs f p) →
-      cond (b && f.leaves == 0) (record (status_of fs p) { status = 2 }) (status_of fs p) ≡ status_of (fs ++ f ∷ []) p
-  renewed_at fs f p false e s h =
-      let other : f.order ≢ p.place = λ k. (let t : (p.place == f.order) ≡ true = test_same p.place f.order (sym k) in let no : true ≡ false = sym t ∙ e in cc) in
-      ap (λ (k : ℕ). record { session = p.session; id = p.ticket.id; place = p.place; status = status_at p.outcome p.ticket.quantity k }) (sym (filled_other p.place fs f other))
-  renewed_at fs f p true e s h =
-      let place = same_test p.place f.order e in
-      let own = h place in
-      let more : filled p.place (fs ++ f ∷ []) ≡ filled p.place fs + f.quantity = subst (λ (k : ℕ). filled k (fs ++ f ∷ []) ≡ filled k fs + f.quantity) (sym place) (filled_own fs f) in
-      put_status (f.leaves == 0) (status_of fs p)
-      ∙ ap (λ (k : ℕ). record { session = p.session; id = p.ticket.id; place = p.place; status = k })
-      (ap (λ (r : Bool). cond (f.leaves == 0) 2 (cond r 8 (cond (filled p.place fs == p.ticket.quantity) 2 4))) own.taken
-      ∙ (status_left (filled p.place fs) p.ticket.quantity f.leaves f.quantity (f.leaves == 0) refl s own.counts
-      ∙ (ap (λ (k : ℕ). cond (k == p.ticket.quantity) 2 4) (sym more)
-      ∙ ap (λ (r : Bool). cond r 8 (cond (filled p.place (fs ++ f ∷ []) == p.ticket.quantity) 2 4)) (sym own.taken))))
-
-  pub statuses_push : (fs : List Fill) (f : Fill) (ps : List PastNew) → 0 < f.quantity → ((p : PastNew) → Contains ps p → p.place ≡ f.order → IsFillOf fs f p) →
-      map (status_after_fill f) (map (status_of fs) ps) ≡ map (status_of (fs ++ f ∷ [])) ps
-  statuses_push fs f [] s h = refl
-  statuses_push fs f (p ∷ ps) s h =
-      ap (λ (x : OrderStatus). x ∷ map (status_after_fill f) (map (status_of fs) ps)) (renewed_at fs f p (p.place == f.order) refl s (h p (in_head p ps)))
-      ∙ ap (λ (xs : List OrderStatus). status_of (fs ++ f ∷ []) p ∷ xs) (statuses_push fs f ps s (λ q c. h q (in_tail p ps q c)))
-
   -- ---- the account of the orders that trade
 
   -- of the new order and all that rest, after some fills
-  pub record AreCounted (ps : List PastNew) (past : List Fill) (n : Order) (xs : List Order) (made : List Fill) : Type 0 where
+  pub record AreCounted (ps : List PastTicket) (past : List Fill) (n : Order) (xs : List Order) (made : List Fill) : Type 0 where
     pub own : IsCounted ps (past ++ made) n
     pub each : (o : Order) → Contains xs o → IsCounted ps (past ++ made) o
     pub apart : (o : Order) → Contains xs o → o.place < n.place
@@ -97,52 +57,39 @@ module _ (on : Pairs) where
     pub differ : PlacesDiffer xs
     pub within : (f : Fill) → Contains (past ++ made) f → filled f.order (past ++ made) ≤ f.total
     pub limits : (f : Fill) → Contains (past ++ made) f → KeepsLimit ps f
-    pub statuses : statuses_after made (map (status_of past) ps) ≡ map (status_of (past ++ made)) ps
+    pub named : (f : Fill) → Contains (past ++ made) f → IsNamed ps f.session f.id
 
   -- a fill of q of that order
   pub record IsFill (f : Fill) (o : Order) (q : ℕ) : Type 0 where
     pub order : f.order ≡ o.place
+    pub session : f.session ≡ o.session
+    pub id : f.id ≡ o.id
     pub quantity : f.quantity ≡ q
     pub leaves : f.leaves ≡ o.leaves - q
     pub total : f.total ≡ o.quantity
     pub side : f.side ≡ o.side
     pub within : is_within_limit o.side o.price f.price ≡ true
 
-  counted_less : (ps : List PastNew) (fs : List Fill) (f : Fill) (o : Order) (q : ℕ) → IsFill f o q → q ≤ o.leaves → IsCounted ps fs o → IsCounted ps (fs ++ f ∷ []) (record o { leaves = o.leaves - q })
+  counted_less : (ps : List PastTicket) (fs : List Fill) (f : Fill) (o : Order) (q : ℕ) → IsFill f o q → q ≤ o.leaves → IsCounted ps fs o → IsCounted ps (fs ++ f ∷ []) (record o { leaves = o.leaves - q })
   counted_less ps fs f o q is l c =
       let e : filled o.place (fs ++ f ∷ []) ≡ filled o.place fs + f.quantity = subst (λ (k : ℕ). filled k (fs ++ f ∷ []) ≡ filled k fs + f.quantity) is.order (filled_own fs f) in
       let k = is.quantity in let h = c.counts in
       record {
         counts = omega arith;
-        known = λ p d m. let w = c.known p d m in record { taken = w.taken; quantity = w.quantity };
-        totals = λ g d m. elim (Contains-push_cases fs f g d) [ inl k ↦ c.totals g k m | inr e2 ↦ subst (λ (x : Fill). x.total ≡ o.quantity) e2 is.total ];
+        totals = λ g d m. elim (Contains-push_cases fs f g d) [ inl k ↦ c.totals g k m | inr e2 ↦ subst (λ (x : Fill). o.quantity ≤ x.total) e2 (let t = is.total in omega arith) ];
         entry = let w = c.entry in record { new = w.new; entered = w.entered; at = w.at; side = w.side; price = w.price };
+        named = c.named;
       }
 
-  counted_other : (ps : List PastNew) (fs : List Fill) (f : Fill) (o : Order) → f.order ≢ o.place → IsCounted ps fs o → IsCounted ps (fs ++ f ∷ []) o
+  counted_other : (ps : List PastTicket) (fs : List Fill) (f : Fill) (o : Order) → f.order ≢ o.place → IsCounted ps fs o → IsCounted ps (fs ++ f ∷ []) o
   counted_other ps fs f o n c = let e = filled_other o.place fs f n in let h = c.counts in record {
     counts = omega arith;
-    known = c.known;
     totals = λ g d m. elim (Contains-push_cases fs f g d) [ inl k ↦ c.totals g k m | inr e2 ↦ absurd (n (ap (λ (x : Fill). x.order) e2 ∙ m)) ];
     entry = c.entry;
+    named = c.named;
   }
 
-  more_statuses : (ps : List PastNew) (past made : List Fill) (f : Fill) (o : Order) (q : ℕ) → IsFill f o q → q ≤ o.leaves → 0 < q → IsCounted ps (past ++ made) o →
-      statuses_after made (map (status_of past) ps) ≡ map (status_of (past ++ made)) ps → statuses_after (made ++ f ∷ []) (map (status_of past) ps) ≡ map (status_of (past ++ (made ++ f ∷ []))) ps
-  more_statuses ps past made f o q is l s c h =
-      let some : 0 < f.quantity = subst (λ (k : ℕ). 0 < k) (sym is.quantity) s in
-      fold-append statuses_after_fill (map (status_of past) ps) made (f ∷ [])
-      ∙ (ap (map (status_after_fill f)) h
-      ∙ (statuses_push (past ++ made) f ps some
-      (λ p d m.
-      let at : p.place ≡ o.place = m ∙ is.order in
-      let w = c.known p d at in
-      let k : filled p.place (past ++ made) ≡ filled o.place (past ++ made) = ap (λ (x : ℕ). filled x (past ++ made)) at in
-      let a = c.counts in let b = w.quantity in let u = is.quantity in let v = is.leaves in
-      record { taken = w.taken; counts = omega arith })
-      ∙ ap (λ (fs : List Fill). map (status_of fs) ps) (append_assoc past made (f ∷ []))))
-
-  moved : (ps : List PastNew) (past made : List Fill) (f : Fill) (o : Order) → IsCounted ps ((past ++ made) ++ f ∷ []) o → IsCounted ps (past ++ (made ++ f ∷ [])) o
+  moved : (ps : List PastTicket) (past made : List Fill) (f : Fill) (o : Order) → IsCounted ps ((past ++ made) ++ f ∷ []) o → IsCounted ps (past ++ (made ++ f ∷ [])) o
   moved ps past made f o h = subst (λ (fs : List Fill). IsCounted ps fs o) (append_assoc past made (f ∷ [])) h
 
   not_below : (a b : ℕ) → a < b → a ≢ b
@@ -151,7 +98,7 @@ module _ (on : Pairs) where
   more_before : (n : Order) (made : List Fill) (f : Fill) → ((g : Fill) → Contains made g → g.order ≤ n.place) → f.order ≤ n.place → (g : Fill) → Contains (made ++ f ∷ []) g → g.order ≤ n.place
   more_before n made f h k = λ g c. elim (Contains-push_cases made f g c) [ inl d ↦ h g d | inr e ↦ subst (λ (x : Fill). x.order ≤ n.place) e k ]
 
-  within_at : (fs : List Fill) (f g : Fill) (done quantity : ℕ) (b : Bool) → (f.order == g.order) ≡ b → filled g.order fs ≤ g.total → filled f.order (fs ++ f ∷ []) ≤ quantity → (f.order ≡ g.order → g.total ≡ quantity) → filled g.order (fs ++ f ∷ []) ≤ g.total
+  within_at : (fs : List Fill) (f g : Fill) (done quantity : ℕ) (b : Bool) → (f.order == g.order) ≡ b → filled g.order fs ≤ g.total → filled f.order (fs ++ f ∷ []) ≤ quantity → (f.order ≡ g.order → quantity ≤ g.total) → filled g.order (fs ++ f ∷ []) ≤ g.total
   within_at fs f g done quantity true e h k t =
       let same = same_test f.order g.order e in
       let total = t same in
@@ -159,7 +106,7 @@ module _ (on : Pairs) where
   within_at fs f g done quantity false e h k t =
       let other = filled_other g.order fs f (λ j. (let u : (f.order == g.order) ≡ true = test_same f.order g.order j in let no : true ≡ false = sym u ∙ e in cc)) in omega arith
 
-  more_within : (ps : List PastNew) (fs : List Fill) (f : Fill) (o : Order) (q : ℕ) → IsFill f o q → q ≤ o.leaves → IsCounted ps fs o → ((g : Fill) → Contains fs g → filled g.order fs ≤ g.total) →
+  more_within : (ps : List PastTicket) (fs : List Fill) (f : Fill) (o : Order) (q : ℕ) → IsFill f o q → q ≤ o.leaves → IsCounted ps fs o → ((g : Fill) → Contains fs g → filled g.order fs ≤ g.total) →
       (g : Fill) → Contains (fs ++ f ∷ []) g → filled g.order (fs ++ f ∷ []) ≤ g.total
   more_within ps fs f o q is l c h = λ g d.
       let e : filled f.order (fs ++ f ∷ []) ≡ filled f.order fs + f.quantity = filled_own fs f in
@@ -171,7 +118,7 @@ module _ (on : Pairs) where
         | inr m ↦ subst (λ (x : Fill). filled x.order (fs ++ f ∷ []) ≤ x.total) m (let t = is.total in omega arith)
       ]
 
-  more_limits : (ps : List PastNew) (fs : List Fill) (f : Fill) (o : Order) (q : ℕ) → IsFill f o q → IsCounted ps fs o → ((g : Fill) → Contains fs g → KeepsLimit ps g) → (g : Fill) → Contains (fs ++ f ∷ []) g → KeepsLimit ps g
+  more_limits : (ps : List PastTicket) (fs : List Fill) (f : Fill) (o : Order) (q : ℕ) → IsFill f o q → IsCounted ps fs o → ((g : Fill) → Contains fs g → KeepsLimit ps g) → (g : Fill) → Contains (fs ++ f ∷ []) g → KeepsLimit ps g
   more_limits ps fs f o q is c h = λ g d. elim (Contains-push_cases fs f g d) [
     | inl m ↦ h g m
     | inr m ↦ subst (KeepsLimit ps) m (let w = c.entry in record {
@@ -183,12 +130,23 @@ module _ (on : Pairs) where
     })
   ]
 
+  more_named : (ps : List PastTicket) (fs : List Fill) (f : Fill) (o : Order) (q : ℕ) → IsFill f o q → IsCounted ps fs o → ((g : Fill) → Contains fs g → IsNamed ps g.session g.id) → (g : Fill) → Contains (fs ++ f ∷ []) g → IsNamed ps g.session g.id
+  more_named ps fs f o q is c h = λ g d. elim (Contains-push_cases fs f g d) [
+    | inl m ↦ h g m
+    | inr m ↦ subst (λ (x : Fill). IsNamed ps x.session x.id) m (let w = c.named in record {
+      new = w.new;
+      entered = w.entered;
+      session_is = w.session_is ∙ sym is.session;
+      id_is = w.id_is ∙ sym is.id;
+    })
+  ]
+
   limit_itself : (side : Side) (price : ℤ) → is_within_limit side price price ≡ true
   limit_itself Buy price = grind (arith, ints)
   limit_itself Sell price = grind (arith, ints)
 
   -- the new order's fill
-  pub own_filled : (ps : List PastNew) (past : List Fill) (n : Order) (xs : List Order) (made : List Fill) (f : Fill) (q : ℕ) → IsFill f n q → q ≤ n.leaves → 0 < q →
+  pub own_filled : (ps : List PastTicket) (past : List Fill) (n : Order) (xs : List Order) (made : List Fill) (f : Fill) (q : ℕ) → IsFill f n q → q ≤ n.leaves → 0 < q →
       AreCounted ps past n xs made → AreCounted ps past (record n { leaves = n.leaves - q }) xs (made ++ f ∷ [])
   own_filled ps past n xs made f q is l s h = record {
     own = moved ps past made f (record n { leaves = n.leaves - q }) (counted_less ps (past ++ made) f n q is l h.own);
@@ -198,10 +156,10 @@ module _ (on : Pairs) where
     differ = h.differ;
     within = subst (λ (fs : List Fill). (g : Fill) → Contains fs g → filled g.order fs ≤ g.total) (append_assoc past made (f ∷ [])) (more_within ps (past ++ made) f n q is l h.own h.within);
     limits = subst (λ (fs : List Fill). (g : Fill) → Contains fs g → KeepsLimit ps g) (append_assoc past made (f ∷ [])) (more_limits ps (past ++ made) f n q is h.own h.limits);
-    statuses = more_statuses ps past made f n q is l s h.own h.statuses;
+    named = subst (λ (fs : List Fill). (g : Fill) → Contains fs g → IsNamed ps g.session g.id) (append_assoc past made (f ∷ [])) (more_named ps (past ++ made) f n q is h.own h.named);
   }
 
-  less_cases : (ps : List PastNew) (fs : List Fill) (f : Fill) (m o : Order) (q : ℕ) (b : Bool) → (o.place == m.place) ≡ b → IsFill f m q → q ≤ m.leaves → (o.place ≡ m.place → o ≡ m) → IsCounted ps fs o →
+  less_cases : (ps : List PastTicket) (fs : List Fill) (f : Fill) (m o : Order) (q : ℕ) (b : Bool) → (o.place == m.place) ≡ b → IsFill f m q → q ≤ m.leaves → (o.place ≡ m.place → o ≡ m) → IsCounted ps fs o →
       IsCounted ps (fs ++ f ∷ []) (cond b (record o { leaves = o.leaves - q }) o)
   less_cases ps fs f m o q true e is l d c =
       let same = d (same_test o.place m.place e) in
@@ -224,7 +182,7 @@ module _ (on : Pairs) where
   less_place place by o true = refl
   less_place place by o false = refl
 
-  each_after : (ps : List PastNew) (fs : List Fill) (f : Fill) (xs : List Order) (m : Order) (q : ℕ) (b : Bool) → Contains xs m → PlacesDiffer xs → IsFill f m q → q ≤ m.leaves → ((o : Order) → Contains xs o → IsCounted ps fs o) →
+  each_after : (ps : List PastTicket) (fs : List Fill) (f : Fill) (xs : List Order) (m : Order) (q : ℕ) (b : Bool) → Contains xs m → PlacesDiffer xs → IsFill f m q → q ≤ m.leaves → ((o : Order) → Contains xs o → IsCounted ps fs o) →
       (o : Order) → Contains (cond b (removed m.place xs) (reduced m.place q xs)) o → IsCounted ps (fs ++ f ∷ []) o
   each_after ps fs f xs m q true s d is l h = λ o c.
       counted_other ps fs f o (λ e. kept_other m.place xs o c (sym e ∙ is.order)) (h o (in_filter on (λ (w : Order). not (w.place == m.place)) xs o c))
@@ -240,7 +198,7 @@ module _ (on : Pairs) where
       subst (λ (k : ℕ). k < n.place) p (h r.0 r.1)
 
   -- a member's fill
-  pub member_filled : (ps : List PastNew) (past : List Fill) (n : Order) (xs : List Order) (made : List Fill) (f : Fill) (m : Order) (q : ℕ) → Contains xs m → IsFill f m q → q ≤ m.leaves → 0 < q →
+  pub member_filled : (ps : List PastTicket) (past : List Fill) (n : Order) (xs : List Order) (made : List Fill) (f : Fill) (m : Order) (q : ℕ) → Contains xs m → IsFill f m q → q ≤ m.leaves → 0 < q →
       AreCounted ps past n xs made → AreCounted ps past n (after_fill q xs m) (made ++ f ∷ [])
   member_filled ps past n xs made f m q c is l s h = record {
     own = moved ps past made f n (counted_other ps (past ++ made) f n (λ e. not_below m.place n.place (h.apart m c) (sym is.order ∙ e)) h.own);
@@ -250,10 +208,10 @@ module _ (on : Pairs) where
     differ = still_differ q xs m (m.leaves == q) h.differ;
     within = subst (λ (fs : List Fill). (g : Fill) → Contains fs g → filled g.order fs ≤ g.total) (append_assoc past made (f ∷ [])) (more_within ps (past ++ made) f m q is l (h.each m c) h.within);
     limits = subst (λ (fs : List Fill). (g : Fill) → Contains fs g → KeepsLimit ps g) (append_assoc past made (f ∷ [])) (more_limits ps (past ++ made) f m q is (h.each m c) h.limits);
-    statuses = more_statuses ps past made f m q is l s (h.each m c) h.statuses;
+    named = subst (λ (fs : List Fill). (g : Fill) → Contains fs g → IsNamed ps g.session g.id) (append_assoc past made (f ∷ [])) (more_named ps (past ++ made) f m q is (h.each m c) h.named);
   }
 
-  turn_counted : (references : List ℤ) (ps : List PastNew) (past : List Fill) (n : Order) (xs : List Order) (made : List Fill) (p : Counterparty) (price : ℤ) → AllStandIn xs p → AreApart p → 0 < least_left n p → is_within_limit n.side n.price price ≡ true →
+  turn_counted : (references : List ℤ) (ps : List PastTicket) (past : List Fill) (n : Order) (xs : List Order) (made : List Fill) (p : Counterparty) (price : ℤ) → AllStandIn xs p → AreApart p → 0 < least_left n p → is_within_limit n.side n.price price ≡ true →
       AreCounted ps past n xs made →
       AreCounted ps past (record n { leaves = n.leaves - least_left n p }) (fold (after_fill (least_left n p)) xs (members p)) (made ++ fills_of references n (record { price = price; counterparty = p }))
   turn_counted references ps past n xs made (Direct a) price c d s u h =
@@ -261,8 +219,8 @@ module _ (on : Pairs) where
       let legs = leg_prices references n.instrument price (Direct a) in
       let f = fill_of n.place q legs n price in
       let g = fill_of n.place q legs a a.price in
-      let one = own_filled ps past n xs made f q (record { order = refl; quantity = refl; leaves = refl; total = refl; side = refl; within = u }) (omega arith) s h in
-      let two = member_filled ps past (record n { leaves = n.leaves - q }) xs (made ++ f ∷ []) g a q c (record { order = refl; quantity = refl; leaves = refl; total = refl; side = refl; within = limit_itself a.side a.price }) (omega arith) s one in
+      let one = own_filled ps past n xs made f q (record { order = refl; session = refl; id = refl; quantity = refl; leaves = refl; total = refl; side = refl; within = u }) (omega arith) s h in
+      let two = member_filled ps past (record n { leaves = n.leaves - q }) xs (made ++ f ∷ []) g a q c (record { order = refl; session = refl; id = refl; quantity = refl; leaves = refl; total = refl; side = refl; within = limit_itself a.side a.price }) (omega arith) s one in
       subst (AreCounted ps past (record n { leaves = n.leaves - q }) (after_fill q xs a)) (append_assoc made (f ∷ []) (g ∷ [])) two
   turn_counted references ps past n xs made (Implied a b) price c d s u h =
       let q = least_left n (Implied a b) in
@@ -270,18 +228,18 @@ module _ (on : Pairs) where
       let f = fill_of n.place q legs n price in
       let g = fill_of n.place q legs a a.price in
       let k = fill_of n.place q legs b b.price in
-      let one = own_filled ps past n xs made f q (record { order = refl; quantity = refl; leaves = refl; total = refl; side = refl; within = u }) (omega arith) s h in
-      let two = member_filled ps past (record n { leaves = n.leaves - q }) xs (made ++ f ∷ []) g a q c.0 (record { order = refl; quantity = refl; leaves = refl; total = refl; side = refl; within = limit_itself a.side a.price }) (omega arith) s one in
-      let three = member_filled ps past (record n { leaves = n.leaves - q }) (after_fill q xs a) ((made ++ f ∷ []) ++ g ∷ []) k b q (still_there q xs a b (a.leaves == q) d c.1) (record { order = refl; quantity = refl; leaves = refl; total = refl; side = refl; within = limit_itself b.side b.price }) (omega arith) s two in
+      let one = own_filled ps past n xs made f q (record { order = refl; session = refl; id = refl; quantity = refl; leaves = refl; total = refl; side = refl; within = u }) (omega arith) s h in
+      let two = member_filled ps past (record n { leaves = n.leaves - q }) xs (made ++ f ∷ []) g a q c.0 (record { order = refl; session = refl; id = refl; quantity = refl; leaves = refl; total = refl; side = refl; within = limit_itself a.side a.price }) (omega arith) s one in
+      let three = member_filled ps past (record n { leaves = n.leaves - q }) (after_fill q xs a) ((made ++ f ∷ []) ++ g ∷ []) k b q (still_there q xs a b (a.leaves == q) d c.1) (record { order = refl; session = refl; id = refl; quantity = refl; leaves = refl; total = refl; side = refl; within = limit_itself b.side b.price }) (omega arith) s two in
       subst (AreCounted ps past (record n { leaves = n.leaves - q }) (after_fill q (after_fill q xs a) b))
       (ap (λ (fs : List Fill). fs ++ k ∷ []) (append_assoc made (f ∷ []) (g ∷ [])) ∙ append_assoc made (f ∷ g ∷ []) (k ∷ [])) three
 
   -- something is left of each that rests, and the account is right
-  pub record IsRunning (months : ℕ) (ps : List PastNew) (past : List Fill) (t : Trading) : Type 0 where
+  pub record IsRunning (months : ℕ) (ps : List PastTicket) (past : List Fill) (t : Trading) : Type 0 where
     pub tradable : IsTradable months t.orders
     pub counted : AreCounted ps past t.new t.orders t.fills
 
-  pub running_with : (references : List ℤ) (months : ℕ) (ps : List PastNew) (past : List Fill) (t : Trading) (r : Option Candidate) → next_candidate on t ≡ r → IsRunning months ps past t → IsRunning months ps past (after_match references t r)
+  pub running_with : (references : List ℤ) (months : ℕ) (ps : List PastTicket) (past : List Fill) (t : Trading) (r : Option Candidate) → next_candidate on t ≡ r → IsRunning months ps past t → IsRunning months ps past (after_match references t r)
   running_with references months ps past t None e h = h
   running_with references months ps past t (Some o) e h =
       let stands = members_rest on t o e in
@@ -292,6 +250,6 @@ module _ (on : Pairs) where
         counted = turn_counted references ps past t.new t.orders t.fills o.counterparty o.price stands apart (least_some on t.new t.orders o.counterparty stands h.tradable.left (next_left on t o e)) (next_least on t o e).eligible.within h.counted;
       }
 
-  pub running : (references : List ℤ) (months : ℕ) (ps : List PastNew) (past : List Fill) (k : ℕ) (t : Trading) → IsRunning months ps past t → IsRunning months ps past (turns on references k t)
+  pub running : (references : List ℤ) (months : ℕ) (ps : List PastTicket) (past : List Fill) (k : ℕ) (t : Trading) → IsRunning months ps past t → IsRunning months ps past (turns on references k t)
   running references months ps past zero t h = h
   running references months ps past (suc k) t h = running references months ps past k (turn on references t) (running_with references months ps past t (next_candidate on t) refl h)
