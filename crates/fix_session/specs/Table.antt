@@ -154,6 +154,14 @@ cancel_request m = do
   time ← value_at tags.TRANSACT_TIME m
   Ok (Gives (events.Cancel id original))
 
+-- the id of an order, and then all that a new order says
+unfoldable pub replace_request : List ℕ → Result Meaning ℕ
+replace_request m = do
+  stamp ← value_at tags.SENDING_TIME m
+  original ← id_at tags.ORIG_CL_ORD_ID m
+  ticket ← new_order m
+  Ok (Gives (events.Replace original ticket))
+
 -- ---- the table
 
 -- an accepted message of a kind of one byte
@@ -167,7 +175,8 @@ meaning_of_kind k m n =
     else (if k == msg_types.NEW_ORDER_SINGLE
     then (new_order m >>= λ ticket. Ok (Gives (events.New ticket)))
     else (if k == msg_types.ORDER_CANCEL_REQUEST then cancel_request m
-    else Err reject.INVALID_MSG_TYPE))))))
+    else (if k == msg_types.ORDER_CANCEL_REPLACE_REQUEST then replace_request m
+    else Err reject.INVALID_MSG_TYPE)))))))
 
 abbrev pub meaning_of_kind_text : List ℕ → List ℕ → ℕ → Result Meaning ℕ
 meaning_of_kind_text [] m n = Err reject.TAG_WITHOUT_VALUE

@@ -6,7 +6,7 @@ ghost use Rattle.std.specs.Option.{option_copied};
 ghost use Rattle.std.specs.List.{list_any};
 ghost use Rattle.fix_wire.specs.Messages.{get};
 ghost use Rattle.fix_wire.specs.declared.tags.TheConstants as tags;
-ghost use Rattle.fix_session.specs.Table.{value_at, id_at, number_at, quantity_at, price_at, choice_at, one_of, side_at, time_in_force_of, gap_fill_flag_of, passed_over, test_request, resend_request, sequence_reset, new_order, cancel_request, meaning_of_kind, meaning_of_message, reason_of};
+ghost use Rattle.fix_session.specs.Table.{value_at, id_at, number_at, quantity_at, price_at, choice_at, one_of, side_at, time_in_force_of, gap_fill_flag_of, passed_over, test_request, resend_request, sequence_reset, new_order, cancel_request, replace_request, meaning_of_kind, meaning_of_message, reason_of};
 ghost use Rattle.fix_session.specs.code.Shown.{bytes_behind};
 
 use fix_wire::{
@@ -232,6 +232,17 @@ fn cancel_request(message: &Message) -> Result<Meaning, u8>
     Ok(Meaning::Gives(Event::Cancel { id, original }))
 }
 
+/// The id of an order, and then all that a new order says.
+#[tactic(auto, unfolding(crate::specs::Table::replace_request))]
+fn replace_request(message: &Message) -> Result<Meaning, u8>
+    ensures { result ≡ replace_request message.now.frame.now }
+{
+    value_at(message, tags::SENDING_TIME)?;
+    let original = id_at(message, tags::ORIG_CL_ORD_ID)?;
+    let ticket = new_order(message)?;
+    Ok(Meaning::Gives(Event::Replace { original, ticket }))
+}
+
 fn meaning_of_kind(kind: u8, message: &Message, number: u32) -> Result<Meaning, u8>
     ensures { result ≡ meaning_of_kind kind message.now.frame.now number }
 {
@@ -243,6 +254,7 @@ fn meaning_of_kind(kind: u8, message: &Message, number: u32) -> Result<Meaning, 
         msg_types::SEQUENCE_RESET => sequence_reset(message, number),
         msg_types::NEW_ORDER_SINGLE => Ok(Meaning::Gives(Event::New(new_order(message)?))),
         msg_types::ORDER_CANCEL_REQUEST => cancel_request(message),
+        msg_types::ORDER_CANCEL_REPLACE_REQUEST => replace_request(message),
         _ => Err(session_reject_reason::INVALID_MSG_TYPE),
     }
 }

@@ -21,3 +21,5 @@ pub const LOGON: u8 = b'A';
 pub const NEW_ORDER_SINGLE: u8 = b'D';
 
 pub const ORDER_CANCEL_REQUEST: u8 = b'F';
+
+pub const ORDER_CANCEL_REPLACE_REQUEST: u8 = b'G';

@@ -16,6 +16,7 @@ mod definitions;
 mod memory_refused;
 mod numbering;
 mod refusals_and_cancels;
+mod replaces;
 mod reports;
 mod resend;
 
@@ -64,6 +65,12 @@ fn fits_outcome(rules: &Rulebook, event: &Event, outcome: &Outcome) -> bool
         },
         Event::Cancel { .. } => match *outcome {
             Outcome::Cancelled(order) => {
+                is_listed(rules, order.instrument) && order.leaves <= order.quantity
+            }
+            _ => true,
+        },
+        Event::Replace { .. } => match *outcome {
+            Outcome::Replaced(order) => {
                 is_listed(rules, order.instrument) && order.leaves <= order.quantity
             }
             _ => true,
@@ -190,16 +197,25 @@ fn close(session: u8, reason: u8) -> Entry {
     said(session, Event::Close { reason })
 }
 
-fn day(session: u8, name: &[u8], symbol: &[u8], side: Side, quantity: u32, price: i64) -> Entry {
-    let ticket = Ticket {
+fn day_ticket(name: &[u8], symbol: &[u8], side: Side, quantity: u32, price: i64) -> Ticket {
+    Ticket {
         id: id(name),
         symbol: id(symbol),
         side,
         quantity,
         price,
         immediate: false,
-    };
+    }
+}
+
+fn day(session: u8, name: &[u8], symbol: &[u8], side: Side, quantity: u32, price: i64) -> Entry {
+    let ticket = day_ticket(name, symbol, side, quantity, price);
     said(session, Event::New(ticket))
+}
+
+fn replace(session: u8, original: &[u8], ticket: Ticket) -> Entry {
+    let original = id(original);
+    said(session, Event::Replace { original, ticket })
 }
 
 fn cancel(session: u8, name: &[u8], original: &[u8]) -> Entry {

@@ -6,7 +6,7 @@ use Rattle.spread_rules.specs.declared.order.Side.TheVariants.{Buy, Sell}
 use Rattle.spread_report.specs.declared.codes.MultiLegReportingType.{MultiLegReportingType}
 use Rattle.spread_report.specs.declared.codes.MultiLegReportingType.TheVariants.{SingleSecurity, IndividualLeg, MultiLegSecurity}
 use Rattle.spread_report.specs.declared.codes.OrdStatus.{OrdStatus}
-use Rattle.spread_report.specs.declared.codes.OrdStatus.TheVariants.{New, PartiallyFilled, Filled, Canceled, Rejected}
+use Rattle.spread_report.specs.declared.codes.OrdStatus.TheVariants.{New, PartiallyFilled, Filled, Canceled, Replaced, Rejected}
 
 -- Side, tag 54
 abbrev pub side_code : Side → ℕ
@@ -19,6 +19,7 @@ ord_status_code New = ord_status.NEW
 ord_status_code PartiallyFilled = ord_status.PARTIALLY_FILLED
 ord_status_code Filled = ord_status.FILLED
 ord_status_code Canceled = ord_status.CANCELED
+ord_status_code Replaced = ord_status.REPLACED
 ord_status_code Rejected = ord_status.REJECTED
 
 -- MultiLegReportingType, tag 442

@@ -12,12 +12,12 @@ use Rattle.spread_rules.specs.declared.order.Instrument.TheVariants.{Outright, S
 use Rattle.spread_rules.specs.declared.fill.Fill.{Fill}
 use Rattle.spread_rules.specs.declared.event.Ticket.{Ticket}
 use Rattle.spread_rules.specs.declared.event.Event.{Event}
-use Rattle.spread_rules.specs.declared.event.Event.TheVariants.{Logon, New, Cancel, TestReply, Gap, Resend, Reject, Close}
+use Rattle.spread_rules.specs.declared.event.Event.TheVariants.{Logon, New, Cancel, Replace, TestReply, Gap, Resend, Reject, Close}
 use Rattle.spread_rules.specs.declared.outcome.Outcome.{Outcome}
 use Rattle.spread_rules.specs.declared.outcome.Outcome.TheVariants as outcomes
 use Rattle.spread_rules.specs.Rulebook.{Rules, symbol_of}
 use Rattle.spread_rules.specs.Legs.{other_side}
-use Rattle.spread_report.specs.declared.codes.TheConstants.{ENCRYPT_METHOD_NONE, EXEC_TRANS_TYPE_NEW, CXL_REJ_RESPONSE_TO_CANCEL}
+use Rattle.spread_report.specs.declared.codes.TheConstants.{ENCRYPT_METHOD_NONE, EXEC_TRANS_TYPE_NEW, CXL_REJ_RESPONSE_TO_CANCEL, CXL_REJ_RESPONSE_TO_REPLACE}
 use Rattle.spread_report.specs.declared.codes.MultiLegReportingType.{MultiLegReportingType}
 use Rattle.spread_report.specs.declared.codes.MultiLegReportingType.TheVariants.{SingleSecurity, IndividualLeg, MultiLegSecurity}
 use Rattle.spread_report.specs.declared.codes.OrdStatus.{OrdStatus}
@@ -77,7 +77,7 @@ pub record ExecutionReport : Type 0 where
   pub leaves_qty : ℕ
   pub cum_qty : ℕ
 
--- OrigClOrdID, in a report on a cancel alone
+-- OrigClOrdID, in a report on a cancel or a replace alone
 abbrev pub original_field : Option (List ℕ) → List Field
 original_field None = []
 original_field (Some id) = text_field tags.ORIG_CL_ORD_ID id ∷ []
@@ -176,6 +176,24 @@ cancelled_report symbol place id original o = record {
   cum_qty = o.quantity - o.leaves;
 }
 
+-- a resting order, with this symbol, became this one by a replace request with this id
+abbrev pub replaced_report : List ℕ → ℕ → List ℕ → List ℕ → Order → ExecutionReport
+replaced_report symbol place id original o = record {
+  order_id = o.place;
+  cl_ord_id = id;
+  orig_cl_ord_id = Some original;
+  place = place;
+  index = 1;
+  ord_status = status.Replaced;
+  ord_rej_reason = None;
+  symbol = symbol;
+  side = o.side;
+  order_qty = o.quantity;
+  traded = None;
+  leaves_qty = o.leaves;
+  cum_qty = o.quantity - o.leaves;
+}
+
 -- a fill leaves an order filled, or partially filled
 abbrev pub fill_status : ℕ → OrdStatus
 fill_status leaves = if leaves == 0 then status.Filled else status.PartiallyFilled
@@ -265,14 +283,15 @@ abbrev pub place_field : ℕ → Field
 place_field place =
     if place == 0 then text_field tags.ORDER_ID (codes "NONE") else number_field tags.ORDER_ID place
 
--- the fields of an OrderCancelReject, where the order that was named has that place and that status
-abbrev pub cancel_reject_fields : List ℕ → List ℕ → ℕ → ℕ → ℕ → List Field
-cancel_reject_fields id original reason place ord_status =
+-- the fields of an OrderCancelReject that answers such a request, where the order that was named
+-- has that place and that status
+abbrev pub cancel_reject_fields : ℕ → List ℕ → List ℕ → ℕ → ℕ → ℕ → List Field
+cancel_reject_fields response_to id original reason place ord_status =
     place_field place
     ∷ text_field tags.CL_ORD_ID id
     ∷ text_field tags.ORIG_CL_ORD_ID original
     ∷ number_field tags.ORD_STATUS ord_status
-    ∷ number_field tags.CXL_REJ_RESPONSE_TO CXL_REJ_RESPONSE_TO_CANCEL
+    ∷ number_field tags.CXL_REJ_RESPONSE_TO response_to
     ∷ number_field tags.CXL_REJ_REASON reason
     ∷ []
 
@@ -282,8 +301,20 @@ cancel_messages rules place session id original (outcomes.Cancelled o) =
     report session (cancelled_report (symbol_of rules o.instrument) place id original o) ∷ []
 cancel_messages rules place session id original (outcomes.CancelRefused reason named ord_status) =
     numbered_message session msg_types.ORDER_CANCEL_REJECT
-    (cancel_reject_fields id original reason named ord_status) ∷ []
+    (cancel_reject_fields CXL_REJ_RESPONSE_TO_CANCEL id original reason named ord_status) ∷ []
 cancel_messages rules place session id original _ = []
+
+-- an order is replaced and the fills of the new one are reported, or the replace request is refused
+abbrev pub replace_messages :
+    Rules → ℕ → ℕ → List ℕ → Ticket → Outcome → List Fill → List AddressedMessage
+replace_messages rules place session original t (outcomes.Replaced o) fills =
+    report session (replaced_report (symbol_of rules o.instrument) place t.id original o)
+    ∷ fills_reports rules place 2 fills
+replace_messages rules place session original t (outcomes.CancelRefused reason named ord_status)
+    fills =
+    numbered_message session msg_types.ORDER_CANCEL_REJECT
+    (cancel_reject_fields CXL_REJ_RESPONSE_TO_REPLACE t.id original reason named ord_status) ∷ []
+replace_messages rules place session original t _ fills = []
 
 -- a Logout with these fields
 abbrev pub logout : ℕ → List Field → List AddressedMessage
@@ -330,6 +361,8 @@ event_messages rules place session (New t) outcome fills =
     new_messages rules place session t outcome fills
 event_messages rules place session (Cancel id original) outcome fills =
     cancel_messages rules place session id original outcome
+event_messages rules place session (Replace original t) outcome fills =
+    replace_messages rules place session original t outcome fills
 event_messages rules place session (TestReply answer) outcome fills =
     numbered_message session msg_types.HEARTBEAT (heartbeat_fields answer) ∷ []
 event_messages rules place session (Gap first) outcome fills =

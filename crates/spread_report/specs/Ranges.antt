@@ -6,7 +6,7 @@ use Rattle.spread_rules.specs.Rulebook.{Rules, IsListed, month_count, names_of}
 use Rattle.spread_rules.specs.Journal.{FitsEvent}
 use Rattle.spread_rules.specs.declared.fill.Fill.{Fill}
 use Rattle.spread_rules.specs.declared.outcome.Outcome.{Outcome}
-use Rattle.spread_rules.specs.declared.outcome.Outcome.TheVariants.{Cancelled, Refused, CancelRefused}
+use Rattle.spread_rules.specs.declared.outcome.Outcome.TheVariants.{Cancelled, Replaced, Refused, CancelRefused}
 use Rattle.spread_report.specs.Outgoing.{AppliedEntry}
 
 -- each month's name is an id of at most 15 bytes
@@ -31,6 +31,8 @@ abbrev pub OutcomeInRange : Rules → Outcome → Type 0
 OutcomeInRange rules (Refused reason) = reason < 2 ^ 64
 OutcomeInRange rules (Cancelled o) =
     IsListed rules o.instrument × (o.place < 2 ^ 64) × (o.quantity < 2 ^ 64)
+OutcomeInRange rules (Replaced o) =
+    IsListed rules o.instrument × (o.place < 2 ^ 64) × (o.quantity < 2 ^ 64) × (o.leaves < 2 ^ 64)
 OutcomeInRange rules (CancelRefused reason named status) =
     (reason < 2 ^ 64) × (named < 2 ^ 64) × (status < 2 ^ 64)
 OutcomeInRange rules _ = Unit {0}

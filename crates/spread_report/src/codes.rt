@@ -11,6 +11,8 @@ pub const ENCRYPT_METHOD_NONE: u64 = 0;
 pub const EXEC_TRANS_TYPE_NEW: u64 = 0;
 /// CxlRejResponseTo (tag 434): an OrderCancelRequest.
 pub const CXL_REJ_RESPONSE_TO_CANCEL: u64 = 1;
+/// CxlRejResponseTo (tag 434): an OrderCancelReplaceRequest.
+pub const CXL_REJ_RESPONSE_TO_REPLACE: u64 = 2;
 
 /// ExecType and OrdStatus (tags 150 and 39): what became of an order.
 #[derive(Clone, Copy)]
@@ -19,6 +21,7 @@ pub enum OrdStatus {
     PartiallyFilled,
     Filled,
     Canceled,
+    Replaced,
     Rejected,
 }
 
@@ -43,6 +46,7 @@ impl OrdStatus {
             OrdStatus::PartiallyFilled => ord_status::PARTIALLY_FILLED as u64,
             OrdStatus::Filled => ord_status::FILLED as u64,
             OrdStatus::Canceled => ord_status::CANCELED as u64,
+            OrdStatus::Replaced => ord_status::REPLACED as u64,
             OrdStatus::Rejected => ord_status::REJECTED as u64,
         }
     }

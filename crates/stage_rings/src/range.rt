@@ -51,6 +51,7 @@ fn fits_event(event: &Event) -> bool
         Event::Logon { client, host, beat } => is_id(client) && is_id(host) && *beat <= MAX_NUMBER,
         Event::New(ticket) => fits_ticket(ticket),
         Event::Cancel { id, original } => is_id(id) && is_id(original),
+        Event::Replace { original, ticket } => is_id(original) && fits_ticket(ticket),
         Event::TestReply { text } => is_id(text),
         Event::Gap { first } => is_number(*first),
         Event::Resend { first, last } => {

@@ -17,7 +17,7 @@ use Rattle.fix_values.specs.Values.{is_number, within, number_in, quantity_in, h
 use Rattle.fix_wire.specs.Messages.{get, kind}
 use Rattle.fix_session.specs.declared.table.Meaning.{Meaning}
 use Rattle.fix_session.specs.declared.table.Meaning.TheVariants.{Nothing, Gives, Fills}
-use Rattle.fix_session.specs.Table.{◌>>=◌, required_text, value_at, or_out_of_range, id_at, or_reason, number_at, quantity_at, price_at, one_of, choice_at, allowed_if, side_at, side_of, time_in_force_of, gap_fill_flag_of, passed_over, test_request, resend_request, sequence_reset, new_order, cancel_request, meaning_of_kind, meaning_of_kind_text, meaning_of_message}
+use Rattle.fix_session.specs.Table.{◌>>=◌, required_text, value_at, or_out_of_range, id_at, or_reason, number_at, quantity_at, price_at, one_of, choice_at, allowed_if, side_at, side_of, time_in_force_of, gap_fill_flag_of, passed_over, test_request, resend_request, sequence_reset, new_order, cancel_request, replace_request, meaning_of_kind, meaning_of_kind_text, meaning_of_message}
 
 -- a result of that kind, or a reason to reject
 abbrev pub Holds : {A : Type 0} → (A → Type 0) → Result A ℕ → Type 0
@@ -222,6 +222,14 @@ cancel_request_holds m n =
     chained Any (FitsMeaning n) (value_at 60 m) _ (value_holds 60 m) (λ time d.
     record { fits = (is_id, is_original); no_logon = refl; no_close = refl }))))))
 
+replace_request_holds : (m : List ℕ) (n : ℕ) → Holds (FitsMeaning n) (replace_request m)
+unfolding replace_request
+replace_request_holds m n =
+    chained Any (FitsMeaning n) (value_at 52 m) _ (value_holds 52 m) (λ stamp a.
+    chained IsId (FitsMeaning n) (id_at 41 m) _ (id_holds 41 m) (λ original is_original.
+    chained FitsTicket (FitsMeaning n) (new_order m) _ (new_order_holds m) (λ ticket fits.
+    record { fits = (is_original, fits); no_logon = refl; no_close = refl })))
+
 -- ---- the table
 
 new_holds : (m : List ℕ) (n : ℕ) → Holds (FitsMeaning n) (new_order m >>= λ ticket. Ok (Gives (events.New ticket)))
@@ -235,7 +243,8 @@ kind_holds k m n =
     either (FitsMeaning n) (k == 51) _ _ (passed_over_holds m n) (
     either (FitsMeaning n) (k == 52) _ _ (sequence_reset_holds m n) (
     either (FitsMeaning n) (k == 68) _ _ (new_holds m n) (
-    either (FitsMeaning n) (k == 70) _ _ (cancel_request_holds m n) refl))))))
+    either (FitsMeaning n) (k == 70) _ _ (cancel_request_holds m n) (
+    either (FitsMeaning n) (k == 71) _ _ (replace_request_holds m n) refl)))))))
 
 with_holds : (kind m : List ℕ) (n : ℕ) → Holds (FitsMeaning n) (meaning_of_kind_text kind m n)
 with_holds [] m n = refl

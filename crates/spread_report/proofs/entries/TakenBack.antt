@@ -12,7 +12,7 @@ use Rattle.std.specs.Prelude.{OnErr, Result, Ok, ◌==◌, if◌then◌else◌, 
 use Rattle.std.proofs.lemmas.List.{ext_get_or, get_or_default}
 use Rattle.std.proofs.lemmas.Bool.{eq-eqb, ne_eqb}
 use Rattle.spread_rules.specs.declared.event.Event.{Event}
-use Rattle.spread_rules.specs.declared.event.Event.TheVariants.{Logon, New, Cancel, TestReply, Gap, Resend, Reject, Close}
+use Rattle.spread_rules.specs.declared.event.Event.TheVariants.{Logon, New, Cancel, Replace, TestReply, Gap, Resend, Reject, Close}
 use Rattle.spread_report.specs.declared.outbound.CompIds.{CompIds}
 use Rattle.spread_report.specs.Outgoing.{outbound_before_logon, outbound_at_entry}
 use Rattle.spread_report.specs.Desk.{DeskState}
@@ -90,6 +90,7 @@ entry_other : (s : ℕ) (l : OutboundSession) (session : ℕ) (v : Event) → se
 entry_other s l session (Logon client host beat) apart = rw (ne_eqb session s apart) refl
 entry_other s l session (New t) apart = refl
 entry_other s l session (Cancel id original) apart = refl
+entry_other s l session (Replace original t) apart = refl
 entry_other s l session (TestReply answer) apart = refl
 entry_other s l session (Gap first) apart = refl
 entry_other s l session (Resend first last) apart = refl

@@ -9,7 +9,7 @@ use Rattle.fix_wire.proofs.writing.WrittenMessage.{written_frame, read_first}
 use Rattle.host_base.specs.Ids.{is_id}
 use Rattle.spread_rules.specs.Rulebook.{Rules}
 use Rattle.spread_rules.specs.declared.event.Event.{Event}
-use Rattle.spread_rules.specs.declared.event.Event.TheVariants.{Logon, New, Cancel, TestReply, Gap, Resend, Reject, Close}
+use Rattle.spread_rules.specs.declared.event.Event.TheVariants.{Logon, New, Cancel, Replace, TestReply, Gap, Resend, Reject, Close}
 use Rattle.spread_rules.specs.Journal.{FitsEvent}
 use Rattle.spread_report.specs.declared.outbound.OutboundSession.{OutboundSession}
 use Rattle.spread_report.specs.declared.outbound.CompIds.{CompIds}
@@ -119,6 +119,7 @@ module _ (stamp : List ℕ) (stamp_id : is_id stamp ≡ true) where
       ]
   opened s out session (New t) h fit = h
   opened s out session (Cancel id original) h fit = h
+  opened s out session (Replace original t) h fit = h
   opened s out session (TestReply answer) h fit = h
   opened s out session (Gap first) h fit = h
   opened s out session (Resend first last) h fit = h

@@ -17,10 +17,10 @@ use Rattle.spread_rules.specs.declared.order.Instrument.TheVariants.{Outright, S
 use Rattle.spread_rules.specs.declared.fill.Fill.{Fill}
 use Rattle.spread_rules.specs.declared.event.Ticket.{Ticket}
 use Rattle.spread_rules.specs.declared.event.Event.{Event}
-use Rattle.spread_rules.specs.declared.event.Event.TheVariants.{Logon, New, Cancel, TestReply, Gap, Resend, Reject, Close}
+use Rattle.spread_rules.specs.declared.event.Event.TheVariants.{Logon, New, Cancel, Replace, TestReply, Gap, Resend, Reject, Close}
 use Rattle.spread_rules.specs.declared.outcome.Outcome.{Outcome}
-use Rattle.spread_rules.specs.declared.outcome.Outcome.TheVariants.{Rested, Filled, Ended, Cancelled, Refused, CancelRefused, Session}
-use Rattle.spread_report.specs.EntryMessages.{MessageContent, numbered, gap_fill, AddressedMessage, text_field, number_field, price_field, pair_field, ReportedTrade, ExecutionReport, original_field, reason_field, last_fields, legs_field, report_fields, numbered_message, report, new_report, rejected_report, ended_report, cancelled_report, fill_report, report_count, reports_by, fill_reports, fills_reports, reports_of, new_messages, place_field, cancel_messages, close_messages, event_messages}
+use Rattle.spread_rules.specs.declared.outcome.Outcome.TheVariants.{Rested, Filled, Ended, Cancelled, Replaced, Refused, CancelRefused, Session}
+use Rattle.spread_report.specs.EntryMessages.{MessageContent, numbered, gap_fill, AddressedMessage, text_field, number_field, price_field, pair_field, ReportedTrade, ExecutionReport, original_field, reason_field, last_fields, legs_field, report_fields, numbered_message, report, new_report, rejected_report, ended_report, cancelled_report, replaced_report, fill_report, report_count, reports_by, fill_reports, fills_reports, reports_of, new_messages, place_field, cancel_reject_fields, cancel_messages, replace_messages, close_messages, event_messages}
 use Rattle.spread_report.specs.Codes.{side_code, ord_status_code, multi_leg_code}
 use Rattle.spread_report.specs.declared.codes.OrdStatus.{OrdStatus}
 use Rattle.spread_report.specs.declared.codes.OrdStatus.TheVariants as status
@@ -109,6 +109,7 @@ status_small status.New = omega arith
 status_small status.PartiallyFilled = omega arith
 status_small status.Filled = omega arith
 status_small status.Canceled = omega arith
+status_small status.Replaced = omega arith
 status_small status.Rejected = omega arith
 
 legs_small : (l : MultiLegReportingType) → multi_leg_code l < 2 ^ 64
@@ -300,6 +301,22 @@ module _ (rules : Rules) (names : AreNames rules) where
     filled = omega (arith, oq);
   })
 
+  replaced_fits : (place session : ℕ) (id original : List ℕ) (o : Order) → place < 2 ^ 64 → is_id id ≡ true → is_id original ≡ true → IsListed rules o.instrument → o.place < 2 ^ 64 → o.quantity < 2 ^ 64 → o.leaves < 2 ^ 64
+      → FitsAddressed (report session (replaced_report (symbol_of rules o.instrument) place id original o))
+  replaced_fits place session id original o p e d listed op oq ol = report_in_range (replaced_report (symbol_of rules o.instrument) place id original o) session (record {
+    order = op;
+    id = e;
+    original = d;
+    place = p;
+    index = omega arith;
+    reason = tt;
+    symbol = symbol_fits o.instrument listed;
+    quantity = oq;
+    traded = tt;
+    leaves = ol;
+    filled = omega (arith, oq);
+  })
+
   traded_fits : (place session : ℕ) (t : Ticket) (fs : List Fill) → place < 2 ^ 64 → FitsTicket t → length fs ≤ 1000000000 → AllByRecursion (FillInRange rules) fs
       → AllByRecursion FitsAddressed (report session (new_report place t) ∷ fills_reports rules place 2 fs)
   traded_fits place session t fs p h few fits = (new_fits place session t p h, fills_fit place 2 fs fits p (omega (arith, few)))
@@ -313,22 +330,39 @@ module _ (rules : Rules) (names : AreNames rules) where
       all_append (report session (new_report place t) ∷ fills_reports rules place 2 fs) (report session (ended_report place (2 + reports_of fs) t left) ∷ [])
       (traded_fits place session t fs p h few fits) (ended_fits place (2 + reports_of fs) session t left p (omega (arith, few, reports_small fs)) h, tt)
   news_fit place session t (Cancelled x) fs p h o few fits = tt
+  news_fit place session t (Replaced x) fs p h o few fits = tt
   news_fit place session t (CancelRefused reason of status) fs p h o few fits = tt
   news_fit place session t Session fs p h o few fits = tt
 
   place_fits : (of : ℕ) → of < 2 ^ 64 → FitsReport (place_field of)
   place_fits of h = elim (of == 0) as (λ b. FitsReport (if b then text_field 37 (codes "NONE") else number_field 37 of)) [ true ↦ text_fits 37 (codes "NONE") (omega arith) (omega arith) refl | false ↦ number_fits 37 of (omega arith) (omega arith) h ]
 
+  cancel_reject_fits : (session request : ℕ) (id original : List ℕ) (reason of status : ℕ) → request < 2 ^ 64 → is_id id ≡ true → is_id original ≡ true → reason < 2 ^ 64 → of < 2 ^ 64 → status < 2 ^ 64
+      → FitsAddressed (numbered_message session 57 (cancel_reject_fields request id original reason of status))
+  cancel_reject_fits session request id original reason of status q e d r n s =
+      (omega arith, (place_fits of n, (text_fits 11 id (omega arith) (omega arith) e, (text_fits 41 original (omega arith) (omega arith) d, (number_fits 39 status (omega arith) (omega arith) s, (number_fits 434 request (omega arith) (omega arith) q, (number_fits 102 reason (omega arith) (omega arith) r, tt)))))), omega arith)
+
   cancels_fit : (place session : ℕ) (id original : List ℕ) (outcome : Outcome) → place < 2 ^ 64 → is_id id ≡ true → is_id original ≡ true → OutcomeInRange rules outcome
       → AllByRecursion FitsAddressed (cancel_messages rules place session id original outcome)
   cancels_fit place session id original (Cancelled x) p e d o = (cancelled_fits place session id original x p e d o.0 o.1 o.2, tt)
-  cancels_fit place session id original (CancelRefused reason of status) p e d o =
-      ((omega arith, (place_fits of o.1, (text_fits 11 id (omega arith) (omega arith) e, (text_fits 41 original (omega arith) (omega arith) d, (number_fits 39 status (omega arith) (omega arith) o.2, (number_fits 434 1 (omega arith) (omega arith) (omega arith), (number_fits 102 reason (omega arith) (omega arith) o.0, tt)))))), omega arith), tt)
+  cancels_fit place session id original (CancelRefused reason of status) p e d o = (cancel_reject_fits session 1 id original reason of status (omega arith) e d o.0 o.1 o.2, tt)
+  cancels_fit place session id original (Replaced x) p e d o = tt
   cancels_fit place session id original Rested p e d o = tt
   cancels_fit place session id original Filled p e d o = tt
   cancels_fit place session id original (Ended left) p e d o = tt
   cancels_fit place session id original (Refused reason) p e d o = tt
   cancels_fit place session id original Session p e d o = tt
+
+  replaces_fit : (place session : ℕ) (original : List ℕ) (t : Ticket) (outcome : Outcome) (fs : List Fill) → place < 2 ^ 64 → is_id original ≡ true → FitsTicket t → OutcomeInRange rules outcome → length fs ≤ 1000000000 → AllByRecursion (FillInRange rules) fs
+      → AllByRecursion FitsAddressed (replace_messages rules place session original t outcome fs)
+  replaces_fit place session original t (Replaced x) fs p d h o few fits = (replaced_fits place session t.id original x p h.id d o.0 o.1 o.2 o.3, fills_fit place 2 fs fits p (omega (arith, few)))
+  replaces_fit place session original t (CancelRefused reason of status) fs p d h o few fits = (cancel_reject_fits session 2 t.id original reason of status (omega arith) h.id d o.0 o.1 o.2, tt)
+  replaces_fit place session original t Rested fs p d h o few fits = tt
+  replaces_fit place session original t Filled fs p d h o few fits = tt
+  replaces_fit place session original t (Ended left) fs p d h o few fits = tt
+  replaces_fit place session original t (Cancelled x) fs p d h o few fits = tt
+  replaces_fit place session original t (Refused reason) fs p d h o few fits = tt
+  replaces_fit place session original t Session fs p d h o few fits = tt
 
   close_fits : (session reason : ℕ) → AllByRecursion FitsAddressed (close_messages session reason)
   close_fits session reason =
@@ -351,6 +385,7 @@ module _ (rules : Rules) (names : AreNames rules) where
   event_fits place session (Logon client host beat) outcome fs p h o few fits = ((omega arith, (number_fits 98 0 (omega arith) (omega arith) (omega arith), (number_fits 108 beat (omega arith) (omega arith) (omega (arith, h.2)), tt)), omega arith), tt)
   event_fits place session (New t) outcome fs p h o few fits = news_fit place session t outcome fs p h o few fits
   event_fits place session (Cancel id original) outcome fs p h o few fits = cancels_fit place session id original outcome p h.0 h.1 o
+  event_fits place session (Replace original t) outcome fs p h o few fits = replaces_fit place session original t outcome fs p h.0 h.1 o few fits
   event_fits place session (TestReply answer) outcome fs p h o few fits = ((omega arith, (text_fits 112 answer (omega arith) (omega arith) h, tt), omega arith), tt)
   event_fits place session (Gap first) outcome fs p h o few fits = ((omega arith, (number_fits 7 first (omega arith) (omega arith) (omega (arith, h.1)), (number_fits 16 0 (omega arith) (omega arith) (omega arith), tt)), omega arith), tt)
   event_fits place session (Resend first last) outcome fs p h o few fits = (tt, tt)

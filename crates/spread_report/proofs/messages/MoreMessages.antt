@@ -163,3 +163,12 @@ module _ {A : Type 0} (a b : DeskState) (x y : List (Vec ℕ A)) (ms ns : List A
   -- messages that are the same
   pub sends_same : {T : Type 0} (r : Result T DeskFault) → ms ≡ ns → Sends a b x y ms r → Sends a b x y ns r
   sends_same r e w = subst (λ (l : List AddressedMessage). Sends a b x y l r) e w
+
+-- what was sent, or was not, whatever is told besides
+module _ {A : Type 0} (a b : DeskState) (x y : List (Vec ℕ A)) (ms : List AddressedMessage) where
+  pub sends_ok : {T U : Type 0} (t : T) (u : U) → Sends a b x y ms (Ok t) → Sends a b x y ms (Ok u)
+  sends_ok t u p = record { stamp = p.stamp; result = p.result }
+
+  pub sends_err : (T U : Type 0) (f : DeskFault) → Sends {T = T} a b x y ms (Err f) → Sends {T = U} a b x y ms (Err f)
+  sends_err T U NoMemory p = record { stamp = p.stamp; result = p.result }
+  sends_err T U NumbersSpent p = record { stamp = p.stamp; result = p.result }

@@ -53,7 +53,7 @@ fields_of_reject r =
     ++ (event_fields r.order
     ++ (number_field tags.ORD_REJ_REASON r.reason ∷ (terms_fields r.order ++ left_fields r.order)))
 
--- a report of an order that a cancel request ended, with OrigClOrdID
+-- a report of an order that a request cancelled or replaced, with OrigClOrdID
 abbrev pub fields_of_cancel : CancelReport → List Field
 fields_of_cancel r =
     order_fields r.order

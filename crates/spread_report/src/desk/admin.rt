@@ -10,7 +10,7 @@ ghost use Rattle.spread_report.specs.Outgoing as outgoing;
 
 use super::Desk;
 use super::entry::CancelRequest;
-use crate::codes::{CXL_REJ_RESPONSE_TO_CANCEL, ENCRYPT_METHOD_NONE};
+use crate::codes::ENCRYPT_METHOD_NONE;
 use crate::fault::DeskFault;
 use crate::symbol::known_id;
 use fix_wire::{Field, Head, Value, msg_types, tags, write_message};
@@ -161,11 +161,13 @@ impl Desk {
         }
     }
 
-    /// Refuses a cancel: `place` is that of the order that it names, 0 where there is none.
+    /// Sends an OrderCancelReject, of a cancel or a replace: `response_to` is its CxlRejResponseTo
+    /// (tag 434), and `place` that of the order that the request names, 0 where there is none.
     pub(super) fn cancel_reject<A: Allocator + Copy>(
         &mut self,
         lists: &mut [Vec<u8, A>],
         request: &CancelRequest,
+        response_to: u64,
         reason: u8,
         place: u64,
         status: u8,
@@ -174,8 +176,8 @@ impl Desk {
         requires session { request.now.session < SESSIONS }
         ensures { Sends self.old self.new lists.old lists.new
             (numbered_message request.now.session ORDER_CANCEL_REJECT
-            (cancel_reject_fields request.now.id request.now.original reason place status) ∷ [])
-            result }
+            (cancel_reject_fields response_to request.now.id request.now.original reason place
+            status) ∷ []) result }
     {
         let named = if place == 0 {
             Value::Text(known_id(b"NONE"))
@@ -190,7 +192,7 @@ impl Desk {
             text_field!(tags::CL_ORD_ID, request.id),
             text_field!(tags::ORIG_CL_ORD_ID, request.original),
             number_field!(tags::ORD_STATUS, status as u64),
-            number_field!(tags::CXL_REJ_RESPONSE_TO, CXL_REJ_RESPONSE_TO_CANCEL),
+            number_field!(tags::CXL_REJ_RESPONSE_TO, response_to),
             number_field!(tags::CXL_REJ_REASON, reason as u64),
         ];
         self.send(

@@ -1,14 +1,15 @@
 //! What an entry sends, by its event and by what came of it.
 ghost use Rattle.std.specs.Prelude.{◌≡◌, ℕ, ◌<◌, ◌+◌, ◌∷◌, length, IfOk};
 ghost use Rattle.spread_rules.specs.declared.fill.Fill.{Fill};
-ghost use Rattle.spread_rules.specs.Ranges.{FitsCancel, FitsNew, FitsOutcome, FitFills};
+ghost use Rattle.spread_rules.specs.Ranges.{FitsCancel, FitsNew, FitsReplace, FitsOutcome, FitFills};
 ghost use Rattle.spread_report.specs.code.Sending.{Sends};
-ghost use Rattle.spread_report.specs.EntryMessages.{event_messages, new_messages, cancel_messages};
+ghost use Rattle.spread_report.specs.EntryMessages.{event_messages, new_messages, cancel_messages, replace_messages};
 ghost use Rattle.spread_report.specs.EntryMessages.{accepted_messages, reports_of};
 ghost use Rattle.spread_report.specs.Outgoing.{outbound_at_entry};
 ghost use Rattle.spread_report.specs.Sessions.{outbound_at};
 
 use super::Desk;
+use crate::codes::{CXL_REJ_RESPONSE_TO_CANCEL, CXL_REJ_RESPONSE_TO_REPLACE};
 use crate::fault::DeskFault;
 use crate::outbound::CompIds;
 use crate::symbol::symbol_of;
@@ -34,7 +35,7 @@ pub struct NewOrder {
     pub ticket: Ticket,
 }
 
-/// A cancel request, at its entry's place.
+/// A cancel request or a cancel/replace request, at its entry's place.
 #[derive(Clone, Copy)]
 pub struct CancelRequest {
     pub place: u64,
@@ -95,6 +96,9 @@ impl Desk {
                     original: *original,
                 };
                 self.cancel_entry(lists, rules, &request, applied.outcome)
+            }
+            Event::Replace { original, ticket } => {
+                self.replace_entry(lists, rules, applied, original, ticket)
             }
             Event::TestReply { text } => self.heartbeat(lists, session, text),
             Event::Gap { first } => self.resend_request(lists, session, *first),
@@ -179,7 +183,53 @@ impl Desk {
                 reason,
                 place,
                 status,
-            } => self.cancel_reject(lists, request, reason, place, status),
+            } => {
+                let response_to = CXL_REJ_RESPONSE_TO_CANCEL;
+                self.cancel_reject(lists, request, response_to, reason, place, status)
+            }
+            _ => Ok(()),
+        }
+    }
+
+    /// Tells the session of a replace what came of it: a report of the replaced order and behind it
+    /// those of its fills, or an OrderCancelReject with CxlRejResponseTo (tag 434) 2.
+    fn replace_entry<A: Allocator + Copy>(
+        &mut self,
+        lists: &mut [Vec<u8, A>],
+        rules: &Rulebook,
+        applied: &AppliedEntry,
+        original: &Id,
+        ticket: &Ticket,
+    ) -> Result<(), DeskFault>
+        requires lists { length lists.old ≡ SESSIONS }
+        requires session { applied.now.entry.now.session < SESSIONS }
+        requires outcome { FitsReplace rules.now applied.now.outcome.now }
+        requires fills { FitFills rules.now applied.now.fills.now }
+        ensures { Sends self.old self.new lists.old lists.new
+            (replace_messages rules.now applied.now.place applied.now.entry.now.session
+            original.now ticket.now applied.now.outcome.now applied.now.fills.now) result }
+    {
+        let request = CancelRequest {
+            place: applied.place,
+            session: applied.entry.session,
+            id: ticket.id,
+            original: *original,
+        };
+        match *applied.outcome {
+            Outcome::Replaced(order) => {
+                let symbol = symbol_of(rules, order.instrument);
+                self.replaced(lists, &request, &order, &symbol)?;
+                self.all_fills(lists, rules, request.place, applied.fills)?;
+                Ok(())
+            }
+            Outcome::CancelRefused {
+                reason,
+                place,
+                status,
+            } => {
+                let response_to = CXL_REJ_RESPONSE_TO_REPLACE;
+                self.cancel_reject(lists, &request, response_to, reason, place, status)
+            }
             _ => Ok(()),
         }
     }

@@ -6,7 +6,7 @@ ghost use Rattle.spread_rules.specs.Rulebook.{month_count};
 ghost use Rattle.spread_rules.specs.declared.fill.Fill.{Fill};
 ghost use Rattle.spread_rules.specs.Ranges.{FitFills, FitsFill};
 ghost use Rattle.spread_report.specs.code.Sending.{Sends};
-ghost use Rattle.spread_report.specs.EntryMessages.{report, new_report, rejected_report, ended_report, cancelled_report, fill_report, leg_reports, fill_reports, fills_reports, reports_of, fill_status, report_count};
+ghost use Rattle.spread_report.specs.EntryMessages.{report, new_report, rejected_report, ended_report, cancelled_report, replaced_report, fill_report, leg_reports, fill_reports, fills_reports, reports_of, fill_status, report_count};
 
 use super::Desk;
 use super::entry::{CancelRequest, NewOrder};
@@ -157,6 +157,43 @@ impl Desk {
                 side: order.side,
                 order_qty: order.quantity as u64,
                 leaves_qty: 0,
+                cum_qty: filled as u64,
+            },
+            original: request.original,
+        };
+        self.send_body(lists, request.session, msg_types::EXECUTION_REPORT, &report)
+    }
+
+    /// Reports a replaced order to who replaced it: ClOrdID (tag 11) is its new id, OrigClOrdID
+    /// (tag 41) the one that it had, ExecType and OrdStatus (tags 150 and 39) are 5.
+    pub(super) fn replaced<A: Allocator + Copy>(
+        &mut self,
+        lists: &mut [Vec<u8, A>],
+        request: &CancelRequest,
+        order: &Order,
+        symbol: &Id,
+    ) -> Result<(), DeskFault>
+        requires lists { length lists.old ≡ SESSIONS }
+        requires session { request.now.session < SESSIONS }
+        requires left { order.now.leaves ≤ order.now.quantity }
+        ensures { Sends self.old self.new lists.old lists.new
+            (report request.now.session (replaced_report symbol.now request.now.place
+            request.now.id request.now.original order.now) ∷ []) result }
+    {
+        let filled = order.quantity - order.leaves;
+        let report = CancelReport {
+            order: OrderReport {
+                order_id: order.place,
+                cl_ord_id: request.id,
+                exec_id: ExecId {
+                    place: request.place,
+                    index: 1,
+                },
+                ord_status: OrdStatus::Replaced,
+                symbol: *symbol,
+                side: order.side,
+                order_qty: order.quantity as u64,
+                leaves_qty: order.leaves as u64,
                 cum_qty: filled as u64,
             },
             original: request.original,

@@ -47,7 +47,7 @@ pub struct RejectReport {
     pub reason: u64,
 }
 
-/// A report of an order that a cancel request ended.
+/// A report of an order that a request cancelled or replaced.
 #[derive(Clone, Copy)]
 pub struct CancelReport {
     pub order: OrderReport,

@@ -36,6 +36,20 @@ const CANCEL: &[(&str, &str)] = &[
     ("60", "T"),
 ];
 
+const REPLACE: &[(&str, &str)] = &[
+    ("52", "S"),
+    ("41", "a"),
+    ("11", "b"),
+    ("21", "1"),
+    ("55", "H6"),
+    ("54", "2"),
+    ("60", "T"),
+    ("38", "5"),
+    ("40", "2"),
+    ("44", "100"),
+    ("59", "0"),
+];
+
 /// The fields of a lawful message of a kind.
 fn fields_of(kind: &str) -> &'static [(&'static str, &'static str)] {
     match kind {
@@ -44,6 +58,7 @@ fn fields_of(kind: &str) -> &'static [(&'static str, &'static str)] {
         "4" => SEQUENCE_RESET,
         "D" => ORDER,
         "F" => CANCEL,
+        "G" => REPLACE,
         _ => HEARTBEAT,
     }
 }
@@ -151,6 +166,35 @@ const FAULTS: &[(&str, &str, &str, u8)] = &[
     ("F", "54", "54=0|", 5),
     ("F", "60", "", 1),
     ("F", "60", "60=|", 4),
+    ("G", "52", "", 1),
+    ("G", "52", "52=|", 4),
+    ("G", "41", "", 1),
+    ("G", "41", "41=|", 4),
+    ("G", "11", "", 1),
+    ("G", "11", "11=|", 4),
+    ("G", "21", "", 1),
+    ("G", "21", "21=|", 4),
+    ("G", "21", "21=4|", 5),
+    ("G", "55", "", 1),
+    ("G", "55", "55=|", 4),
+    ("G", "54", "", 1),
+    ("G", "54", "54=|", 4),
+    ("G", "54", "54=3|", 5),
+    ("G", "60", "", 1),
+    ("G", "60", "60=|", 4),
+    ("G", "38", "", 1),
+    ("G", "38", "38=|", 4),
+    ("G", "38", "38=x|", 6),
+    ("G", "38", "38=1000000000|", 5),
+    ("G", "40", "", 1),
+    ("G", "40", "40=|", 4),
+    ("G", "40", "40=1|", 5),
+    ("G", "44", "", 1),
+    ("G", "44", "44=|", 4),
+    ("G", "44", "44=.|", 6),
+    ("G", "44", "44=12.345|", 5),
+    ("G", "59", "59=|", 4),
+    ("G", "59", "59=1|", 5),
 ];
 
 #[test]
@@ -160,6 +204,38 @@ fn each_reason_of_each_kind(rt: HostRuntime) -> Result<(), Fail> {
         let got = second(rt.alloc(), body.as_str())?;
         assert!(rt; got == Some(Verdict::Event(reject(2, *reason))), "{body}");
     }
+    Ok(())
+}
+
+/// Message 2, a replace: one of its fields is missing, those behind it are empty, the others are
+/// lawful.
+fn replace_without<A: Allocator + Copy>(alloc: A, missing: usize) -> Result<String<A>, AllocError> {
+    let mut body = format!(in alloc; "35=G|34=2|49=C1|56=HOST|")?;
+    for (at, (name, value)) in REPLACE.iter().enumerate() {
+        let field = if at < missing {
+            format!(in alloc; "{name}={value}|")?
+        } else if at == missing {
+            String::new(alloc)
+        } else {
+            format!(in alloc; "{name}=|")?
+        };
+        body.push_str(field.as_str())?;
+    }
+    Ok(body)
+}
+
+/// The fault of the first tag in the order of the table is told, here that it is missing. The last
+/// one, TimeInForce, may be missing.
+#[test]
+fn the_first_fault_of_a_replace(rt: HostRuntime) -> Result<(), Fail> {
+    for missing in 0..10 {
+        let body = replace_without(rt.alloc(), missing)?;
+        let got = second(rt.alloc(), body.as_str())?;
+        assert!(rt; got == Some(Verdict::Event(reject(2, 1))), "{body}");
+    }
+    let body = replace_without(rt.alloc(), 10)?;
+    let got = second(rt.alloc(), body.as_str())?;
+    assert!(rt; got == Some(replaced(false)), "{body}");
     Ok(())
 }
 
@@ -174,6 +250,9 @@ fn long_ids(rt: HostRuntime) -> Result<(), Fail> {
         ("F", "41"),
         ("F", "11"),
         ("F", "55"),
+        ("G", "41"),
+        ("G", "11"),
+        ("G", "55"),
     ] {
         let field = format!(in rt.alloc(); "{tag}={long}|")?;
         let body = changed(rt.alloc(), kind, fields_of(kind), tag, field.as_str())?;
@@ -187,7 +266,9 @@ fn long_ids(rt: HostRuntime) -> Result<(), Fail> {
 fn kinds_that_are_none(rt: HostRuntime) -> Result<(), Fail> {
     for (kind, reason) in [
         ("", 4),
-        ("G", 11),
+        ("E", 11),
+        ("H", 11),
+        ("GG", 11),
         ("A", 11),
         ("DD", 11),
         ("8", 11),
@@ -200,15 +281,27 @@ fn kinds_that_are_none(rt: HostRuntime) -> Result<(), Fail> {
     Ok(())
 }
 
-fn sale(text: &[u8], immediate: bool) -> Verdict {
-    Verdict::Event(Event::New(Ticket {
+fn sell_ticket(text: &[u8], immediate: bool) -> Ticket {
+    Ticket {
         id: id(text),
         symbol: id(b"H6"),
         side: Side::Sell,
         quantity: 5,
         price: 10_000,
         immediate,
-    }))
+    }
+}
+
+fn sale(text: &[u8], immediate: bool) -> Verdict {
+    Verdict::Event(Event::New(sell_ticket(text, immediate)))
+}
+
+/// What a lawful replace of order `a` by order `b` says.
+fn replaced(immediate: bool) -> Verdict {
+    Verdict::Event(Event::Replace {
+        original: id(b"a"),
+        ticket: sell_ticket(b"b", immediate),
+    })
 }
 
 #[test]
@@ -218,7 +311,7 @@ fn each_kind_says_its_event(rt: HostRuntime) -> Result<(), Fail> {
         id: id(b"b"),
         original: id(b"a"),
     };
-    let rows: [(&str, &str, &str, Verdict); 11] = [
+    let rows: [(&str, &str, &str, Verdict); 14] = [
         ("0", "", "", Verdict::Nothing),
         ("3", "", "", Verdict::Nothing),
         ("1", "", "", Verdict::Event(test_reply)),
@@ -245,6 +338,9 @@ fn each_kind_says_its_event(rt: HostRuntime) -> Result<(), Fail> {
             sale(b"12345678901234567890123456789012", false),
         ),
         ("F", "", "", Verdict::Event(cancel)),
+        ("G", "", "", replaced(false)),
+        ("G", "59", "", replaced(false)),
+        ("G", "59", "59=3|", replaced(true)),
     ];
     for (kind, tag, text, want) in rows {
         let body = changed(rt.alloc(), kind, fields_of(kind), tag, text)?;

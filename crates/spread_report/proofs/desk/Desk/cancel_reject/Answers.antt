@@ -18,6 +18,6 @@ returns g c =
       | else-place-eq0 w ↦ ap with_37 w.named-is ∙ sym (named_place c.args.place w.if-place-eq0.false)
     ] in
     let q = c.args.request.now in
-    let message = λ (f : Field). numbered_message q.session 57 (f ∷ text_field 11 q.id ∷ text_field 41 q.original ∷ number_field 39 c.args.status ∷ number_field 434 1 ∷ number_field 102 c.args.reason ∷ []) ∷ [] in
+    let message = λ (f : Field). numbered_message q.session 57 (f ∷ text_field 11 q.id ∷ text_field 41 q.original ∷ number_field 39 c.args.status ∷ number_field 434 c.args.response_to ∷ number_field 102 c.args.reason ∷ []) ∷ [] in
     sends_same c.args.self.now c.send.new.self c.args.lists.now c.send.new.lists
     (message (with_37 c.if-place-eq0.named)) (message (place_field c.args.place)) c.send.result (ap message named) c.send.ensures
