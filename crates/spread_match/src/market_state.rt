@@ -159,12 +159,7 @@ fn may_replace(rules: &Rulebook, ticket: &Ticket, resting: &Order, used: bool) -
 }
 
 /// Why the replace of a resting order is refused, if it is.
-fn replace_refusal(
-    rules: &Rulebook,
-    ticket: &Ticket,
-    resting: &Order,
-    used: bool,
-) -> Option<u8>
+fn replace_refusal(rules: &Rulebook, ticket: &Ticket, resting: &Order, used: bool) -> Option<u8>
     ensures { (earlier : Option OrderStatus) → used ≡ is_some earlier
         → result ≡ replace_refusal ticket.now resting.now
         (refusal_or_instrument rules.now ticket.now earlier
@@ -468,14 +463,11 @@ impl<B: Book, A: Allocator + Copy> MarketState<B, A> {
             place: resting.place,
             status: ord_status::CANCELED,
         };
-        self.statuses.add_amended(&mut self.book, status, ticket.quantity)?;
+        self.statuses
+            .add_amended(&mut self.book, status, ticket.quantity)?;
         self.statuses.mark_replaced(resting);
         self.last = place;
-        Ok(Outcome::Replaced(with_quantity(
-            resting,
-            ticket.id,
-            ticket.quantity,
-        )))
+        Ok(Outcome::Replaced(with_quantity(resting, ticket.id, ticket.quantity)))
     }
 
     /// The resting order loses its place, and is traded as a new one. All growth comes first.

@@ -11,8 +11,8 @@ ghost use Rattle.order_books.specs.Queues.{CanAmend};
 
 use host_base::{Id, IdKey, NoMemory};
 use row_index::{Hints, IdRows, IdTable, PlacedRows};
-use spread_rules::codes::ord_status;
 use spread_books::Book;
+use spread_rules::codes::ord_status;
 use spread_rules::{Fill, Order, OrderStatus};
 use std::alloc::Allocator;
 use std::marker::Model;

@@ -169,7 +169,7 @@ traded_come references n xs immediate P h own =
     let all : All (λ o. P o.session o.id) d.orders = turns_all all_on (λ (o : Order). P o.session o.id) (λ o k w. w) references (length xs) (begin n xs) h in
     let new : d.new ≡ record n { leaves = d.new.leaves } = (keeps_turns all_on references (length xs) (begin n xs)).new in
     λ k e lt. rests_all (λ (o : Order). P o.session o.id) d immediate (λ o c. All-contains (λ (w : Order). P w.session w.id) d.orders o all c) (subst (λ (o : Order). P o.session o.id) (sym new) own) (d.new.leaves == 0 || immediate)
-        (get_or (resting immediate d) k e) (Contains-get_or (resting immediate d) k e lt)
+    (get_or (resting immediate d) k e) (Contains-get_or (resting immediate d) k e lt)
 
 new_come : (rules : Rules) (xs : List Order) (place session : ℕ) (t : Ticket) (r : Result Instrument ℕ) (P : ℕ → List ℕ → Type 0) → All (λ o. P o.session o.id) xs → P session t.id → All (λ o. P o.session o.id) (new_order_means rules xs place session t r).orders
 new_come rules xs place session t (Err reason) P h own = h

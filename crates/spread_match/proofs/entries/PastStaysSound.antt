@@ -281,8 +281,8 @@ keeping_sound months past last place session original t r l s stands own more mo
     let a = from_amended past.orders r.place t.id t.quantity o c in
     elim a.is [
       | inl e ↦
-      let same : a.was ≡ r = s.tradable.places a.was r a.stands stands e.0 in
-      subst (IsCounted (past.entered ++ p ∷ []) past.fills) (sym (ap (with_quantity t.id t.quantity) same) ∙ e.1) (amended_counted past.entered past.fills p r t.quantity (sym own.session_is) (s.counted r stands) more most)
+          let same : a.was ≡ r = s.tradable.places a.was r a.stands stands e.0 in
+          subst (IsCounted (past.entered ++ p ∷ []) past.fills) (sym (ap (with_quantity t.id t.quantity) same) ∙ e.1) (amended_counted past.entered past.fills p r t.quantity (sym own.session_is) (s.counted r stands) more most)
       | inr e ↦ counted_more past.entered past.fills p o (subst (IsCounted past.entered past.fills) e.1 (s.counted a.was a.stands))
     ])
 
@@ -309,7 +309,7 @@ replace_sound rules past last place session original t r earlier (Some o) e l s 
     (λ a b. keeping_sound (month_count rules) past last place session original t o l s stands own a.more b.most)
     (λ a. cleared_sound (references_of rules) (month_count rules) past last place (record { place = place; session = session; original = Some original; ticket = t; outcome = Replaced (moved_to place t o) }) (moved_to place t o) (removed o.place past.orders) false l
     (moved_asks place session original t o _ own.session_is a.side) (moved_rests (month_count rules) place past.orders t o s.tradable stands k) s
-    (named_original past session original _ o (month_count rules) last s stands own refl refl) (removed_tradable (month_count rules) o.place past.orders s.tradable)
+    (named_original past session original (record { place = place; session = session; original = Some original; ticket = t; outcome = Replaced (moved_to place t o) }) o (month_count rules) last s stands own refl refl) (removed_tradable (month_count rules) o.place past.orders s.tradable)
     (λ w c. in_filter all_on (λ (x : Order). not (x.place == o.place)) past.orders w c))
 
 -- ---- any entry

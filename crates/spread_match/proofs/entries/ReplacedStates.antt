@@ -42,7 +42,7 @@ matched_state m place session t i orders statuses d e f =
     let outcome = outcome_of t.immediate d.new.leaves in
     let last = λ (p k : ℕ). statuses_after d.fills (m.statuses ++ record { session = session; id = t.id; place = p; status = k } ∷ []) in
     let first : last place 4 ≡ last (place_left place outcome) (cond (is_refused outcome) 8 4) =
-        ap (λ (p : ℕ). last p 4) (sym (own_place place d.new.leaves (d.new.leaves == 0) t.immediate)) ∙ ap (last (place_left place outcome)) (first_is_four all_on t.immediate d.new.leaves) in
+    ap (λ (p : ℕ). last p 4) (sym (own_place place d.new.leaves (d.new.leaves == 0) t.immediate)) ∙ ap (last (place_left place outcome)) (first_is_four all_on t.immediate d.new.leaves) in
     ap (λ (xs : List Order). record { orders = xs; statuses = statuses; last = place }) e
     ∙ ap (λ (ss : List OrderStatus). record { orders = resting t.immediate d; statuses = ss; last = place }) (f ∙ first)
 

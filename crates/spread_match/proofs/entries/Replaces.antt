@@ -203,9 +203,9 @@ amended_tradable months xs r id quantity t stands more = record {
       let a = from_amended xs r.place id quantity o (Contains-get_or (amended r.place id quantity xs) k d lt) in
       elim a.is [
         | inl e ↦
-        let own : a.was ≡ r = t.places a.was r a.stands stands e.0 in
-        let some : 0 < quantity - done a.was = (let m : done a.was < quantity = subst (λ (w : Order). done w < quantity) (sym own) more in omega (arith, m)) in
-        subst (λ (w : Order). 0 < w.leaves) e.1 some
+            let own : a.was ≡ r = t.places a.was r a.stands stands e.0 in
+            let some : 0 < quantity - done a.was = (let m : done a.was < quantity = subst (λ (w : Order). done w < quantity) (sym own) more in omega (arith, m)) in
+            subst (λ (w : Order). 0 < w.leaves) e.1 some
         | inr e ↦ subst (λ (w : Order). 0 < w.leaves) e.1 (All-contains (λ (w : Order). 0 < w.leaves) xs a.was t.left a.stands)
       ];
 }

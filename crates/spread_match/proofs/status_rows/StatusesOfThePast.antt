@@ -99,9 +99,9 @@ filled_more fills entered f p =
     let replaced = is_replaced p.session p.ticket.id entered in
     let test = f.session == p.session && bytes_eq f.id p.ticket.id && f.leaves == 0 in
     let turned : (is_open f.session f.id s && f.leaves == 0) ≡ (test && not (s.status == 8)) =
-        ap (λ (b : Bool). ((b && bytes_eq s.id f.id) && not (s.status == 8)) && f.leaves == 0) (number_turned p.session f.session)
-        ∙ (ap (λ (b : Bool). ((f.session == p.session && b) && not (s.status == 8)) && f.leaves == 0) (bytes_turned p.ticket.id f.id)
-        ∙ moved (f.session == p.session) (bytes_eq f.id p.ticket.id) (not (s.status == 8)) (f.leaves == 0)) in
+    ap (λ (b : Bool). ((b && bytes_eq s.id f.id) && not (s.status == 8)) && f.leaves == 0) (number_turned p.session f.session)
+    ∙ (ap (λ (b : Bool). ((f.session == p.session && b) && not (s.status == 8)) && f.leaves == 0) (bytes_turned p.ticket.id f.id)
+    ∙ moved (f.session == p.session) (bytes_eq f.id p.ticket.id) (not (s.status == 8)) (f.leaves == 0)) in
     put_status (is_open f.session f.id s && f.leaves == 0) s 2
     ∙ ap (λ (k : ℕ). record s { status = k })
     (ap (λ (b : Bool). cond b 2 s.status) turned
@@ -158,11 +158,11 @@ one_replaced fills entered q p original e a =
     let s = status_with fills entered p in
     let test = replaces q p.session p.ticket.id in
     let is : has_id q.session original s ≡ test =
-        ap (λ (b : Bool). b && bytes_eq p.ticket.id original) (number_turned p.session q.session)
-        ∙ (ap (λ (b : Bool). q.session == p.session && b) (bytes_turned p.ticket.id original)
-        ∙ (and_not (q.session == p.session) (bytes_eq original p.ticket.id)
-        ∙ (ap (λ (b : Bool). q.session == p.session && bytes_eq original p.ticket.id && not b) (sym a)
-        ∙ ap (λ (o : Option (List ℕ)). q.session == p.session && names p.ticket.id o && not (is_refused q.outcome)) (sym e)))) in
+    ap (λ (b : Bool). b && bytes_eq p.ticket.id original) (number_turned p.session q.session)
+    ∙ (ap (λ (b : Bool). q.session == p.session && b) (bytes_turned p.ticket.id original)
+    ∙ (and_not (q.session == p.session) (bytes_eq original p.ticket.id)
+    ∙ (ap (λ (b : Bool). q.session == p.session && bytes_eq original p.ticket.id && not b) (sym a)
+    ∙ ap (λ (o : Option (List ℕ)). q.session == p.session && names p.ticket.id o && not (is_refused q.outcome)) (sym e)))) in
     put_status (has_id q.session original s && s.status == 4) s 5
     ∙ (ap (λ (k : ℕ). record s { status = k })
     (ap (λ (b : Bool). cond (b && s.status == 4) 5 s.status) is

@@ -75,9 +75,9 @@ returns-clause-after g c =
     let rest = moved_rest m.orders (g.B.Book.orders c.remove.new.self) m.last c.args.place r n c.requires.ready.below c.requires.place c.requires.rests (ap (λ (o : Order). o.place) c.moved_order-order.ensures) book in
     let d = clear all_on refs n (removed n.place (g.B.Book.orders c.remove.new.self)) in
     let same : d ≡ clear all_on refs (moved_to c.args.place c.args.ticket.now r) (removed r.place m.orders) =
-        clear_same all_on refs refs n (moved_to c.args.place c.args.ticket.now r) (removed n.place (g.B.Book.orders c.remove.new.self)) (removed r.place m.orders) refl c.moved_order-order.ensures rest in
+    clear_same all_on refs refs n (moved_to c.args.place c.args.ticket.now r) (removed n.place (g.B.Book.orders c.remove.new.self)) (removed r.place m.orders) refl c.moved_order-order.ensures rest in
     let statuses : made.statuses ≡ statuses_after d.fills (map (status_after_replace r.session r.id) (m.statuses ++ entered_status n ∷ [])) =
-        c.trade_newest.ensures.statuses
-        ∙ ap (statuses_after d.fills) (c.mark_replaced.ensures ∙ ap (λ (x : MarketState). map (status_after_replace r.session r.id) x.statuses) stands) in
+    c.trade_newest.ensures.statuses
+    ∙ ap (statuses_after d.fills) (c.mark_replaced.ensures ∙ ap (λ (x : MarketState). map (status_after_replace r.session r.id) x.statuses) stands) in
     ap (λ (x : MarketState). record { orders = x.orders; statuses = x.statuses; last = c.args.place }) c.self-3.view_is
     ∙ moved_state c.args.rules.now m c.args.place c.args.ticket.now r n made.orders made.statuses d c.moved_order-order.ensures same c.trade_newest.ensures.orders statuses

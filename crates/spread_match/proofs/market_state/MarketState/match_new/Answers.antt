@@ -96,10 +96,10 @@ returns-clause-after g c =
     let same = traded c.args.rules.now m after c.args.place c.args.session t c.args.instrument n c.new_order-order.ensures stands c.requires.place c.requires.ready.below in
     let orders : made.orders ≡ resting t.immediate d = c.trade_newest-left.ensures.orders ∙ ap (λ (x : Trading). resting t.immediate x) same in
     let statuses : made.statuses ≡ statuses_after d.fills (m.statuses ++ entered_status (order_of c.args.place c.args.session t c.args.instrument) ∷ []) =
-        c.trade_newest-left.ensures.statuses
-        ∙ (ap (λ (x : Trading). statuses_after x.fills after.statuses) same
-        ∙ (ap (λ (x : MarketState). statuses_after d.fills x.statuses) stands
-        ∙ ap (λ (o : Order). statuses_after d.fills (m.statuses ++ entered_status o ∷ [])) c.new_order-order.ensures)) in
+    c.trade_newest-left.ensures.statuses
+    ∙ (ap (λ (x : Trading). statuses_after x.fills after.statuses) same
+    ∙ (ap (λ (x : MarketState). statuses_after d.fills x.statuses) stands
+    ∙ ap (λ (o : Order). statuses_after d.fills (m.statuses ++ entered_status o ∷ [])) c.new_order-order.ensures)) in
     ap (λ (x : MarketState). record { orders = x.orders; statuses = x.statuses; last = c.args.place }) c.self-3.view_is
     ∙ (matched_state m c.args.place c.args.session t c.args.instrument made.orders made.statuses d orders statuses
     ∙ ap (state_with m c.args.place c.args.session (New t)) (sym (not_used c.args.rules.now m c.args.place c.args.session t c.args.instrument n c.in_ok-used.used c.new_order-order.ensures c.in_ok-used.ensures.used c.if-used.false)))
