@@ -3,7 +3,7 @@ use Rattle.std.proofs.Common.{◌≡◌, ℕ, ◌+◌, Bool, true, false, cond, 
 use Rattle.std.proofs.lemmas.Bool.{cases_eq, eq-eqb, ne_eqb}
 use Rattle.spread_rules.specs.declared.event.Entry.{Entry}
 use Rattle.spread_rules.specs.declared.event.Event.{Event}
-use Rattle.spread_rules.specs.declared.event.Event.TheVariants.{Logon, New, Cancel, TestReply, Gap, Resend, Reject, Close}
+use Rattle.spread_rules.specs.declared.event.Event.TheVariants.{Logon, New, Cancel, Replace, TestReply, Gap, Resend, Reject, Close}
 use Rattle.spread_rules.specs.Journal.{restricted}
 use Rattle.spread_rules.specs.Meaning.{JournalState, meaning_of, after_entry, no_entries}
 use Rattle.spread_rules.specs.Rulebook.{Rules}
@@ -42,6 +42,7 @@ entry_silent : (s n i : ℕ) (e : Event) → eqb i s ≡ false → outbound_at_e
 entry_silent s n i (Logon client host beat) other = rw other refl
 entry_silent s n i (New t) other = refl
 entry_silent s n i (Cancel id original) other = refl
+entry_silent s n i (Replace original t) other = refl
 entry_silent s n i (TestReply answer) other = refl
 entry_silent s n i (Gap first) other = refl
 entry_silent s n i (Resend first last) other = refl
