@@ -1,7 +1,6 @@
 -- what a fill does to what was filled
-use Rattle.std.proofs.Common.{◌≡◌, ◌≢◌, ℕ, zero, suc, ◌==◌, ◌+◌, ◌-◌, ◌<◌, ◌≤◌, ℤ, Bool, true, false, not, ◌&&◌, cond, List, [], ◌∷◌, ◌++◌, map, fold, Contains, Option, Some, None, refl, subst, sym, ap, ◌∙◌, arith, inl, inr, append_assoc}
+use Rattle.std.proofs.Common.{◌≡◌, ◌≢◌, ℕ, zero, suc, ◌==◌, ◌+◌, ◌-◌, ◌<◌, ◌≤◌, ℤ, Bool, true, false, not, cond, List, [], ◌∷◌, ◌++◌, fold, Contains, Option, Some, None, refl, subst, sym, ap, ◌∙◌, arith, inl, inr, append_assoc}
 use Rattle.std.proofs.lemmas.Bool.Decides.{nat_tests}
-use Rattle.std.proofs.lemmas.List.Sums.{fold-append}
 use Rattle.std.proofs.lemmas.List.Elements.{Contains-push_cases}
 use Rattle.std.proofs.lemmas.Int.{ints}
 use Rattle.spread_rules.specs.declared.order.Side.{Side}
@@ -13,11 +12,9 @@ use Rattle.spread_rules.specs.declared.candidate.Counterparty.{Counterparty}
 use Rattle.spread_rules.specs.declared.candidate.Counterparty.TheVariants.{Direct, Implied}
 use Rattle.spread_rules.specs.Candidates.{least_left, AllStandIn, is_within_limit, PlacesDiffer, Pairs}
 use Rattle.spread_rules.specs.Clearing.{Trading, next_candidate, turn, turns, after_match, after_fill, removed, reduced, with_less_left, fills_of, fill_of, members, leg_prices}
-use Rattle.spread_rules.proofs.lists.Membership.{in_head, in_tail, in_cons_cases, not_in_nil, from_map}
+use Rattle.spread_rules.proofs.lists.Membership.{in_cons_cases, not_in_nil, from_map}
 use Rattle.spread_rules.proofs.clearings.TurnsEnd.{in_filter, members_rest, next_meets, next_left, next_least}
-use Rattle.spread_rules.specs.declared.outcome.OrderStatus.{OrderStatus}
 use Rattle.spread_match.specs.Trade.{IsTradable}
-use Rattle.spread_match.specs.code.StateAfter.{statuses_after, status_after_fill, statuses_after_fill}
 use Rattle.spread_match.specs.code.Turns.{AreApart}
 use Rattle.spread_match.specs.Sound.{IsCounted, IsNamed, KeepsLimit}
 use Rattle.spread_match.proofs.turns.NotAgainstItself.{are_apart}

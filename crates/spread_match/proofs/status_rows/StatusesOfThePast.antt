@@ -1,5 +1,5 @@
 -- the statuses that a past gives, after one entry more
-use Rattle.std.proofs.Common.{◌≡◌, ℕ, ◌==◌, Bool, true, false, not, ◌&&◌, ◌||◌, cond, List, [], ◌∷◌, ◌++◌, map, fold, Contains, Option, Some, None, ◌⊎◌, inl, inr, refl, ap, ◌∙◌, sym, append-nil, append_assoc, arith}
+use Rattle.std.proofs.Common.{◌≡◌, ℕ, ◌==◌, Bool, true, false, not, ◌&&◌, ◌||◌, cond, List, [], ◌∷◌, ◌++◌, map, Contains, Option, Some, None, ◌⊎◌, inl, inr, refl, ap, ◌∙◌, sym, append-nil, append_assoc, arith}
 use Rattle.std.specs.List.{list_any, find}
 use Rattle.std.specs.Str.{bytes_eq}
 use Rattle.std.specs.Option.{is_some}
