@@ -124,7 +124,7 @@ refused_sound months past last place p l e r s =
 
 -- ---- an order that is traded
 
-filled_none : (place : ℕ) (fs : List Fill) → ((f : Fill) → Contains fs f → f.order < place) → filled place fs ≡ 0
+pub filled_none : (place : ℕ) (fs : List Fill) → ((f : Fill) → Contains fs f → f.order < place) → filled place fs ≡ 0
 filled_none place [] h = refl
 filled_none place (f ∷ fs) h =
     let a = h f (in_head f fs) in
