@@ -2,7 +2,7 @@
 use super::{H6, H6_M6, M6, buy, is_priced, sell};
 use spread_books::ListBook;
 use spread_match::Market;
-use spread_match::laws::{lawful, ranges};
+use spread_match::laws::{lawful, ranges, without_replace};
 use spread_rules::{Choice, Members, Order, Outcome, Rulebook, Side};
 use std::test::Fail;
 use test_support::{THREE_MONTHS, id};
@@ -11,6 +11,7 @@ use test_support::{THREE_MONTHS, id};
 fn best_and_apply(rt: HostRuntime) -> Result<(), Fail> {
     lawful();
     ranges();
+    without_replace();
     let rules = Rulebook::read(THREE_MONTHS)?;
     let mut market = Market::new(rt.alloc(), &rules, ListBook::new(rt.alloc()));
     let mut fills = Vec::new(rt.alloc());

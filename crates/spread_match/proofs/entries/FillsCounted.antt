@@ -1,7 +1,6 @@
 -- what a fill does to what was filled
-use Rattle.std.proofs.Common.{◌≡◌, ◌≢◌, ℕ, zero, suc, ◌==◌, ◌+◌, ◌-◌, ◌<◌, ◌≤◌, ℤ, Bool, true, false, not, ◌&&◌, cond, List, [], ◌∷◌, ◌++◌, map, fold, Contains, Option, Some, None, refl, subst, sym, ap, ◌∙◌, arith, inl, inr, append_assoc}
+use Rattle.std.proofs.Common.{◌≡◌, ◌≢◌, ℕ, zero, suc, ◌==◌, ◌+◌, ◌-◌, ◌<◌, ◌≤◌, ℤ, Bool, true, false, not, cond, List, [], ◌∷◌, ◌++◌, fold, Contains, Option, Some, None, refl, subst, sym, ap, ◌∙◌, arith, inl, inr, append_assoc}
 use Rattle.std.proofs.lemmas.Bool.Decides.{nat_tests}
-use Rattle.std.proofs.lemmas.List.Sums.{fold-append}
 use Rattle.std.proofs.lemmas.List.Elements.{Contains-push_cases}
 use Rattle.std.proofs.lemmas.Int.{ints}
 use Rattle.spread_rules.specs.declared.order.Side.{Side}
@@ -13,11 +12,9 @@ use Rattle.spread_rules.specs.declared.candidate.Counterparty.{Counterparty}
 use Rattle.spread_rules.specs.declared.candidate.Counterparty.TheVariants.{Direct, Implied}
 use Rattle.spread_rules.specs.Candidates.{least_left, AllStandIn, is_within_limit, PlacesDiffer, Pairs}
 use Rattle.spread_rules.specs.Clearing.{Trading, next_candidate, turn, turns, after_match, after_fill, removed, reduced, with_less_left, fills_of, fill_of, members, leg_prices}
-use Rattle.spread_rules.proofs.lists.Membership.{in_head, in_tail, in_cons_cases, not_in_nil, from_map}
+use Rattle.spread_rules.proofs.lists.Membership.{in_cons_cases, not_in_nil, from_map}
 use Rattle.spread_rules.proofs.clearings.TurnsEnd.{in_filter, members_rest, next_meets, next_left, next_least}
-use Rattle.spread_rules.specs.declared.outcome.OrderStatus.{OrderStatus}
 use Rattle.spread_match.specs.Trade.{IsTradable}
-use Rattle.spread_match.specs.code.StateAfter.{statuses_after, status_after_fill, statuses_after_fill}
 use Rattle.spread_match.specs.code.Turns.{AreApart}
 use Rattle.spread_match.specs.Sound.{IsCounted, IsNamed, KeepsLimit}
 use Rattle.spread_match.proofs.turns.NotAgainstItself.{are_apart}
@@ -159,14 +156,6 @@ module _ (on : Pairs) where
     named = subst (λ (fs : List Fill). (g : Fill) → Contains fs g → IsNamed ps g.session g.id) (append_assoc past made (f ∷ [])) (more_named ps (past ++ made) f n q is h.own h.named);
   }
 
-  less_cases : (ps : List PastTicket) (fs : List Fill) (f : Fill) (m o : Order) (q : ℕ) (b : Bool) → (o.place == m.place) ≡ b → IsFill f m q → q ≤ m.leaves → (o.place ≡ m.place → o ≡ m) → IsCounted ps fs o →
-      IsCounted ps (fs ++ f ∷ []) (cond b (record o { leaves = o.leaves - q }) o)
-  less_cases ps fs f m o q true e is l d c =
-      let same = d (same_test o.place m.place e) in
-      counted_less ps fs f o q (subst (λ (w : Order). IsFill f w q) (sym same) is) (subst (λ (w : Order). q ≤ w.leaves) (sym same) l) c
-  less_cases ps fs f m o q false e is l d c =
-      counted_other ps fs f o (λ k. (let t : (o.place == m.place) ≡ true = test_same o.place m.place (sym (sym is.order ∙ k)) in let no : true ≡ false = sym t ∙ e in cc)) c
-
   no_place : (place : ℕ) (x : Order) → (x.place == place) ≡ false → x.place ≢ place
   no_place place x e = λ k. (let t : (x.place == place) ≡ true = test_same x.place place k in let no : true ≡ false = sym t ∙ e in cc)
 
@@ -182,13 +171,19 @@ module _ (on : Pairs) where
   less_place place by o true = refl
   less_place place by o false = refl
 
-  each_after : (ps : List PastTicket) (fs : List Fill) (f : Fill) (xs : List Order) (m : Order) (q : ℕ) (b : Bool) → Contains xs m → PlacesDiffer xs → IsFill f m q → q ≤ m.leaves → ((o : Order) → Contains xs o → IsCounted ps fs o) →
-      (o : Order) → Contains (cond b (removed m.place xs) (reduced m.place q xs)) o → IsCounted ps (fs ++ f ∷ []) o
-  each_after ps fs f xs m q true s d is l h = λ o c.
-      counted_other ps fs f o (λ e. kept_other m.place xs o c (sym e ∙ is.order)) (h o (in_filter on (λ (w : Order). not (w.place == m.place)) xs o c))
-  each_after ps fs f xs m q false s d is l h = λ o c.
+  less_cases : (P Q : Order → Type 0) (m o : Order) (q : ℕ) (b : Bool) → (o.place == m.place) ≡ b → (o.place ≡ m.place → o ≡ m) → (P m → Q (record m { leaves = m.leaves - q })) → (o.place ≢ m.place → P o → Q o) → P o →
+      Q (cond b (record o { leaves = o.leaves - q }) o)
+  less_cases P Q m o q true e d less other k =
+      let same = d (same_test o.place m.place e) in subst (λ (w : Order). Q (record w { leaves = w.leaves - q })) (sym same) (less (subst P same k))
+  less_cases P Q m o q false e d less other k = other (no_place m.place o e) k
+
+  -- what then holds of each order that rests: of the member, and of every other
+  pub each_after : (P Q : Order → Type 0) (xs : List Order) (m : Order) (q : ℕ) (b : Bool) → Contains xs m → PlacesDiffer xs → (P m → Q (record m { leaves = m.leaves - q })) → ((o : Order) → o.place ≢ m.place → P o → Q o) → ((o : Order) → Contains xs o → P o) →
+      (o : Order) → Contains (cond b (removed m.place xs) (reduced m.place q xs)) o → Q o
+  each_after P Q xs m q true s d less other h = λ o c. other o (kept_other m.place xs o c) (h o (in_filter on (λ (w : Order). not (w.place == m.place)) xs o c))
+  each_after P Q xs m q false s d less other h = λ o c.
       let r = from_map (with_less_left m.place q) xs o c in
-      subst (IsCounted ps (fs ++ f ∷ [])) r.2 (less_cases ps fs f m r.0 q (r.0.place == m.place) refl is l (d r.0 m r.1 s) (h r.0 r.1))
+      subst Q r.2 (less_cases P Q m r.0 q (r.0.place == m.place) refl (d r.0 m r.1 s) less (other r.0) (h r.0 r.1))
 
   apart_after : (n : Order) (xs : List Order) (m : Order) (q : ℕ) (b : Bool) → ((o : Order) → Contains xs o → o.place < n.place) → (o : Order) → Contains (cond b (removed m.place xs) (reduced m.place q xs)) o → o.place < n.place
   apart_after n xs m q true h = λ o c. h o (in_filter on (λ (w : Order). not (w.place == m.place)) xs o c)
@@ -202,7 +197,8 @@ module _ (on : Pairs) where
       AreCounted ps past n xs made → AreCounted ps past n (after_fill q xs m) (made ++ f ∷ [])
   member_filled ps past n xs made f m q c is l s h = record {
     own = moved ps past made f n (counted_other ps (past ++ made) f n (λ e. not_below m.place n.place (h.apart m c) (sym is.order ∙ e)) h.own);
-    each = λ o d. moved ps past made f o (each_after ps (past ++ made) f xs m q (m.leaves == q) c h.differ is l h.each o d);
+    each = λ o d. moved ps past made f o
+        (each_after (IsCounted ps (past ++ made)) (IsCounted ps ((past ++ made) ++ f ∷ [])) xs m q (m.leaves == q) c h.differ (counted_less ps (past ++ made) f m q is l) (λ w k. counted_other ps (past ++ made) f w (λ e. k (sym e ∙ is.order))) h.each o d);
     apart = apart_after n xs m q (m.leaves == q) h.apart;
     before = more_before n made f h.before (let k = is.order in let a = h.apart m c in omega arith);
     differ = still_differ q xs m (m.leaves == q) h.differ;
@@ -211,27 +207,30 @@ module _ (on : Pairs) where
     named = subst (λ (fs : List Fill). (g : Fill) → Contains fs g → IsNamed ps g.session g.id) (append_assoc past made (f ∷ [])) (more_named ps (past ++ made) f m q is (h.each m c) h.named);
   }
 
-  turn_counted : (references : List ℤ) (ps : List PastTicket) (past : List Fill) (n : Order) (xs : List Order) (made : List Fill) (p : Counterparty) (price : ℤ) → AllStandIn xs p → AreApart p → 0 < least_left n p → is_within_limit n.side n.price price ≡ true →
-      AreCounted ps past n xs made →
-      AreCounted ps past (record n { leaves = n.leaves - least_left n p }) (fold (after_fill (least_left n p)) xs (members p)) (made ++ fills_of references n (record { price = price; counterparty = p }))
-  turn_counted references ps past n xs made (Direct a) price c d s u h =
+  -- what a fill of the new order keeps, and a fill of a member, a whole turn keeps
+  pub turn_keeps : (C : Order → List Order → List Fill → Type 0) →
+      ((n : Order) (xs : List Order) (made : List Fill) (f : Fill) (q : ℕ) → IsFill f n q → q ≤ n.leaves → 0 < q → C n xs made → C (record n { leaves = n.leaves - q }) xs (made ++ f ∷ [])) →
+      ((n : Order) (xs : List Order) (made : List Fill) (f : Fill) (m : Order) (q : ℕ) → Contains xs m → IsFill f m q → q ≤ m.leaves → 0 < q → C n xs made → C n (after_fill q xs m) (made ++ f ∷ [])) →
+      (references : List ℤ) (n : Order) (xs : List Order) (made : List Fill) (p : Counterparty) (price : ℤ) → AllStandIn xs p → AreApart p → 0 < least_left n p → is_within_limit n.side n.price price ≡ true → C n xs made →
+      C (record n { leaves = n.leaves - least_left n p }) (fold (after_fill (least_left n p)) xs (members p)) (made ++ fills_of references n (record { price = price; counterparty = p }))
+  turn_keeps C own member references n xs made (Direct a) price c d s u h =
       let q = least_left n (Direct a) in
       let legs = leg_prices references n.instrument price (Direct a) in
       let f = fill_of n.place q legs n price in
       let g = fill_of n.place q legs a a.price in
-      let one = own_filled ps past n xs made f q (record { order = refl; session = refl; id = refl; quantity = refl; leaves = refl; total = refl; side = refl; within = u }) (omega arith) s h in
-      let two = member_filled ps past (record n { leaves = n.leaves - q }) xs (made ++ f ∷ []) g a q c (record { order = refl; session = refl; id = refl; quantity = refl; leaves = refl; total = refl; side = refl; within = limit_itself a.side a.price }) (omega arith) s one in
-      subst (AreCounted ps past (record n { leaves = n.leaves - q }) (after_fill q xs a)) (append_assoc made (f ∷ []) (g ∷ [])) two
-  turn_counted references ps past n xs made (Implied a b) price c d s u h =
+      let one = own n xs made f q (record { order = refl; session = refl; id = refl; quantity = refl; leaves = refl; total = refl; side = refl; within = u }) (omega arith) s h in
+      let two = member (record n { leaves = n.leaves - q }) xs (made ++ f ∷ []) g a q c (record { order = refl; session = refl; id = refl; quantity = refl; leaves = refl; total = refl; side = refl; within = limit_itself a.side a.price }) (omega arith) s one in
+      subst (C (record n { leaves = n.leaves - q }) (after_fill q xs a)) (append_assoc made (f ∷ []) (g ∷ [])) two
+  turn_keeps C own member references n xs made (Implied a b) price c d s u h =
       let q = least_left n (Implied a b) in
       let legs = leg_prices references n.instrument price (Implied a b) in
       let f = fill_of n.place q legs n price in
       let g = fill_of n.place q legs a a.price in
       let k = fill_of n.place q legs b b.price in
-      let one = own_filled ps past n xs made f q (record { order = refl; session = refl; id = refl; quantity = refl; leaves = refl; total = refl; side = refl; within = u }) (omega arith) s h in
-      let two = member_filled ps past (record n { leaves = n.leaves - q }) xs (made ++ f ∷ []) g a q c.0 (record { order = refl; session = refl; id = refl; quantity = refl; leaves = refl; total = refl; side = refl; within = limit_itself a.side a.price }) (omega arith) s one in
-      let three = member_filled ps past (record n { leaves = n.leaves - q }) (after_fill q xs a) ((made ++ f ∷ []) ++ g ∷ []) k b q (still_there q xs a b (a.leaves == q) d c.1) (record { order = refl; session = refl; id = refl; quantity = refl; leaves = refl; total = refl; side = refl; within = limit_itself b.side b.price }) (omega arith) s two in
-      subst (AreCounted ps past (record n { leaves = n.leaves - q }) (after_fill q (after_fill q xs a) b))
+      let one = own n xs made f q (record { order = refl; session = refl; id = refl; quantity = refl; leaves = refl; total = refl; side = refl; within = u }) (omega arith) s h in
+      let two = member (record n { leaves = n.leaves - q }) xs (made ++ f ∷ []) g a q c.0 (record { order = refl; session = refl; id = refl; quantity = refl; leaves = refl; total = refl; side = refl; within = limit_itself a.side a.price }) (omega arith) s one in
+      let three = member (record n { leaves = n.leaves - q }) (after_fill q xs a) ((made ++ f ∷ []) ++ g ∷ []) k b q (still_there q xs a b (a.leaves == q) d c.1) (record { order = refl; session = refl; id = refl; quantity = refl; leaves = refl; total = refl; side = refl; within = limit_itself b.side b.price }) (omega arith) s two in
+      subst (C (record n { leaves = n.leaves - q }) (after_fill q (after_fill q xs a) b))
       (ap (λ (fs : List Fill). fs ++ k ∷ []) (append_assoc made (f ∷ []) (g ∷ [])) ∙ append_assoc made (f ∷ g ∷ []) (k ∷ [])) three
 
   -- something is left of each that rests, and the account is right
@@ -247,7 +246,7 @@ module _ (on : Pairs) where
       let apart = are_apart on t.new t.orders o.counterparty o.price h.tradable.places stands meets in
       record {
         tradable = still_tradable on months t.new t.orders o.counterparty h.tradable stands apart;
-        counted = turn_counted references ps past t.new t.orders t.fills o.counterparty o.price stands apart (least_some on t.new t.orders o.counterparty stands h.tradable.left (next_left on t o e)) (next_least on t o e).eligible.within h.counted;
+        counted = turn_keeps (AreCounted ps past) (own_filled ps past) (member_filled ps past) references t.new t.orders t.fills o.counterparty o.price stands apart (least_some on t.new t.orders o.counterparty stands h.tradable.left (next_left on t o e)) (next_least on t o e).eligible.within h.counted;
       }
 
   pub running : (references : List ℤ) (months : ℕ) (ps : List PastTicket) (past : List Fill) (k : ℕ) (t : Trading) → IsRunning months ps past t → IsRunning months ps past (turns on references k t)

@@ -1,6 +1,6 @@
 -- a market that can be worked on still can after an entry
 use Rattle.std.proofs.Common.{◌≡◌, ℕ, zero, suc, ◌==◌, ◌<◌, ◌≤◌, ℤ, Bool, true, false, not, ◌||◌, cond, List, [], ◌∷◌, ◌++◌, map, length, get_or, Contains, All, inl, inr, ◌∙◌, Option, Some, None, Result, Ok, Err, refl, subst, sym, ap, arith}
-use Rattle.std.proofs.lemmas.List.Elements.{All-nil, All-cons, All-append, All-contains, All-filter, Contains-get_or}
+use Rattle.std.proofs.lemmas.List.Elements.{All-contains, All-filter, Contains-get_or}
 use Rattle.std.specs.List.{find}
 use Rattle.spread_rules.specs.declared.order.Order.{Order}
 use Rattle.spread_rules.specs.declared.order.Instrument.{Instrument}
@@ -17,7 +17,7 @@ use Rattle.spread_rules.specs.Meaning.{EntryMeaning, cancel_means, has_id, is_ow
 use Rattle.spread_rules.specs.Rulebook.{Rules, month_count, references_of, find_symbol}
 use Rattle.spread_rules.proofs.clearings.TurnsEnd.{keeps_turns, members_rest, next_meets}
 use Rattle.spread_match.specs.State.{MarketState}
-use Rattle.spread_books.specs.Listed.{IsNearFirst, IsInMonths, IsNearBeforeFar}
+use Rattle.spread_books.specs.Listed.{IsNearFirst, IsInMonths}
 use Rattle.spread_match.specs.Trade.{IsTradable, IsPriced}
 use Rattle.spread_match.specs.code.StateAfter.{IsKnown, IsReady, first_status, meaning_in, state_after, state_with, status_after_fill, status_after_replace, statuses_after, statuses_after_replace}
 use Rattle.spread_match.proofs.status_rows.MarkedRows.{KeepsName, has_id_kept, has_own_id}

@@ -1,5 +1,5 @@
 -- one entry more: the past stays sound, and what is kept of it stays what it gives
-use Rattle.std.proofs.Common.{◌≡◌, ◌≢◌, ℕ, ◌==◌, ◌<◌, ◌≤◌, ℤ, Bool, true, false, not, ◌||◌, cond, List, [], ◌∷◌, ◌++◌, map, length, get_or, Contains, All, Option, Some, None, Result, Ok, Err, refl, subst, sym, ap, ◌∙◌, arith, inl, inr, append-nil}
+use Rattle.std.proofs.Common.{◌≡◌, ℕ, ◌==◌, ◌<◌, ◌≤◌, ℤ, Bool, true, false, not, ◌||◌, cond, List, [], ◌∷◌, ◌++◌, length, get_or, Contains, All, Option, Some, None, Result, Ok, Err, refl, subst, sym, ap, ◌∙◌, arith, inl, inr, append-nil}
 use Rattle.std.proofs.lemmas.Bool.Decides.{nat_tests}
 use Rattle.std.proofs.lemmas.List.Elements.{All-contains, All-filter, Contains-push_cases, Contains-append_cases, Contains-append_left, Contains-push, Contains-get_or}
 use Rattle.std.specs.List.{find}
@@ -16,7 +16,7 @@ use Rattle.spread_rules.specs.declared.event.Entry.{Entry}
 use Rattle.spread_rules.specs.declared.event.Event.{Event}
 use Rattle.spread_rules.specs.declared.event.Event.TheVariants.{Logon, New, Cancel, Replace, TestReply, Gap, Resend, Reject, Close}
 use Rattle.spread_rules.specs.declared.outcome.Outcome.{Outcome}
-use Rattle.spread_rules.specs.declared.outcome.Outcome.TheVariants.{Refused, Replaced, Session}
+use Rattle.spread_rules.specs.declared.outcome.Outcome.TheVariants.{Refused, Replaced}
 use Rattle.spread_books.specs.Listed.{IsNearFirst, IsInMonths, IsNearBeforeFar}
 use Rattle.spread_match.specs.Trade.{IsTradable, IsPriced}
 use Rattle.spread_match.specs.code.StateAfter.{statuses_after, statuses_after_replace, first_status, meaning_in, state_after}
@@ -24,8 +24,8 @@ use Rattle.spread_match.specs.Sound.{HasEntry, IsCounted, IsEntryApplied, IsName
 use Rattle.spread_match.proofs.entries.FillsCounted.{IsRunning, running}
 use Rattle.spread_match.proofs.entries.NamedInstrument.{listed_found, near_of, months_of}
 use Rattle.spread_rules.specs.Prices.{IsOrderPrice}
-use Rattle.spread_match.proofs.entries.NewOrder.{tradable_more, turns_all, not_refused, taken_is, below_new}
-use Rattle.spread_rules.specs.Meaning.{EntryMeaning, JournalState, PastTicket, cancel_means, clearing_means, filled, has_id, is_own, is_refused, keeping_means, meaning_of, meaning_with, moved_to, new_order_means, order_of, original_of, refusal_or_instrument, replace_means, resting, statuses_of, ticket_of, with_meaning}
+use Rattle.spread_match.proofs.entries.NewOrder.{tradable_more, turns_all, taken_is, below_new}
+use Rattle.spread_rules.specs.Meaning.{EntryMeaning, JournalState, PastTicket, cancel_means, filled, has_id, is_own, is_refused, keeping_means, meaning_of, meaning_with, moved_to, new_order_means, order_of, original_of, refusal_or_instrument, replace_means, resting, statuses_of, ticket_of, with_meaning}
 use Rattle.spread_rules.specs.Amended.{amended, done, with_quantity}
 use Rattle.spread_match.proofs.entries.FoundStands.{find_stands}
 use Rattle.spread_match.proofs.entries.Replaces.{IsOwn, accepted_unused, amended_place, amended_tradable, by_replace, from_amended, none_refused, own_is}
@@ -124,7 +124,7 @@ refused_sound months past last place p l e r s =
 
 -- ---- an order that is traded
 
-filled_none : (place : ℕ) (fs : List Fill) → ((f : Fill) → Contains fs f → f.order < place) → filled place fs ≡ 0
+pub filled_none : (place : ℕ) (fs : List Fill) → ((f : Fill) → Contains fs f → f.order < place) → filled place fs ≡ 0
 filled_none place [] h = refl
 filled_none place (f ∷ fs) h =
     let a = h f (in_head f fs) in

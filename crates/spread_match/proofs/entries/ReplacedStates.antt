@@ -1,13 +1,11 @@
 -- the market's state after a new order was traded, and after a replace
-use Rattle.std.proofs.Common.{◌≡◌, ◌≢◌, ℕ, ◌==◌, ◌+◌, ◌*◌, min, ◌<◌, ◌≤◌, ℤ, Bool, true, false, not, cond, List, [], ◌∷◌, ◌++◌, map, filter, length, get_or, Contains, All, Option, Some, None, Result, Ok, Err, OnOk, IfOk, refl, subst, sym, ap, ◌∙◌, arith}
+use Rattle.std.proofs.Common.{◌≡◌, ℕ, ◌==◌, ◌+◌, ◌*◌, min, ◌<◌, ◌≤◌, Bool, true, false, not, cond, List, [], ◌∷◌, ◌++◌, map, length, get_or, Contains, All, Option, Some, None, Result, Ok, Err, IfOk, refl, subst, sym, ap, ◌∙◌, arith}
 use Rattle.std.specs.Prelude.{nat_le}
 use Rattle.std.specs.List.{find}
-use Rattle.std.specs.Option.{is_some}
 use Rattle.std.proofs.lemmas.Bool.Decides.{nat_tests}
 use Rattle.std.proofs.lemmas.List.Elements.{All-contains, All-filter, Contains-get_or, filter-append}
 use Rattle.spread_rules.specs.declared.order.Order.{Order}
 use Rattle.spread_rules.specs.declared.order.Instrument.{Instrument}
-use Rattle.spread_rules.specs.declared.fill.Fill.{Fill}
 use Rattle.spread_rules.specs.declared.event.Ticket.{Ticket}
 use Rattle.spread_rules.specs.declared.event.Event.TheVariants.{New, Replace}
 use Rattle.spread_rules.specs.declared.outcome.Outcome.{Outcome}
@@ -16,13 +14,13 @@ use Rattle.spread_rules.specs.declared.outcome.OrderStatus.{OrderStatus}
 use Rattle.spread_rules.specs.Amended.{done}
 use Rattle.spread_rules.specs.Candidates.{all_on, PlacesDiffer}
 use Rattle.spread_rules.specs.Clearing.{Trading, clear, removed}
-use Rattle.spread_rules.specs.Meaning.{EntryMeaning, clearing_means, has_id, instrument_or_refusal_of, is_own, is_refused, keeping_means, keeps_place, may_replace, moved_to, moving_means, order_of, outcome_of, place_left, replace_means, replace_of_resting, replace_refused, resting}
+use Rattle.spread_rules.specs.Meaning.{clearing_means, has_id, instrument_or_refusal_of, is_own, is_refused, keeping_means, keeps_place, may_replace, moved_to, moving_means, order_of, outcome_of, place_left, replace_means, replace_of_resting, replace_refused, resting}
 use Rattle.spread_rules.specs.Prices.{IsOrderPrice}
 use Rattle.spread_rules.specs.Rulebook.{Rules, references_of}
 use Rattle.order_books.specs.Queues.{CanAmend}
 use Rattle.spread_match.specs.State.{MarketState}
 use Rattle.spread_match.specs.Trade.{IsTradable}
-use Rattle.spread_match.specs.code.StateAfter.{IsKnown, entered_status, first_status, meaning_in, moved_in, replace_refusal, replaced_in, state_after, state_with, status_after_replace, statuses_after}
+use Rattle.spread_match.specs.code.StateAfter.{IsKnown, entered_status, meaning_in, moved_in, replace_refusal, replaced_in, state_after, state_with, status_after_replace, statuses_after}
 use Rattle.spread_match.specs.code.Turns.{IsNewest}
 use Rattle.spread_match.proofs.entries.NewOrder.{below_new, removed_newest, tradable_more, first_is_four}
 use Rattle.spread_match.proofs.entries.PastStaysSound.{moved_rests, removed_tradable}

@@ -1,6 +1,5 @@
 -- a fill and a replace each mark the status of one order
-use Rattle.std.proofs.Common.{◌≡◌, ℕ, ◌==◌, ◌<◌, Bool, true, false, not, ◌&&◌, cond, List, [], ◌∷◌, map, set, get_or, Some, refl, ap, ◌∙◌, sym, arith}
-use Rattle.std.specs.Prelude.{slice_get}
+use Rattle.std.proofs.Common.{◌≡◌, ℕ, ◌==◌, ◌<◌, Bool, true, false, not, ◌&&◌, cond, List, [], ◌∷◌, map, set, get_or, refl, ap, ◌∙◌, sym, arith}
 use Rattle.std.proofs.lemmas.Option.{get_or_from_slice_get}
 use Rattle.std.proofs.lemmas.Bool.Decides.{nat_tests}
 use Rattle.spread_rules.specs.declared.fill.Fill.{Fill}
@@ -9,7 +8,7 @@ use Rattle.spread_rules.specs.Meaning.{has_id}
 use Rattle.spread_match.specs.code.StateAfter.{is_open, status_after_fill, status_after_replace, AreRefusedLater}
 use Rattle.spread_match.specs.code.Statuses.{key_of_status, IsOpenRow}
 use Rattle.row_index.proofs.TakenBack.{set_again}
-use Rattle.spread_match.proofs.status_rows.MarkedRows.{IsClosed, IsMarkOf, KeepsName, one_marked}
+use Rattle.spread_match.proofs.status_rows.MarkedRows.{IsMarkOf, KeepsName, one_marked}
 
 -- ---- a fill
 

@@ -1,5 +1,5 @@
 -- the statuses that a past gives, after one entry more
-use Rattle.std.proofs.Common.{◌≡◌, ℕ, ◌==◌, Bool, true, false, not, ◌&&◌, ◌||◌, cond, List, [], ◌∷◌, ◌++◌, map, fold, Contains, Option, Some, None, ◌⊎◌, inl, inr, refl, ap, ◌∙◌, sym, append-nil, append_assoc, arith}
+use Rattle.std.proofs.Common.{◌≡◌, ℕ, ◌==◌, Bool, true, false, not, ◌&&◌, ◌||◌, cond, List, [], ◌∷◌, ◌++◌, map, Contains, Option, Some, None, ◌⊎◌, inl, inr, refl, ap, ◌∙◌, sym, append-nil, append_assoc, arith}
 use Rattle.std.specs.List.{list_any, find}
 use Rattle.std.specs.Str.{bytes_eq}
 use Rattle.std.specs.Option.{is_some}
@@ -39,7 +39,7 @@ bytes_turned a b = by_test (bytes_eq a b) refl (bytes_eq b a) refl
     by_test true e false f = let k = (bytes_eq-Decides b a).1 (sym ((bytes_eq-Decides a b).0 e)) in cc
     by_test false e true f = let k = (bytes_eq-Decides a b).1 (sym ((bytes_eq-Decides b a).0 f)) in cc
 
-any_more : {X : Type 0} (p : X → Bool) (xs : List X) (x : X) → list_any p (xs ++ x ∷ []) ≡ (list_any p xs || p x)
+pub any_more : {X : Type 0} (p : X → Bool) (xs : List X) (x : X) → list_any p (xs ++ x ∷ []) ≡ (list_any p xs || p x)
 any_more p [] x = or_false (p x)
   where
     or_false : (b : Bool) → (b || false) ≡ b
@@ -51,7 +51,7 @@ any_more p (y ∷ xs) x = ap (λ (b : Bool). p y || b) (any_more p xs x) ∙ ass
     assoc true b c = refl
     assoc false b c = refl
 
-none_is : {X : Type 0} (p : X → Bool) (xs : List X) → ((x : X) → Contains xs x → p x ≡ true → ⊥) → list_any p xs ≡ false
+pub none_is : {X : Type 0} (p : X → Bool) (xs : List X) → ((x : X) → Contains xs x → p x ≡ true → ⊥) → list_any p xs ≡ false
 none_is p [] h = refl
 none_is p (x ∷ xs) h = by_test (p x) refl (none_is p xs (λ y c. h y (in_tail x xs y c)))
   where
@@ -269,7 +269,7 @@ has_name : (past : JournalState) (session : ℕ) (id : List ℕ) (p : PastTicket
 has_name past session id p e f =
     ap (λ (b : Bool). b && bytes_eq p.ticket.id id) (let k : (p.session == session) ≡ true = grind (arith, nat_tests, e) in k) ∙ (bytes_eq-Decides p.ticket.id id).1 f
 
-not_named_at : (past : JournalState) (session : ℕ) (id : List ℕ) (ps : List PastTicket) (q : PastTicket) → find (has_id session id) (map (status_of past) ps) ≡ None → Contains ps q → q.session ≡ session → q.ticket.id ≡ id → ⊥
+pub not_named_at : (past : JournalState) (session : ℕ) (id : List ℕ) (ps : List PastTicket) (q : PastTicket) → find (has_id session id) (map (status_of past) ps) ≡ None → Contains ps q → q.session ≡ session → q.ticket.id ≡ id → ⊥
 not_named_at past session id [] q none c e f = not_in_nil q c
 not_named_at past session id (p ∷ ps) q none c e f = by_test (has_id session id (status_of past p)) refl (λ later. not_named_at past session id ps q later)
   where
@@ -280,7 +280,7 @@ not_named_at past session id (p ∷ ps) q none c e f = by_test (has_id session i
       | inr later ↦ on (sym (ap (λ (b : Bool). cond b (Some (status_of past p)) (find (has_id session id) (map (status_of past) ps))) g) ∙ none) later e f
     ]
 
-not_named : (past : JournalState) (session other : ℕ) (id name : List ℕ) → find (has_id session id) (statuses_of past) ≡ None → IsNamed past.entered other name → other ≡ session → name ≡ id → ⊥
+pub not_named : (past : JournalState) (session other : ℕ) (id name : List ℕ) → find (has_id session id) (statuses_of past) ≡ None → IsNamed past.entered other name → other ≡ session → name ≡ id → ⊥
 not_named past session other id name none n e f = not_named_at past session id past.entered n.new none n.entered (n.session_is ∙ e) (n.id_is ∙ f)
 
 pub unused : (past : JournalState) (session : ℕ) (id : List ℕ) → find (has_id session id) (statuses_of past) ≡ None → ((f : Fill) → Contains past.fills f → IsNamed past.entered f.session f.id) →

@@ -1,15 +1,8 @@
-use Rattle.std.proofs.Common.{◌≡◌, ◌<◌, ◌≤◌, List, All, None, Some, length, map, subst, sym, ap, ◌∙◌, arith}
+use Rattle.std.proofs.Common.{◌≤◌, All, length, subst, sym, ap, ◌∙◌, arith}
 use Rattle.std.specs.Prelude.{slice_get, option_and_then, IfNone}
-use Rattle.std.specs.List.{find}
 use Rattle.std.proofs.lemmas.Bool.Decides.{nat_tests}
-use Rattle.std.proofs.lemmas.Option.{slice_get_past, slice_get_read}
-use Rattle.host_base.specs.declared.id_key.IdKey.{IdKey}
-use Rattle.row_index.specs.Ids.{first_row}
-use Rattle.spread_rules.specs.Meaning.{has_id}
-use Rattle.spread_match.specs.code.Statuses.{key_of_status}
-use Rattle.spread_match.proofs.status_rows.ByClOrdId.{find_is}
+use Rattle.std.proofs.lemmas.Option.{slice_get_past}
 use Rattle.spread_match.proofs.status_rows.MarkedRows.{IsClosed, none_open, first_closed, read_row}
-use Rattle.spread_match.proofs.statuses.open_row.Given.{Over}
 use Rattle.spread_match.proofs.statuses.open_row.Goals as goal
 
 pub returns-in_err-at-clause-none : goal.returns-in_err-at-clause-none

@@ -1,7 +1,6 @@
-use Rattle.std.proofs.Common.{◌≡◌, List, ◌++◌, Option, Some, sym, ap, ◌∙◌}
+use Rattle.std.proofs.Common.{◌≡◌, List, ◌++◌, Some, sym, ap, ◌∙◌}
 use Rattle.std.specs.List.{find}
 use Rattle.spread_rules.specs.declared.order.Order.{Order}
-use Rattle.spread_rules.specs.declared.event.Event.{Event}
 use Rattle.spread_rules.specs.Meaning.{EntryMeaning, is_own}
 use Rattle.spread_match.specs.State.{MarketState}
 use Rattle.spread_match.specs.code.StateAfter.{meaning_in, state_after}

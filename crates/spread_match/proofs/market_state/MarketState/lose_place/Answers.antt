@@ -1,4 +1,4 @@
-use Rattle.std.proofs.Common.{◌≡◌, ℕ, ◌<◌, ◌≤◌, List, All, ◌++◌, ◌∷◌, [], false, map, length, Option, None, refl, sym, subst, ap, ◌∙◌, arith}
+use Rattle.std.proofs.Common.{◌≡◌, ◌≤◌, List, ◌++◌, ◌∷◌, [], false, map, length, Option, None, refl, ap, ◌∙◌, arith}
 use Rattle.std.specs.List.{find}
 use Rattle.std.specs.Option.{is_some}
 use Rattle.spread_rules.specs.declared.order.Order.{Order}
@@ -6,14 +6,13 @@ use Rattle.spread_rules.specs.declared.fill.Fill.{Fill}
 use Rattle.spread_rules.specs.declared.outcome.OrderStatus.{OrderStatus}
 use Rattle.spread_rules.specs.Candidates.{all_on}
 use Rattle.spread_rules.specs.Clearing.{clear, removed, Trading}
-use Rattle.spread_rules.specs.Meaning.{has_id, moved_to, resting}
+use Rattle.spread_rules.specs.Meaning.{has_id, moved_to}
 use Rattle.spread_rules.specs.Rulebook.{month_count, references_of}
 use Rattle.spread_match.specs.State.{MarketState}
 use Rattle.spread_match.specs.code.StateAfter.{entered_status, status_after_replace, statuses_after}
 use Rattle.spread_match.proofs.entries.NewOrder.{clear_same}
 use Rattle.spread_match.proofs.entries.ReplacedStates.{moved_newest, moved_rest, moved_state, moved_tradable, room_moved}
 use Rattle.spread_match.proofs.market_state.MarketState.lose_place.Goals as goal
-use Rattle.spread_match.proofs.market_state.MarketState.lose_place.Given.{Over}
 
 -- its id was not used
 not_used : (ss : List OrderStatus) (n m : Order) (used : _) → n ≡ m → used ≡ is_some (find (has_id n.session n.id) ss) → find (has_id m.session m.id) ss ≡ None → used ≡ false

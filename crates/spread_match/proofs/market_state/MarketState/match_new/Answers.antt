@@ -1,23 +1,20 @@
-use Rattle.std.proofs.Common.{◌≡◌, ℕ, ◌<◌, ◌≤◌, List, All, ◌++◌, ◌∷◌, [], false, true, length, refl, sym, subst, ap, ◌∙◌}
+use Rattle.std.proofs.Common.{◌≡◌, ℕ, ◌<◌, ◌≤◌, List, All, ◌++◌, ◌∷◌, [], false, length, refl, sym, subst, ap, ◌∙◌}
 use Rattle.std.specs.List.{find}
 use Rattle.std.specs.Option.{is_some}
-use Rattle.std.proofs.lemmas.List.{append-nil}
 use Rattle.spread_rules.specs.declared.order.Order.{Order}
 use Rattle.spread_rules.specs.declared.order.Instrument.{Instrument}
 use Rattle.spread_rules.specs.declared.fill.Fill.{Fill}
 use Rattle.spread_rules.specs.declared.event.Ticket.{Ticket}
 use Rattle.spread_rules.specs.declared.event.Event.TheVariants.{New}
-use Rattle.spread_rules.specs.declared.outcome.Outcome.TheVariants.{Refused}
-use Rattle.spread_rules.specs.declared.outcome.OrderStatus.{OrderStatus}
 use Rattle.spread_rules.specs.Candidates.{HasOrderPrice, all_on}
 use Rattle.spread_rules.specs.Clearing.{clear, removed, Trading}
-use Rattle.spread_rules.specs.Meaning.{EntryMeaning, clearing_means, has_id, order_of, outcome_of, resting, unchanged_with}
+use Rattle.spread_rules.specs.Meaning.{EntryMeaning, clearing_means, has_id, order_of, outcome_of, resting}
 use Rattle.spread_rules.specs.Rulebook.{Rules, month_count, references_of}
 use Rattle.spread_books.specs.Listed.{IsNearFirst, IsInMonths}
 use Rattle.spread_match.specs.State.{MarketState}
 use Rattle.spread_match.specs.Trade.{IsTradable}
-use Rattle.spread_match.specs.code.StateAfter.{entered_status, matched_in, refused_if_used, state_with, statuses_after, trading_in, with_order}
-use Rattle.spread_match.proofs.entries.IdNotUsed.{id_is_new, id_was_used}
+use Rattle.spread_match.specs.code.StateAfter.{entered_status, matched_in, state_with, statuses_after, trading_in, with_order}
+use Rattle.spread_match.proofs.entries.IdNotUsed.{id_is_new}
 use Rattle.spread_match.proofs.entries.NewOrder.{below_new, clear_same, rest_is, room_new, tradable_more}
 use Rattle.spread_match.proofs.entries.ReplacedStates.{matched_state}
 use Rattle.spread_match.proofs.market_state.MarketState.match_new.Goals as goal

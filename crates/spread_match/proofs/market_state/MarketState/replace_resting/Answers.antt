@@ -1,9 +1,8 @@
-use Rattle.std.proofs.Common.{◌≡◌, ℕ, List, ◌++◌, OnOk, sym, subst, ap, ◌∙◌}
+use Rattle.std.proofs.Common.{◌≡◌, ℕ, ◌++◌, sym, ap, ◌∙◌}
 use Rattle.std.specs.List.{find}
 use Rattle.std.specs.Option.{is_some}
 use Rattle.std.proofs.lemmas.List.{append-nil}
 use Rattle.spread_rules.specs.declared.event.Event.TheVariants.{Replace}
-use Rattle.spread_rules.specs.declared.fill.Fill.{Fill}
 use Rattle.spread_rules.specs.Meaning.{EntryMeaning, has_id, instrument_or_refusal_of, unchanged_with}
 use Rattle.spread_rules.specs.declared.outcome.Outcome.TheVariants.{CancelRefused}
 use Rattle.spread_match.specs.State.{MarketState}

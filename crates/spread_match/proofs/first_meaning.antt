@@ -1,0 +1,3 @@
+pub mod FilledWhole
+pub mod NothingReplaced
+pub mod SameMeanings
