@@ -44,7 +44,8 @@ fn fits_outcome(rules: &Rulebook, event: &Event, outcome: &Outcome) -> bool
 {
     match (event, outcome) {
         (Event::New(ticket), Outcome::Ended { left }) => *left <= ticket.quantity,
-        (Event::Cancel { .. }, Outcome::Cancelled(order)) => {
+        (Event::Cancel { .. }, Outcome::Cancelled(order))
+        | (Event::Replace { .. }, Outcome::Replaced(order)) => {
             is_listed(rules, order.instrument) && order.leaves <= order.quantity
         }
         _ => true,

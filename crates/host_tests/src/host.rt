@@ -13,6 +13,7 @@ mod day;
 mod faults;
 mod live;
 mod no_memory;
+mod replaces;
 mod replay;
 mod reported;
 mod writers;

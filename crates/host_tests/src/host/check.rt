@@ -3,6 +3,7 @@ use host_base::TestSink;
 use spread_host::{HostFault, check};
 use spread_journal::JournalFault;
 use spread_rules::Rulebook;
+use std::alloc::Global;
 use std::test::Fail;
 use test_support::THREE_MONTHS;
 
@@ -11,6 +12,14 @@ pub const DIRECT_BEFORE_IMPLIED: &[u8] =
 
 pub const DIRECT_BEFORE_IMPLIED_TEXT: &[u8] =
     b"F 5 5 0 H6 1 2 10000\nF 5 2 0 H6 2 2 10000\nF 5 5 0 H6 1 3 10000\nF 5 3 0 H6-M6 2 3 200 10000 9800\nF 5 4 0 M6 2 3 9800\nM H6 5 5 50000 50000\nM M6 3 3 29400 29400\nM U6 0 0 0 0\n";
+
+/// What is written on a journal's text.
+pub fn checked_text(alloc: Global, journal: &[u8]) -> Result<TestSink, Fail> {
+    let rules = Rulebook::read(THREE_MONTHS)?;
+    let mut sink = TestSink::new(alloc, 1000, 0)?;
+    check(alloc, &rules, journal, &mut sink)?;
+    Ok(sink)
+}
 
 #[test]
 fn fills_of_a_journal(rt: HostRuntime) -> Result<(), Fail> {
@@ -26,7 +35,7 @@ fn fills_of_a_journal(rt: HostRuntime) -> Result<(), Fail> {
 fn journal_faults(rt: HostRuntime) -> Result<(), Fail> {
     let rows: [(&[u8], JournalFault); 10] = [
         (b"", JournalFault::Version),
-        (b"JOURNAL 2\nEND 0\n", JournalFault::Version),
+        (b"JOURNAL 3\nEND 0\n", JournalFault::Version),
         (b"JOURNAL 1\n", JournalFault::Cut),
         (b"JOURNAL 1\nEND 1\n", JournalFault::Line(2)),
         (

@@ -8,10 +8,10 @@ use std::test::Fail;
 use test_support::{FIRST_TRADE_LINES, FIRST_TRADE_TEXT, THREE_MONTHS, stamp};
 
 /// What a day without entries writes.
-const EMPTY_TEXT: &[u8] = b"JOURNAL 1\nEND 0\nM H6 0 0 0 0\nM M6 0 0 0 0\nM U6 0 0 0 0\n";
+const EMPTY_TEXT: &[u8] = b"JOURNAL 2\nEND 0\nM H6 0 0 0 0\nM M6 0 0 0 0\nM U6 0 0 0 0\n";
 
 /// The whole text that is written on day lines.
-fn text_of(alloc: Global, lines: &[u8], journal_only: bool) -> Result<TestSink, Fail> {
+pub fn text_of(alloc: Global, lines: &[u8], journal_only: bool) -> Result<TestSink, Fail> {
     let rules = Rulebook::read(THREE_MONTHS)?;
     let mut sink = TestSink::new(alloc, 4096, 0)?;
     let mut source = TestSource::new(Vec::from_slice(alloc, lines)?, 0);
@@ -48,7 +48,7 @@ fn cut_and_nested_frames(rt: HostRuntime) -> Result<(), Fail> {
     let mut waiting = Vec::from_slice(rt.alloc(), b"0:8=FIX.4.2|9=4000|")?;
     waiting.extend_from_slice(MESSAGES)?;
     assert!(rt;
-        text_of(rt.alloc(), &waiting, true)?.bytes() == b"JOURNAL 1\n0 close 5\nEND 1\n".as_slice()
+        text_of(rt.alloc(), &waiting, true)?.bytes() == b"JOURNAL 2\n0 close 5\nEND 1\n".as_slice()
     );
     Ok(())
 }
