@@ -3,7 +3,7 @@ ghost use Rattle.std.specs.Prelude.{◌≡◌, List, []};
 ghost use Rattle.row_index.specs.Tables.{IsTableOf};
 
 use host_base::{IdKey, NoMemory};
-use row_index::{Hints, IdRows, IdTable};
+use row_index::{Hints, IdRows, IdTable, Noted};
 use std::alloc::Allocator;
 use std::process::Abort;
 use std::test::Fail;
@@ -48,9 +48,23 @@ fn note_next<A: Allocator + Copy>(
     ensures { IsTableOf table.new keys.new.items }
 {
     keys.reserve(1)?;
-    let used = table.note(&Keys { keys }, &key)?;
+    let used = table.note(&Keys { keys }, &key)?.is_known();
     keys.push_reserved(key);
     Ok(used)
+}
+
+/// Notes a key, whose row then doesn't come. Answers how it was noted.
+fn note_and_take_back<A: Allocator + Copy>(
+    table: &mut IdTable<A>,
+    keys: &[IdKey],
+    key: IdKey,
+) -> Result<Noted, NoMemory>
+    requires { IsTableOf table.old keys.now }
+    ensures { IsTableOf table.new keys.now }
+{
+    let noted = table.note(&Keys { keys }, &key)?;
+    table.take_back(&key, noted);
+    Ok(noted)
 }
 
 /// Where the first row of that number stands.
@@ -99,6 +113,48 @@ fn ids_are_found(rt: HostRuntime) -> Result<(), Fail> {
     assert!(rt; row_of(&table, &keys, 17) == Some(17));
     assert!(rt; !note_next(&mut table, &mut keys, numbered(65_553))?);
     assert!(rt; row_of(&table, &keys, 65_553) == Some(8_191));
+    Ok(())
+}
+
+/// Notes the key of the next row, takes it back, and notes it again. Answers how it was noted first.
+fn note_again<A: Allocator + Copy>(
+    rt: &impl Abort,
+    table: &mut IdTable<A>,
+    keys: &mut Vec<IdKey, A>,
+    n: usize,
+) -> Result<Noted, Fail>
+    requires { IsTableOf table.old keys.old.items }
+    ensures { IsTableOf table.new keys.new.items }
+{
+    let noted = note_and_take_back(table, keys, numbered(n))?;
+    assert!(rt; row_of(table, keys, n).is_none());
+    assert!(rt; n == 0 || row_of(table, keys, n - 1) == Some(n - 1));
+    assert!(rt; !note_next(table, keys, numbered(n))?);
+    assert!(rt; row_of(table, keys, n) == Some(n));
+    assert!(rt; note_and_take_back(table, keys, numbered(n))?.is_known());
+    assert!(rt; row_of(table, keys, n) == Some(n));
+    Ok(noted)
+}
+
+/// Each key is taken back once, those in lines and those behind them.
+#[test]
+fn ids_are_taken_back(rt: HostRuntime) -> Result<(), Fail> {
+    let mut table = IdTable::new(rt.alloc());
+    let mut keys = Vec::new(rt.alloc());
+    let mut in_lines = 0usize;
+    let mut behind = 0usize;
+    for n in 0..8_190 {
+        match note_again(&rt, &mut table, &mut keys, n)? {
+            Noted::Known => assert!(rt; false),
+            Noted::InLine { line: _, at: _ } => in_lines = in_lines.wrapping_add(1),
+            Noted::Behind => behind = behind.wrapping_add(1),
+        }
+    }
+    assert!(rt; in_lines > 8_000);
+    assert!(rt; behind > 0);
+    for n in 0..8_190 {
+        assert!(rt; row_of(&table, &keys, n) == Some(n));
+    }
     Ok(())
 }
 

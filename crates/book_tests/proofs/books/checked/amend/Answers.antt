@@ -1,8 +1,7 @@
-use Rattle.std.proofs.Common.{◌≡◌, ◌<◌, false, Option, Some, None, refl, sym, ◌∙◌, arith}
+use Rattle.std.proofs.Common.{◌≡◌, ◌<◌, false, Option, Some, None, refl, sym, ◌∙◌}
 use Rattle.std.specs.Option.{is_some}
 use Rattle.spread_rules.specs.declared.order.Order.{Order}
 use Rattle.spread_rules.specs.Amended.{done}
-use Rattle.order_books.specs.Queues.{CanAmend}
 use Rattle.book_tests.proofs.Walks.{walked, each_there}
 use Rattle.book_tests.proofs.books.checked.amend.Goals as goal
 
