@@ -77,7 +77,11 @@ fn is_priced(entry: &Entry) -> bool
     ensures { result ≡ true → IsPriced entry.now.event }
 {
     match entry.event {
-        Event::New(ticket) => ticket.price >= -1_000_000_000 && ticket.price <= 1_000_000_000,
+        Event::New(ticket)
+        | Event::Replace {
+            original: _,
+            ticket,
+        } => { ticket.price >= -1_000_000_000 && ticket.price <= 1_000_000_000 }
         _ => true,
     }
 }
