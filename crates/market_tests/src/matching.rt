@@ -4,7 +4,7 @@ ghost use Rattle.spread_match.specs.State.{empty_state};
 ghost use Rattle.spread_match.specs.Trade.{ArePriced, IsPriced};
 
 use host_base::{Id, NoMemory};
-use spread_books::ListBook;
+use spread_books::{Book, ListBook};
 use spread_match::Market;
 use spread_rules::{Entry, Event, Fill, Instrument, Outcome, Rulebook, Side, Ticket};
 use std::alloc::Global;
@@ -12,10 +12,12 @@ use std::process::Abort;
 use std::test::Fail;
 use test_support::{THREE_MONTHS, id};
 
+mod every_book;
 mod market;
 mod memory_refused;
 mod quotes;
 mod refusals;
+mod replaces;
 mod rows;
 mod sizes;
 
@@ -59,6 +61,28 @@ fn cancel(name: &[u8], original: &[u8]) -> Entry {
             id: id(name),
             original: id(original),
         },
+    }
+}
+
+/// A request that a day order take the place of the original one.
+fn replace(
+    original: &[u8],
+    name: &[u8],
+    symbol: &[u8],
+    side: Side,
+    quantity: u32,
+    price: i64,
+) -> Entry {
+    let wanted = day(name, symbol, side, quantity, price);
+    match wanted.event {
+        Event::New(ticket) => Entry {
+            session: 0,
+            event: Event::Replace {
+                original: id(original),
+                ticket,
+            },
+        },
+        _ => wanted,
     }
 }
 
@@ -165,9 +189,9 @@ struct Applied {
 }
 
 /// The entries of a journal in a market before its first entry, places counting from 1.
-fn apply_all(
+fn apply_all<B: Book>(
     alloc: Global,
-    market: &mut Market<'_, ListBook<Global>, Global>,
+    market: &mut Market<'_, B, Global>,
     journal: &[Entry],
 ) -> Result<Applied, NoMemory>
     requires first { market.old.state ≡ empty_state }
@@ -207,10 +231,14 @@ fn expect_row(
     Ok(())
 }
 
-fn too_late(place: u64, status: u8) -> Outcome {
+fn refused(reason: u8, place: u64, status: u8) -> Outcome {
     Outcome::CancelRefused {
-        reason: 0,
+        reason,
         place,
         status,
     }
+}
+
+fn too_late(place: u64, status: u8) -> Outcome {
+    refused(0, place, status)
 }

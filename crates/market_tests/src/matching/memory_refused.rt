@@ -2,21 +2,33 @@
 ghost use Rattle.std.specs.Prelude.{◌<◌, ◌≡◌, [], IfOk, OnOk};
 ghost use Rattle.spread_match.specs.Trade.{ArePriced, IsPriced};
 
-use super::{are_priced, buy, sell};
+use super::{Applied, are_priced, buy, cancel, replace, run_journal, sell};
 use host_base::NoMemory;
-use spread_books::{Book, IndexBook};
+use spread_books::{Book, IndexBook, ListBook};
 use spread_match::Market;
-use spread_rules::{Entry, Fill, Outcome, Rulebook};
-use std::alloc::Allocator;
+use spread_rules::{Entry, Fill, Order, Outcome, Rulebook, Side};
+use std::alloc::{Allocator, Global};
 use std::process::Abort;
 use std::test::Fail;
 use test_support::{Refusing, THREE_MONTHS};
 
+/// The resting orders.
+fn resting<B: Book>(alloc: Global, book: &B) -> Result<Vec<Order>, NoMemory> {
+    let mut orders = Vec::new(alloc);
+    for n in 0..book.len() {
+        if let Some(order) = book.walk(n) {
+            orders.push(order)?;
+        }
+    }
+    Ok(orders)
+}
+
 /// Applies the entry, and again where a request was refused in it: then nothing has changed.
-fn apply_again<B: Allocator, A: Allocator + Copy>(
+fn apply_again<H: Allocator, B: Book, A: Allocator + Copy>(
     rt: &impl Abort,
-    heap: &Refusing<B>,
-    market: &mut Market<'_, IndexBook<A>, A>,
+    alloc: Global,
+    heap: &Refusing<H>,
+    market: &mut Market<'_, B, A>,
     place: u64,
     entry: &Entry,
     fills: &mut Vec<Fill, A>,
@@ -26,15 +38,14 @@ fn apply_again<B: Allocator, A: Allocator + Copy>(
     ensures last { OnOk result (market.new.state.last ≡ place) }
 {
     let refused_before = heap.has_refused();
-    let resting = market.book().len();
-    let newest = market.book().walk(resting.saturating_sub(1));
+    let orders = resting(alloc, market.book())?;
     let before = fills.len();
     match market.apply(place, entry, fills) {
         Ok(outcome) => Ok(outcome),
         Err(NoMemory) => {
             assert!(rt; !refused_before && heap.has_refused());
-            assert!(rt; market.book().len() == resting);
-            assert!(rt; market.book().walk(resting.saturating_sub(1)) == newest);
+            let now = resting(alloc, market.book())?;
+            assert!(rt; now.as_slice() == orders.as_slice());
             assert!(rt; fills.len() == before);
             let outcome = market.apply(place, entry, fills)?;
             Ok(outcome)
@@ -52,27 +63,54 @@ fn empty_book<A: Allocator + Copy>(heap: A, rules: &Rulebook) -> Result<IndexBoo
     }
 }
 
-/// How many fills the entries of a journal come to over this heap.
-fn fills_of<B: Allocator>(
+/// The entries of a journal over this heap come to what they came to with memory.
+fn expect_applied<H: Allocator, B: Book + Drop>(
     rt: &impl Abort,
-    heap: &Refusing<B>,
+    alloc: Global,
+    heap: &Refusing<H>,
     rules: &Rulebook,
+    book: B,
     journal: &[Entry],
-) -> Result<usize, Fail>
-    requires { ArePriced journal.now }
+    wanted: &Applied,
+) -> Result<(), Fail>
+    requires empty { B.orders book ≡ [] }
+    requires prices { ArePriced journal.now }
 {
-    let mut market = Market::new(heap, rules, empty_book(heap, rules)?);
+    let mut market = Market::new(heap, rules, book);
     let mut fills = Vec::new(heap);
     for n in 0..journal.len() {
-        apply_again(rt, heap, &mut market, n as u64 + 1, &journal[n], &mut fills)?;
+        let place = n as u64 + 1;
+        let outcome = apply_again(rt, alloc, heap, &mut market, place, &journal[n], &mut fills)?;
+        assert!(rt; wanted.outcomes.get(n) == Some(&outcome));
     }
-    Ok(fills.len())
+    assert!(rt; fills.as_slice() == wanted.fills.as_slice());
+    Ok(())
+}
+
+/// Each request for memory of that journal is refused in turn, in a book of each kind that makes any by itself.
+fn refuse_each(rt: &impl Abort, alloc: Global, journal: &[Entry]) -> Result<(), Fail>
+    requires { ArePriced journal.now }
+{
+    let rules = Rulebook::read(THREE_MONTHS)?;
+    let wanted = run_journal(rt, alloc, THREE_MONTHS, journal)?;
+    for number in 1..500u64 {
+        let heap = Refusing::new(alloc, number);
+        let book = empty_book(&heap, &rules)?;
+        expect_applied(rt, alloc, &heap, &rules, book, journal, &wanted)?;
+        let other = Refusing::new(alloc, number);
+        let book = ListBook::new(&other);
+        expect_applied(rt, alloc, &other, &rules, book, journal, &wanted)?;
+        if !heap.has_refused() && !other.has_refused() {
+            return Ok(());
+        }
+    }
+    assert!(rt; false);
+    Ok(())
 }
 
 /// An order, a spread and an order of the other month rest; the last order meets the first, then the two together.
 #[test]
 fn each_request_refused_in_turn(rt: HostRuntime) -> Result<(), Fail> {
-    let rules = Rulebook::read(THREE_MONTHS)?;
     let journal = [
         sell(b"a", b"H6", 2, 10000),
         sell(b"b", b"H6-M6", 3, 200),
@@ -80,14 +118,30 @@ fn each_request_refused_in_turn(rt: HostRuntime) -> Result<(), Fail> {
         buy(b"d", b"H6", 6, 10000),
     ];
     assert!(rt; are_priced(&journal));
-    for number in 1..500u64 {
-        let heap = Refusing::new(rt.alloc(), number);
-        let made = fills_of(&rt, &heap, &rules, &journal)?;
-        assert!(rt; made == 5);
-        if !heap.has_refused() {
-            return Ok(());
-        }
+    refuse_each(&rt, rt.alloc(), &journal)
+}
+
+/// Requests that are refused, that keep a place, that lose it and rest, and that lose it and trade. With so many orders
+/// each of them comes upon a table that is full.
+#[test]
+fn each_request_of_a_replace_refused_in_turn(rt: HostRuntime) -> Result<(), Fail> {
+    let mut journal = Vec::new(rt.alloc());
+    for n in 0..3u8 {
+        journal.push(sell(&[b's', n + 2], b"H6", 5, 10000))?;
+        journal.push(sell(&[b'k', n + 2], b"H6-M6", 3, 210))?;
+        journal.push(sell(&[b'm', n + 2], b"M6", 4, 9800))?;
     }
-    assert!(rt; false);
-    Ok(())
+    for n in 0..3u8 {
+        let kept = [b'K', n + 2];
+        let lost = [b'L', n + 2];
+        journal.push(replace(&[b's', n + 2], &kept, b"H6", Side::Sell, 4, 10000))?;
+        journal.push(replace(&kept, &lost, b"H6", Side::Sell, 6, 10000))?;
+        journal.push(replace(&lost, &kept, b"H6", Side::Sell, 6, 10000))?;
+        journal.push(replace(b"none", &[b'N', n + 2], b"H6", Side::Sell, 6, 10000))?;
+    }
+    journal.push(buy(b"b", b"H6", 9, 9900))?;
+    journal.push(replace(b"b", b"c", b"H6", Side::Buy, 8, 10010))?;
+    journal.push(cancel(b"d", b"b"))?;
+    assert!(rt; are_priced(&journal));
+    refuse_each(&rt, rt.alloc(), &journal)
 }

@@ -1,0 +1,208 @@
+//! Runs of orders, cancels and replaces, which come to the same over every kind of book.
+ghost use Rattle.std.specs.Prelude.{◌≡◌, []};
+ghost use Rattle.spread_match.specs.Trade.{ArePriced};
+
+use super::{are_priced, cancel, day, replace};
+use spread_books::{Book, FrontBook, IndexBook, ListBook, TreeBook};
+use spread_match::Market;
+use spread_rules::{Entry, Event, Fill, Order, Outcome, Rulebook, Side, Ticket};
+use std::alloc::Global;
+use std::process::Abort;
+use std::test::Fail;
+use test_support::{Chance, THREE_MONTHS};
+
+/// What each entry of a run came to, and the orders that rested behind each.
+#[derive(Drop)]
+struct Run {
+    outcomes: Vec<Outcome>,
+    fills: Vec<Fill>,
+    /// How many fills there were behind each entry, and how many orders in `resting`.
+    ends: Vec<(usize, usize)>,
+    resting: Vec<Order>,
+}
+
+/// A run of entries over that book.
+fn run_over<B: Book + Drop>(
+    alloc: Global,
+    rules: &Rulebook,
+    book: B,
+    journal: &[Entry],
+) -> Result<Run, Fail>
+    requires empty { B.orders book ≡ [] }
+    requires prices { ArePriced journal.now }
+{
+    let mut market = Market::new(alloc, rules, book);
+    let mut run = Run {
+        outcomes: Vec::new(alloc),
+        fills: Vec::new(alloc),
+        ends: Vec::new(alloc),
+        resting: Vec::new(alloc),
+    };
+    for n in 0..journal.len() {
+        let outcome = market.apply(n as u64 + 1, &journal[n], &mut run.fills)?;
+        run.outcomes.push(outcome)?;
+        append_resting(&mut run.resting, market.book())?;
+        run.ends.push((run.fills.len(), run.resting.len()))?;
+    }
+    Ok(run)
+}
+
+fn append_resting<B: Book>(resting: &mut Vec<Order>, book: &B) -> Result<(), Fail> {
+    for n in 0..book.len() {
+        if let Some(order) = book.walk(n) {
+            resting.push(order)?;
+        }
+    }
+    Ok(())
+}
+
+fn expect_same(rt: &impl Abort, run: &Run, wanted: &Run) {
+    assert!(rt; run.outcomes.as_slice() == wanted.outcomes.as_slice());
+    assert!(rt; run.ends.as_slice() == wanted.ends.as_slice());
+    assert!(rt; run.fills.as_slice() == wanted.fills.as_slice());
+    assert!(rt; run.resting.as_slice() == wanted.resting.as_slice());
+}
+
+/// An id of its own for each place, and one in ten times that of an earlier place.
+fn name(chance: &mut Chance, place: usize) -> [u8; 2] {
+    let n = if place > 0 && chance.below(10) == 0 {
+        chance.below(place)
+    } else {
+        place
+    };
+    [b'a' + (n / 26 % 26) as u8, b'a' + (n % 26) as u8]
+}
+
+fn instrument(chance: &mut Chance) -> (&'static [u8], i64) {
+    match chance.below(6) {
+        0 => (b"H6", 10000),
+        1 => (b"M6", 9800),
+        2 => (b"U6", 9500),
+        3 => (b"H6-M6", 200),
+        4 => (b"H6-U6", 500),
+        _ => (b"M6-U6", 300),
+    }
+}
+
+/// An order near the reference price: some rest and some trade.
+fn order(chance: &mut Chance, own: &[u8]) -> Entry {
+    let (symbol, reference) = instrument(chance);
+    let away = chance.below(9) as i64 - 2;
+    let quantity = 1 + chance.below(9) as u32;
+    if chance.below(2) == 0 {
+        day(
+            own,
+            symbol,
+            Side::Buy,
+            quantity,
+            reference.wrapping_sub(away),
+        )
+    } else {
+        day(
+            own,
+            symbol,
+            Side::Sell,
+            quantity,
+            reference.wrapping_add(away),
+        )
+    }
+}
+
+/// What an entry asks for.
+fn ticket_of(entry: &Entry) -> Option<Ticket> {
+    match entry.event {
+        Event::New(ticket)
+        | Event::Replace {
+            original: _,
+            ticket,
+        } => Some(ticket),
+        _ => None,
+    }
+}
+
+/// What one of the last thirty entries asks for.
+fn recent(chance: &mut Chance, earlier: &[Entry]) -> Option<Ticket> {
+    let back = 1 + chance.below(30);
+    let entry = earlier.get(earlier.len().checked_sub(back)?)?;
+    ticket_of(entry)
+}
+
+/// A cancel of that order, or a replace: a little more or less of it, at its price or near it.
+fn request(chance: &mut Chance, own: &[u8], ticket: &Ticket) -> Entry {
+    let original = ticket.id.bytes();
+    if chance.below(5) == 0 {
+        return cancel(own, original);
+    }
+    let price = match chance.below(3) {
+        0 => ticket.price.wrapping_add(chance.below(5) as i64 - 2),
+        _ => ticket.price,
+    };
+    let more = ticket.quantity.wrapping_add(chance.below(4) as u32);
+    let quantity = more.saturating_sub(chance.below(5) as u32);
+    replace(
+        original,
+        own,
+        ticket.symbol.bytes(),
+        ticket.side,
+        quantity,
+        price,
+    )
+}
+
+fn next_entry(chance: &mut Chance, earlier: &[Entry]) -> Entry {
+    let own = name(chance, earlier.len());
+    if chance.below(2) == 0 {
+        return order(chance, &own);
+    }
+    match recent(chance, earlier) {
+        Some(ticket) => request(chance, &own, &ticket),
+        None => order(chance, &own),
+    }
+}
+
+/// A journal of orders, cancels and replaces, chosen at random.
+fn chosen_entries(alloc: Global, seed: u64) -> Result<Vec<Entry>, Fail> {
+    let mut chance = Chance::new(seed);
+    let mut journal = Vec::new(alloc);
+    for _ in 0..150 {
+        let entry = next_entry(&mut chance, &journal);
+        journal.push(entry)?;
+    }
+    Ok(journal)
+}
+
+/// How often a request left an order at an earlier place, and how often at its own.
+fn replaced(run: &Run) -> (usize, usize) {
+    let mut kept = 0usize;
+    let mut lost = 0usize;
+    for n in 0..run.outcomes.len() {
+        if let Outcome::Replaced(order) = run.outcomes[n] {
+            if order.place <= n as u64 {
+                kept = kept.wrapping_add(1);
+            } else {
+                lost = lost.wrapping_add(1);
+            }
+        }
+    }
+    (kept, lost)
+}
+
+#[test]
+fn every_book_answers_alike(rt: HostRuntime) -> Result<(), Fail> {
+    let rules = Rulebook::read(THREE_MONTHS)?;
+    for seed in 0..12 {
+        let journal = chosen_entries(rt.alloc(), seed)?;
+        assert!(rt; are_priced(&journal));
+        let wanted = run_over(rt.alloc(), &rules, ListBook::new(rt.alloc()), &journal)?;
+        let (kept, lost) = replaced(&wanted);
+        assert!(rt; kept > 2 && lost > 5 && wanted.fills.len() > 20);
+        let tree = run_over(rt.alloc(), &rules, TreeBook::new(rt.alloc()), &journal)?;
+        expect_same(&rt, &tree, &wanted);
+        let front = run_over(rt.alloc(), &rules, FrontBook::new(rt.alloc()), &journal)?;
+        expect_same(&rt, &front, &wanted);
+        let book = IndexBook::new(rt.alloc(), &rules)?;
+        let index = run_over(rt.alloc(), &rules, book, &journal)?;
+        expect_same(&rt, &index, &wanted);
+    }
+    Ok(())
+}
