@@ -248,8 +248,8 @@ pub fold_fills : (fs : List Fill) (ts : List MonthTotals) → fold with_fill ts 
 fold_fills [] ts = refl
 fold_fills (f ∷ fs) ts = fold_fills fs (with_fill ts f) ∙ sym (fold-append with_leg ts (legs_in f) (legs fs))
 
-twelve_none : All (λ t. t ≡ empty_month) empty_months
-twelve_none = All-replicate (λ t. t ≡ empty_month) 12 empty_month refl
+none_summed : All (λ t. t ≡ empty_month) empty_months
+none_summed = All-replicate (λ t. t ≡ empty_month) 24 empty_month refl
 
 from_no_lots : (n : ℕ) → 0 + n ≡ n
 from_no_lots n = omega arith
@@ -260,11 +260,11 @@ from_no_money z = omega (arith, ints)
 -- from nothing, the sums of all fills
 pub sums_are : (fs : List Fill) → AreTotals fs (fold with_fill empty_months fs)
 sums_are fs = λ m d lt.
-    let len = length-replicate 12 empty_month in
+    let len = length-replicate 24 empty_month in
     let less : m < length empty_months = omega (arith, len, lt) in
     ap (λ (xs : List MonthTotals). get_or xs m d) (fold_fills fs empty_months)
     ∙ (fold_is (legs fs) empty_months m d less
-    ∙ (ap (λ (t : MonthTotals). after_legs t m (legs fs)) (twelve_none m d less)
+    ∙ (ap (λ (t : MonthTotals). after_legs t m (legs fs)) (none_summed m d less)
     ∙ same_totals _ _ _ _ _ _ _ _ (from_no_lots (quantities Buy m (legs fs))) (from_no_lots (quantities Sell m (legs fs))) (from_no_money (money Buy m (legs fs))) (from_no_money (money Sell m (legs fs)))))
 
 -- room for the far leg of a spread
@@ -283,7 +283,7 @@ sums_taken fs n ts is end = let all = take_all n fs end in subst (λ (t : List M
 
 pub room_taken : (fs : List Fill) (n : ℕ) (ts : List MonthTotals) → ts ≡ fold with_fill empty_months (take n fs) → All IsSummable fs → n < 2 ^ 64 → All (HasRoom (2 ^ 66)) ts
 room_taken fs n ts is all few =
-    let start : All (HasRoom 0) empty_months = λ k d lt. subst (HasRoom 0) (sym (twelve_none k d lt)) (room_none 0) in
+    let start : All (HasRoom 0) empty_months = λ k d lt. subst (HasRoom 0) (sym (none_summed k d lt)) (room_none 0) in
     subst (λ (t : List MonthTotals). All (HasRoom (2 ^ 66)) t) (sym is)
     (λ k d lt. room_more (0 + 2 * length (take n fs)) (2 ^ 66) (get_or (fold with_fill empty_months (take n fs)) k d) (omega (arith, length-take n fs))
     (room_fills (take n fs) 0 empty_months (All-take IsSummable n fs all) start k d lt))

@@ -13,7 +13,7 @@ pub fn one_key()
 /// The limits in numbers, as docs/PROFILE.md has them, and the byte that ends a field.
 pub fn limits()
     ensures sessions { SESSIONS ≡ 16 }
-    ensures max_months { MAX_MONTHS ≡ 12 }
+    ensures max_months { MAX_MONTHS ≡ 24 }
     ensures max_name_length { MAX_NAME_LENGTH ≡ 15 }
     ensures max_tick { MAX_TICK ≡ pos 1000000 }
     ensures max_id_length { MAX_ID_LENGTH ≡ 32 }

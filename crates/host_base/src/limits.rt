@@ -3,7 +3,7 @@
 /// Sessions are numbered from 0, so the last is 15.
 pub const SESSIONS: usize = 16;
 /// Months of a rulebook, at least 1.
-pub const MAX_MONTHS: u8 = 12;
+pub const MAX_MONTHS: u8 = 24;
 /// Letters and digits of a month's name, at least 1.
 pub const MAX_NAME_LENGTH: usize = 15;
 /// The tick, in hundredths, at least 1.

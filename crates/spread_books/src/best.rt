@@ -2,6 +2,7 @@
 ghost use Rattle.std.specs.Prelude.{◌≡◌, ℕ, ◌<◌, ◌+ℤ◌, List, All, IfSome, Contains, None, false};
 ghost use Rattle.spread_rules.specs.Candidates.{all_on, candidate_of, better_of, cost, HasOrderPrice, HasLegPrice, IsBest};
 ghost use Rattle.spread_rules.specs.Prices.{IsOrderPrice, IsLegPrice};
+ghost use Rattle.spread_rules.specs.Rulebook.{implied, month_count};
 ghost use Rattle.spread_rules.specs.declared.candidate.Counterparty.TheVariants.{Implied};
 ghost use Rattle.spread_rules.specs.Legs.{other_side};
 ghost use Rattle.spread_rules.specs.declared.order.Instrument.TheVariants.{Outright};
@@ -12,7 +13,8 @@ ghost use Rattle.spread_books.specs.code.Cheapest.{spread_of, spread_side, Costs
 use crate::cheapest::{Queue, cheapest_pair, spreads_with};
 use order_books::Book;
 use spread_rules::{
-    Candidate, Counterparty, Instrument, Order, Side, better, candidate_for, is_within, levels_meet,
+    Candidate, Counterparty, Instrument, Order, Rulebook, Side, better, candidate_for, is_within,
+    levels_meet,
 };
 
 /// Whether the front of the new order's own instrument stands within its limit. Only its price is read: most fronts do
@@ -157,16 +159,17 @@ fn with_months<B: Book>(book: &B, months: u8, new: &Order, best: &mut Option<Can
 }
 
 /// The least eligible candidate, over fronts alone.
-pub fn best_candidate<B: Book>(book: &B, months: u8, new: &Order) -> Option<Candidate>
+pub fn best_candidate<B: Book>(book: &B, rules: &Rulebook, new: &Order) -> Option<Candidate>
     requires small { All HasOrderPrice (B.orders book.now) }
     requires listed { All IsNearFirst (B.orders book.now) }
-    requires months { All (λ o. IsInMonths months o.instrument) (B.orders book.now) }
-    ensures best { IsBest all_on new.now (B.orders book.now) result }
+    requires months { All (λ o. IsInMonths (month_count rules.now) o.instrument)
+        (B.orders book.now) }
+    ensures best { IsBest (implied rules.now) new.now (B.orders book.now) result }
     ensures small { IfSome result HasLegPrice }
 {
     let mut best = with_direct(book, new);
     match new.instrument {
-        Instrument::Outright(month) => with_months(book, months, new, &mut best, month),
+        Instrument::Outright(month) => with_months(book, rules.months(), new, &mut best, month),
         Instrument::Spread(near, far) => {
             let near = Queue {
                 instrument: Instrument::Outright(near),

@@ -1,3 +1,4 @@
 pub mod FirstOfAFold
 pub mod PlainIsLeast
 pub mod LeastIsOne
+pub mod PairsSwitched

@@ -79,17 +79,17 @@ names_push names x distinct new i j below_i below_j e =
 pub count_is : (d : Draft) → IsDraft d → length (take d.list.count d.list.slots) ≡ d.list.count
 count_is d k = let slots = k.slots in let within = k.within in length-take-le d.list.count d.list.slots (omega arith)
 
-pub gives_month : (n : ℕ) (d : Draft) (line : List ℕ) (t : ℤ) (m : Month) → IsDraft d → d.tick ≡ Some t → line ≡ month_line m → IsMonth t m → d.list.count < 12 → (IsNamed (so_far d) m.name → ⊥)
+pub gives_month : (n : ℕ) (d : Draft) (line : List ℕ) (t : ℤ) (m : Month) → IsDraft d → d.tick ≡ Some t → line ≡ month_line m → IsMonth t m → d.list.count < 24 → (IsNamed (so_far d) m.name → ⊥)
     → LineGives n (so_far d) line (Ok (record { tick = d.tick; months = take (d.list.count + 1) (set d.list.slots d.list.count m) }))
 gives_month n d line t m k is e f few new =
     let slots = k.slots in
     let count = count_is d k in
     let lt : d.list.count < length d.list.slots = omega arith in
     let grown = take_more_set d.list.slots d.list.count m lt in
-    let room : length (so_far d).months < 12 = omega arith in
+    let room : length (so_far d).months < 24 = omega arith in
     subst (λ (ms : List Month). let b : SoFar = record { tick = d.tick; months = ms } in LineGives n (so_far d) line (Ok b)) (sym grown) (month t m is e f room new)
 
-pub kept_month : (d : Draft) (t : ℤ) (m : Month) → IsDraft d → d.tick ≡ Some t → IsMonth t m → d.list.count < 12 → (IsNamed (so_far d) m.name → ⊥) → IsDraft (record { tick = d.tick; list = record { count = d.list.count + 1; slots = set d.list.slots d.list.count m } })
+pub kept_month : (d : Draft) (t : ℤ) (m : Month) → IsDraft d → d.tick ≡ Some t → IsMonth t m → d.list.count < 24 → (IsNamed (so_far d) m.name → ⊥) → IsDraft (record { tick = d.tick; list = record { count = d.list.count + 1; slots = set d.list.slots d.list.count m } })
 kept_month d t m k is f few new =
     let slots = k.slots in
     let lt : d.list.count < length d.list.slots = omega arith in

@@ -7,6 +7,7 @@ use Rattle.spread_rules.specs.declared.order.Instrument.{Instrument}
 use Rattle.spread_rules.specs.declared.order.Instrument.TheVariants.{Outright}
 use Rattle.spread_rules.specs.declared.candidate.Counterparty.TheVariants.{Direct}
 use Rattle.spread_rules.specs.Candidates.{implied_price, all_on}
+use Rattle.spread_rules.specs.Rulebook.{month_count}
 use Rattle.spread_books.specs.Listed.{IsInMonths}
 use Rattle.spread_books.specs.code.Best.{CoversTwo}
 use Rattle.spread_books.proofs.fronts.Suffice.{best_from, month_below, spread_pair}
@@ -18,7 +19,7 @@ returns-in-Outright-clause-best g c =
     let n = c.args.new.now in
     best_from all_on n xs c.with_months.new.best c.with_months.ensures.fair
     (λ o price r e. c.with_months.ensures.keeps (record { price = price; counterparty = Direct o }) (c.with_direct-best.ensures.covers o price r e))
-    (λ a b price e. c.with_months.ensures.covers a b price e (month_below all_on c.args.months b (All-contains (λ (o : Order). IsInMonths c.args.months o.instrument) xs b c.requires.months e.stands.1)))
+    (λ a b price e. c.with_months.ensures.covers a b price e (month_below all_on (month_count c.args.rules.now) b (All-contains (λ (o : Order). IsInMonths (month_count c.args.rules.now) o.instrument) xs b c.requires.months e.stands.1)))
 
 pub returns-in-Spread-clause-best : goal.returns-in-Spread-clause-best
 returns-in-Spread-clause-best g c =
