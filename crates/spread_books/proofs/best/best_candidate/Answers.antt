@@ -1,5 +1,5 @@
 use Rattle.spread_rules.proofs.clearings.BoughtIsSold.{on_price}
-use Rattle.std.proofs.Common.{◌≡◌, subst, Some}
+use Rattle.std.proofs.Common.{◌≡◌, subst, sym, Some}
 use Rattle.std.proofs.lemmas.List.Elements.{All-contains}
 use Rattle.spread_rules.specs.declared.order.Order.{Order}
 use Rattle.spread_rules.specs.declared.order.Side.{Side}
@@ -19,7 +19,7 @@ returns-in-Outright-clause-best g c =
     let n = c.args.new.now in
     best_from all_on n xs c.with_months.new.best c.with_months.ensures.fair
     (λ o price r e. c.with_months.ensures.keeps (record { price = price; counterparty = Direct o }) (c.with_direct-best.ensures.covers o price r e))
-    (λ a b price e. c.with_months.ensures.covers a b price e (month_below all_on (month_count c.args.rules.now) b (All-contains (λ (o : Order). IsInMonths (month_count c.args.rules.now) o.instrument) xs b c.requires.months e.stands.1)))
+    (λ a b price e. c.with_months.ensures.covers a b price e (month_below all_on c.months.result b (subst (λ k. IsInMonths k b.instrument) (sym c.months.ensures.count) (All-contains (λ (o : Order). IsInMonths (month_count c.args.rules.now) o.instrument) xs b c.requires.months e.stands.1))))
 
 pub returns-in-Spread-clause-best : goal.returns-in-Spread-clause-best
 returns-in-Spread-clause-best g c =
