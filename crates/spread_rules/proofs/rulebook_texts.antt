@@ -4,3 +4,5 @@ pub mod MonthLinesReadOnce
 pub mod NamesHaveNoSpace
 pub mod OneRulebook
 pub mod SymbolsNameOne
+pub mod PairLinesReadOnce
+pub mod TwelveMonths

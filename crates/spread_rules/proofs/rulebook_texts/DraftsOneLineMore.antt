@@ -1,19 +1,16 @@
 -- A draft that takes one more line.
-use Rattle.std.proofs.Common.{◌≡◌, ◌≢◌, ℕ, ◌+◌, ◌≤◌, ◌<◌, inl, inr, Bool, true, false, eqb, ℤ, List, [], ◌∷◌, ◌++◌, length, get_or, take, set, map, Some, None, Ok, Err, refl, sym, ap, ◌∙◌, subst, arith, Contains}
+use Rattle.std.proofs.Common.{◌≡◌, ◌≢◌, ℕ, ◌+◌, ◌<◌, Bool, true, false, eqb, ℤ, List, [], ◌∷◌, ◌++◌, length, get_or, take, set, map, Some, None, Ok, Err, refl, sym, ap, ◌∙◌, subst, arith, Contains}
 use Rattle.std.specs.Prelude.{All}
-use Rattle.std.specs.Str.{bytes_eq}
-use Rattle.std.proofs.lemmas.List.{take_more_set, length_push, get_or_push, get_or_append_left, get_or_default, take_all, map_push, length-set}
+use Rattle.std.proofs.lemmas.List.{take_more_set, length_push, get_or_push, get_or_append_left, get_or_default, map_push, length-set}
 use Rattle.std.proofs.lemmas.List.{length-take-le}
-use Rattle.std.proofs.lemmas.List.Elements.{All-push, Contains-get_or, Contains-push_cases}
-use Rattle.std.proofs.lemmas.Bool.{eqb-true, false≢true}
+use Rattle.std.proofs.lemmas.List.Elements.{All-push}
+use Rattle.std.proofs.lemmas.Bool.{eqb-true}
 use Rattle.std.proofs.lemmas.Bool.Decides.{nat_tests}
-use Rattle.std.proofs.lemmas.Grind.{take_at_read}
-use Rattle.std.proofs.lemmas.Slice.Eq.{bytes_eq-Decides}
 use Rattle.spread_rules.specs.declared.rulebook.Month.{Month}
 use Rattle.spread_rules.specs.declared.rulebook_text.Draft.{Draft}
 use Rattle.std.proofs.lemmas.List.{length-map}
 use Rattle.spread_rules.specs.Rulebook.{Rules, IsRules, IsMonth, IsTick}
-use Rattle.spread_rules.specs.RulebookText.{IsNamed, SoFar, LineGives, tick, tick_line, month, month_line, EndGives, none, some}
+use Rattle.spread_rules.specs.RulebookText.{names_in, IsNamed, SoFar, LineGives, tick, tick_line, month, month_line, EndGives, none, some}
 use Rattle.spread_rules.specs.code.DraftFields.{IsDraft, HasDistinctNames, so_far}
 use Rattle.spread_rules.specs.code.RulebookFields.{IsRulebook}
 use Rattle.spread_rules.specs.declared.rule_fault.RuleFault.TheVariants.{NoMonth}
@@ -21,30 +18,22 @@ use Rattle.std.proofs.Common.{to_z, of_z}
 use Rattle.std.specs.Int.{w64}
 use Rattle.std.proofs.lemmas.Int.{to_z-of_z}
 use Rattle.spread_rules.proofs.rulebook_texts.MonthLinesReadOnce.{tick_fits}
-use Rattle.spread_rules.proofs.lists.Membership.{in_map}
 
 -- ---- names
 
-pub held : (xs : List Month) (i : ℕ) (x : Month) (name : List ℕ) (b : Bool) → i < length xs → x ≡ get_or xs i x → b ≡ bytes_eq x.name name → b ≡ true → Contains (map (λ (m : Month). m.name) xs) name
-held xs i x name b lt is t e =
-    let same : x.name ≡ name = (bytes_eq-Decides x.name name).0 (sym t ∙ e) in
-    let there : Contains xs x = subst (Contains xs) (sym is) (Contains-get_or xs i x lt) in
-    subst (Contains (map (λ (m : Month). m.name) xs)) same (in_map (λ (m : Month). m.name) xs x there)
+pub is_named : (ms : List Month) (k : ℕ) (name : List ℕ) → k < length ms → get_or (names_in ms) k [] ≡ name → Contains (names_in ms) name
+is_named ms k name lt e =
+    let long = length-map ms (λ (m : Month). m.name) in
+    let below : k < length (names_in ms) = omega (arith, long, lt) in
+    (k, below, get_or_default (names_in ms) k name [] below ∙ e)
 
-pub not_held : (xs : List Month) (i : ℕ) (x : Month) (name : List ℕ) (b : Bool) → i < length xs → x ≡ get_or xs i x → b ≡ bytes_eq x.name name → b ≡ false → (Contains (map (λ (m : Month). m.name) (take i xs)) name → ⊥)
-    → Contains (map (λ (m : Month). m.name) (take (i + 1) xs)) name → ⊥
-not_held xs i x name b lt is t e before h =
-    let more : take (i + 1) xs ≡ take i xs ++ x ∷ [] = (take_at_read xs i x lt).1 ∙ ap (λ y. take i xs ++ y ∷ []) (sym is) in
-    let names : map (λ (m : Month). m.name) (take (i + 1) xs) ≡ map (λ (m : Month). m.name) (take i xs) ++ x.name ∷ [] = ap (map (λ (m : Month). m.name)) more ∙ map_push (λ (m : Month). m.name) (take i xs) x in
-    elim (Contains-push_cases (map (λ (m : Month). m.name) (take i xs)) x.name name (subst (λ ns. Contains ns name) names h)) [
-      | inl there ↦ before there
-      | inr same ↦ absurd (false≢true (sym e ∙ t ∙ (bytes_eq-Decides x.name name).1 same))
-    ]
+pub not_named : (ms : List Month) (name : List ℕ) → ((k : ℕ) → k < length ms → get_or (names_in ms) k [] ≢ name) → Contains (names_in ms) name → ⊥
+not_named ms name other h =
+    let long = length-map ms (λ (m : Month). m.name) in
+    let lt = h.1 in
+    other h.0 (omega (arith, long, lt)) (sym (get_or_default (names_in ms) h.0 name [] h.1) ∙ h.2)
 
-pub none_held : (xs : List Month) (i : ℕ) (name : List ℕ) → length xs ≤ i → (Contains (map (λ (m : Month). m.name) (take i xs)) name → ⊥) → Contains (map (λ (m : Month). m.name) xs) name → ⊥
-none_held xs i name le before h = before (subst (λ ms. Contains (map (λ (m : Month). m.name) ms) name) (sym (take_all i xs le)) h)
-
-names_push : (names : List (List ℕ)) (x : List ℕ) → HasDistinctNames names → (Contains names x → ⊥) → HasDistinctNames (names ++ x ∷ [])
+pub names_push : (names : List (List ℕ)) (x : List ℕ) → HasDistinctNames names → (Contains names x → ⊥) → HasDistinctNames (names ++ x ∷ [])
 names_push names x distinct new i j below_i below_j e =
     let long = length_push names x in
     by (eqb i (length names)) (eqb j (length names)) refl refl
@@ -80,16 +69,16 @@ pub count_is : (d : Draft) → IsDraft d → length (take d.list.count d.list.sl
 count_is d k = let slots = k.slots in let within = k.within in length-take-le d.list.count d.list.slots (omega arith)
 
 pub gives_month : (n : ℕ) (d : Draft) (line : List ℕ) (t : ℤ) (m : Month) → IsDraft d → d.tick ≡ Some t → line ≡ month_line m → IsMonth t m → d.list.count < 24 → (IsNamed (so_far d) m.name → ⊥)
-    → LineGives n (so_far d) line (Ok (record { tick = d.tick; months = take (d.list.count + 1) (set d.list.slots d.list.count m) }))
+    → LineGives n (so_far d) line (Ok (record { tick = d.tick; months = take (d.list.count + 1) (set d.list.slots d.list.count m); switches = d.switches.rows }))
 gives_month n d line t m k is e f few new =
     let slots = k.slots in
     let count = count_is d k in
     let lt : d.list.count < length d.list.slots = omega arith in
     let grown = take_more_set d.list.slots d.list.count m lt in
     let room : length (so_far d).months < 24 = omega arith in
-    subst (λ (ms : List Month). let b : SoFar = record { tick = d.tick; months = ms } in LineGives n (so_far d) line (Ok b)) (sym grown) (month t m is e f room new)
+    subst (λ (ms : List Month). let b : SoFar = record { tick = d.tick; months = ms; switches = d.switches.rows } in LineGives n (so_far d) line (Ok b)) (sym grown) (month t m is e f room new)
 
-pub kept_month : (d : Draft) (t : ℤ) (m : Month) → IsDraft d → d.tick ≡ Some t → IsMonth t m → d.list.count < 24 → (IsNamed (so_far d) m.name → ⊥) → IsDraft (record { tick = d.tick; list = record { count = d.list.count + 1; slots = set d.list.slots d.list.count m } })
+pub kept_month : (d : Draft) (t : ℤ) (m : Month) → IsDraft d → d.tick ≡ Some t → IsMonth t m → d.list.count < 24 → (IsNamed (so_far d) m.name → ⊥) → IsDraft (record { tick = d.tick; list = record { count = d.list.count + 1; slots = set d.list.slots d.list.count m }; switches = d.switches })
 kept_month d t m k is f few new =
     let slots = k.slots in
     let lt : d.list.count < length d.list.slots = omega arith in
@@ -97,6 +86,7 @@ kept_month d t m k is f few new =
     let names : map (λ (x : Month). x.name) (take (d.list.count + 1) (set d.list.slots d.list.count m)) ≡ map (λ (x : Month). x.name) (take d.list.count d.list.slots) ++ m.name ∷ [] = ap (map (λ (x : Month). x.name)) grown ∙ map_push (λ (x : Month). x.name) (take d.list.count d.list.slots) m in
     record {
       slots = length-set d.list.slots d.list.count m ∙ slots;
+      switches = k.switches;
       within = omega arith;
       tick = λ u e.
           let same : t ≡ u = cc in
@@ -106,11 +96,12 @@ kept_month d t m k is f few new =
       names = subst HasDistinctNames (sym names) (names_push (map (λ (x : Month). x.name) (take d.list.count d.list.slots)) m.name k.names new);
     }
 
-pub kept_tick : (d : Draft) (t : ℤ) → IsDraft d → d.tick ≡ None → IsTick t → IsDraft (record { tick = Some t; list = d.list })
+pub kept_tick : (d : Draft) (t : ℤ) → IsDraft d → d.tick ≡ None → IsTick t → IsDraft (record { tick = Some t; list = d.list; switches = d.switches })
 kept_tick d t k unset f =
     let zero = k.empty unset in
     record {
       slots = k.slots;
+      switches = k.switches;
       within = k.within;
       tick = λ u e. let same : t ≡ u = cc in (subst IsTick same f, subst (λ n. All (IsMonth u) (take n d.list.slots)) (sym zero) (λ i x lt. absurd (omega arith)));
       empty = λ e. absurd cc;
@@ -128,8 +119,8 @@ fits_month t m f h = subst (λ u. IsMonth u m) (same_tick t f) h
 pub no_month_fits : (t : ℤ) (line : List ℕ) → IsTick t → ((m : Month) → IsMonth (to_z w64 (of_z w64 t)) m → line ≢ month_line m) → (m : Month) → IsMonth t m → line ≢ month_line m
 no_month_fits t line f other m h = other m (subst (λ u. IsMonth u m) (sym (same_tick t f)) h)
 
-pub gives_tick : (n : ℕ) (d : Draft) (line : List ℕ) (t : ℤ) → d.tick ≡ None → line ≡ tick_line t → IsTick t → LineGives n (so_far d) line (Ok (record { tick = Some (to_z w64 (of_z w64 t)); months = take d.list.count d.list.slots }))
-gives_tick n d line t unset is f = subst (λ (u : ℤ). let b : SoFar = record { tick = Some u; months = take d.list.count d.list.slots } in LineGives n (so_far d) line (Ok b)) (sym (same_tick t f)) (tick t unset is f)
+pub gives_tick : (n : ℕ) (d : Draft) (line : List ℕ) (t : ℤ) → d.tick ≡ None → line ≡ tick_line t → IsTick t → LineGives n (so_far d) line (Ok (record { tick = Some (to_z w64 (of_z w64 t)); months = take d.list.count d.list.slots; switches = d.switches.rows }))
+gives_tick n d line t unset is f = subst (λ (u : ℤ). let b : SoFar = record { tick = Some u; months = take d.list.count d.list.slots; switches = d.switches.rows } in LineGives n (so_far d) line (Ok b)) (sym (same_tick t f)) (tick t unset is f)
 
 -- ---- the end
 
@@ -139,12 +130,12 @@ not_empty d k filled e = let count = count_is d k in let zero = ap length e in a
 pub ends_without : (d : Draft) → IsDraft d → d.list.count ≡ 0 → EndGives (so_far d) (Err NoMonth)
 ends_without d k zero = none (ap (λ n. take n d.list.slots) zero)
 
-pub ends_with : (d : Draft) (t : ℤ) → IsDraft d → d.tick ≡ Some t → d.list.count ≢ 0 → EndGives (so_far d) (Ok (record { tick = to_z w64 (of_z w64 t); months = take d.list.count d.list.slots }))
+pub ends_with : (d : Draft) (t : ℤ) → IsDraft d → d.tick ≡ Some t → d.list.count ≢ 0 → EndGives (so_far d) (Ok (record { tick = to_z w64 (of_z w64 t); months = take d.list.count d.list.slots; switches = d.switches.rows }))
 ends_with d t k is some_month =
     let e = same_tick t (k.tick t is).0 in
-    subst (λ (u : ℤ). let r : Rules = record { tick = u; months = take d.list.count d.list.slots } in EndGives (so_far d) (Ok r)) (sym e) (some t is (not_empty d k some_month))
+    subst (λ (u : ℤ). let r : Rules = record { tick = u; months = take d.list.count d.list.slots; switches = d.switches.rows } in EndGives (so_far d) (Ok r)) (sym e) (some t is (not_empty d k some_month))
 
-finished : (d : Draft) (t : ℤ) → IsDraft d → d.tick ≡ Some t → d.list.count ≢ 0 → IsRules (record { tick = t; months = take d.list.count d.list.slots })
+finished : (d : Draft) (t : ℤ) → IsDraft d → d.tick ≡ Some t → d.list.count ≢ 0 → IsRules (record { tick = t; months = take d.list.count d.list.slots; switches = d.switches.rows })
 finished d t k is some_month =
     let count = count_is d k in
     let within = k.within in
@@ -158,11 +149,11 @@ finished d t k is some_month =
       names = λ i j a b e. k.names i j (omega arith) (omega arith) e;
     }
 
-pub kept_rulebook : (d : Draft) (t : ℤ) → IsDraft d → d.tick ≡ Some t → d.list.count ≢ 0 → IsRulebook (record { tick = to_z w64 (of_z w64 t); list = d.list })
+pub kept_rulebook : (d : Draft) (t : ℤ) → IsDraft d → d.tick ≡ Some t → d.list.count ≢ 0 → IsRulebook (record { tick = to_z w64 (of_z w64 t); list = d.list; switches = d.switches })
 kept_rulebook d t k is some_month =
     let e = same_tick t (k.tick t is).0 in
     record {
       slots = k.slots;
       within = k.within;
-      rules = subst (λ (u : ℤ). let r : Rules = record { tick = u; months = take d.list.count d.list.slots } in IsRules r) (sym e) (finished d t k is some_month);
+      rules = subst (λ (u : ℤ). let r : Rules = record { tick = u; months = take d.list.count d.list.slots; switches = d.switches.rows } in IsRules r) (sym e) (finished d t k is some_month);
     }

@@ -6,7 +6,11 @@ use Rattle.spread_rules.specs.declared.rulebook.Rulebook.TheInside.{Inside}
 use Rattle.spread_rules.specs.Rulebook.{Rules, IsRules}
 
 abbrev pub rules_of : Inside → Rules
-rules_of r = record { tick = r.tick; months = take r.list.count r.list.slots }
+rules_of r = record {
+  tick = r.tick;
+  months = take r.list.count r.list.slots;
+  switches = r.switches.rows;
+}
 
 -- a slot for each month that a rulebook may have, of which the first ones are months
 pub record IsRulebook (r : Inside) : Type 0 where
