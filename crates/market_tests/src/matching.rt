@@ -15,6 +15,7 @@ use test_support::{THREE_MONTHS, id};
 mod every_book;
 mod market;
 mod memory_refused;
+mod pairs;
 mod quotes;
 mod refusals;
 mod replaces;

@@ -1,5 +1,5 @@
 //! A rulebook read, and its faults.
-use spread_rules::laws::{codes, least_in_rank, one_rulebook, quiet};
+use spread_rules::laws::{codes, least_in_rank, one_rulebook, quiet, twelve_months};
 use spread_rules::{Instrument, RuleFault, Rulebook};
 use std::test::Fail;
 
@@ -41,12 +41,13 @@ fn rulebook_read(rt: HostRuntime) -> Result<(), Fail> {
     quiet();
     least_in_rank();
     codes();
+    twelve_months();
     Ok(())
 }
 
 #[test]
 fn rulebook_faults(rt: HostRuntime) {
-    let rows: [(&[u8], RuleFault, u8); 12] = [
+    let rows: [(&[u8], RuleFault, u8); 20] = [
         (b"", RuleFault::NoMonth, 2),
         (b"tick 1\n", RuleFault::NoMonth, 2),
         (b"tick 0", RuleFault::BadLine(1), 1),
@@ -66,10 +67,46 @@ fn rulebook_faults(rt: HostRuntime) {
             4,
         ),
         (
-            b"tick 1\nmonth a 1\nmonth b 1\nmonth c 1\nmonth d 1\nmonth e 1\nmonth f 1\nmonth g 1\nmonth h 1\nmonth i 1\nmonth j 1\nmonth k 1\nmonth l 1\nmonth a 1\n",
+            b"tick 1\nmonth a 1\nmonth b 1\nmonth c 1\nmonth d 1\nmonth e 1\nmonth f 1\nmonth g 1\nmonth h 1\nmonth i 1\nmonth j 1\nmonth k 1\nmonth l 1\nmonth m 1\nmonth n 1\nmonth o 1\nmonth p 1\nmonth q 1\nmonth r 1\nmonth s 1\nmonth t 1\nmonth u 1\nmonth v 1\nmonth w 1\nmonth x 1\nmonth a 1\n",
             RuleFault::TooManyMonths,
             3,
         ),
+        (
+            b"tick 1\nmonth H6 10000\nmonth M6 9800\nmonth U6 9500\npair M6 H6 on\n",
+            RuleFault::BadLine(5),
+            1,
+        ),
+        (
+            b"tick 1\nmonth H6 10000\nmonth M6 9800\nmonth U6 9500\npair H6 X on\n",
+            RuleFault::BadLine(5),
+            1,
+        ),
+        (
+            b"tick 1\nmonth H6 10000\nmonth M6 9800\nmonth U6 9500\npair H6 M6 On\n",
+            RuleFault::BadLine(5),
+            1,
+        ),
+        (
+            b"tick 1\nmonth H6 10000\nmonth M6 9800\nmonth U6 9500\npair H6 M6 on\npair H6 M6 off\n",
+            RuleFault::NamedTwice,
+            4,
+        ),
+        (
+            b"tick 1\nmonth H6 10000\npair H6 M6 on\nmonth M6 9800\n",
+            RuleFault::BadLine(3),
+            1,
+        ),
+        (
+            b"tick 1\nmonth H6 10000\nmonth M6 9800\npair H6  M6 on\n",
+            RuleFault::BadLine(4),
+            1,
+        ),
+        (
+            b"tick 1\nmonth H6 10000\nmonth M6 9800\npair H6 H6 on\n",
+            RuleFault::BadLine(4),
+            1,
+        ),
+        (b"pair H6 M6 on\ntick 1\n", RuleFault::BadLine(1), 1),
         (b"tick 1\nmonth H6 1000000001\n", RuleFault::BadLine(2), 1),
     ];
     for (text, fault, number) in rows {
@@ -81,4 +118,32 @@ fn rulebook_faults(rt: HostRuntime) {
             }
         }
     }
+}
+
+#[test]
+fn pairs_are_switched(rt: HostRuntime) -> Result<(), Fail> {
+    let text =
+        b"tick 1\nmonth pair 10\nmonth on 20\npair pair on off\nmonth off 30\npair on off on\n\n# a comment\n";
+    let rules = Rulebook::read(text)?;
+    assert!(rt; rules.months() == 3);
+    assert!(rt; !rules.implied(0, 1));
+    assert!(rt; rules.implied(0, 2));
+    assert!(rt; rules.implied(1, 2));
+    Ok(())
+}
+
+#[test]
+fn twenty_four_months(rt: HostRuntime) -> Result<(), Fail> {
+    let text =
+        b"tick 1\nmonth a 1\nmonth b 1\nmonth c 1\nmonth d 1\nmonth e 1\nmonth f 1\nmonth g 1\nmonth h 1\nmonth i 1\nmonth j 1\nmonth k 1\nmonth l 1\nmonth m 1\nmonth n 1\nmonth o 1\nmonth p 1\nmonth q 1\nmonth r 1\nmonth s 1\nmonth t 1\nmonth u 1\nmonth v 1\nmonth w 1\nmonth x 1\npair a x off\npair w x off\n";
+    let rules = Rulebook::read(text)?;
+    assert!(rt; rules.months() == 24);
+    for far in 1..24u8 {
+        for near in 0..far {
+            let off = far == 23 && (near == 0 || near == 22);
+            assert!(rt; rules.implied(near, far) == !off);
+        }
+    }
+    assert!(rt; rules.find(b"w-x") == Some(Instrument::Spread(22, 23)));
+    Ok(())
 }
