@@ -1,6 +1,6 @@
 //! The least candidate, over fronts alone.
-ghost use Rattle.std.specs.Prelude.{◌≡◌, ℕ, ◌<◌, ◌+ℤ◌, List, All, IfSome, Contains, None, false};
-ghost use Rattle.spread_rules.specs.Candidates.{all_on, candidate_of, better_of, cost, HasOrderPrice, HasLegPrice, IsBest};
+ghost use Rattle.std.specs.Prelude.{◌≡◌, ℕ, ◌<◌, ◌+ℤ◌, List, All, IfSome, Contains, None, true, false};
+ghost use Rattle.spread_rules.specs.Candidates.{Pairs, all_on, takes_part, candidate_of, better_of, cost, HasOrderPrice, HasLegPrice, IsBest};
 ghost use Rattle.spread_rules.specs.Prices.{IsOrderPrice, IsLegPrice};
 ghost use Rattle.spread_rules.specs.Rulebook.{implied, month_count};
 ghost use Rattle.spread_rules.specs.declared.candidate.Counterparty.TheVariants.{Implied};
@@ -31,12 +31,14 @@ fn front_is_within<B: Book>(book: &B, new: &Order, side: Side) -> bool
     }
 }
 
-/// The best with the direct candidates.
+/// The best with the direct candidates, whichever pairs take part.
 fn with_direct<B: Book>(book: &B, new: &Order) -> Option<Candidate>
     requires { All HasOrderPrice (B.orders book.now) }
-    ensures fair { IsFair all_on new.now (B.orders book.now) result }
+    ensures fair { (trades_implied : Pairs)
+        → IsFair trades_implied new.now (B.orders book.now) result }
     ensures small { IfSome result HasLegPrice }
-    ensures covers { CoversOne all_on new.now (B.orders book.now)
+    ensures covers { (trades_implied : Pairs)
+        → CoversOne trades_implied new.now (B.orders book.now)
         new.now.instrument (other_side new.now.side) result }
 {
     let side = new.side.opposite();
@@ -80,7 +82,7 @@ fn fronts_meet<B: Book>(book: &B, new: &Order, first: Queue, second: Queue) -> b
     levels_meet(new, &a, &b)
 }
 
-/// The best with the fronts of two queues.
+/// The best with the fronts of two queues, whose pair of months takes part.
 #[inline(never)]
 fn with_fronts<B: Book>(
     book: &B,
@@ -90,10 +92,12 @@ fn with_fronts<B: Book>(
     second: Queue,
 )
     requires small { All HasOrderPrice (B.orders book.now) }
-    requires fair { IsFair all_on new.now (B.orders book.now) best.old }
     requires best { IfSome best.old HasLegPrice }
-    ensures { Offers all_on new.now (B.orders book.now) best.old best.new
-        (CoversTwo all_on new.now (B.orders book.now)
+    ensures { (trades_implied : Pairs)
+        → takes_part trades_implied new.now.instrument first.instrument ≡ true
+        → IsFair trades_implied new.now (B.orders book.now) best.old
+        → Offers trades_implied new.now (B.orders book.now) best.old best.new
+        (CoversTwo trades_implied new.now (B.orders book.now)
         first.instrument first.side second.instrument second.side) }
 {
     if let Some(a) = book.front(first.instrument, first.side) {
@@ -103,7 +107,7 @@ fn with_fronts<B: Book>(
     }
 }
 
-/// The best with the pairs of two queues.
+/// The best with the pairs of two queues, whose pair of months takes part.
 #[inline(always)]
 fn with_queues<B: Book>(
     book: &B,
@@ -113,10 +117,12 @@ fn with_queues<B: Book>(
     second: Queue,
 )
     requires small { All HasOrderPrice (B.orders book.now) }
-    requires fair { IsFair all_on new.now (B.orders book.now) best.old }
     requires best { IfSome best.old HasLegPrice }
-    ensures { Offers all_on new.now (B.orders book.now) best.old best.new
-        (CoversTwo all_on new.now (B.orders book.now)
+    ensures { (trades_implied : Pairs)
+        → takes_part trades_implied new.now.instrument first.instrument ≡ true
+        → IsFair trades_implied new.now (B.orders book.now) best.old
+        → Offers trades_implied new.now (B.orders book.now) best.old best.new
+        (CoversTwo trades_implied new.now (B.orders book.now)
         first.instrument first.side second.instrument second.side) }
 {
     if fronts_meet(book, new, first, second) {
@@ -135,17 +141,24 @@ fn price_for(side: Side, paid: i64) -> i64
     }
 }
 
-/// The best with the pairs of all other months. Whole orders are read of one month alone.
-fn with_months<B: Book>(book: &B, months: u8, new: &Order, best: &mut Option<Candidate>, month: u8)
+/// The best with the pairs of all other months that take part. Whole orders are read of one month alone.
+fn with_months<B: Book>(
+    book: &B,
+    rules: &Rulebook,
+    new: &Order,
+    best: &mut Option<Candidate>,
+    month: u8,
+)
     requires small { All HasOrderPrice (B.orders book.now) }
     requires listed { All IsNearFirst (B.orders book.now) }
     requires new { new.now.instrument ≡ Outright month }
-    requires fair { IsFair all_on new.now (B.orders book.now) best.old }
+    requires fair { IsFair (implied rules.now) new.now (B.orders book.now) best.old }
     requires best { IfSome best.old HasLegPrice }
-    ensures { Offers all_on new.now (B.orders book.now) best.old best.new
-        (CoversBelow all_on new.now (B.orders book.now) months) }
+    ensures { Offers (implied rules.now) new.now (B.orders book.now) best.old best.new
+        (CoversBelow (implied rules.now) new.now (B.orders book.now) (month_count rules.now)) }
 {
-    if let Some(pair) = cheapest_pair(book, months, new.side, month) {
+    let months = rules.months();
+    if let Some(pair) = cheapest_pair(book, rules, months, new.side, month) {
         if is_within(new, price_for(new.side, pair.cost)) {
             let other_month = pair.other_month as u8;
             let spreads = spreads_with(new.side, month, other_month);
@@ -169,17 +182,19 @@ pub fn best_candidate<B: Book>(book: &B, rules: &Rulebook, new: &Order) -> Optio
 {
     let mut best = with_direct(book, new);
     match new.instrument {
-        Instrument::Outright(month) => with_months(book, rules.months(), new, &mut best, month),
+        Instrument::Outright(month) => with_months(book, rules, new, &mut best, month),
         Instrument::Spread(near, far) => {
-            let near = Queue {
-                instrument: Instrument::Outright(near),
-                side: new.side.opposite(),
-            };
-            let far = Queue {
-                instrument: Instrument::Outright(far),
-                side: new.side,
-            };
-            with_queues(book, new, &mut best, near, far);
+            if rules.implied(near, far) {
+                let nears = Queue {
+                    instrument: Instrument::Outright(near),
+                    side: new.side.opposite(),
+                };
+                let fars = Queue {
+                    instrument: Instrument::Outright(far),
+                    side: new.side,
+                };
+                with_queues(book, new, &mut best, nears, fars);
+            }
         }
     }
     best

@@ -1,13 +1,14 @@
 //! The pair of fronts that costs the least among those of all other months.
 ghost use Rattle.std.specs.Prelude.{◌≡◌, ℕ, ◌+ℤ◌, List, All, IfSome, None};
 ghost use Rattle.spread_rules.specs.Candidates.{cost, HasOrderPrice};
+ghost use Rattle.spread_rules.specs.Rulebook.{implied};
 ghost use Rattle.spread_rules.specs.Prices.{IsOrderPrice, IsLegPrice};
 ghost use Rattle.spread_rules.specs.Legs.{other_side};
 ghost use Rattle.spread_rules.specs.declared.order.Order.{Order};
-ghost use Rattle.spread_books.specs.code.Cheapest.{spread_of, spread_side, CostsOfFront, CostsOfFronts, cheaper_of, IsCheapest, KeepsOthers, must_search, sooner_of};
+ghost use Rattle.spread_books.specs.code.Cheapest.{spread_of, spread_side, is_pair_on, CostsOfFront, CostsOfFronts, cheaper_of, IsCheapest, KeepsOthers, must_search, sooner_of};
 
 use order_books::Book;
-use spread_rules::{Instrument, Side};
+use spread_rules::{Instrument, Rulebook, Side};
 
 /// The orders of one instrument and side.
 #[derive(Clone, Copy)]
@@ -80,11 +81,31 @@ pub fn spreads_with(side: Side, month: u8, other_month: u8) -> Queue
     }
 }
 
-/// What the fronts of an other month's two queues together cost an order of that side and month. Only prices are read.
+/// Whether the pair of these two months, whichever is the near one, takes part in implied trading.
 #[inline(always)]
-pub fn pair_cost<B: Book>(book: &B, side: Side, month: u8, other_month: u8) -> Option<i64>
+fn is_pair_on(rules: &Rulebook, month: u8, other_month: u8) -> bool
+    ensures { result ≡ is_pair_on (implied rules.now) month other_month }
+{
+    if month < other_month {
+        rules.implied(month, other_month)
+    } else {
+        rules.implied(other_month, month)
+    }
+}
+
+/// What the fronts of an other month's two queues together cost an order of that side and month, where the pair of
+/// months takes part. Only prices are read, and the rulebook is asked last: most pairs have no two fronts.
+#[inline(always)]
+pub fn pair_cost<B: Book>(
+    book: &B,
+    rules: &Rulebook,
+    side: Side,
+    month: u8,
+    other_month: u8,
+) -> Option<i64>
     requires { All HasOrderPrice (B.orders book.now) }
-    ensures cost { CostsOfFronts (B.orders book.now) side month other_month result }
+    ensures cost { CostsOfFronts (implied rules.now) (B.orders book.now)
+        side month other_month result }
     ensures small { IfSome result IsLegPrice }
 {
     let spreads = spreads_with(side, month, other_month);
@@ -95,6 +116,9 @@ pub fn pair_cost<B: Book>(book: &B, side: Side, month: u8, other_month: u8) -> O
     let Some(second) = front_cost(book, Instrument::Outright(other_month), opposite) else {
         return None;
     };
+    if !is_pair_on(rules, month, other_month) {
+        return None;
+    }
     Some(together(first, second))
 }
 
@@ -116,14 +140,21 @@ pub fn cheaper(least: Option<PairCost>, cost: Option<i64>, other_month: u64) -> 
     }
 }
 
-/// What costs the least among the fronts of all other months, and the earliest month where several cost the same.
-pub fn cheapest_pair<B: Book>(book: &B, months: u8, side: Side, month: u8) -> Option<PairCost>
+/// What costs the least among the fronts of all other months whose pair with that month takes part, and the earliest
+/// month where several cost the same.
+pub fn cheapest_pair<B: Book>(
+    book: &B,
+    rules: &Rulebook,
+    months: u8,
+    side: Side,
+    month: u8,
+) -> Option<PairCost>
     requires { All HasOrderPrice (B.orders book.now) }
-    ensures { IsCheapest (B.orders book.now) side month months result }
+    ensures { IsCheapest (implied rules.now) (B.orders book.now) side month months result }
 {
     let mut least = None;
     for other_month in 0..months {
-        let cost = pair_cost(book, side, month, other_month);
+        let cost = pair_cost(book, rules, side, month, other_month);
         least = cheaper(least, cost, u64::from(other_month));
     }
     least
@@ -162,6 +193,7 @@ fn sooner(held: PairCost, cost: Option<i64>, via: u64) -> PairCost
 /// What costs the least, where that is known from before the fronts of one other month changed.
 pub fn renewed_pair<B: Book>(
     book: &B,
+    rules: &Rulebook,
     months: u8,
     side: Side,
     month: u8,
@@ -171,18 +203,18 @@ pub fn renewed_pair<B: Book>(
     requires { All HasOrderPrice (B.orders book.now) }
     ensures { (xs : List Order)
         → KeepsOthers xs (B.orders book.now) side month via
-        → IsCheapest xs side month months held
-        → IsCheapest (B.orders book.now) side month months result }
+        → IsCheapest (implied rules.now) xs side month months held
+        → IsCheapest (implied rules.now) (B.orders book.now) side month months result }
 {
     if via >= months {
         return held;
     }
-    let cost = pair_cost(book, side, month, via);
+    let cost = pair_cost(book, rules, side, month, via);
     let Some(pair) = held else {
         return cheaper(None, cost, u64::from(via));
     };
     if must_search(&pair, cost, u64::from(via)) {
-        return cheapest_pair(book, months, side, month);
+        return cheapest_pair(book, rules, months, side, month);
     }
     Some(sooner(pair, cost, u64::from(via)))
 }

@@ -1,6 +1,7 @@
 //! A table of the pairs of fronts that cost the least, one for each month and side, renewed as fronts change.
 ghost use Rattle.std.specs.Prelude.{◌≡◌, ℕ, ◌<◌, ◌*◌, List, All, replicate, slice_get, slice_set, None, IfOk};
 ghost use Rattle.spread_rules.specs.Candidates.{HasOrderPrice};
+ghost use Rattle.spread_rules.specs.Rulebook.{implied};
 ghost use Rattle.spread_rules.specs.declared.order.Side.{Side};
 ghost use Rattle.spread_rules.specs.declared.order.Order.{Order};
 ghost use Rattle.spread_books.specs.code.Cheapest.{KeepsOthers};
@@ -9,7 +10,7 @@ ghost use Rattle.spread_books.specs.code.QuoteTable.{cell_of, known_pair, HasChe
 use crate::cheapest::{PairCost, renewed_pair};
 use host_base::NoMemory;
 use order_books::Book;
-use spread_rules::{Instrument, Level, Order, Side};
+use spread_rules::{Instrument, Level, Order, Rulebook, Side};
 use std::alloc::Allocator;
 use std::marker::Model;
 
@@ -79,24 +80,32 @@ impl<A: Allocator + Copy> QuoteTable<A> {
     }
 
     /// Renews one cell, after the fronts of that other month changed.
-    fn renew_cell<B: Book>(&mut self, book: &B, months: u8, side: Side, month: u8, via: u8)
+    fn renew_cell<B: Book>(
+        &mut self,
+        book: &B,
+        rules: &Rulebook,
+        months: u8,
+        side: Side,
+        month: u8,
+        via: u8,
+    )
         requires { All HasOrderPrice (B.orders book.now) }
         ensures rest { (t : Side) (m : ℕ)
             → ((t ≡ side) × (m ≡ month) → ⊥)
             → known_pair self.new t m ≡ known_pair self.old t m }
         ensures own { (xs : List Order)
             → KeepsOthers xs (B.orders book.now) side month via
-            → HasCheapest months xs self.old side month
-            → HasCheapest months (B.orders book.now) self.new side month }
+            → HasCheapest (implied rules.now) months xs self.old side month
+            → HasCheapest (implied rules.now) months (B.orders book.now) self.new side month }
     {
         if let Some(held) = self.known_pair(side, month) {
-            let pair = renewed_pair(book, months, side, month, via, held);
+            let pair = renewed_pair(book, rules, months, side, month, via, held);
             self.put(side, month, pair);
         }
     }
 
     /// Renews that side's cell of each month, after the fronts of that other month changed.
-    fn renew_months<B: Book>(&mut self, book: &B, months: u8, side: Side, via: u8)
+    fn renew_months<B: Book>(&mut self, book: &B, rules: &Rulebook, months: u8, side: Side, via: u8)
         requires { All HasOrderPrice (B.orders book.now) }
         ensures rest { (t : Side) (m : ℕ)
             → (t ≡ side → ⊥)
@@ -104,46 +113,66 @@ impl<A: Allocator + Copy> QuoteTable<A> {
         ensures own { (xs : List Order) (m : ℕ)
             → m < months
             → KeepsOthers xs (B.orders book.now) side m via
-            → HasCheapest months xs self.old side m
-            → HasCheapest months (B.orders book.now) self.new side m }
+            → HasCheapest (implied rules.now) months xs self.old side m
+            → HasCheapest (implied rules.now) months (B.orders book.now) self.new side m }
     {
         for month in 0..months {
-            self.renew_cell(book, months, side, month, via);
+            self.renew_cell(book, rules, months, side, month, via);
         }
     }
 
     /// Renews what the front of that queue has a part in, after it changed.
-    fn renew<B: Book>(&mut self, book: &B, months: u8, instrument: Instrument, side: Side)
+    fn renew<B: Book>(
+        &mut self,
+        book: &B,
+        rules: &Rulebook,
+        months: u8,
+        instrument: Instrument,
+        side: Side,
+    )
         requires { All HasOrderPrice (B.orders book.now) }
         ensures { (xs : List Order)
             → ChangesOneQueue xs (B.orders book.now) instrument side
-            → AreCheapest months xs self.old
-            → AreCheapest months (B.orders book.now) self.new }
+            → AreCheapest (implied rules.now) months xs self.old
+            → AreCheapest (implied rules.now) months (B.orders book.now) self.new }
     {
         match instrument {
-            Instrument::Outright(month) => self.renew_months(book, months, side.opposite(), month),
+            Instrument::Outright(month) => self.renew_months(
+                book,
+                rules,
+                months,
+                side.opposite(),
+                month,
+            ),
             Instrument::Spread(near, far) => {
-                self.renew_cell(book, months, side.opposite(), near, far);
-                self.renew_cell(book, months, side, far, near);
+                self.renew_cell(book, rules, months, side.opposite(), near, far);
+                self.renew_cell(book, rules, months, side, far, near);
             }
         }
     }
 
     /// Renews what has to be, after that order came or left, where the front of the others in its queue stands at that
     /// level.
-    pub fn renew_for<B: Book>(&mut self, book: &B, months: u8, order: &Order, others: Option<Level>)
+    pub fn renew_for<B: Book>(
+        &mut self,
+        book: &B,
+        rules: &Rulebook,
+        months: u8,
+        order: &Order,
+        others: Option<Level>,
+    )
         requires { All HasOrderPrice (B.orders book.now) }
         ensures came { (xs : List Order)
             → HasCome xs (B.orders book.now) order.now others
-            → AreCheapest months xs self.old
-            → AreCheapest months (B.orders book.now) self.new }
+            → AreCheapest (implied rules.now) months xs self.old
+            → AreCheapest (implied rules.now) months (B.orders book.now) self.new }
         ensures left { (xs : List Order)
             → HasLeft xs (B.orders book.now) order.now others
-            → AreCheapest months xs self.old
-            → AreCheapest months (B.orders book.now) self.new }
+            → AreCheapest (implied rules.now) months xs self.old
+            → AreCheapest (implied rules.now) months (B.orders book.now) self.new }
     {
         if !is_as_good(others, order) {
-            self.renew(book, months, order.instrument, order.side);
+            self.renew(book, rules, months, order.instrument, order.side);
         }
     }
 }

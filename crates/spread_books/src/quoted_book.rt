@@ -1,7 +1,8 @@
 //! A book that has the cheapest pairs of its fronts at hand.
-ghost use Rattle.std.specs.Prelude.{◌≡◌, ◌<◌, ◌^◌, [], List, All, IfOk, IfSome, true, length};
+ghost use Rattle.std.specs.Prelude.{◌≡◌, ◌<◌, ◌^◌, [], All, IfOk, IfSome, true, length};
 ghost use Rattle.host_base.specs.declared.limits.TheConstants.{MAX_MONTHS};
 ghost use Rattle.spread_rules.specs.Candidates.{HasOrderPrice};
+ghost use Rattle.spread_rules.specs.Rulebook.{implied};
 ghost use Rattle.spread_books.specs.Listed.{IsInMonths};
 ghost use Rattle.spread_books.specs.code.Cheapest.{IsCheapest};
 ghost use Rattle.spread_books.specs.code.QuoteTable.{IsListed};
@@ -18,23 +19,25 @@ use std::marker::Model;
 /// Resting orders, and the pairs of fronts that cost the least. Once an order came that no market takes, of a month that
 /// the rulebook does not have or at a price beyond the limits, no pairs are kept.
 #[derive(Drop)]
-pub struct QuotedBook<A: Allocator + Copy> {
+pub struct QuotedBook<'r, A: Allocator + Copy> {
     book: FrontBook<A>,
     quotes: QuoteTable<A>,
+    rules: &'r Rulebook,
+    /// How many months the rulebook has: asked with every order.
     months: u8,
     listed: bool,
 }
 
-impl<A: Allocator + Copy> Model for QuotedBook<A> {
-    ghost use Rattle.std.specs.Prelude.{List};
-    ghost use Rattle.spread_rules.specs.declared.order.Order.{Order};
+impl<'r, A: Allocator + Copy> Model for QuotedBook<'r, A> {
+    ghost use Rattle.spread_rules.specs.Rulebook.{implied};
+    ghost use Rattle.spread_books.specs.BookView.{BookView};
     ghost use Rattle.spread_books.specs.code.QuoteTable.{KeepsTable};
 
-    ghost Value = { List Order };
+    ghost Value = { BookView };
 
-    ghost view = { λ b. b.book };
+    ghost view = { λ b. record { rules = b.rules.now; orders = b.book } };
 
-    ghost invariant = { λ b. KeepsTable b.listed b.months b.book b.quotes };
+    ghost invariant = { λ b. KeepsTable b.listed (implied b.rules.now) b.months b.book b.quotes };
 }
 
 /// Whether the order is of so many months, at a price of orders.
@@ -48,24 +51,33 @@ fn is_listed(order: &Order, months: u8) -> bool
     month < months && -MAX_PRICE <= order.price && order.price <= MAX_PRICE
 }
 
-impl<A: Allocator + Copy> QuotedBook<A> {
+impl<'r, A: Allocator + Copy> QuotedBook<'r, A> {
     /// A book in which no order rests, for the months of the rulebook.
-    pub fn new(alloc: A, rules: &Rulebook) -> Result<Self, NoMemory>
-        ensures { IfOk result (λ b. b ≡ []) }
+    pub fn new(alloc: A, rules: &'r Rulebook) -> Result<Self, NoMemory>
+        ensures rules { IfOk result (λ b. b.rules ≡ rules.now) }
+        ensures orders { IfOk result (λ b. b.orders ≡ []) }
     {
         let months = rules.months();
         let quotes = QuoteTable::new(alloc, months)?;
         Ok(QuotedBook {
             book: FrontBook::new(alloc),
             quotes,
+            rules,
             months,
             listed: true,
         })
     }
 
+    /// The rulebook.
+    pub fn rules(&self) -> &'r Rulebook
+        ensures { result.now ≡ self.now.rules }
+    {
+        self.rules
+    }
+
     /// As `len`. There is no memory for as many as a `usize` counts.
     pub fn count(&self) -> usize
-        ensures count { result ≡ length self.now }
+        ensures count { result ≡ length self.now.orders }
         ensures small { result < 2 ^ 63 }
     {
         self.book.count()
@@ -73,7 +85,8 @@ impl<A: Allocator + Copy> QuotedBook<A> {
 
     /// What costs an order of that side and month the least, where it is at hand. Takes no memory.
     pub fn known_pair(&self, side: Side, month: u8) -> Option<Option<PairCost>>
-        ensures { IfSome result (IsCheapest self.now side month MAX_MONTHS) }
+        ensures { IfSome result
+            (IsCheapest (implied self.now.rules) self.now.orders side month MAX_MONTHS) }
     {
         if self.listed && month < self.months {
             self.quotes.known_pair(side, month)
@@ -83,8 +96,8 @@ impl<A: Allocator + Copy> QuotedBook<A> {
     }
 }
 
-impl<A: Allocator + Copy> Book for QuotedBook<A> {
-    ghost orders = { λ b. b };
+impl<'r, A: Allocator + Copy> Book for QuotedBook<'r, A> {
+    ghost orders = { λ b. b.orders };
 
     fn front(&self, instrument: Instrument, side: Side) -> Option<Order> {
         self.book.front(instrument, side)
@@ -105,7 +118,7 @@ impl<A: Allocator + Copy> Book for QuotedBook<A> {
         self.listed = self.listed && is_listed(&order, self.months);
         if self.listed {
             self.quotes
-                .renew_for(&self.book, self.months, &order, others);
+                .renew_for(&self.book, self.rules, self.months, &order, others);
         }
         Ok(())
     }
@@ -123,7 +136,7 @@ impl<A: Allocator + Copy> Book for QuotedBook<A> {
             if self.listed {
                 let others = self.book.front_level(order.instrument, order.side);
                 self.quotes
-                    .renew_for(&self.book, self.months, &order, others);
+                    .renew_for(&self.book, self.rules, self.months, &order, others);
             }
         }
     }

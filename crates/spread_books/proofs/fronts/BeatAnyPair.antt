@@ -9,7 +9,7 @@ use Rattle.spread_rules.specs.declared.order.Order.{Order}
 use Rattle.spread_rules.specs.declared.candidate.Counterparty.{Counterparty}
 use Rattle.spread_rules.specs.declared.candidate.Counterparty.TheVariants.{Direct, Implied}
 use Rattle.spread_rules.specs.declared.candidate.Candidate.{Candidate}
-use Rattle.spread_rules.specs.Candidates.{implied_price, cost, is_within_limit, price_of, candidate_of, better_by, AllStandIn, month_of, rank_cmp, Pairs, takes_part, offered_if}
+use Rattle.spread_rules.specs.Candidates.{implied_price, cost, is_within_limit, price_of, candidate_of, better_by, AllStandIn, month_of, rank_cmp, Pairs, all_on, takes_part, offered_if, IsEligible}
 use Rattle.spread_rules.specs.Quiet.{Rests}
 use Rattle.spread_rules.proofs.ranks.PlainIsLeast.{candidate_is}
 use Rattle.order_books.specs.Queues.{IsFront}
@@ -17,8 +17,10 @@ use Rattle.spread_rules.specs.Legs.{other_side}
 use Rattle.spread_books.specs.code.Best.{IsFair, CoversOne, CoversTwo}
 use Rattle.spread_books.proofs.fronts.PairCost.{implied_price_sum, implied_price_again, within_cost, behind, rank_after, pair_le, pair_same, so_is, so_again}
 use Rattle.spread_rules.proofs.clearings.BoughtIsSold.{on_price}
+use Rattle.spread_rules.proofs.ranks.PairsSwitched.{all_take_part}
 
-was_on : (b : Bool) (r : Option ℤ) (p : ℤ) → offered_if b r ≡ Some p → b ≡ true
+-- what has a price takes part
+pub was_on : (b : Bool) (r : Option ℤ) (p : ℤ) → offered_if b r ≡ Some p → b ≡ true
 was_on true r p h = refl
 was_on false None p h = cc
 was_on false (Some q) p h = cc
@@ -120,3 +122,12 @@ module _ (on : Pairs) where
       rw (candidates n (Direct f) f.price meets (within_cost n.side n.price price f.price h.within low))
       (rank_after (cost n.side price) (cost n.side f.price) false 0 o.place f.place 0 0 low
       (λ e. (b.1 (ap (cost n.side) is ∙ e), omega arith)))
+
+  -- ---- as where all pairs take part
+
+  eligible_anyway : (n : Order) (xs : List Order) (a b : Order) (price : ℤ) → IsEligible on n xs (record { price = price; counterparty = Implied a b }) → IsEligible all_on n xs (record { price = price; counterparty = Implied a b })
+  eligible_anyway n xs a b price e = record { stands = e.stands; meets = on_again _ _ price (all_take_part n.instrument a.instrument) (on_price _ _ price e.meets); within = e.within }
+
+  -- what beats each pair where all take part beats each one that does
+  pub covers_anyway : (n : Order) (xs : List Order) (of : Instrument) (side : Side) (and : Instrument) (and_side : Side) (best : Option Candidate) → CoversTwo all_on n xs of side and and_side best → CoversTwo on n xs of side and and_side best
+  covers_anyway n xs of side and and_side best covers a b price r s e = covers a b price r s (eligible_anyway n xs a b price e)

@@ -8,7 +8,7 @@ use Rattle.spread_rules.specs.declared.candidate.Candidate.{Candidate}
 use Rattle.spread_rules.specs.declared.candidate.Counterparty.TheVariants.{Direct, Implied}
 use Rattle.spread_rules.specs.declared.candidate.Counterparty.{Counterparty}
 use Rattle.spread_rules.specs.Legs.{other_side}
-use Rattle.spread_rules.specs.Candidates.{Pairs, candidate_of, candidate_at, price_if, level_of, is_within_limit, all_on}
+use Rattle.spread_rules.specs.Candidates.{Pairs, candidate_of, candidate_at, price_if, level_of, is_within_limit}
 use Rattle.spread_rules.specs.Quiet.{Rests}
 use Rattle.order_books.specs.Queues.{IsFront, IsFrontLevel}
 use Rattle.spread_books.specs.code.Best.{CoversOne, CoversTwo, IsBeyond}
@@ -67,9 +67,9 @@ beyond_is_none n p v true e = rw e refl
 beyond_is_none n p v false e = refl
 
 -- where the front stands beyond the limit, no order of its queue is within it
-pub none_direct : (n : Order) (xs : List Order) → IsBeyond xs n.instrument (other_side n.side) n → CoversOne all_on n xs n.instrument (other_side n.side) None
-none_direct n xs h = at h.0 h.1 h.2
+pub none_direct : (on : Pairs) (n : Order) (xs : List Order) → IsBeyond xs n.instrument (other_side n.side) n → CoversOne on n xs n.instrument (other_side n.side) None
+none_direct on n xs h = at h.0 h.1 h.2
   where
-    at : (front : Option Order) → IsFront xs n.instrument (other_side n.side) front → IfSome front (λ f. is_within_limit n.side n.price f.price ≡ false) → CoversOne all_on n xs n.instrument (other_side n.side) None
+    at : (front : Option Order) → IsFront xs n.instrument (other_side n.side) front → IfSome front (λ f. is_within_limit n.side n.price f.price ≡ false) → CoversOne on n xs n.instrument (other_side n.side) None
     at None f e = λ o price r eligible. absurd (f o r)
-    at (Some o) f e = subst (CoversOne all_on n xs n.instrument (other_side n.side)) (beyond_is_none n (Direct o) o.price _ e) (front_beats all_on n xs n.instrument o f)
+    at (Some o) f e = subst (CoversOne on n xs n.instrument (other_side n.side)) (beyond_is_none n (Direct o) o.price _ e) (front_beats on n xs n.instrument o f)

@@ -14,7 +14,7 @@ use Rattle.spread_rules.specs.declared.order.Instrument.TheVariants.{Outright, S
 use Rattle.spread_rules.specs.declared.order.Order.{Order}
 use Rattle.spread_rules.specs.declared.candidate.Counterparty.TheVariants.{Implied}
 use Rattle.spread_rules.specs.declared.candidate.Candidate.{Candidate}
-use Rattle.spread_rules.specs.Candidates.{price_if, implied_price, cost, is_within_limit, rank_cmp, price_of, is_before, IsEligible, month_of, takes_part, all_on, HasOrderPrice}
+use Rattle.spread_rules.specs.Candidates.{price_if, implied_price, cost, is_within_limit, rank_cmp, price_of, is_before, IsEligible, month_of, takes_part, all_on, Pairs, HasOrderPrice}
 use Rattle.spread_rules.specs.Prices.{IsOrderPrice, IsLegPrice}
 use Rattle.spread_rules.specs.Legs.{other_side}
 use Rattle.spread_rules.proofs.ranks.PlainIsLeast.{ranks}
@@ -22,9 +22,9 @@ use Rattle.spread_rules.proofs.clearings.BoughtIsSold.{on_price}
 use Rattle.spread_books.specs.Listed.{IsNearBeforeFar, IsNearFirst}
 use Rattle.spread_books.specs.declared.cheapest.PairCost.{PairCost}
 use Rattle.spread_books.specs.code.Best.{Beats, CoversTwo, CoversBelow}
-use Rattle.spread_books.specs.code.Cheapest.{spread_of, spread_side, cost_of_pair, IsPair, HasFront, HasFronts, CostsOfFronts, cheaper_of, IsNoCheaper, IsCheapest}
+use Rattle.spread_books.specs.code.Cheapest.{spread_of, spread_side, is_pair_on, cost_of_pair, IsPair, HasFront, HasFronts, CostsOfFronts, cheaper_of, IsNoCheaper, IsCheapest}
 use Rattle.spread_books.proofs.fronts.PairCost.{within_cost, after_cost, pair_le}
-use Rattle.spread_books.proofs.fronts.BeatAnyPair.{front_best, pair_cost, on_again}
+use Rattle.spread_books.proofs.fronts.BeatAnyPair.{front_best, pair_cost, on_again, was_on}
 use Rattle.spread_books.proofs.fronts.Suffice.{less_or_same}
 use Rattle.spread_books.proofs.fronts.Levels.{front_of_level}
 use Rattle.order_books.specs.Queues.{IsFrontLevel}
@@ -85,17 +85,6 @@ month_pair Buy m k Buy (Spread i j) Sell (Outright l) x y p h near at = far_pair
 month_pair Sell m k Sell (Spread i j) Buy (Outright l) x y p h near at = far_pair Sell m k i j l (holds _ _ p h) near at
 month_pair _ m k _ _ _ _ x y p h near at = cc
 
-pub eligible_pair : (n : Order) (m k : ℕ) (xs : List Order) (a b : Order) (price : ℤ) → n.instrument ≡ Outright m → All IsNearFirst xs →
-    IsEligible all_on n xs (record { price = price; counterparty = Implied a b }) → month_of b.instrument ≡ k → IsPair xs n.side m k a b
-eligible_pair n m k xs a b price is near e at =
-    let shape = month_pair n.side m k a.side a.instrument b.side b.instrument a.price b.price price
-    (subst (λ (i : Instrument). implied_price n.side i a.side a.instrument b.side b.instrument a.price b.price ≡ Some price) is (on_price _ _ price e.meets))
-    ((All-contains IsNearFirst xs a near e.stands.0).near_before_far) at in
-    record {
-      first = record { stands = e.stands.0; instrument_is = shape.of; side_is = shape.sided };
-      second = record { stands = e.stands.1; instrument_is = shape.and; side_is = shape.and_on };
-    }
-
 itself : (m k : ℕ) (v : ℤ) → price_if (m == m && k == k) v ≡ Some v
 itself m k v =
     let a : (m == m) ≡ true = grind (arith, nat_tests) in
@@ -111,98 +100,6 @@ queues_meet s m k x y = by_order s (nat_lt m k)
     by_order Buy false = (_, itself m k _)
     by_order Sell false = (_, itself m k _)
 
-all_take_part : (i a : Instrument) → takes_part all_on i a ≡ true
-all_take_part (Spread i j) a = refl
-all_take_part (Outright m) (Spread i j) = refl
-all_take_part (Outright m) (Outright k) = refl
-
--- two orders of these queues have a price
-pub fronts_price : (n : Order) (m k : ℕ) (xs : List Order) (a b : Order) → n.instrument ≡ Outright m → IsPair xs n.side m k a b → (q : ℤ) × (price_of all_on n (Implied a b) ≡ Some q)
-fronts_price n m k xs a b is p =
-    let r = queues_meet n.side m k a.price b.price in
-    (r.0, on_again _ _ r.0 (all_take_part n.instrument a.instrument) (rw (is, p.first.side_is, p.first.instrument_is, p.second.side_is, p.second.instrument_is) r.1))
-
-price_costs : (n : Order) (m k : ℕ) (xs : List Order) (a b : Order) (price : ℤ) → IsPair xs n.side m k a b → price_of all_on n (Implied a b) ≡ Some price → cost n.side price ≡ cost_of_pair n.side m k a b
-price_costs n m k xs a b price p e = pair_cost all_on n xs (spread_of m k) (spread_side n.side m k) (Outright k) (other_side n.side) a b price p.first p.second e
-
--- ---- one other month more
-
-pub front_least : (xs : List Order) (side : Side) (m k : ℕ) (c : ℤ) (a b : Order) → HasFronts xs side m k c → IsPair xs side m k a b → c ≤ℤ cost_of_pair side m k a b
-front_least xs side m k c a b f p =
-    pair_le c (cost_of_pair side m k a b) _ _ _ _ f.sum refl
-    (front_best all_on xs (spread_of m k) (spread_side side m k) f.a a f.first p.first).0
-    (front_best all_on xs (Outright k) (other_side side) f.b b f.second p.second).0
-
-pub none_cheapest : (xs : List Order) (side : Side) (m : ℕ) → IsCheapest xs side m 0 None
-none_cheapest xs side m = record { fronts = tt; small = tt; below = tt; covers = λ other a b lt p. absurd (omega arith) }
-
-pub fresh : (xs : List Order) (side : Side) (m k : ℕ) (c : ℤ) (other : ℕ) (a b : Order) → HasFronts xs side m k c → other ≡ k → IsPair xs side m other a b →
-    IsNoCheaper (record { cost = c; other_month = k }) (cost_of_pair side m other a b) other
-fresh xs side m k c other a b f same p = record {
-  no_less = subst (λ (j : ℕ). c ≤ℤ cost_of_pair side m j a b) (sym same) (front_least xs side m k c a b f (subst (λ (j : ℕ). IsPair xs side m j a b) same p));
-  no_earlier = λ e. omega (arith, same);
-}
-
-one_more : (xs : List Order) (side : Side) (m k : ℕ) (held : PairCost) (c : ℤ) (b : Bool) → int_lt c held.cost ≡ b → IsCheapest xs side m k (Some held) → HasFronts xs side m k c → IsLegPrice c →
-    IsCheapest xs side m (k + 1) (cond b (Some (record { cost = c; other_month = k })) (Some held))
-one_more xs side m k held c true less h f small = record {
-  fronts = f;
-  small = small;
-  below = omega arith;
-  covers = λ other x y lt p. elim (less_or_same all_on other k lt) [
-    | inl before ↦ (let old = h.covers other x y before p in let cheaper : c <ℤ held.cost = grind (arith, ints, less) in let above = old.no_less in record {
-      no_less = omega (arith, ints, cheaper, above);
-      no_earlier = λ e. absurd (omega (arith, ints, cheaper, above, e));
-    })
-    | inr same ↦ fresh xs side m k c other x y f same p
-  ];
-}
-one_more xs side m k held c false less h f small = record {
-  fronts = h.fronts;
-  small = h.small;
-  below = let at = h.below in omega (arith, at);
-  covers = λ other x y lt p. elim (less_or_same all_on other k lt) [
-    | inl before ↦ h.covers other x y before p
-    | inr same ↦ (let new = fresh xs side m k c other x y f same p in let low = new.no_less in let at = h.below in let dearer : held.cost ≤ℤ c = grind (arith, ints, less) in record {
-      no_less = omega (arith, ints, low, dearer);
-      no_earlier = λ e. omega (arith, at, same);
-    })
-  ];
-}
-
-pub cheapest_more : (xs : List Order) (side : Side) (m k : ℕ) (least : Option PairCost) (c : Option ℤ) → IsCheapest xs side m k least → CostsOfFronts xs side m k c → IfSome c IsLegPrice →
-    IsCheapest xs side m (k + 1) (cheaper_of least c k)
-cheapest_more xs side m k None None h f small = record {
-  fronts = tt;
-  small = tt;
-  below = tt;
-  covers = λ other x y lt p. elim (less_or_same all_on other k lt) [
-    | inl before ↦ h.covers other x y before p
-    | inr same ↦ absurd (f x y (subst (λ (j : ℕ). IsPair xs side m j x y) same p))
-  ];
-}
-cheapest_more xs side m k (Some held) None h f small = record {
-  fronts = h.fronts;
-  small = h.small;
-  below = let at = h.below in omega (arith, at);
-  covers = λ other x y lt p. elim (less_or_same all_on other k lt) [
-    | inl before ↦ h.covers other x y before p
-    | inr same ↦ absurd (f x y (subst (λ (j : ℕ). IsPair xs side m j x y) same p))
-  ];
-}
-cheapest_more xs side m k None (Some c) h f small = record {
-  fronts = f;
-  small = small;
-  below = omega arith;
-  covers = λ other x y lt p. elim (less_or_same all_on other k lt) [
-    | inl before ↦ absurd (h.covers other x y before p)
-    | inr same ↦ fresh xs side m k c other x y f same p
-  ];
-}
-cheapest_more xs side m k (Some held) (Some c) h f small = one_more xs side m k held c (int_lt c held.cost) refl h f small
-
--- ---- who is beaten
-
 later_month : (k l : ℕ) (o q : Ordering) → o ≡ nat_cmp k l → l < k → is_lt (ordering_then o q) ≡ false
 later_month k l Less q e h = let c = ranked k l Less e in absurd (omega arith)
 later_month k l Equal q e h = let c = ranked k l Equal e in absurd (omega arith)
@@ -216,60 +113,171 @@ beats_too : (n : Order) (r : Option Candidate) (p q : Candidate) → Beats n r q
 beats_too n None p q h e = absurd h
 beats_too n (Some o) p q h e = (ranks all_on n).chain p q o e h
 
--- whom a pair of another month meets, the cheapest fronts meet too, and rank before it
-beaten_at : (n : Order) (xs : List Order) (m k : ℕ) (l : PairCost) (r : Option Candidate) (a b : Order) (price : ℤ) (same : Bool) → (k == l.other_month) ≡ same →
-    n.instrument ≡ Outright m → HasFronts xs n.side m l.other_month l.cost →
-    CoversTwo all_on n xs (spread_of m l.other_month) (spread_side n.side m l.other_month) (Outright l.other_month) (other_side n.side) r →
-    IsEligible all_on n xs (record { price = price; counterparty = Implied a b }) → month_of b.instrument ≡ k → IsPair xs n.side m k a b → IsNoCheaper l (cost_of_pair n.side m k a b) k →
-    Beats n r (record { price = price; counterparty = Implied a b })
-beaten_at n xs m k l r a b price true is_same is f covers e at p low =
-    let here = subst (λ (j : ℕ). IsPair xs n.side m j a b) (number_is k l.other_month is_same) p in
-    covers a b price here.first here.second e
-beaten_at n xs m k l r a b price false is_other is f covers e at p low =
-    let fronts : IsPair xs n.side m l.other_month f.a f.b = record { first = f.first.0; second = f.second.0 } in
-    let q = fronts_price n m l.other_month xs f.a f.b is fronts in
-    let cost_q : cost n.side q.0 ≡ l.cost = price_costs n m l.other_month xs f.a f.b q.0 fronts q.1 ∙ sym f.sum in
-    let cost_p : cost n.side price ≡ cost_of_pair n.side m k a b = price_costs n m k xs a b price p e.meets in
-    let under = low.no_less in
-    let less : cost n.side q.0 ≤ℤ cost n.side price = rw (cost_q, cost_p) under in
-    let eligible : IsEligible all_on n xs (record { price = q.0; counterparty = Implied f.a f.b }) = record {
-      stands = (f.first.0.stands, f.second.0.stands);
-      meets = q.1;
-      within = within_cost n.side n.price price q.0 e.within less;
-    } in
-    let held = covers f.a f.b q.0 f.first.0 f.second.0 eligible in
-    let month_is : month_of f.b.instrument ≡ l.other_month = ap month_of f.second.0.instrument_is in
-    beats_too n r (record { price = price; counterparty = Implied a b }) (record { price = q.0; counterparty = Implied f.a f.b }) held
-    (later (cost n.side price) (cost n.side q.0) (month_of b.instrument) (month_of f.b.instrument) a.place f.a.place b.place f.b.place less
-    (λ same. (let order = low.no_earlier (sym cost_p ∙ (same ∙ cost_q)) in let differ : (k == l.other_month) ≡ false = is_other in grind (arith, nat_tests, order, differ, at, month_is))))
-
-pub cheapest_beats : (n : Order) (xs : List Order) (m months : ℕ) (l : PairCost) (r : Option Candidate) → n.instrument ≡ Outright m → All IsNearFirst xs → IsCheapest xs n.side m months (Some l) →
-    CoversTwo all_on n xs (spread_of m l.other_month) (spread_side n.side m l.other_month) (Outright l.other_month) (other_side n.side) r → CoversBelow all_on n xs months r
-cheapest_beats n xs m months l r is near c covers = λ a b price e lt.
-    let k = month_of b.instrument in
-    let p = eligible_pair n m k xs a b price is near e refl in
-    beaten_at n xs m k l r a b price (k == l.other_month) refl is c.fronts covers e refl p (c.covers k a b lt p)
-
--- ---- where no pair is within the limit
-
-pub none_beats : (n : Order) (xs : List Order) (m months : ℕ) (r : Option Candidate) → n.instrument ≡ Outright m → All IsNearFirst xs → IsCheapest xs n.side m months None → CoversBelow all_on n xs months r
-none_beats n xs m months r is near c = λ a b price e lt.
-    absurd (c.covers (month_of b.instrument) a b lt (eligible_pair n m (month_of b.instrument) xs a b price is near e refl))
-
 cost_twice : (side : Side) (c : ℤ) → cost side (cost side c) ≡ c
 cost_twice Buy c = refl
 cost_twice Sell c = omega (arith, ints)
 
-pub too_dear : (n : Order) (xs : List Order) (m months : ℕ) (l : PairCost) (r : Option Candidate) → n.instrument ≡ Outright m → All IsNearFirst xs → IsCheapest xs n.side m months (Some l) →
-    is_within_limit n.side n.price (cost n.side l.cost) ≡ false → CoversBelow all_on n xs months r
-too_dear n xs m months l r is near c beyond = λ a b price e lt.
-    let k = month_of b.instrument in
-    let p = eligible_pair n m k xs a b price is near e refl in
-    let cost_p : cost n.side price ≡ cost_of_pair n.side m k a b = price_costs n m k xs a b price p e.meets in
-    let low = (c.covers k a b lt p).no_less in
-    let less : cost n.side (cost n.side l.cost) ≤ℤ cost n.side price = rw (cost_twice n.side l.cost, cost_p) low in
-    let within : is_within_limit n.side n.price (cost n.side l.cost) ≡ true = within_cost n.side n.price price (cost n.side l.cost) e.within less in
-    (let no : true ≡ false = sym within ∙ beyond in cc)
+module _ (on : Pairs) where
+  -- whether a spread and an order of a month take part
+  pub month_takes_part : (m k : ℕ) → takes_part on (Outright m) (spread_of m k) ≡ is_pair_on on m k
+  month_takes_part m k = by_order (nat_lt m k)
+    where
+      by_order : (b : Bool) → takes_part on (Outright m) (cond b (Spread m k) (Spread k m)) ≡ cond b (on m k) (on k m)
+      by_order true = refl
+      by_order false = refl
+
+  pub pair_takes_part : (n : Order) (m k : ℕ) (a : Instrument) → n.instrument ≡ Outright m → a ≡ spread_of m k → takes_part on n.instrument a ≡ is_pair_on on m k
+  pair_takes_part n m k a is at = ap (λ (i : Instrument). takes_part on i a) is ∙ (ap (takes_part on (Outright m)) at ∙ month_takes_part m k)
+
+  pub eligible_pair : (n : Order) (m k : ℕ) (xs : List Order) (a b : Order) (price : ℤ) → n.instrument ≡ Outright m → All IsNearFirst xs →
+      IsEligible on n xs (record { price = price; counterparty = Implied a b }) → month_of b.instrument ≡ k → IsPair on xs n.side m k a b
+  eligible_pair n m k xs a b price is near e at =
+      let shape = month_pair n.side m k a.side a.instrument b.side b.instrument a.price b.price price
+      (subst (λ (i : Instrument). implied_price n.side i a.side a.instrument b.side b.instrument a.price b.price ≡ Some price) is (on_price _ _ price e.meets))
+      ((All-contains IsNearFirst xs a near e.stands.0).near_before_far) at in
+      record {
+        on = sym (pair_takes_part n m k a.instrument is shape.of) ∙ was_on _ _ price e.meets;
+        first = record { stands = e.stands.0; instrument_is = shape.of; side_is = shape.sided };
+        second = record { stands = e.stands.1; instrument_is = shape.and; side_is = shape.and_on };
+      }
+
+  -- two orders of these queues have a price
+  pub fronts_price : (n : Order) (m k : ℕ) (xs : List Order) (a b : Order) → n.instrument ≡ Outright m → IsPair on xs n.side m k a b → (q : ℤ) × (price_of on n (Implied a b) ≡ Some q)
+  fronts_price n m k xs a b is p =
+      let r = queues_meet n.side m k a.price b.price in
+      (r.0, on_again _ _ r.0 (pair_takes_part n m k a.instrument is p.first.instrument_is ∙ p.on) (rw (is, p.first.side_is, p.first.instrument_is, p.second.side_is, p.second.instrument_is) r.1))
+
+  price_costs : (n : Order) (m k : ℕ) (xs : List Order) (a b : Order) (price : ℤ) → IsPair on xs n.side m k a b → price_of on n (Implied a b) ≡ Some price → cost n.side price ≡ cost_of_pair n.side m k a b
+  price_costs n m k xs a b price p e = pair_cost on n xs (spread_of m k) (spread_side n.side m k) (Outright k) (other_side n.side) a b price p.first p.second e
+
+  -- ---- one other month more
+
+  pub front_least : (xs : List Order) (side : Side) (m k : ℕ) (c : ℤ) (a b : Order) → HasFronts on xs side m k c → IsPair on xs side m k a b → c ≤ℤ cost_of_pair side m k a b
+  front_least xs side m k c a b f p =
+      pair_le c (cost_of_pair side m k a b) _ _ _ _ f.sum refl
+      (front_best on xs (spread_of m k) (spread_side side m k) f.a a f.first p.first).0
+      (front_best on xs (Outright k) (other_side side) f.b b f.second p.second).0
+
+  pub none_cheapest : (xs : List Order) (side : Side) (m : ℕ) → IsCheapest on xs side m 0 None
+  none_cheapest xs side m = record { fronts = tt; small = tt; below = tt; covers = λ other a b lt p. absurd (omega arith) }
+
+  pub fresh : (xs : List Order) (side : Side) (m k : ℕ) (c : ℤ) (other : ℕ) (a b : Order) → HasFronts on xs side m k c → other ≡ k → IsPair on xs side m other a b →
+      IsNoCheaper (record { cost = c; other_month = k }) (cost_of_pair side m other a b) other
+  fresh xs side m k c other a b f same p = record {
+    no_less = subst (λ (j : ℕ). c ≤ℤ cost_of_pair side m j a b) (sym same) (front_least xs side m k c a b f (subst (λ (j : ℕ). IsPair on xs side m j a b) same p));
+    no_earlier = λ e. omega (arith, same);
+  }
+
+  one_more : (xs : List Order) (side : Side) (m k : ℕ) (held : PairCost) (c : ℤ) (b : Bool) → int_lt c held.cost ≡ b → IsCheapest on xs side m k (Some held) → HasFronts on xs side m k c → IsLegPrice c →
+      IsCheapest on xs side m (k + 1) (cond b (Some (record { cost = c; other_month = k })) (Some held))
+  one_more xs side m k held c true less h f small = record {
+    fronts = f;
+    small = small;
+    below = omega arith;
+    covers = λ other x y lt p. elim (less_or_same on other k lt) [
+      | inl before ↦ (let old = h.covers other x y before p in let cheaper : c <ℤ held.cost = grind (arith, ints, less) in let above = old.no_less in record {
+        no_less = omega (arith, ints, cheaper, above);
+        no_earlier = λ e. absurd (omega (arith, ints, cheaper, above, e));
+      })
+      | inr same ↦ fresh xs side m k c other x y f same p
+    ];
+  }
+  one_more xs side m k held c false less h f small = record {
+    fronts = h.fronts;
+    small = h.small;
+    below = let at = h.below in omega (arith, at);
+    covers = λ other x y lt p. elim (less_or_same on other k lt) [
+      | inl before ↦ h.covers other x y before p
+      | inr same ↦ (let new = fresh xs side m k c other x y f same p in let low = new.no_less in let at = h.below in let dearer : held.cost ≤ℤ c = grind (arith, ints, less) in record {
+        no_less = omega (arith, ints, low, dearer);
+        no_earlier = λ e. omega (arith, at, same);
+      })
+    ];
+  }
+
+  pub cheapest_more : (xs : List Order) (side : Side) (m k : ℕ) (least : Option PairCost) (c : Option ℤ) → IsCheapest on xs side m k least → CostsOfFronts on xs side m k c → IfSome c IsLegPrice →
+      IsCheapest on xs side m (k + 1) (cheaper_of least c k)
+  cheapest_more xs side m k None None h f small = record {
+    fronts = tt;
+    small = tt;
+    below = tt;
+    covers = λ other x y lt p. elim (less_or_same on other k lt) [
+      | inl before ↦ h.covers other x y before p
+      | inr same ↦ absurd (f x y (subst (λ (j : ℕ). IsPair on xs side m j x y) same p))
+    ];
+  }
+  cheapest_more xs side m k (Some held) None h f small = record {
+    fronts = h.fronts;
+    small = h.small;
+    below = let at = h.below in omega (arith, at);
+    covers = λ other x y lt p. elim (less_or_same on other k lt) [
+      | inl before ↦ h.covers other x y before p
+      | inr same ↦ absurd (f x y (subst (λ (j : ℕ). IsPair on xs side m j x y) same p))
+    ];
+  }
+  cheapest_more xs side m k None (Some c) h f small = record {
+    fronts = f;
+    small = small;
+    below = omega arith;
+    covers = λ other x y lt p. elim (less_or_same on other k lt) [
+      | inl before ↦ absurd (h.covers other x y before p)
+      | inr same ↦ fresh xs side m k c other x y f same p
+    ];
+  }
+  cheapest_more xs side m k (Some held) (Some c) h f small = one_more xs side m k held c (int_lt c held.cost) refl h f small
+
+  -- ---- who is beaten
+
+  -- whom a pair of another month meets, the cheapest fronts meet too, and rank before it
+  beaten_at : (n : Order) (xs : List Order) (m k : ℕ) (l : PairCost) (r : Option Candidate) (a b : Order) (price : ℤ) (same : Bool) → (k == l.other_month) ≡ same →
+      n.instrument ≡ Outright m → HasFronts on xs n.side m l.other_month l.cost →
+      CoversTwo on n xs (spread_of m l.other_month) (spread_side n.side m l.other_month) (Outright l.other_month) (other_side n.side) r →
+      IsEligible on n xs (record { price = price; counterparty = Implied a b }) → month_of b.instrument ≡ k → IsPair on xs n.side m k a b → IsNoCheaper l (cost_of_pair n.side m k a b) k →
+      Beats n r (record { price = price; counterparty = Implied a b })
+  beaten_at n xs m k l r a b price true is_same is f covers e at p low =
+      let here = subst (λ (j : ℕ). IsPair on xs n.side m j a b) (number_is k l.other_month is_same) p in
+      covers a b price here.first here.second e
+  beaten_at n xs m k l r a b price false is_other is f covers e at p low =
+      let fronts : IsPair on xs n.side m l.other_month f.a f.b = record { on = f.on; first = f.first.0; second = f.second.0 } in
+      let q = fronts_price n m l.other_month xs f.a f.b is fronts in
+      let cost_q : cost n.side q.0 ≡ l.cost = price_costs n m l.other_month xs f.a f.b q.0 fronts q.1 ∙ sym f.sum in
+      let cost_p : cost n.side price ≡ cost_of_pair n.side m k a b = price_costs n m k xs a b price p e.meets in
+      let under = low.no_less in
+      let less : cost n.side q.0 ≤ℤ cost n.side price = rw (cost_q, cost_p) under in
+      let eligible : IsEligible on n xs (record { price = q.0; counterparty = Implied f.a f.b }) = record {
+        stands = (f.first.0.stands, f.second.0.stands);
+        meets = q.1;
+        within = within_cost n.side n.price price q.0 e.within less;
+      } in
+      let held = covers f.a f.b q.0 f.first.0 f.second.0 eligible in
+      let month_is : month_of f.b.instrument ≡ l.other_month = ap month_of f.second.0.instrument_is in
+      beats_too n r (record { price = price; counterparty = Implied a b }) (record { price = q.0; counterparty = Implied f.a f.b }) held
+      (later (cost n.side price) (cost n.side q.0) (month_of b.instrument) (month_of f.b.instrument) a.place f.a.place b.place f.b.place less
+      (λ same. (let order = low.no_earlier (sym cost_p ∙ (same ∙ cost_q)) in let differ : (k == l.other_month) ≡ false = is_other in grind (arith, nat_tests, order, differ, at, month_is))))
+
+  pub cheapest_beats : (n : Order) (xs : List Order) (m months : ℕ) (l : PairCost) (r : Option Candidate) → n.instrument ≡ Outright m → All IsNearFirst xs → IsCheapest on xs n.side m months (Some l) →
+      CoversTwo on n xs (spread_of m l.other_month) (spread_side n.side m l.other_month) (Outright l.other_month) (other_side n.side) r → CoversBelow on n xs months r
+  cheapest_beats n xs m months l r is near c covers = λ a b price e lt.
+      let k = month_of b.instrument in
+      let p = eligible_pair n m k xs a b price is near e refl in
+      beaten_at n xs m k l r a b price (k == l.other_month) refl is c.fronts covers e refl p (c.covers k a b lt p)
+
+  -- ---- where no pair is within the limit
+
+  pub none_beats : (n : Order) (xs : List Order) (m months : ℕ) (r : Option Candidate) → n.instrument ≡ Outright m → All IsNearFirst xs → IsCheapest on xs n.side m months None → CoversBelow on n xs months r
+  none_beats n xs m months r is near c = λ a b price e lt.
+      absurd (c.covers (month_of b.instrument) a b lt (eligible_pair n m (month_of b.instrument) xs a b price is near e refl))
+
+  pub too_dear : (n : Order) (xs : List Order) (m months : ℕ) (l : PairCost) (r : Option Candidate) → n.instrument ≡ Outright m → All IsNearFirst xs → IsCheapest on xs n.side m months (Some l) →
+      is_within_limit n.side n.price (cost n.side l.cost) ≡ false → CoversBelow on n xs months r
+  too_dear n xs m months l r is near c beyond = λ a b price e lt.
+      let k = month_of b.instrument in
+      let p = eligible_pair n m k xs a b price is near e refl in
+      let cost_p : cost n.side price ≡ cost_of_pair n.side m k a b = price_costs n m k xs a b price p e.meets in
+      let low = (c.covers k a b lt p).no_less in
+      let less : cost n.side (cost n.side l.cost) ≤ℤ cost n.side price = rw (cost_twice n.side l.cost, cost_p) low in
+      let within : is_within_limit n.side n.price (cost n.side l.cost) ≡ true = within_cost n.side n.price price (cost n.side l.cost) e.within less in
+      (let no : true ≡ false = sym within ∙ beyond in cc)
 
 -- ---- what two levels cost together
 
@@ -284,8 +292,9 @@ level_costs xs of side l paid h e =
     let f = front_of_level xs of side l h in
     record { front = f.0; is = f.1.front; sum = e ∙ ap (λ (k : Level). cost (other_side side) k.price) (sym f.1.stands) }
 
-pub fronts_cost : (xs : List Order) (side : Side) (m k : ℕ) (c d : ℤ) → HasFront xs (spread_of m k) (spread_side side m k) c → HasFront xs (Outright k) (other_side side) d → HasFronts xs side m k (c +ℤ d)
-fronts_cost xs side m k c d f s = record {
+pub fronts_cost : (on : Pairs) (xs : List Order) (side : Side) (m k : ℕ) (c d : ℤ) → is_pair_on on m k ≡ true → HasFront xs (spread_of m k) (spread_side side m k) c → HasFront xs (Outright k) (other_side side) d → HasFronts on xs side m k (c +ℤ d)
+fronts_cost on xs side m k c d part f s = record {
+  on = part;
   a = f.front;
   b = s.front;
   first = f.is;

@@ -8,7 +8,7 @@ use Rattle.spread_rules.specs.declared.order.Instrument.{Instrument}
 use Rattle.spread_rules.specs.declared.order.Instrument.TheVariants.{Outright, Spread}
 use Rattle.spread_rules.specs.declared.order.Order.{Order}
 use Rattle.spread_rules.specs.declared.order.Level.{Level}
-use Rattle.spread_rules.specs.Candidates.{HasOrderPrice}
+use Rattle.spread_rules.specs.Candidates.{Pairs, HasOrderPrice}
 use Rattle.spread_rules.specs.Clearing.{removed}
 use Rattle.spread_rules.specs.Legs.{other_side}
 use Rattle.spread_rules.specs.Prices.{IsOrderPrice}
@@ -37,11 +37,11 @@ cell_once Sell Buy m k e = absurd (omega (arith, e))
 pub other_cell : (cells : List (Option PairCost)) (s t : Side) (m k : ℕ) (pair : Option PairCost) → ((t ≡ s) × (k ≡ m) → ⊥) → known_pair (slice_set cells (cell_of s m) pair) t k ≡ known_pair cells t k
 other_cell cells s t m k pair other = get_set_other cells (cell_of s m) (cell_of t k) pair (λ e. let q = cell_once s t m k e in other (sym q.0, sym q.1))
 
-pub own_cell : (months : ℕ) (xs : List Order) (cells : List (Option PairCost)) (s : Side) (m : ℕ) (pair : Option PairCost) → IsCheapest xs s m months pair → HasCheapest months xs (slice_set cells (cell_of s m) pair) s m
-own_cell months xs cells s m pair h least e = subst (IsCheapest xs s m months) (sym (get_set_same cells (cell_of s m) pair least e)) h
+pub own_cell : (on : Pairs) (months : ℕ) (xs : List Order) (cells : List (Option PairCost)) (s : Side) (m : ℕ) (pair : Option PairCost) → IsCheapest on xs s m months pair → HasCheapest on months xs (slice_set cells (cell_of s m) pair) s m
+own_cell on months xs cells s m pair h least e = subst (IsCheapest on xs s m months) (sym (get_set_same cells (cell_of s m) pair least e)) h
 
-pub cell_as : (months : ℕ) (xs : List Order) (old new : List (Option PairCost)) (t : Side) (m : ℕ) → known_pair new t m ≡ known_pair old t m → HasCheapest months xs old t m → HasCheapest months xs new t m
-cell_as months xs old new t m same h least e = h least (sym same ∙ e)
+pub cell_as : (on : Pairs) (months : ℕ) (xs : List Order) (old new : List (Option PairCost)) (t : Side) (m : ℕ) → known_pair new t m ≡ known_pair old t m → HasCheapest on months xs old t m → HasCheapest on months xs new t m
+cell_as on months xs old new t m same h least e = h least (sym same ∙ e)
 
 -- ---- in which column a queue is
 
@@ -87,28 +87,28 @@ column_kept xs ys i s t m k one out = record {
 
 -- ---- rows that the changed queue is in, and all others
 
-module _ (months : ℕ) (xs ys : List Order) where
+module _ (on : Pairs) (months : ℕ) (xs ys : List Order) where
   pub outright_renewed : (old new : List (Option PairCost)) (j : ℕ) (s : Side) →
       ((t : Side) (m : ℕ) → (t ≡ other_side s → ⊥) → known_pair new t m ≡ known_pair old t m) →
-      ((m : ℕ) → m < months → KeepsOthers xs ys (other_side s) m j → HasCheapest months xs old (other_side s) m → HasCheapest months ys new (other_side s) m) →
-      ChangesOneQueue xs ys (Outright j) s → AreCheapest months xs old → AreCheapest months ys new
+      ((m : ℕ) → m < months → KeepsOthers xs ys (other_side s) m j → HasCheapest on months xs old (other_side s) m → HasCheapest on months ys new (other_side s) m) →
+      ChangesOneQueue xs ys (Outright j) s → AreCheapest on months xs old → AreCheapest on months ys new
   outright_renewed old new j s rest own one h t m lt =
       elim (other_or_same t s) [
-        | inl e ↦ subst (λ (u : Side). HasCheapest months ys new u m) (sym e)
+        | inl e ↦ subst (λ (u : Side). HasCheapest on months ys new u m) (sym e)
             (own m lt (λ k other. column_kept xs ys (Outright j) s (other_side s) m k one (λ c. other (outright_column j s (other_side s) m k c).1)) (h (other_side s) m lt))
         | inr e ↦ λ least known.
             let apart : t ≡ other_side s → ⊥ = λ f. not_other s (sym e ∙ f) in
-            kept_row xs ys t m months least
+            kept_row on xs ys t m months least
             (λ k below. column_kept xs ys (Outright j) s t m k one (λ c. apart (back s t (outright_column j s t m k c).0)))
             (h t m lt least (sym (rest t m apart) ∙ known))
       ]
 
   pub spread_renewed : (old mid new : List (Option PairCost)) (near far : ℕ) (s : Side) →
       ((t : Side) (m : ℕ) → ((t ≡ other_side s) × (m ≡ near) → ⊥) → known_pair mid t m ≡ known_pair old t m) →
-      (KeepsOthers xs ys (other_side s) near far → HasCheapest months xs old (other_side s) near → HasCheapest months ys mid (other_side s) near) →
+      (KeepsOthers xs ys (other_side s) near far → HasCheapest on months xs old (other_side s) near → HasCheapest on months ys mid (other_side s) near) →
       ((t : Side) (m : ℕ) → ((t ≡ s) × (m ≡ far) → ⊥) → known_pair new t m ≡ known_pair mid t m) →
-      (KeepsOthers xs ys s far near → HasCheapest months xs mid s far → HasCheapest months ys new s far) →
-      ChangesOneQueue xs ys (Spread near far) s → AreCheapest months xs old → AreCheapest months ys new
+      (KeepsOthers xs ys s far near → HasCheapest on months xs mid s far → HasCheapest on months ys new s far) →
+      ChangesOneQueue xs ys (Spread near far) s → AreCheapest on months xs old → AreCheapest on months ys new
   spread_renewed old mid new near far s rest own rest-2 own-2 one h t m lt =
       elim (other_or_same t s) [
         | inl e ↦ elim (is_so (m == near)) [
@@ -119,12 +119,12 @@ module _ (months : ℕ) (xs ys : List Order) where
                 | inl q ↦ other q.2
                 | inr q ↦ not_other s q.0
               ]) in
-              let renewed = cell_as months ys mid new (other_side s) near (rest-2 (other_side s) near (λ q. not_other s (sym q.0))) (own others (h (other_side s) near (subst (λ (k : ℕ). k < months) at lt))) in
-              subst (λ (u : Side). HasCheapest months ys new u m) (sym e) (subst (λ (k : ℕ). HasCheapest months ys new (other_side s) k) (sym at) renewed)
+              let renewed = cell_as on months ys mid new (other_side s) near (rest-2 (other_side s) near (λ q. not_other s (sym q.0))) (own others (h (other_side s) near (subst (λ (k : ℕ). k < months) at lt))) in
+              subst (λ (u : Side). HasCheapest on months ys new u m) (sym e) (subst (λ (k : ℕ). HasCheapest on months ys new (other_side s) k) (sym at) renewed)
           | inr i ↦ λ least known.
               let apart : m ≡ near → ⊥ = λ f. grind (arith, nat_tests, i, f) in
               let not_same : t ≡ s → ⊥ = λ f. not_other s (sym f ∙ e) in
-              kept_row xs ys t m months least
+              kept_row on xs ys t m months least
               (λ k below. column_kept xs ys (Spread near far) s t m k one (λ c.
               elim (spread_column near far s t m k c) [
                 | inl q ↦ apart q.1
@@ -142,11 +142,11 @@ module _ (months : ℕ) (xs ys : List Order) where
                     | inl q ↦ not_other s q.0
                     | inr q ↦ other q.2
                   ]) in
-                  let was = cell_as months xs old mid s far (rest s far (λ q. not_other s q.0)) (h s far (subst (λ (k : ℕ). k < months) at lt)) in
-                  subst (λ (u : Side). HasCheapest months ys new u m) (sym e) (subst (λ (k : ℕ). HasCheapest months ys new s k) (sym at) (own-2 others was))
+                  let was = cell_as on months xs old mid s far (rest s far (λ q. not_other s q.0)) (h s far (subst (λ (k : ℕ). k < months) at lt)) in
+                  subst (λ (u : Side). HasCheapest on months ys new u m) (sym e) (subst (λ (k : ℕ). HasCheapest on months ys new s k) (sym at) (own-2 others was))
               | inr i ↦ λ least known.
                   let apart : m ≡ far → ⊥ = λ f. grind (arith, nat_tests, i, f) in
-                  kept_row xs ys t m months least
+                  kept_row on xs ys t m months least
                   (λ k below. column_kept xs ys (Spread near far) s t m k one (λ c.
                   elim (spread_column near far s t m k c) [
                     | inl q ↦ not_opposite (back s t q.0)
@@ -158,9 +158,9 @@ module _ (months : ℕ) (xs ys : List Order) where
 
   -- ---- where no front costs something else
 
-  pub all_kept : (cells : List (Option PairCost)) → ((j : Instrument) (t : Side) → KeepsCost xs ys j t) → AreCheapest months xs cells → AreCheapest months ys cells
+  pub all_kept : (cells : List (Option PairCost)) → ((j : Instrument) (t : Side) → KeepsCost xs ys j t) → AreCheapest on months xs cells → AreCheapest on months ys cells
   all_kept cells keep h t m lt least known =
-      kept_row xs ys t m months least (λ k below. record { first = keep (spread_of m k) (spread_side t m k); second = keep (Outright k) (other_side t) }) (h t m lt least known)
+      kept_row on xs ys t m months least (λ k below. record { first = keep (spread_of m k) (spread_side t m k); second = keep (Outright k) (other_side t) }) (h t m lt least known)
 
 -- in each queue, where that holds of its own and of all others
 in_each : (xs ys : List Order) (i : Instrument) (s : Side) → KeepsCost xs ys i s → ChangesOneQueue xs ys i s → (j : Instrument) (t : Side) → KeepsCost xs ys j t
@@ -188,19 +188,19 @@ left_kept xs ys o l h good =
 
 -- ---- the whole table
 
-empty_row : (s : Side) (m months : ℕ) → IsCheapest [] s m months None
-empty_row s m months = record { fronts = tt; small = tt; below = tt; covers = λ k a b lt p. not_in_nil a p.first.stands }
+empty_row : (on : Pairs) (s : Side) (m months : ℕ) → IsCheapest on [] s m months None
+empty_row on s m months = record { fronts = tt; small = tt; below = tt; covers = λ k a b lt p. not_in_nil a p.first.stands }
 
-pub empty_table : (months n : ℕ) → IsQuoted months [] (replicate n None)
-empty_table months n = record {
+pub empty_table : (on : Pairs) (months n : ℕ) → IsQuoted on months [] (replicate n None)
+empty_table on months n = record {
   small = all_of HasOrderPrice [] (λ o c. absurd (not_in_nil o c));
   within = all_of (λ (o : Order). IsInMonths months o.instrument) [] (λ o c. absurd (not_in_nil o c));
-  cheapest = λ s m lt least e. subst (IsCheapest [] s m months) (sym (get_replicate n (cell_of s m) None least e)) (empty_row s m months);
+  cheapest = λ s m lt least e. subst (IsCheapest on [] s m months) (sym (get_replicate n (cell_of s m) None least e)) (empty_row on s m months);
 }
 
 -- of more months than the orders are of
-pub more_months : (xs : List Order) (s : Side) (m months most : ℕ) (least : Option PairCost) → months ≤ most → All (λ o. IsInMonths months o.instrument) xs → IsCheapest xs s m months least → IsCheapest xs s m most least
-more_months xs s m months most least h within c = record {
+pub more_months : (on : Pairs) (xs : List Order) (s : Side) (m months most : ℕ) (least : Option PairCost) → months ≤ most → All (λ o. IsInMonths months o.instrument) xs → IsCheapest on xs s m months least → IsCheapest on xs s m most least
+more_months on xs s m months most least h within c = record {
   fronts = c.fronts;
   small = c.small;
   below = lower least c.below;
@@ -227,18 +227,18 @@ pub removed_all : (P : Order → Type 0) (xs : List Order) (place : ℕ) → All
 removed_all P xs place h = all_of P (removed place xs) (λ o c. All-contains P xs o h (from_removed place xs o c).0)
 
 -- one order more, and the table renewed
-pub come_table : (months : ℕ) (xs ys : List Order) (o : Order) (l : Option Level) (old new : List (Option PairCost)) → IsQuoted months xs old → IsListed months o → HasCome xs ys o l →
-    (AreCheapest months xs old → AreCheapest months ys new) → IsQuoted months ys new
-come_table months xs ys o l old new h own come renewed = record {
+pub come_table : (on : Pairs) (months : ℕ) (xs ys : List Order) (o : Order) (l : Option Level) (old new : List (Option PairCost)) → IsQuoted on months xs old → IsListed months o → HasCome xs ys o l →
+    (AreCheapest on months xs old → AreCheapest on months ys new) → IsQuoted on months ys new
+come_table on months xs ys o l old new h own come renewed = record {
   small = subst (λ (zs : List Order). All HasOrderPrice zs) (sym come.is) (pushed_all HasOrderPrice xs o h.small own.small);
   within = subst (λ (zs : List Order). All (λ (p : Order). IsInMonths months p.instrument) zs) (sym come.is) (pushed_all (λ (p : Order). IsInMonths months p.instrument) xs o h.within own.within);
   cheapest = renewed h.cheapest;
 }
 
 -- one order less, and the table renewed
-pub left_table : (months : ℕ) (xs ys : List Order) (o : Order) (l : Option Level) (old new : List (Option PairCost)) → IsQuoted months xs old → HasLeft xs ys o l →
-    (AreCheapest months xs old → AreCheapest months ys new) → IsQuoted months ys new
-left_table months xs ys o l old new h left renewed = record {
+pub left_table : (on : Pairs) (months : ℕ) (xs ys : List Order) (o : Order) (l : Option Level) (old new : List (Option PairCost)) → IsQuoted on months xs old → HasLeft xs ys o l →
+    (AreCheapest on months xs old → AreCheapest on months ys new) → IsQuoted on months ys new
+left_table on months xs ys o l old new h left renewed = record {
   small = subst (λ (zs : List Order). All HasOrderPrice zs) (sym left.is) (removed_all HasOrderPrice xs o.place h.small);
   within = subst (λ (zs : List Order). All (λ (p : Order). IsInMonths months p.instrument) zs) (sym left.is) (removed_all (λ (p : Order). IsInMonths months p.instrument) xs o.place h.within);
   cheapest = renewed h.cheapest;
@@ -252,14 +252,14 @@ module _ (f : Order → Order) (keeps : KeepsQueue f) (place : ℕ) where
       let m = from_map (changed_at f place) xs o c in
       subst P (sym (key_kept key f kept place m.0) ∙ ap key m.2) (All-contains (λ (q : Order). P (key q)) xs m.0 h m.1))
 
-  pub changed_table : (listed : Bool) (months : ℕ) (xs : List Order) (cells : List (Option PairCost)) → KeepsTable listed months xs cells → KeepsTable listed months (changed f place xs) cells
-  changed_table listed months xs cells h = record {
+  pub changed_table : (listed : Bool) (on : Pairs) (months : ℕ) (xs : List Order) (cells : List (Option PairCost)) → KeepsTable listed on months xs cells → KeepsTable listed on months (changed f place xs) cells
+  changed_table listed on months xs cells h = record {
     most = h.most;
     quoted = λ e.
         let q = h.quoted e in
         record {
           small = changed_all (λ (o : Order). o.price) keeps.price IsOrderPrice xs q.small;
           within = changed_all (λ (o : Order). o.instrument) keeps.instrument (IsInMonths months) xs q.within;
-          cheapest = all_kept months xs (changed f place xs) cells (λ j t. changed_in_queue f keeps xs place j t) q.cheapest;
+          cheapest = all_kept on months xs (changed f place xs) cells (λ j t. changed_in_queue f keeps xs place j t) q.cheapest;
         };
   }

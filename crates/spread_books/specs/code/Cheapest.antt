@@ -1,12 +1,12 @@
 -- The pairs of fronts that meet an order of one month and side, what they cost, and which costs the least.
 -- Words of the code alone.
-use Rattle.std.specs.Prelude.{◌≡◌, ℕ, ◌==◌, ℤ, ◌<◌, ◌≤◌, ◌+ℤ◌, ◌≤ℤ◌, nat_lt, int_lt, Bool, ◌&&◌, cond, List, Option, Some, None, IfSome, IsSomeAnd, ◌⊎◌}
+use Rattle.std.specs.Prelude.{◌≡◌, ℕ, ◌==◌, ℤ, ◌<◌, ◌≤◌, ◌+ℤ◌, ◌≤ℤ◌, nat_lt, int_lt, Bool, true, ◌&&◌, cond, List, Option, Some, None, IfSome, IsSomeAnd, ◌⊎◌}
 use Rattle.std.specs.Ordering.{nat_cmp, int_cmp, ordering_then, is_lt}
 use Rattle.spread_rules.specs.declared.order.Side.{Side}
 use Rattle.spread_rules.specs.declared.order.Instrument.{Instrument}
 use Rattle.spread_rules.specs.declared.order.Instrument.TheVariants.{Outright, Spread}
 use Rattle.spread_rules.specs.declared.order.Order.{Order}
-use Rattle.spread_rules.specs.Candidates.{cost}
+use Rattle.spread_rules.specs.Candidates.{Pairs, cost}
 use Rattle.spread_rules.specs.Quiet.{Rests}
 use Rattle.spread_rules.specs.Prices.{IsLegPrice}
 use Rattle.spread_rules.specs.Legs.{other_side}
@@ -21,19 +21,28 @@ spread_of month other = cond (nat_lt month other) (Spread month other) (Spread o
 abbrev pub spread_side : Side → ℕ → ℕ → Side
 spread_side side month other = cond (nat_lt month other) (other_side side) side
 
+-- whether the pair of these two months takes part in implied trading
+abbrev pub is_pair_on : Pairs → ℕ → ℕ → Bool
+is_pair_on trades_implied month other =
+    cond (nat_lt month other) (trades_implied month other) (trades_implied other month)
+
 -- what two such orders together cost a new order of that side and month
 abbrev pub cost_of_pair : Side → ℕ → ℕ → Order → Order → ℤ
 cost_of_pair side month other a b =
     cost (other_side (spread_side side month other)) a.price
     +ℤ cost (other_side (other_side side)) b.price
 
--- two orders of the queues that meet a new order of that side and month together
-pub record IsPair (xs : List Order) (side : Side) (month other : ℕ) (a b : Order) : Type 0 where
+-- two orders of the queues that meet a new order of that side and month together, where their pair of months takes part
+pub record IsPair
+    (trades_implied : Pairs) (xs : List Order) (side : Side) (month other : ℕ) (a b : Order) : Type 0 where
+  pub on : is_pair_on trades_implied month other ≡ true
   pub first : Rests xs (spread_of month other) (spread_side side month other) a
   pub second : Rests xs (Outright other) (other_side side) b
 
 -- the fronts of these queues, and what they cost
-pub record HasFronts (xs : List Order) (side : Side) (month other : ℕ) (cost : ℤ) : Type 0 where
+pub record HasFronts
+    (trades_implied : Pairs) (xs : List Order) (side : Side) (month other : ℕ) (cost : ℤ) : Type 0 where
+  pub on : is_pair_on trades_implied month other ≡ true
   pub a : Order
   pub b : Order
   pub first : IsFront xs (spread_of month other) (spread_side side month other) (Some a)
@@ -52,10 +61,12 @@ abbrev pub CostsOfFront : List Order → Instrument → Side → Option ℤ → 
 CostsOfFront xs instrument side None = (o : Order) → Rests xs instrument side o → ⊥
 CostsOfFront xs instrument side (Some paid) = HasFront xs instrument side paid
 
--- what the fronts of the two queues cost, and none where a queue is empty
-abbrev pub CostsOfFronts : List Order → Side → ℕ → ℕ → Option ℤ → Type 0
-CostsOfFronts xs side month other None = (a b : Order) → IsPair xs side month other a b → ⊥
-CostsOfFronts xs side month other (Some cost) = HasFronts xs side month other cost
+-- what the fronts of the two queues cost, and none where a queue is empty or the pair of months takes no part
+abbrev pub CostsOfFronts : Pairs → List Order → Side → ℕ → ℕ → Option ℤ → Type 0
+CostsOfFronts trades_implied xs side month other None =
+    (a b : Order) → IsPair trades_implied xs side month other a b → ⊥
+CostsOfFronts trades_implied xs side month other (Some cost) =
+    HasFronts trades_implied xs side month other cost
 
 -- the one of two that costs less, the earlier one where they cost the same
 abbrev pub cheaper_of : Option PairCost → Option ℤ → ℕ → Option PairCost
@@ -69,15 +80,16 @@ pub record IsNoCheaper (held : PairCost) (cost : ℤ) (other : ℕ) : Type 0 whe
   pub no_less : held.cost ≤ℤ cost
   pub no_earlier : cost ≡ held.cost → held.other_month ≤ other
 
--- the fronts that cost the least among those of so many months
+-- the fronts that cost the least among those of so many months whose pairs take part
 pub record IsCheapest
-    (xs : List Order) (side : Side) (month months : ℕ) (least : Option PairCost) : Type 0 where
-  pub fronts : IfSome least (λ l. HasFronts xs side month l.other_month l.cost)
+    (trades_implied : Pairs) (xs : List Order) (side : Side) (month months : ℕ)
+    (least : Option PairCost) : Type 0 where
+  pub fronts : IfSome least (λ l. HasFronts trades_implied xs side month l.other_month l.cost)
   pub small : IfSome least (λ l. IsLegPrice l.cost)
   pub below : IfSome least (λ l. l.other_month < months)
   pub covers :
       (other : ℕ) (a b : Order) → other < months
-      → IsPair xs side month other a b
+      → IsPair trades_implied xs side month other a b
       → IsSomeAnd least (λ l. IsNoCheaper l (cost_of_pair side month other a b) other)
 
 -- that queue is one of the two queues of that other month

@@ -6,7 +6,7 @@ use Rattle.spread_rules.specs.declared.order.Side.{Side}
 use Rattle.spread_rules.specs.declared.order.Instrument.{Instrument}
 use Rattle.spread_rules.specs.declared.order.Order.{Order}
 use Rattle.spread_rules.specs.declared.order.Level.{Level}
-use Rattle.spread_rules.specs.Candidates.{cost, HasOrderPrice}
+use Rattle.spread_rules.specs.Candidates.{Pairs, cost, HasOrderPrice}
 use Rattle.spread_rules.specs.Clearing.{removed}
 use Rattle.spread_rules.specs.Legs.{other_side}
 use Rattle.order_tables.specs.Places.{Ascends}
@@ -24,15 +24,17 @@ abbrev pub known_pair : List (Option PairCost) → Side → ℕ → Option (Opti
 known_pair cells side month = slice_get cells (cell_of side month)
 
 -- what it has costs the least
-abbrev pub HasCheapest : ℕ → List Order → List (Option PairCost) → Side → ℕ → Type 0
-HasCheapest months xs cells side month =
+abbrev pub HasCheapest : Pairs → ℕ → List Order → List (Option PairCost) → Side → ℕ → Type 0
+HasCheapest trades_implied months xs cells side month =
     (least : Option PairCost)
-    → known_pair cells side month ≡ Some least → IsCheapest xs side month months least
+    → known_pair cells side month ≡ Some least
+    → IsCheapest trades_implied xs side month months least
 
 -- and so in each cell
-abbrev pub AreCheapest : ℕ → List Order → List (Option PairCost) → Type 0
-AreCheapest months xs cells =
-    (side : Side) (month : ℕ) → month < months → HasCheapest months xs cells side month
+abbrev pub AreCheapest : Pairs → ℕ → List Order → List (Option PairCost) → Type 0
+AreCheapest trades_implied months xs cells =
+    (side : Side) (month : ℕ)
+    → month < months → HasCheapest trades_implied months xs cells side month
 
 -- in no queue but that one the front costs something else
 abbrev pub ChangesOneQueue : List Order → List Order → Instrument → Side → Type 0
@@ -63,13 +65,15 @@ pub record IsListed (months : ℕ) (o : Order) : Type 0 where
   pub small : HasOrderPrice o
 
 -- the orders are of so many months and at prices of orders, and each cell has what costs the least
-pub record IsQuoted (months : ℕ) (xs : List Order) (cells : List (Option PairCost)) : Type 0 where
+pub record IsQuoted
+    (trades_implied : Pairs) (months : ℕ) (xs : List Order) (cells : List (Option PairCost)) : Type 0 where
   pub small : All HasOrderPrice xs
   pub within : All (λ o. IsInMonths months o.instrument) xs
-  pub cheapest : AreCheapest months xs cells
+  pub cheapest : AreCheapest trades_implied months xs cells
 
 -- so it is as long as each order that came was of these months and at such a price
 pub record KeepsTable
-    (listed : Bool) (months : ℕ) (xs : List Order) (cells : List (Option PairCost)) : Type 0 where
+    (listed : Bool) (trades_implied : Pairs) (months : ℕ) (xs : List Order)
+    (cells : List (Option PairCost)) : Type 0 where
   pub most : months ≤ limits.MAX_MONTHS
-  pub quoted : listed ≡ true → IsQuoted months xs cells
+  pub quoted : listed ≡ true → IsQuoted trades_implied months xs cells

@@ -1,4 +1,5 @@
 use Rattle.std.proofs.Common.{◌≡◌, subst, sym, ap, ◌∙◌}
+use Rattle.spread_rules.specs.Rulebook.{implied}
 use Rattle.spread_books.specs.code.Cheapest.{IsCheapest, cheaper_of}
 use Rattle.spread_books.proofs.fronts.MonthPairs.{cheapest_more}
 use Rattle.spread_books.proofs.cheapest.cheapest_pair.Goals as goal
@@ -6,10 +7,11 @@ use Rattle.spread_books.proofs.cheapest.cheapest_pair.Goals as goal
 pub loop-other_month-preserved : goal.loop-other_month-preserved
 loop-other_month-preserved g c =
     let xs = g.B.Book.orders c.args.book.now in
+    let on = implied c.args.rules.now in
     let month = c.loop-other_month.other_month in
     let least = c.loop-other_month.least in
     let is : c.cheaper-least.result ≡ cheaper_of least c.pair_cost-cost.result month = c.cheaper-least.ensures ∙ ap (cheaper_of least c.pair_cost-cost.result) c.from.ensures in
     record {
-      cheapest = subst (IsCheapest xs c.args.side c.args.month _) (sym is)
-          (cheapest_more xs c.args.side c.args.month month least c.pair_cost-cost.result c.loop-other_month.invariant.cheapest c.pair_cost-cost.ensures.cost c.pair_cost-cost.ensures.small);
+      cheapest = subst (IsCheapest on xs c.args.side c.args.month _) (sym is)
+          (cheapest_more on xs c.args.side c.args.month month least c.pair_cost-cost.result c.loop-other_month.invariant.cheapest c.pair_cost-cost.ensures.cost c.pair_cost-cost.ensures.small);
     }

@@ -1,7 +1,8 @@
+use Rattle.spread_rules.specs.Rulebook.{implied}
 use Rattle.spread_books.specs.code.Cheapest.{IsCheapest}
 use Rattle.spread_books.proofs.cheapest.cheapest_pair.Given as goal
 
 abbrev pub invariant-loop-other_month : goal.invariant-loop-other_month
 invariant-loop-other_month g l = record {
-  cheapest : IsCheapest (g.B.Book.orders l.book) l.side l.month l.other_month l.least;
+  cheapest : IsCheapest (implied l.rules) (g.B.Book.orders l.book) l.side l.month l.other_month l.least;
 }

@@ -3,6 +3,7 @@ use Rattle.spread_rules.specs.declared.order.Side.{Side}
 use Rattle.spread_rules.specs.declared.order.Instrument.{Instrument}
 use Rattle.spread_rules.specs.declared.order.Instrument.TheVariants.{Outright}
 use Rattle.spread_rules.specs.Legs.{other_side}
+use Rattle.spread_rules.specs.Rulebook.{implied}
 use Rattle.spread_books.specs.code.Cheapest.{spread_of, spread_side, CostsOfFront, HasFronts}
 use Rattle.spread_books.proofs.fronts.MonthPairs.{fronts_cost, leg_is, sum_passed}
 use Rattle.spread_books.proofs.cheapest.pair_cost.Goals as goal
@@ -42,4 +43,4 @@ returns-clause-cost g c =
     let second : CostsOfFront xs and (other_side c.args.side) (Some y) =
     subst (λ (s : Side). CostsOfFront xs and s (Some y)) c.opposite-opposite.ensures (subst (CostsOfFront xs and c.opposite-opposite.result) c.in-Some-front_cost.is c.front_cost-2.ensures.cost) in
     let sum : c.together.result ≡ x +ℤ y = sum_passed x y c.together.result c.in-Some.ensures.small c.in-Some-front_cost.ensures.small c.together.ensures.sum in
-    subst (HasFronts xs c.args.side c.args.month c.args.other_month) (sym (leg_is c.together.result c.together.ensures.small ∙ sum)) (fronts_cost xs c.args.side c.args.month c.args.other_month x y first second)
+    subst (HasFronts (implied c.args.rules.now) xs c.args.side c.args.month c.args.other_month) (sym (leg_is c.together.result c.together.ensures.small ∙ sum)) (fronts_cost (implied c.args.rules.now) xs c.args.side c.args.month c.args.other_month x y (sym c.is_pair_on.ensures ∙ c.if-not-is_pair_on.false) first second)

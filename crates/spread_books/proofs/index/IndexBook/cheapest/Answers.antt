@@ -2,7 +2,9 @@ use Rattle.std.proofs.Common.{◌≡◌, ℕ, List, ◌++◌, Option, Some, sym,
 use Rattle.std.specs.Option.{option_to_list}
 use Rattle.host_base.specs.declared.limits.TheConstants.{MAX_MONTHS}
 use Rattle.spread_rules.specs.declared.order.Order.{Order}
-use Rattle.spread_books.specs.code.Cheapest.{KeepsCost}
+use Rattle.spread_rules.specs.Rulebook.{Rules, implied}
+use Rattle.spread_books.specs.BookView.{BookView}
+use Rattle.spread_books.specs.code.Cheapest.{IsCheapest, KeepsCost}
 use Rattle.spread_books.specs.code.QuoteTable.{ChangesOneQueue}
 use Rattle.spread_books.proofs.quotes.Costs.{others_when_it_comes}
 use Rattle.spread_books.proofs.quotes.Columns.{kept_row}
@@ -19,21 +21,23 @@ one_month via k e = cc
 
 pub returns-in-None : goal.returns-in-None
 returns-in-None g c =
-    let xs = c.self.inside.others in
-    let zs = c.args.self.now in
+    let xs = c.self.inside.others.orders in
+    let zs = c.args.self.now.orders in
     let o = c.in-Some-newest.newest in
-    let one = with_newest xs zs c.self.inside.newest o c.in-Some-newest.is c.self.view_is in
-    kept_row xs zs c.args.side c.args.month MAX_MONTHS c.in-Some.held
+    let one = with_newest xs zs c.self.inside.newest o c.in-Some-newest.is (ap (λ (v : BookView). v.orders) c.self.view_is) in
+    kept_row (implied c.args.self.now.rules) xs zs c.args.side c.args.month MAX_MONTHS c.in-Some.held
     (λ k lt. column_kept xs zs o.instrument o.side c.args.side c.args.month k one (λ at. let none = sym c.in-None.is ∙ c.other_month_of.ensures k at in cc))
-    c.in-Some.ensures
+    (subst (λ (r : Rules). IsCheapest (implied r) xs c.args.side c.args.month MAX_MONTHS c.in-Some.held) (ap (λ (v : BookView). v.rules) c.self.view_is) c.in-Some.ensures)
 
 pub returns-in-Some-other_month_of : goal.returns-in-Some-other_month_of
 returns-in-Some-other_month_of g c =
-    let xs = c.self.inside.others in
-    let zs = c.args.self.now in
+    let xs = c.self.inside.others.orders in
+    let zs = c.args.self.now.orders in
     let o = c.in-Some-newest.newest in
     let via = c.in-Some-other_month_of.via in
-    let one = with_newest xs zs c.self.inside.newest o c.in-Some-newest.is c.self.view_is in
-    c.renewed_pair.ensures xs
+    let one = with_newest xs zs c.self.inside.newest o c.in-Some-newest.is (ap (λ (v : BookView). v.orders) c.self.view_is) in
+    let rules = c.rules-in-Some-other_month_of.ensures in
+    subst (λ (r : Rules). IsCheapest (implied r) zs c.args.side c.args.month MAX_MONTHS c.renewed_pair.result) (rules ∙ ap (λ (v : BookView). v.rules) c.self.view_is)
+    (c.renewed_pair.ensures xs
     (λ k other. column_kept xs zs o.instrument o.side c.args.side c.args.month k one (λ at. other (one_month via k (sym c.in-Some-other_month_of.is ∙ c.other_month_of.ensures k at))))
-    c.in-Some.ensures
+    (subst (λ (r : Rules). IsCheapest (implied r) xs c.args.side c.args.month MAX_MONTHS c.in-Some.held) (sym rules) c.in-Some.ensures))

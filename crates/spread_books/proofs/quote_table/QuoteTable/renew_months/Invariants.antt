@@ -1,6 +1,7 @@
 use Rattle.std.proofs.Common.{◌≡◌, ℕ, ◌<◌, ◌≤◌, List}
 use Rattle.spread_rules.specs.declared.order.Side.{Side}
 use Rattle.spread_rules.specs.declared.order.Order.{Order}
+use Rattle.spread_rules.specs.Rulebook.{implied}
 use Rattle.spread_books.specs.code.Cheapest.{KeepsOthers}
 use Rattle.spread_books.specs.code.QuoteTable.{known_pair, HasCheapest}
 use Rattle.spread_books.proofs.quote_table.QuoteTable.renew_months.Given as goal
@@ -11,5 +12,5 @@ invariant-loop-month g l = record {
   later : (m : ℕ) → l.month ≤ m → known_pair l.self l.side m ≡ known_pair l.fn.self l.side m;
   own :
       (xs : List Order) (m : ℕ) → m < l.month → KeepsOthers xs (g.B.Book.orders l.book) l.side m l.via
-      → HasCheapest l.months xs l.fn.self l.side m → HasCheapest l.months (g.B.Book.orders l.book) l.self l.side m;
+      → HasCheapest (implied l.rules) l.months xs l.fn.self l.side m → HasCheapest (implied l.rules) l.months (g.B.Book.orders l.book) l.self l.side m;
 }

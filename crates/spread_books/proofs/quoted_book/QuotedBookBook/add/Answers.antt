@@ -1,4 +1,5 @@
 use Rattle.std.proofs.Common.{◌≡◌, true, false, sym, ◌∙◌}
+use Rattle.spread_rules.specs.Rulebook.{implied}
 use Rattle.spread_books.specs.code.QuoteTable.{HasCome, IsListed}
 use Rattle.spread_books.proofs.quotes.Tables.{come_table}
 use Rattle.spread_books.proofs.quoted_book.QuotedBookBook.add.Goals.{then-self, else-self}
@@ -16,5 +17,5 @@ invariant_of-self-then-self-2 g c =
     ] in
     record {
       most = c.self.invariant.most;
-      quoted = λ e. come_table c.self.inside.months xs ys o c.front_level-others.result c.self.inside.quotes c.renew_for.new.self (c.self.invariant.quoted both.0) both.1 come (c.renew_for.ensures.came xs come);
+      quoted = λ e. come_table (implied c.self.inside.rules.now) c.self.inside.months xs ys o c.front_level-others.result c.self.inside.quotes c.renew_for.new.self (c.self.invariant.quoted both.0) both.1 come (c.renew_for.ensures.came xs come);
     }

@@ -4,6 +4,8 @@ use Rattle.spread_rules.specs.Candidates.{HasOrderPrice}
 use Rattle.spread_rules.specs.Clearing.{removed}
 use Rattle.order_tables.specs.Places.{HasPlace}
 use Rattle.order_books.proofs.fronts.TableHoldsFronts.{rests_at, not_nobody}
+use Rattle.spread_rules.specs.Rulebook.{implied}
+use Rattle.spread_books.specs.BookView.{BookView}
 use Rattle.spread_books.specs.code.QuoteTable.{HasLeft}
 use Rattle.spread_books.proofs.quotes.Tables.{removed_all, left_table}
 use Rattle.spread_books.proofs.quoted_book.QuotedBookBook.remove.Goals as goal
@@ -26,11 +28,11 @@ invariant_of-self g c =
     } in
     record {
       most = c.self.invariant.most;
-      quoted = λ e. left_table c.self.inside.months xs ys o c.front_level-others.result c.self.inside.quotes c.renew_for.new.self (c.self.invariant.quoted e) left (c.renew_for.ensures.left xs left);
+      quoted = λ e. left_table (implied c.self.inside.rules.now) c.self.inside.months xs ys o c.front_level-others.result c.self.inside.quotes c.renew_for.new.self (c.self.invariant.quoted e) left (c.renew_for.ensures.left xs left);
     }
 
 pub invariant_of-self-in_default : goal.invariant_of-self-in_default
 invariant_of-self-in_default g c =
     let xs = c.self.inside.book in
-    let rests = subst (λ (ys : List Order). HasPlace ys c.args.place) (sym c.self.view_is) c.requires in
+    let rests = subst (λ (ys : List Order). HasPlace ys c.args.place) (ap (λ (v : BookView). v.orders) (sym c.self.view_is)) c.requires in
     absurd (not_nobody xs c.args.place rests.order rests.stands rests.at c.in_default.ensures.was)
