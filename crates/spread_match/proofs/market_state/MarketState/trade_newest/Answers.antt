@@ -1,4 +1,4 @@
-use Rattle.std.proofs.Common.{◌≡◌, ℕ, ◌<◌, ◌≤◌, ◌+◌, ◌*◌, min, List, All, ◌++◌, ◌∷◌, [], length, sym, subst, ap, ◌∙◌}
+use Rattle.std.proofs.Common.{◌≡◌, ◌<◌, ◌≤◌, ◌+◌, ◌*◌, min, List, All, ◌++◌, ◌∷◌, [], length, sym, subst, ap, ◌∙◌}
 use Rattle.std.specs.Vec.{vec_len, vec_capacity}
 use Rattle.spread_rules.specs.declared.order.Order.{Order}
 use Rattle.spread_rules.specs.Clearing.{clear, removed, begin}
