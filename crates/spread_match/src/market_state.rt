@@ -202,8 +202,10 @@ impl<B: Book, A: Allocator + Copy> MarketState<B, A> {
             ≡ statuses_after (trading_in rules.now self.old order.now).fills self.old.statuses }
         ensures last { self.new.last ≡ self.old.last }
     {
+        // Cites that the reference prices are within the limits of prices.
+        rules.months();
         let before = fills.len();
-        let left = trade(&mut self.book, rules.months(), rules, *order, fills);
+        let left = trade(&mut self.book, rules, *order, fills);
         rest_or_remove(&mut self.book, immediate, order, left.leaves);
         mark_filled_from(&mut self.statuses, fills, before);
         left.leaves

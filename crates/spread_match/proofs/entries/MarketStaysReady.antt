@@ -10,11 +10,11 @@ use Rattle.spread_rules.specs.declared.event.Event.{Event}
 use Rattle.spread_rules.specs.declared.event.Event.TheVariants.{Logon, New, Cancel, Replace, TestReply, Gap, Resend, Reject, Close}
 use Rattle.spread_rules.specs.declared.outcome.OrderStatus.{OrderStatus}
 use Rattle.spread_rules.specs.declared.outcome.Outcome.{Outcome}
-use Rattle.spread_rules.specs.Candidates.{all_on, HasOrderPrice, PlacesDiffer}
+use Rattle.spread_rules.specs.Candidates.{HasOrderPrice, PlacesDiffer, Pairs}
 use Rattle.spread_rules.specs.Clearing.{Trading, next_candidate, turn, turns, after_match, begin, clear, removed}
 use Rattle.spread_rules.specs.Prices.{IsOrderPrice}
 use Rattle.spread_rules.specs.Meaning.{EntryMeaning, cancel_means, has_id, is_own, is_refused, moved_to, new_order_means, order_of, original_of, place_left, refusal_or_instrument, replace_means, resting, ticket_of}
-use Rattle.spread_rules.specs.Rulebook.{Rules, month_count, references_of, find_symbol}
+use Rattle.spread_rules.specs.Rulebook.{Rules, month_count, references_of, find_symbol, implied}
 use Rattle.spread_rules.proofs.clearings.TurnsEnd.{keeps_turns, members_rest, next_meets}
 use Rattle.spread_match.specs.State.{MarketState}
 use Rattle.spread_books.specs.Listed.{IsNearFirst, IsInMonths}
@@ -33,15 +33,15 @@ use Rattle.spread_rules.specs.Amended.{amended, done}
 use Rattle.spread_rules.specs.declared.fill.Fill.{Fill}
 use Rattle.std.specs.Option.{is_some}
 
-traded_tradable : (references : List ℤ) (months : ℕ) (t : Trading) (r : Option Candidate) → next_candidate all_on t ≡ r → IsTradable months t.orders → IsTradable months (after_match references t r).orders
-traded_tradable references months t None e h = h
-traded_tradable references months t (Some o) e h =
-    let stands = members_rest all_on t o e in
-    still_tradable all_on months t.new t.orders o.counterparty h stands (are_apart all_on t.new t.orders o.counterparty o.price h.places stands (next_meets all_on t o e))
+traded_tradable : (on : Pairs) (references : List ℤ) (months : ℕ) (t : Trading) (r : Option Candidate) → next_candidate on t ≡ r → IsTradable months t.orders → IsTradable months (after_match references t r).orders
+traded_tradable on references months t None e h = h
+traded_tradable on references months t (Some o) e h =
+    let stands = members_rest on t o e in
+    still_tradable months t.new t.orders o.counterparty h stands (are_apart on t.new t.orders o.counterparty o.price h.places stands (next_meets on t o e))
 
-turns_tradable : (references : List ℤ) (months k : ℕ) (t : Trading) → IsTradable months t.orders → IsTradable months (turns all_on references k t).orders
-turns_tradable references months zero t h = h
-turns_tradable references months (suc k) t h = turns_tradable references months k (turn all_on references t) (traded_tradable references months t (next_candidate all_on t) refl h)
+turns_tradable : (on : Pairs) (references : List ℤ) (months k : ℕ) (t : Trading) → IsTradable months t.orders → IsTradable months (turns on references k t).orders
+turns_tradable on references months zero t h = h
+turns_tradable on references months (suc k) t h = turns_tradable on references months k (turn on references t) (traded_tradable on references months t (next_candidate on t) refl h)
 
 -- orders that can be traded with, up to that place
 record AreReady (months : ℕ) (xs : List Order) (last : ℕ) : Type 0 where
@@ -49,14 +49,14 @@ record AreReady (months : ℕ) (xs : List Order) (last : ℕ) : Type 0 where
   pub below : All (λ o. o.place ≤ last) xs
 
 -- an order of that place that is traded with those of earlier places
-cleared_ready : (references : List ℤ) (months : ℕ) (xs : List Order) (last place : ℕ) (n : Order) (immediate : Bool) → last < place → n.place ≡ place → AreReady months xs last → MayRest months n → AreReady months (resting immediate (clear all_on references n xs)) place
-cleared_ready references months xs last place n immediate l placed r rests =
-    let d = clear all_on references n xs in
-    let below : All (λ o. o.place < place) d.orders = turns_all all_on (λ (o : Order). o.place < place) (λ o k h. h) references (length xs) (begin n xs) (below_new all_on xs last place r.below l) in
-    let new : d.new ≡ record n { leaves = d.new.leaves } = (keeps_turns all_on references (length xs) (begin n xs)).new in
+cleared_ready : (on : Pairs) (references : List ℤ) (months : ℕ) (xs : List Order) (last place : ℕ) (n : Order) (immediate : Bool) → last < place → n.place ≡ place → AreReady months xs last → MayRest months n → AreReady months (resting immediate (clear on references n xs)) place
+cleared_ready on references months xs last place n immediate l placed r rests =
+    let d = clear on references n xs in
+    let below : All (λ o. o.place < place) d.orders = turns_all on (λ (o : Order). o.place < place) (λ o k h. h) references (length xs) (begin n xs) (below_new xs last place r.below l) in
+    let new : d.new ≡ record n { leaves = d.new.leaves } = (keeps_turns on references (length xs) (begin n xs)).new in
     let at : place ≡ d.new.place = sym placed ∙ sym (ap (λ (o : Order). o.place) new) in
     record {
-      tradable = rest_tradable months d immediate (d.new.leaves == 0) refl (turns_tradable references months (length xs) (begin n xs) r.tradable) (subst (λ (k : ℕ). All (λ (o : Order). o.place < k) d.orders) at below)
+      tradable = rest_tradable months d immediate (d.new.leaves == 0) refl (turns_tradable on references months (length xs) (begin n xs) r.tradable) (subst (λ (k : ℕ). All (λ (o : Order). o.place < k) d.orders) at below)
           (subst HasOrderPrice (sym new) (let k = rests.small in record { low = k.low; high = k.high })) (subst IsNearFirst (sym new) (let k = rests.listed in record { near_before_far = k.near_before_far }))
           (subst (λ (o : Order). IsInMonths months o.instrument) (sym new) rests.within);
       below = λ k e lt. rests_all (λ (o : Order). o.place ≤ place) d immediate (λ o c. let a = All-contains (λ (w : Order). w.place < place) d.orders o below c in omega arith) (omega arith) (d.new.leaves == 0 || immediate)
@@ -70,8 +70,8 @@ entered_ready : (rules : Rules) (xs : List Order) (last place session : ℕ) (t 
     AreReady (month_count rules) (new_order_means rules xs place session t r).orders place
 entered_ready rules xs last place session t earlier (Err reason) e l h k = later_ready (month_count rules) xs last place l h
 entered_ready rules xs last place session t earlier (Ok i) e l h k =
-    let listed = listed_found rules t.symbol i (taken_is all_on rules t earlier i e).names in
-    cleared_ready (references_of rules) (month_count rules) xs last place (order_of place session t i) t.immediate l refl h (new_rests (month_count rules) place session t i k (near_of rules i listed) (months_of rules i listed))
+    let listed = listed_found rules t.symbol i (taken_is rules t earlier i e).names in
+    cleared_ready (implied rules) (references_of rules) (month_count rules) xs last place (order_of place session t i) t.immediate l refl h (new_rests (month_count rules) place session t i k (near_of rules i listed) (months_of rules i listed))
 
 cancelled_ready : (months : ℕ) (xs : List Order) (last place : ℕ) (earlier : Option OrderStatus) (found : Option Order) → last < place → AreReady months xs last → AreReady months (cancel_means xs earlier found).orders place
 cancelled_ready months xs last place earlier (Some o) l h = record {
@@ -97,7 +97,7 @@ replaced_ready rules xs last place session original t r earlier (Some o) e l h k
     by_replace (λ (m : EntryMeaning). AreReady (month_count rules) m.orders place) rules xs place t r o
     (λ reason. later_ready (month_count rules) xs last place l h)
     (λ a b. amended_ready (month_count rules) xs last place o t.id t.quantity l stands a.more h)
-    (λ a. cleared_ready (references_of rules) (month_count rules) (removed o.place xs) last place (moved_to place t o) false l refl (removed_ready (month_count rules) xs last o.place h) (moved_rests (month_count rules) place xs t o h.tradable stands k))
+    (λ a. cleared_ready (implied rules) (references_of rules) (month_count rules) (removed o.place xs) last place (moved_to place t o) false l refl (removed_ready (month_count rules) xs last o.place h) (moved_rests (month_count rules) place xs t o h.tradable stands k))
 
 event_ready : (rules : Rules) (m : MarketState) (place session : ℕ) (event : Event) → m.last < place → AreReady (month_count rules) m.orders m.last → IsPriced event → AreReady (month_count rules) (meaning_in rules m place session event).orders place
 event_ready rules m place session (New t) l h k = entered_ready rules m.orders m.last place session t (find (has_id session t.id) m.statuses) (refusal_or_instrument rules t (find (has_id session t.id) m.statuses) (find_symbol rules t.symbol)) refl l h k
@@ -163,17 +163,17 @@ known_now m place session event e t asks =
 
 -- each order is one that rested, or bears the ticket's id
 
-traded_come : (references : List ℤ) (n : Order) (xs : List Order) (immediate : Bool) (P : ℕ → List ℕ → Type 0) → All (λ o. P o.session o.id) xs → P n.session n.id → All (λ o. P o.session o.id) (resting immediate (clear all_on references n xs))
-traded_come references n xs immediate P h own =
-    let d = clear all_on references n xs in
-    let all : All (λ o. P o.session o.id) d.orders = turns_all all_on (λ (o : Order). P o.session o.id) (λ o k w. w) references (length xs) (begin n xs) h in
-    let new : d.new ≡ record n { leaves = d.new.leaves } = (keeps_turns all_on references (length xs) (begin n xs)).new in
+traded_come : (on : Pairs) (references : List ℤ) (n : Order) (xs : List Order) (immediate : Bool) (P : ℕ → List ℕ → Type 0) → All (λ o. P o.session o.id) xs → P n.session n.id → All (λ o. P o.session o.id) (resting immediate (clear on references n xs))
+traded_come on references n xs immediate P h own =
+    let d = clear on references n xs in
+    let all : All (λ o. P o.session o.id) d.orders = turns_all on (λ (o : Order). P o.session o.id) (λ o k w. w) references (length xs) (begin n xs) h in
+    let new : d.new ≡ record n { leaves = d.new.leaves } = (keeps_turns on references (length xs) (begin n xs)).new in
     λ k e lt. rests_all (λ (o : Order). P o.session o.id) d immediate (λ o c. All-contains (λ (w : Order). P w.session w.id) d.orders o all c) (subst (λ (o : Order). P o.session o.id) (sym new) own) (d.new.leaves == 0 || immediate)
     (get_or (resting immediate d) k e) (Contains-get_or (resting immediate d) k e lt)
 
 new_come : (rules : Rules) (xs : List Order) (place session : ℕ) (t : Ticket) (r : Result Instrument ℕ) (P : ℕ → List ℕ → Type 0) → All (λ o. P o.session o.id) xs → P session t.id → All (λ o. P o.session o.id) (new_order_means rules xs place session t r).orders
 new_come rules xs place session t (Err reason) P h own = h
-new_come rules xs place session t (Ok i) P h own = traded_come (references_of rules) (order_of place session t i) xs t.immediate P h own
+new_come rules xs place session t (Ok i) P h own = traded_come (implied rules) (references_of rules) (order_of place session t i) xs t.immediate P h own
 
 cancel_come : (xs : List Order) (earlier : Option OrderStatus) (found : Option Order) (P : ℕ → List ℕ → Type 0) → All (λ o. P o.session o.id) xs → All (λ o. P o.session o.id) (cancel_means xs earlier found).orders
 cancel_come xs earlier (Some o) P h = All-filter (λ (w : Order). not (w.place == o.place)) (λ (w : Order). P w.session w.id) xs h
@@ -194,7 +194,7 @@ replace_come rules xs place session original t r earlier (Some o) e differ P h o
       | inl f ↦ subst (λ (v : Order). P v.session v.id) f.1 (subst (λ (v : Order). P v.session t.id) (sym (differ c.was o c.stands stands f.0)) mine)
       | inr f ↦ subst (λ (v : Order). P v.session v.id) f.1 (All-contains (λ (v : Order). P v.session v.id) xs c.was h c.stands)
     ])
-    (λ a. traded_come (references_of rules) (moved_to place t o) (removed o.place xs) false P (All-filter (λ (w : Order). not (w.place == o.place)) (λ (w : Order). P w.session w.id) xs h) mine)
+    (λ a. traded_come (implied rules) (references_of rules) (moved_to place t o) (removed o.place xs) false P (All-filter (λ (w : Order). not (w.place == o.place)) (λ (w : Order). P w.session w.id) xs h) mine)
 
 known_after : (rules : Rules) (m : MarketState) (place session : ℕ) (event : Event) → PlacesDiffer m.orders → All (λ o. IsKnown m.statuses o.session o.id) m.orders →
     All (λ o. IsKnown (state_after rules m place session event).statuses o.session o.id) (meaning_in rules m place session event).orders

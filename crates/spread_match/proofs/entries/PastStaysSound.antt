@@ -6,10 +6,10 @@ use Rattle.std.specs.List.{find}
 use Rattle.spread_rules.specs.declared.order.Order.{Order}
 use Rattle.spread_rules.specs.declared.order.Instrument.{Instrument}
 use Rattle.spread_rules.specs.declared.fill.Fill.{Fill}
-use Rattle.spread_rules.specs.Candidates.{all_on, HasOrderPrice}
+use Rattle.spread_rules.specs.Candidates.{HasOrderPrice, Pairs}
 use Rattle.spread_rules.specs.Clearing.{Trading, begin, clear, removed}
 use Rattle.spread_rules.proofs.lists.Membership.{in_head, in_tail, not_in_nil}
-use Rattle.spread_rules.proofs.clearings.TurnsEnd.{in_filter, keeps_turns}
+use Rattle.spread_rules.proofs.clearings.TurnsEnd.{keeps_turns}
 use Rattle.spread_rules.specs.declared.outcome.OrderStatus.{OrderStatus}
 use Rattle.spread_rules.specs.declared.event.Ticket.{Ticket}
 use Rattle.spread_rules.specs.declared.event.Entry.{Entry}
@@ -30,8 +30,9 @@ use Rattle.spread_rules.specs.Amended.{amended, done, with_quantity}
 use Rattle.spread_match.proofs.entries.FoundStands.{find_stands}
 use Rattle.spread_match.proofs.entries.Replaces.{IsOwn, accepted_unused, amended_place, amended_tradable, by_replace, from_amended, none_refused, own_is}
 use Rattle.spread_match.proofs.status_rows.StatusesOfThePast.{statuses_more, unused}
-use Rattle.spread_rules.specs.Rulebook.{Rules, month_count, references_of, find_symbol}
+use Rattle.spread_rules.specs.Rulebook.{Rules, month_count, references_of, find_symbol, implied}
 use Rattle.spread_match.specs.State.{MarketState}
+use Rattle.spread_match.proofs.turns.StaysAfterAFill.{from_filter}
 
 -- the past after an entry of that meaning, and what is kept of it
 pub record IsKept (months : ℕ) (past : JournalState) (place : ℕ) (e : Entry) (m : EntryMeaning) : Type 0 where
@@ -67,14 +68,14 @@ removed_tradable months place xs t =
       small = All-filter p HasOrderPrice xs t.small;
       listed = All-filter p IsNearFirst xs t.listed;
       within = All-filter p (λ (o : Order). IsInMonths months o.instrument) xs t.within;
-      places = λ a b ca cb e. t.places a b (in_filter all_on p xs a ca) (in_filter all_on p xs b cb) e;
+      places = λ a b ca cb e. t.places a b (from_filter p xs a ca) (from_filter p xs b cb) e;
       left = All-filter p (λ (o : Order). 0 < o.leaves) xs t.left;
     }
 
 cancel_sound : (months : ℕ) (past : JournalState) (last place session : ℕ) (id original : List ℕ) (earlier : Option OrderStatus) (found : Option Order) → last < place → IsSound months past last →
     IsSound months (with_meaning past place (record { session = session; event = Cancel id original }) (cancel_means past.orders earlier found)) place
 cancel_sound months past last place session id original earlier (Some o) l s =
-    fewer months past last place (removed o.place past.orders) l s (removed_tradable months o.place past.orders s.tradable) (λ w c. in_filter all_on (λ (x : Order). not (x.place == o.place)) past.orders w c)
+    fewer months past last place (removed o.place past.orders) l s (removed_tradable months o.place past.orders s.tradable) (λ w c. from_filter (λ (x : Order). not (x.place == o.place)) past.orders w c)
 cancel_sound months past last place session id original earlier None l s = fewer months past last place past.orders l s s.tradable (λ w c. c)
 
 -- ---- a ticket more
@@ -166,7 +167,7 @@ own_counted past last place p n l a hf =
 -- before its first turn, with some of the orders that rest
 pub started : (months : ℕ) (past : JournalState) (last place : ℕ) (p : PastTicket) (n : Order) (xs : List Order) → last < place → AsksFor place p n → IsSound months past last →
     IsTradable months xs → ((o : Order) → Contains xs o → Contains past.orders o) →
-    IsRunning all_on months (past.entered ++ p ∷ []) past.fills (begin n xs)
+    IsRunning months (past.entered ++ p ∷ []) past.fills (begin n xs)
 started months past last place p n xs l a s t on =
     let ps = past.entered ++ p ∷ [] in
     let at = a.placed in
@@ -193,19 +194,19 @@ pub rest_tradable : (months : ℕ) (t : Trading) (immediate a : Bool) → (t.new
     IsTradable months (cond (a || immediate) t.orders (t.orders ++ t.new ∷ []))
 rest_tradable months t immediate true e tr h small listed within = tr
 rest_tradable months t true false e tr h small listed within = tr
-rest_tradable months t false false e tr h small listed within = tradable_more all_on months t.orders t.new tr h small listed within (grind (arith, nat_tests))
+rest_tradable months t false false e tr h small listed within = tradable_more months t.orders t.new tr h small listed within (grind (arith, nat_tests))
 
 -- an entry with a ticket whose order is traded with some of those that rest
-cleared_sound : (references : List ℤ) (months : ℕ) (past : JournalState) (last place : ℕ) (p : PastTicket) (n : Order) (xs : List Order) (immediate : Bool) → last < place → AsksFor place p n → MayRest months n → IsSound months past last →
+cleared_sound : (pairs : Pairs) (references : List ℤ) (months : ℕ) (past : JournalState) (last place : ℕ) (p : PastTicket) (n : Order) (xs : List Order) (immediate : Bool) → last < place → AsksFor place p n → MayRest months n → IsSound months past last →
     IsOriginalNamed past.entered p → IsTradable months xs → ((o : Order) → Contains xs o → Contains past.orders o) →
-    IsSound months (record { orders = resting immediate (clear all_on references n xs); entered = past.entered ++ p ∷ []; fills = past.fills ++ (clear all_on references n xs).fills }) place
-cleared_sound references months past last place p n xs immediate l a r s own tr on =
-    let d = clear all_on references n xs in
+    IsSound months (record { orders = resting immediate (clear pairs references n xs); entered = past.entered ++ p ∷ []; fills = past.fills ++ (clear pairs references n xs).fills }) place
+cleared_sound pairs references months past last place p n xs immediate l a r s own tr on =
+    let d = clear pairs references n xs in
     let ps = past.entered ++ p ∷ [] in
-    let run : IsRunning all_on months ps past.fills d = running all_on references months ps past.fills (length xs) (begin n xs) (started months past last place p n xs l a s tr on) in
+    let run : IsRunning months ps past.fills d = running pairs references months ps past.fills (length xs) (begin n xs) (started months past last place p n xs l a s tr on) in
     let earlier : All (λ o. o.place ≤ last) xs = λ k d lt. All-contains (λ (o : Order). o.place ≤ last) past.orders (get_or xs k d) s.orders_before (on (get_or xs k d) (Contains-get_or xs k d lt)) in
-    let below : All (λ o. o.place < place) d.orders = turns_all all_on (λ (o : Order). o.place < place) (λ o k h. h) references (length xs) (begin n xs) (below_new all_on xs last place earlier l) in
-    let new : d.new ≡ record n { leaves = d.new.leaves } = (keeps_turns all_on references (length xs) (begin n xs)).new in
+    let below : All (λ o. o.place < place) d.orders = turns_all pairs (λ (o : Order). o.place < place) (λ o k h. h) references (length xs) (begin n xs) (below_new xs last place earlier l) in
+    let new : d.new ≡ record n { leaves = d.new.leaves } = (keeps_turns pairs references (length xs) (begin n xs)).new in
     let at : place ≡ d.new.place = sym a.placed ∙ sym (ap (λ (o : Order). o.place) new) in
     record {
       tradable = rest_tradable months d immediate (d.new.leaves == 0) refl run.tradable (subst (λ (k : ℕ). All (λ (o : Order). o.place < k) d.orders) at below)
@@ -239,9 +240,9 @@ new_sound : (rules : Rules) (past : JournalState) (last place session : ℕ) (t 
 new_sound rules past last place session t earlier (Err reason) e l s k =
     refused_sound (month_count rules) past last place (record { place = place; session = session; original = None; ticket = t; outcome = Refused reason }) l refl refl s
 new_sound rules past last place session t earlier (Ok i) e l s k =
-    let w = taken_is all_on rules t earlier i e in
+    let w = taken_is rules t earlier i e in
     let listed = listed_found rules t.symbol i w.names in
-    cleared_sound (references_of rules) (month_count rules) past last place _ (order_of place session t i) past.orders t.immediate l
+    cleared_sound (implied rules) (references_of rules) (month_count rules) past last place _ (order_of place session t i) past.orders t.immediate l
     (new_asks place session t i _) (new_rests (month_count rules) place session t i k (near_of rules i listed) (months_of rules i listed)) s (λ original f a. cc) s.tradable (λ o c. c)
 
 -- ---- a Replace entry
@@ -307,10 +308,10 @@ replace_sound rules past last place session original t r earlier (Some o) e l s 
     by_replace (λ (m : EntryMeaning). IsSound (month_count rules) (with_meaning past place (record { session = session; event = Replace original t }) m) place) rules past.orders place t r o
     (λ reason. refused_sound (month_count rules) past last place _ l refl refl s)
     (λ a b. keeping_sound (month_count rules) past last place session original t o l s stands own a.more b.most)
-    (λ a. cleared_sound (references_of rules) (month_count rules) past last place (record { place = place; session = session; original = Some original; ticket = t; outcome = Replaced (moved_to place t o) }) (moved_to place t o) (removed o.place past.orders) false l
+    (λ a. cleared_sound (implied rules) (references_of rules) (month_count rules) past last place (record { place = place; session = session; original = Some original; ticket = t; outcome = Replaced (moved_to place t o) }) (moved_to place t o) (removed o.place past.orders) false l
     (moved_asks place session original t o _ own.session_is a.side) (moved_rests (month_count rules) place past.orders t o s.tradable stands k) s
     (named_original past session original (record { place = place; session = session; original = Some original; ticket = t; outcome = Replaced (moved_to place t o) }) o (month_count rules) last s stands own refl refl) (removed_tradable (month_count rules) o.place past.orders s.tradable)
-    (λ w c. in_filter all_on (λ (x : Order). not (x.place == o.place)) past.orders w c))
+    (λ w c. from_filter (λ (x : Order). not (x.place == o.place)) past.orders w c))
 
 -- ---- any entry
 

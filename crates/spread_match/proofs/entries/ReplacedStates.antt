@@ -12,11 +12,11 @@ use Rattle.spread_rules.specs.declared.outcome.Outcome.{Outcome}
 use Rattle.spread_rules.specs.declared.outcome.Outcome.TheVariants.{Rested, Filled, Ended}
 use Rattle.spread_rules.specs.declared.outcome.OrderStatus.{OrderStatus}
 use Rattle.spread_rules.specs.Amended.{done}
-use Rattle.spread_rules.specs.Candidates.{all_on, PlacesDiffer}
+use Rattle.spread_rules.specs.Candidates.{PlacesDiffer}
 use Rattle.spread_rules.specs.Clearing.{Trading, clear, removed}
 use Rattle.spread_rules.specs.Meaning.{clearing_means, has_id, instrument_or_refusal_of, is_own, is_refused, keeping_means, keeps_place, may_replace, moved_to, moving_means, order_of, outcome_of, place_left, replace_means, replace_of_resting, replace_refused, resting}
 use Rattle.spread_rules.specs.Prices.{IsOrderPrice}
-use Rattle.spread_rules.specs.Rulebook.{Rules, references_of}
+use Rattle.spread_rules.specs.Rulebook.{Rules, references_of, implied}
 use Rattle.order_books.specs.Queues.{CanAmend}
 use Rattle.spread_match.specs.State.{MarketState}
 use Rattle.spread_match.specs.Trade.{IsTradable}
@@ -40,7 +40,7 @@ matched_state m place session t i orders statuses d e f =
     let outcome = outcome_of t.immediate d.new.leaves in
     let last = λ (p k : ℕ). statuses_after d.fills (m.statuses ++ record { session = session; id = t.id; place = p; status = k } ∷ []) in
     let first : last place 4 ≡ last (place_left place outcome) (cond (is_refused outcome) 8 4) =
-    ap (λ (p : ℕ). last p 4) (sym (own_place place d.new.leaves (d.new.leaves == 0) t.immediate)) ∙ ap (last (place_left place outcome)) (first_is_four all_on t.immediate d.new.leaves) in
+    ap (λ (p : ℕ). last p 4) (sym (own_place place d.new.leaves (d.new.leaves == 0) t.immediate)) ∙ ap (last (place_left place outcome)) (first_is_four t.immediate d.new.leaves) in
     ap (λ (xs : List Order). record { orders = xs; statuses = statuses; last = place }) e
     ∙ ap (λ (ss : List OrderStatus). record { orders = resting t.immediate d; statuses = ss; last = place }) (f ∙ first)
 
@@ -58,7 +58,7 @@ moved_ends xs book last place r n below later stands at e =
 
 moved_below : (xs : List Order) (last place : ℕ) (r n : Order) → All (λ o. o.place ≤ last) xs → last < place → n.place ≡ place → All (λ o. o.place < n.place) (removed r.place xs)
 moved_below xs last place r n below later at =
-    All-filter (λ (o : Order). not (o.place == r.place)) (λ (o : Order). o.place < n.place) xs (below_new all_on xs last n.place below (omega (arith, later, at)))
+    All-filter (λ (o : Order). not (o.place == r.place)) (λ (o : Order). o.place < n.place) xs (below_new xs last n.place below (omega (arith, later, at)))
 
 pub moved_newest : (xs book : List Order) (last place : ℕ) (r n : Order) → All (λ o. o.place ≤ last) xs → last < place → Contains xs r → n.place ≡ place → book ≡ removed r.place (xs ++ n ∷ []) → IsNewest n book
 moved_newest xs book last place r n below later stands at e =
@@ -71,14 +71,14 @@ moved_tradable months xs book last place t r n tradable below later stands price
     let here = All-contains (λ (o : Order). o.place ≤ last) xs r below stands in
     let rests = moved_rests months place xs t r tradable stands price in
     subst (IsTradable months) (sym (e ∙ (ap (λ (o : Order). removed r.place (xs ++ o ∷ [])) same ∙ removed_push r.place xs m (omega (arith, here, later)))))
-    (tradable_more all_on months (removed r.place xs) m (removed_tradable months r.place xs tradable)
-    (All-filter (λ (o : Order). not (o.place == r.place)) (λ (o : Order). o.place < place) xs (below_new all_on xs last place below later))
+    (tradable_more months (removed r.place xs) m (removed_tradable months r.place xs tradable)
+    (All-filter (λ (o : Order). not (o.place == r.place)) (λ (o : Order). o.place < place) xs (below_new xs last place below later))
     rests.small rests.listed rests.within (omega (arith, more)))
 
 -- the orders that it is traded with
 pub moved_rest : (xs book : List Order) (last place : ℕ) (r n : Order) → All (λ o. o.place ≤ last) xs → last < place → Contains xs r → n.place ≡ place → book ≡ removed r.place (xs ++ n ∷ []) → removed n.place book ≡ removed r.place xs
 moved_rest xs book last place r n below later stands at e =
-    ap (removed n.place) (moved_ends xs book last place r n below later stands at e) ∙ removed_newest all_on n (removed r.place xs) (moved_below xs last place r n below later at)
+    ap (removed n.place) (moved_ends xs book last place r n below later stands at e) ∙ removed_newest n (removed r.place xs) (moved_below xs last place r n below later at)
 
 fewer_left : (gone : ℕ) (xs : List Order) → length (removed gone xs) ≤ length xs
 fewer_left gone [] = omega arith
@@ -95,7 +95,7 @@ room_moved xs rest gone len cap got n q leaves e h g f l =
 
 -- the state after it was traded
 pub moved_state : (rules : Rules) (m : MarketState) (place : ℕ) (t : Ticket) (r n : Order) (orders : List Order) (statuses : List OrderStatus) (d : Trading) → n ≡ moved_to place t r →
-    d ≡ clear all_on (references_of rules) (moved_to place t r) (removed r.place m.orders) → orders ≡ resting false d →
+    d ≡ clear (implied rules) (references_of rules) (moved_to place t r) (removed r.place m.orders) → orders ≡ resting false d →
     statuses ≡ statuses_after d.fills (map (status_after_replace r.session r.id) (m.statuses ++ entered_status n ∷ [])) →
     record { orders = orders; statuses = statuses; last = place } ≡ state_with m place r.session (Replace r.id t) (moved_in rules m place t r)
 moved_state rules m place t r n orders statuses d same e f g =
@@ -123,30 +123,30 @@ pub refused_is : (rules : Rules) (xs : List Order) (place : ℕ) (t : Ticket) (i
 refused_is rules xs place t instrument r reason e = by_tests (may_replace t r instrument) (nat_le t.quantity (done r)) e
   where
     by_tests : (a b : Bool) → ◌≡◌ {A = Option ℕ} (Some reason) (cond (not a) (Some 2) (cond b (Some 0) None)) →
-        replace_refused reason r xs ≡ cond (not a) (replace_refused 2 r xs) (cond b (replace_refused 0 r xs) (cond (keeps_place t r) (keeping_means xs t r) (moving_means (moved_to place t r) (clear all_on (references_of rules) (moved_to place t r) (removed r.place xs)))))
+        replace_refused reason r xs ≡ cond (not a) (replace_refused 2 r xs) (cond b (replace_refused 0 r xs) (cond (keeps_place t r) (keeping_means xs t r) (moving_means (moved_to place t r) (clear (implied rules) (references_of rules) (moved_to place t r) (removed r.place xs)))))
     by_tests false b e = ap (λ (k : ℕ). replace_refused k r xs) (let k : reason ≡ 2 = cc in k)
     by_tests true true e = ap (λ (k : ℕ). replace_refused k r xs) (let k : reason ≡ 0 = cc in k)
     by_tests true false e = cc
 
 pub taken_up : (rules : Rules) (xs : List Order) (place : ℕ) (t : Ticket) (instrument : Result Instrument ℕ) (r : Order) → None ≡ replace_refusal t r instrument →
-    cond (keeps_place t r) (keeping_means xs t r) (moving_means (moved_to place t r) (clear all_on (references_of rules) (moved_to place t r) (removed r.place xs))) ≡ replace_of_resting rules xs place t instrument r
+    cond (keeps_place t r) (keeping_means xs t r) (moving_means (moved_to place t r) (clear (implied rules) (references_of rules) (moved_to place t r) (removed r.place xs))) ≡ replace_of_resting rules xs place t instrument r
 taken_up rules xs place t instrument r e = by_tests (may_replace t r instrument) (nat_le t.quantity (done r)) e
   where
     by_tests : (a b : Bool) → ◌≡◌ {A = Option ℕ} None (cond (not a) (Some 2) (cond b (Some 0) None)) →
-        cond (keeps_place t r) (keeping_means xs t r) (moving_means (moved_to place t r) (clear all_on (references_of rules) (moved_to place t r) (removed r.place xs)))
-        ≡ cond (not a) (replace_refused 2 r xs) (cond b (replace_refused 0 r xs) (cond (keeps_place t r) (keeping_means xs t r) (moving_means (moved_to place t r) (clear all_on (references_of rules) (moved_to place t r) (removed r.place xs)))))
+        cond (keeps_place t r) (keeping_means xs t r) (moving_means (moved_to place t r) (clear (implied rules) (references_of rules) (moved_to place t r) (removed r.place xs)))
+        ≡ cond (not a) (replace_refused 2 r xs) (cond b (replace_refused 0 r xs) (cond (keeps_place t r) (keeping_means xs t r) (moving_means (moved_to place t r) (clear (implied rules) (references_of rules) (moved_to place t r) (removed r.place xs)))))
     by_tests false b e = cc
     by_tests true true e = cc
     by_tests true false e = refl
 
 pub kept_is : (rules : Rules) (xs : List Order) (place : ℕ) (t : Ticket) (instrument : Result Instrument ℕ) (r : Order) → None ≡ replace_refusal t r instrument → true ≡ keeps_place t r → keeping_means xs t r ≡ replace_of_resting rules xs place t instrument r
 kept_is rules xs place t instrument r e k =
-    ap (λ (b : Bool). cond b (keeping_means xs t r) (moving_means (moved_to place t r) (clear all_on (references_of rules) (moved_to place t r) (removed r.place xs)))) k ∙ taken_up rules xs place t instrument r e
+    ap (λ (b : Bool). cond b (keeping_means xs t r) (moving_means (moved_to place t r) (clear (implied rules) (references_of rules) (moved_to place t r) (removed r.place xs)))) k ∙ taken_up rules xs place t instrument r e
 
 pub moved_is : (rules : Rules) (xs : List Order) (place : ℕ) (t : Ticket) (instrument : Result Instrument ℕ) (r : Order) → None ≡ replace_refusal t r instrument → false ≡ keeps_place t r →
-    moving_means (moved_to place t r) (clear all_on (references_of rules) (moved_to place t r) (removed r.place xs)) ≡ replace_of_resting rules xs place t instrument r
+    moving_means (moved_to place t r) (clear (implied rules) (references_of rules) (moved_to place t r) (removed r.place xs)) ≡ replace_of_resting rules xs place t instrument r
 moved_is rules xs place t instrument r e k =
-    ap (λ (b : Bool). cond b (keeping_means xs t r) (moving_means (moved_to place t r) (clear all_on (references_of rules) (moved_to place t r) (removed r.place xs)))) k ∙ taken_up rules xs place t instrument r e
+    ap (λ (b : Bool). cond b (keeping_means xs t r) (moving_means (moved_to place t r) (clear (implied rules) (references_of rules) (moved_to place t r) (removed r.place xs)))) k ∙ taken_up rules xs place t instrument r e
 
 -- ---- what the event means
 

@@ -17,11 +17,11 @@ use Rattle.spread_rules.specs.declared.event.Event.{Event}
 use Rattle.spread_rules.specs.declared.event.Event.TheVariants.{Logon, New, Cancel, Replace, TestReply, Gap, Resend, Reject, Close}
 use Rattle.spread_rules.specs.declared.outcome.OrderStatus.{OrderStatus}
 use Rattle.spread_rules.specs.Amended.{done, with_quantity, amended, amended_at}
-use Rattle.spread_rules.specs.Candidates.{all_on, HasOrderPrice, same_instrument}
+use Rattle.spread_rules.specs.Candidates.{HasOrderPrice, same_instrument}
 use Rattle.spread_rules.specs.Clearing.{clear, removed}
 use Rattle.spread_rules.specs.Legs.{is_side}
 use Rattle.spread_rules.specs.Meaning.{EntryMeaning, JournalState, cancel_of_nothing_resting, has_id, is_own, is_refused, keeping_means, keeps_place, may_replace, meaning_of, moved_to, moving_means, new_order_means, refusal_or_instrument, replace_means, replace_of_resting, replace_refused, statuses_of, ticket_of}
-use Rattle.spread_rules.specs.Rulebook.{Rules, find_symbol, references_of}
+use Rattle.spread_rules.specs.Rulebook.{Rules, find_symbol, references_of, implied}
 use Rattle.spread_rules.proofs.lists.Membership.{from_map, in_head, in_tail}
 use Rattle.spread_books.specs.Listed.{IsNearFirst, IsInMonths}
 use Rattle.order_books.proofs.fronts.FoldGivesFront.{same_instrument_is}
@@ -96,7 +96,7 @@ can_keep t r e =
 pub by_replace : (P : EntryMeaning → Type 0) (rules : Rules) (xs : List Order) (place : ℕ) (t : Ticket) (instrument : Result Instrument ℕ) (r : Order) →
     ((reason : ℕ) → P (replace_refused reason r xs)) →
     (CanReplace t r instrument → CanKeepPlace t r → P (keeping_means xs t r)) →
-    (CanReplace t r instrument → P (moving_means (moved_to place t r) (clear all_on (references_of rules) (moved_to place t r) (removed r.place xs)))) →
+    (CanReplace t r instrument → P (moving_means (moved_to place t r) (clear (implied rules) (references_of rules) (moved_to place t r) (removed r.place xs)))) →
     P (replace_of_resting rules xs place t instrument r)
 by_replace P rules xs place t instrument r refused kept moved = by_tests (may_replace t r instrument) refl (nat_le t.quantity (done r)) refl (keeps_place t r) refl
   where
@@ -105,7 +105,7 @@ by_replace P rules xs place t instrument r refused kept moved = by_tests (may_re
         cond (not a) (replace_refused 2 r xs)
         (cond b (replace_refused 0 r xs)
         (cond c (keeping_means xs t r)
-        (moving_means (moved_to place t r) (clear all_on (references_of rules) (moved_to place t r) (removed r.place xs)))))
+        (moving_means (moved_to place t r) (clear (implied rules) (references_of rules) (moved_to place t r) (removed r.place xs)))))
 
     by_tests : (a : Bool) → may_replace t r instrument ≡ a → (b : Bool) → nat_le t.quantity (done r) ≡ b → (c : Bool) → keeps_place t r ≡ c → P (means a b c)
     by_tests false e b f c g = refused 2

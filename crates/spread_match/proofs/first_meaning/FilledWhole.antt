@@ -6,7 +6,6 @@ use Rattle.std.proofs.lemmas.Slice.Eq.{bytes_eq-Decides}
 use Rattle.spread_rules.specs.declared.order.Order.{Order}
 use Rattle.spread_rules.specs.declared.fill.Fill.{Fill}
 use Rattle.spread_rules.specs.declared.candidate.Candidate.{Candidate}
-use Rattle.spread_rules.specs.Candidates.{all_on}
 use Rattle.spread_rules.specs.Clearing.{Trading, after_fill, after_match, next_candidate, turn, turns}
 use Rattle.spread_rules.specs.Meaning.{PastTicket, filled, is_filled, is_refused}
 use Rattle.spread_rules.proofs.clearings.TurnsEnd.{members_rest, next_left, next_least, next_meets}
@@ -15,6 +14,7 @@ use Rattle.spread_match.proofs.status_rows.MarkedRows.{both_are, same_number}
 use Rattle.spread_match.proofs.status_rows.StatusesOfThePast.{any_more}
 use Rattle.spread_match.proofs.turns.NotAgainstItself.{are_apart}
 use Rattle.spread_match.proofs.turns.OneTurn.{least_some}
+use Rattle.spread_rules.specs.Candidates.{Pairs}
 
 -- the ticket asked for that order
 pub record IsTicketOf (o : Order) (p : PastTicket) : Type 0 where
@@ -34,14 +34,14 @@ IsMarked fs p = is_filled p.session p.ticket.id fs ≡ (filled p.place fs == p.t
 
 -- ---- a fill more, and the orders
 
-exact_less : (ps : List PastTicket) (fs : List Fill) (f : Fill) (o : Order) (q : ℕ) → IsFill all_on f o q → q ≤ o.leaves → IsExact ps fs o → IsExact ps (fs ++ f ∷ []) (record o { leaves = o.leaves - q })
+exact_less : (ps : List PastTicket) (fs : List Fill) (f : Fill) (o : Order) (q : ℕ) → IsFill f o q → q ≤ o.leaves → IsExact ps fs o → IsExact ps (fs ++ f ∷ []) (record o { leaves = o.leaves - q })
 exact_less ps fs f o q is l x =
-    let e : filled o.place (fs ++ f ∷ []) ≡ filled o.place fs + f.quantity = subst (λ (k : ℕ). filled k (fs ++ f ∷ []) ≡ filled k fs + f.quantity) is.order (filled_own all_on fs f) in
+    let e : filled o.place (fs ++ f ∷ []) ≡ filled o.place fs + f.quantity = subst (λ (k : ℕ). filled k (fs ++ f ∷ []) ≡ filled k fs + f.quantity) is.order (filled_own fs f) in
     let k = is.quantity in let h = x.counts in
     record { counts = omega arith; at = λ p c a m. let w = x.at p c a m in record { session = w.session; id = w.id; quantity = w.quantity }; only = x.only }
 
 exact_other : (ps : List PastTicket) (fs : List Fill) (f : Fill) (o : Order) → f.order ≢ o.place → IsExact ps fs o → IsExact ps (fs ++ f ∷ []) o
-exact_other ps fs f o n x = let e = filled_other all_on o.place fs f n in let h = x.counts in record { counts = omega arith; at = x.at; only = x.only }
+exact_other ps fs f o n x = let e = filled_other o.place fs f n in let h = x.counts in record { counts = omega arith; at = x.at; only = x.only }
 
 -- ---- a fill more, and a ticket
 
@@ -56,11 +56,11 @@ same_test : (a b : ℕ) → a ≡ b → (a == b) ≡ true
 same_test a b h = grind (arith, nat_tests)
 
 -- the ticket's own fill
-marked_own : (fs : List Fill) (f : Fill) (o : Order) (q : ℕ) (p : PastTicket) → IsFill all_on f o q → q ≤ o.leaves → 0 < q → filled o.place fs + o.leaves ≡ o.quantity → IsTicketOf o p → p.place ≡ o.place → IsMarked fs p → IsMarked (fs ++ f ∷ []) p
+marked_own : (fs : List Fill) (f : Fill) (o : Order) (q : ℕ) (p : PastTicket) → IsFill f o q → q ≤ o.leaves → 0 < q → filled o.place fs + o.leaves ≡ o.quantity → IsTicketOf o p → p.place ≡ o.place → IsMarked fs p → IsMarked (fs ++ f ∷ []) p
 marked_own fs f o q p is l s counts t at m =
     let quantity = is.quantity in let left = is.leaves in let whole = t.quantity in
     let before : filled p.place fs ≡ filled o.place fs = ap (λ (k : ℕ). filled k fs) at in
-    let more : filled p.place (fs ++ f ∷ []) ≡ filled p.place fs + f.quantity = subst (λ (k : ℕ). filled k (fs ++ f ∷ []) ≡ filled k fs + f.quantity) (is.order ∙ sym at) (filled_own all_on fs f) in
+    let more : filled p.place (fs ++ f ∷ []) ≡ filled p.place fs + f.quantity = subst (λ (k : ℕ). filled k (fs ++ f ∷ []) ≡ filled k fs + f.quantity) (is.order ∙ sym at) (filled_own fs f) in
     any_more (λ (g : Fill). g.session == p.session && bytes_eq g.id p.ticket.id && g.leaves == 0) fs f
     ∙ (ap (λ (b : Bool). b || (f.session == p.session && bytes_eq f.id p.ticket.id && f.leaves == 0)) (m ∙ not_whole (filled p.place fs) p.ticket.quantity o.leaves (omega arith) (omega arith))
     ∙ (ap (λ (b : Bool). (b && bytes_eq f.id p.ticket.id) && f.leaves == 0) (same_test f.session p.session (is.session ∙ sym t.session))
@@ -69,7 +69,7 @@ marked_own fs f o q p is l s counts t at m =
     ∙ ap (λ (k : ℕ). k == p.ticket.quantity) (sym more)))))
 
 -- a fill of another order
-marked_other : (fs : List Fill) (f : Fill) (o : Order) (q : ℕ) (p : PastTicket) → IsFill all_on f o q → p.place ≢ o.place → (p.session ≡ o.session → p.ticket.id ≡ o.id → p.place ≡ o.place) → IsMarked fs p → IsMarked (fs ++ f ∷ []) p
+marked_other : (fs : List Fill) (f : Fill) (o : Order) (q : ℕ) (p : PastTicket) → IsFill f o q → p.place ≢ o.place → (p.session ≡ o.session → p.ticket.id ≡ o.id → p.place ≡ o.place) → IsMarked fs p → IsMarked (fs ++ f ∷ []) p
 marked_other fs f o q p is n only m = by_test (f.session == p.session && bytes_eq f.id p.ticket.id && f.leaves == 0) refl
   where
     or_false : (b : Bool) → (b || false) ≡ b
@@ -85,9 +85,9 @@ marked_other fs f o q p is n only m = by_test (f.session == p.session && bytes_e
         any_more (λ (g : Fill). g.session == p.session && bytes_eq g.id p.ticket.id && g.leaves == 0) fs f
         ∙ (ap (λ (b : Bool). is_filled p.session p.ticket.id fs || b) e
         ∙ (or_false (is_filled p.session p.ticket.id fs)
-        ∙ (m ∙ ap (λ (k : ℕ). k == p.ticket.quantity) (sym (filled_other all_on p.place fs f (λ j. n (sym j ∙ is.order)))))))
+        ∙ (m ∙ ap (λ (k : ℕ). k == p.ticket.quantity) (sym (filled_other p.place fs f (λ j. n (sym j ∙ is.order)))))))
 
-marked_more : (ps : List PastTicket) (fs : List Fill) (f : Fill) (o : Order) (q : ℕ) → IsFill all_on f o q → q ≤ o.leaves → 0 < q → IsExact ps fs o → (p : PastTicket) → Contains ps p → is_refused p.outcome ≡ false → IsMarked fs p → IsMarked (fs ++ f ∷ []) p
+marked_more : (ps : List PastTicket) (fs : List Fill) (f : Fill) (o : Order) (q : ℕ) → IsFill f o q → q ≤ o.leaves → 0 < q → IsExact ps fs o → (p : PastTicket) → Contains ps p → is_refused p.outcome ≡ false → IsMarked fs p → IsMarked (fs ++ f ∷ []) p
 marked_more ps fs f o q is l s x p c a m = by_test (p.place == o.place) refl
   where
     by_test : (b : Bool) → (p.place == o.place) ≡ b → IsMarked (fs ++ f ∷ []) p
@@ -103,12 +103,12 @@ pub record AreExact (ps : List PastTicket) (past : List Fill) (n : Order) (xs : 
   pub marked : (p : PastTicket) → Contains ps p → is_refused p.outcome ≡ false → IsMarked (past ++ made) p
 
 abbrev AreCountedExactly : List PastTicket → List Fill → Order → List Order → List Fill → Type 0
-AreCountedExactly ps past n xs made = AreCounted all_on ps past n xs made × AreExact ps past n xs made
+AreCountedExactly ps past n xs made = AreCounted ps past n xs made × AreExact ps past n xs made
 
-exact_own_filled : (ps : List PastTicket) (past : List Fill) (n : Order) (xs : List Order) (made : List Fill) (f : Fill) (q : ℕ) → IsFill all_on f n q → q ≤ n.leaves → 0 < q →
+exact_own_filled : (ps : List PastTicket) (past : List Fill) (n : Order) (xs : List Order) (made : List Fill) (f : Fill) (q : ℕ) → IsFill f n q → q ≤ n.leaves → 0 < q →
     AreCountedExactly ps past n xs made → AreCountedExactly ps past (record n { leaves = n.leaves - q }) xs (made ++ f ∷ [])
 exact_own_filled ps past n xs made f q is l s (h, x) = (
-  own_filled all_on ps past n xs made f q is l s h,
+  own_filled ps past n xs made f q is l s h,
   record {
     own = subst (λ (fs : List Fill). IsExact ps fs (record n { leaves = n.leaves - q })) (append_assoc past made (f ∷ [])) (exact_less ps (past ++ made) f n q is l x.own);
     each = λ o c. subst (λ (fs : List Fill). IsExact ps fs o) (append_assoc past made (f ∷ [])) (exact_other ps (past ++ made) f o (λ e. let a = h.apart o c in let k = is.order in omega arith) (x.each o c));
@@ -116,31 +116,31 @@ exact_own_filled ps past n xs made f q is l s (h, x) = (
   },
 )
 
-exact_member_filled : (ps : List PastTicket) (past : List Fill) (n : Order) (xs : List Order) (made : List Fill) (f : Fill) (m : Order) (q : ℕ) → Contains xs m → IsFill all_on f m q → q ≤ m.leaves → 0 < q →
+exact_member_filled : (ps : List PastTicket) (past : List Fill) (n : Order) (xs : List Order) (made : List Fill) (f : Fill) (m : Order) (q : ℕ) → Contains xs m → IsFill f m q → q ≤ m.leaves → 0 < q →
     AreCountedExactly ps past n xs made → AreCountedExactly ps past n (after_fill q xs m) (made ++ f ∷ [])
 exact_member_filled ps past n xs made f m q c is l s (h, x) = (
-  member_filled all_on ps past n xs made f m q c is l s h,
+  member_filled ps past n xs made f m q c is l s h,
   record {
     own = subst (λ (fs : List Fill). IsExact ps fs n) (append_assoc past made (f ∷ [])) (exact_other ps (past ++ made) f n (λ e. let a = h.apart m c in let k = is.order in omega arith) x.own);
     each = λ o d. subst (λ (fs : List Fill). IsExact ps fs o) (append_assoc past made (f ∷ []))
-        (each_after all_on (IsExact ps (past ++ made)) (IsExact ps ((past ++ made) ++ f ∷ [])) xs m q (m.leaves == q) c h.differ (exact_less ps (past ++ made) f m q is l) (λ w k. exact_other ps (past ++ made) f w (λ e. k (sym e ∙ is.order))) x.each o d);
+        (each_after (IsExact ps (past ++ made)) (IsExact ps ((past ++ made) ++ f ∷ [])) xs m q (m.leaves == q) c h.differ (exact_less ps (past ++ made) f m q is l) (λ w k. exact_other ps (past ++ made) f w (λ e. k (sym e ∙ is.order))) x.each o d);
     marked = λ p d a. subst (λ (fs : List Fill). IsMarked fs p) (append_assoc past made (f ∷ [])) (marked_more ps (past ++ made) f m q is l s (x.each m c) p d a (x.marked p d a));
   },
 )
 
 -- ---- turns
 
-exact_with : (references : List ℤ) (months : ℕ) (ps : List PastTicket) (past : List Fill) (t : Trading) (r : Option Candidate) → next_candidate all_on t ≡ r → IsRunning all_on months ps past t → AreExact ps past t.new t.orders t.fills →
+exact_with : (on : Pairs) (references : List ℤ) (months : ℕ) (ps : List PastTicket) (past : List Fill) (t : Trading) (r : Option Candidate) → next_candidate on t ≡ r → IsRunning months ps past t → AreExact ps past t.new t.orders t.fills →
     AreExact ps past (after_match references t r).new (after_match references t r).orders (after_match references t r).fills
-exact_with references months ps past t None e h x = x
-exact_with references months ps past t (Some o) e h x =
-    let stands = members_rest all_on t o e in
-    let apart = are_apart all_on t.new t.orders o.counterparty o.price h.tradable.places stands (next_meets all_on t o e) in
-    (turn_keeps all_on (AreCountedExactly ps past) (exact_own_filled ps past) (exact_member_filled ps past) references t.new t.orders t.fills o.counterparty o.price stands apart
-    (least_some all_on t.new t.orders o.counterparty stands h.tradable.left (next_left all_on t o e)) (next_least all_on t o e).eligible.within (h.counted, x)).1
+exact_with on references months ps past t None e h x = x
+exact_with on references months ps past t (Some o) e h x =
+    let stands = members_rest on t o e in
+    let apart = are_apart on t.new t.orders o.counterparty o.price h.tradable.places stands (next_meets on t o e) in
+    (turn_keeps (AreCountedExactly ps past) (exact_own_filled ps past) (exact_member_filled ps past) references t.new t.orders t.fills o.counterparty o.price stands apart
+    (least_some t.new t.orders o.counterparty stands h.tradable.left (next_left on t o e)) (next_least on t o e).eligible.within (h.counted, x)).1
 
-pub exact_turns : (references : List ℤ) (months : ℕ) (ps : List PastTicket) (past : List Fill) (k : ℕ) (t : Trading) → IsRunning all_on months ps past t → AreExact ps past t.new t.orders t.fills →
-    AreExact ps past (turns all_on references k t).new (turns all_on references k t).orders (turns all_on references k t).fills
-exact_turns references months ps past zero t h x = x
-exact_turns references months ps past (suc k) t h x =
-    exact_turns references months ps past k (turn all_on references t) (running_with all_on references months ps past t (next_candidate all_on t) refl h) (exact_with references months ps past t (next_candidate all_on t) refl h x)
+pub exact_turns : (on : Pairs) (references : List ℤ) (months : ℕ) (ps : List PastTicket) (past : List Fill) (k : ℕ) (t : Trading) → IsRunning months ps past t → AreExact ps past t.new t.orders t.fills →
+    AreExact ps past (turns on references k t).new (turns on references k t).orders (turns on references k t).fills
+exact_turns on references months ps past zero t h x = x
+exact_turns on references months ps past (suc k) t h x =
+    exact_turns on references months ps past k (turn on references t) (running_with on references months ps past t (next_candidate on t) refl h) (exact_with on references months ps past t (next_candidate on t) refl h x)

@@ -13,18 +13,18 @@ use Rattle.spread_rules.specs.declared.event.Event.TheVariants.{Logon, New, Canc
 use Rattle.spread_rules.specs.declared.outcome.Outcome.{Outcome}
 use Rattle.spread_rules.specs.declared.outcome.Outcome.TheVariants.{Rested, Filled, Ended, Refused}
 use Rattle.spread_rules.specs.declared.outcome.OrderStatus.{OrderStatus}
-use Rattle.spread_rules.specs.Candidates.{all_on}
 use Rattle.spread_rules.specs.Clearing.{begin, clear, removed}
 use Rattle.spread_rules.specs.Meaning.{JournalState, PastTicket, after_entry, cancel_means, filled, has_id, is_own, is_refused, meaning_of, new_order_means, no_entries, order_of, outcome_of, place_left, refusal_or_instrument, resting, statuses_of, with_meaning}
 use Rattle.spread_rules.specs.FirstMeaning.{is_replace, is_refused as was_refused}
-use Rattle.spread_rules.specs.Rulebook.{Rules, find_symbol, month_count, references_of}
+use Rattle.spread_rules.specs.Rulebook.{Rules, find_symbol, month_count, references_of, implied}
 use Rattle.spread_rules.proofs.lists.Membership.{not_in_nil}
-use Rattle.spread_rules.proofs.clearings.TurnsEnd.{in_filter}
 use Rattle.spread_match.specs.Sound.{IsSound}
 use Rattle.spread_match.proofs.entries.NewOrder.{taken_is}
 use Rattle.spread_match.proofs.entries.PastStaysSound.{filled_none, new_asks, rests_all, started}
 use Rattle.spread_match.proofs.first_meaning.FilledWhole.{AreExact, IsExact, IsMarked, IsTicketOf, exact_turns}
 use Rattle.spread_match.proofs.status_rows.StatusesOfThePast.{not_named, not_named_at, unused}
+use Rattle.spread_rules.specs.Candidates.{Pairs}
+use Rattle.spread_match.proofs.turns.StaysAfterAFill.{from_filter}
 
 -- the ticket of a New entry, which was traded or refused
 pub record IsOfNew (p : PastTicket) : Type 0 where
@@ -51,7 +51,7 @@ fewer_first past ys x on =
 
 cancel_first : (past : JournalState) (place session : ℕ) (id original : List ℕ) (earlier : Option OrderStatus) (found : Option Order) → IsFirst past →
     IsFirst (with_meaning past place (record { session = session; event = Cancel id original }) (cancel_means past.orders earlier found))
-cancel_first past place session id original earlier (Some o) x = fewer_first past (removed o.place past.orders) x (λ w c. in_filter all_on (λ (y : Order). not (y.place == o.place)) past.orders w c)
+cancel_first past place session id original earlier (Some o) x = fewer_first past (removed o.place past.orders) x (λ w c. from_filter (λ (y : Order). not (y.place == o.place)) past.orders w c)
 cancel_first past place session id original earlier None x = fewer_first past past.orders x (λ w c. c)
 
 -- ---- a ticket more
@@ -129,20 +129,20 @@ started_exact months past last place session t i outcome l some none s x =
           (marked_push past.entered past.fills p (λ a. u.filled ∙ sym (nothing_filled (filled place past.fills) t.quantity z some)) x.marked);
     }
 
-traded_first : (references : List ℤ) (months : ℕ) (past : JournalState) (last place session : ℕ) (t : Ticket) (i : Instrument) → last < place → 0 < t.quantity → find (has_id session t.id) (statuses_of past) ≡ None → IsSound months past last → IsFirst past →
+traded_first : (on : Pairs) (references : List ℤ) (months : ℕ) (past : JournalState) (last place session : ℕ) (t : Ticket) (i : Instrument) → last < place → 0 < t.quantity → find (has_id session t.id) (statuses_of past) ≡ None → IsSound months past last → IsFirst past →
     IsFirst (record {
-      orders = resting t.immediate (clear all_on references (order_of place session t i) past.orders);
-      entered = past.entered ++ record { place = place; session = session; original = None; ticket = t; outcome = outcome_of t.immediate (clear all_on references (order_of place session t i) past.orders).new.leaves } ∷ [];
-      fills = past.fills ++ (clear all_on references (order_of place session t i) past.orders).fills;
+      orders = resting t.immediate (clear on references (order_of place session t i) past.orders);
+      entered = past.entered ++ record { place = place; session = session; original = None; ticket = t; outcome = outcome_of t.immediate (clear on references (order_of place session t i) past.orders).new.leaves } ∷ [];
+      fills = past.fills ++ (clear on references (order_of place session t i) past.orders).fills;
     })
-traded_first references months past last place session t i l some none s x =
+traded_first on references months past last place session t i l some none s x =
     let n = order_of place session t i in
-    let d = clear all_on references n past.orders in
+    let d = clear on references n past.orders in
     let outcome = outcome_of t.immediate d.new.leaves in
     let p : PastTicket = record { place = place; session = session; original = None; ticket = t; outcome = outcome } in
     let ps = past.entered ++ p ∷ [] in
     let done : AreExact ps past.fills d.new d.orders d.fills =
-    exact_turns references months ps past.fills (length past.orders) (begin n past.orders) (started months past last place p n past.orders l (new_asks place session t i outcome) s s.tradable (λ o c. c))
+    exact_turns on references months ps past.fills (length past.orders) (begin n past.orders) (started months past last place p n past.orders l (new_asks place session t i outcome) s s.tradable (λ o c. c))
     (started_exact months past last place session t i outcome l some none s x) in
     record {
       exact = rests_all (IsExact ps (past.fills ++ d.fills)) d t.immediate done.each done.own (d.new.leaves == 0 || t.immediate);
@@ -159,7 +159,7 @@ entered_first : (rules : Rules) (past : JournalState) (last place session : ℕ)
 entered_first rules past last place session t (Err reason) e l s x =
     refused_first past (record { place = place; session = session; original = None; ticket = t; outcome = Refused reason }) refl (record { original = refl; place = refl; refused = refl }) x
 entered_first rules past last place session t (Ok i) e l s x =
-    traded_first (references_of rules) (month_count rules) past last place session t i l (taken_is all_on rules t (find (has_id session t.id) (statuses_of past)) i e).some
+    traded_first (implied rules) (references_of rules) (month_count rules) past last place session t i l (taken_is rules t (find (has_id session t.id) (statuses_of past)) i e).some
     (none_earlier rules t (find (has_id session t.id) (statuses_of past)) (find_symbol rules t.symbol) i e) s x
 
 -- ---- any entry

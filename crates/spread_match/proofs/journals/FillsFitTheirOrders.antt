@@ -17,13 +17,13 @@ use Rattle.spread_rules.specs.declared.event.Event.{Event}
 use Rattle.spread_rules.specs.declared.event.Event.TheVariants.{Logon, New, Cancel, Replace, TestReply, Gap, Resend, Reject, Close}
 use Rattle.spread_rules.specs.declared.event.Ticket.{Ticket}
 use Rattle.spread_rules.specs.declared.outcome.OrderStatus.{OrderStatus}
-use Rattle.spread_rules.specs.Candidates.{all_on, takes_part, implied_price, price_of, least_left, month_of, AllStandIn}
+use Rattle.spread_rules.specs.Candidates.{takes_part, implied_price, price_of, least_left, month_of, AllStandIn}
 use Rattle.spread_rules.specs.Prices.{IsLegPrice, IsOrderPrice}
 use Rattle.spread_rules.specs.Clearing.{Trading, next_candidate, turn, turns, after_match, begin, clear, removed, fills_of, fill_of, leg_prices, leg_prices_of_fill, leg_prices_of_single, leg_prices_of_pair}
 use Rattle.spread_rules.specs.Meaning.{EntryMeaning, JournalState, PastTicket, after_entries, after_entry, cancel_means, has_id, is_own, meaning_of, meaning_of_journal, moved_to, new_order_means, no_entries, order_of, refusal_or_instrument, replace_means, resting, statuses_of}
-use Rattle.spread_rules.specs.Rulebook.{Rules, IsRules, IsListed, month_count, references_of, find_symbol}
+use Rattle.spread_rules.specs.Rulebook.{Rules, IsRules, IsListed, month_count, references_of, find_symbol, implied}
 use Rattle.spread_rules.proofs.lists.Membership.{in_cons_cases, in_head, in_tail, not_in_nil}
-use Rattle.spread_rules.proofs.clearings.TurnsEnd.{in_filter, members_rest, next_meets}
+use Rattle.spread_rules.proofs.clearings.TurnsEnd.{members_rest, next_meets}
 use Rattle.spread_rules.proofs.clearings.BoughtIsSold.{on_price}
 use Rattle.spread_match.specs.Sound.{IsSound, IsCounted, IsFillWithinLimits}
 use Rattle.spread_match.specs.Trade.{IsPriced, IsTradable, ArePriced}
@@ -37,6 +37,7 @@ use Rattle.spread_match.proofs.entries.Replaces.{all_amended, by_replace, own_is
 use Rattle.spread_rules.specs.Amended.{amended}
 use Rattle.spread_rules.specs.declared.outcome.Outcome.TheVariants.{Rested}
 use Rattle.spread_match.proofs.journals.AfterEveryEntry.{none_sound}
+use Rattle.spread_match.proofs.turns.StaysAfterAFill.{from_filter}
 
 -- ---- prices
 
@@ -99,7 +100,7 @@ fill_fits rules at q o price legs k a b s l =
     let m = k.quantity in
     record { quantity = omega arith; total = m; leaves = omega arith; listed = k.listed; price = s; near = g.near; far = g.far }
 
-turn_fits : (rules : Rules) (n : Order) (p : Counterparty) (price : ℤ) → IsRules rules → FitsOrder rules n → n.leaves ≤ n.quantity → price_of all_on n p ≡ Some price → (xs : List Order) → AllStandIn xs p → ((o : Order) → Contains xs o → FitsOrder rules o) → ((o : Order) → Contains xs o → o.leaves ≤ o.quantity) →
+turn_fits : (rules : Rules) (n : Order) (p : Counterparty) (price : ℤ) → IsRules rules → FitsOrder rules n → n.leaves ≤ n.quantity → price_of (implied rules) n p ≡ Some price → (xs : List Order) → AllStandIn xs p → ((o : Order) → Contains xs o → FitsOrder rules o) → ((o : Order) → Contains xs o → o.leaves ≤ o.quantity) →
     (f : Fill) → Contains (fills_of (references_of rules) n (record { price = price; counterparty = p })) f → IsFillWithinLimits rules f
 turn_fits rules n (Direct a) price lawful own less_own meets xs stands fits less_each f c =
     let k = fits a stands in
@@ -123,7 +124,7 @@ turn_fits rules n (Implied a b) price lawful own less_own meets xs stands fits l
     let j = fits b stands.1 in
     let wa = less_each a stands.0 in
     let wb = less_each b stands.1 in
-    let small : IsLegPrice price = implied_fits n.side n.instrument a.side a.instrument b.side b.instrument a.price b.price price k.low k.high j.low j.high (on_price (takes_part all_on n.instrument a.instrument) _ price meets) in
+    let small : IsLegPrice price = implied_fits n.side n.instrument a.side a.instrument b.side b.instrument a.price b.price price k.low k.high j.low j.high (on_price (takes_part (implied rules) n.instrument a.instrument) _ price meets) in
     let sa = wider a.price k.low k.high in
     let sb = wider b.price j.low j.high in
     let legs = leg_prices (references_of rules) n.instrument price (Implied a b) in
@@ -153,21 +154,21 @@ less_fits rules o k h = record { quantity = h.quantity; low = h.low; high = h.hi
 no_more : (ps : List PastTicket) (fs : List Fill) (o : Order) → IsCounted ps fs o → o.leaves ≤ o.quantity
 no_more ps fs o c = let k = c.counts in omega arith
 
-traded_fits : (rules : Rules) (ps : List PastTicket) (past : List Fill) (t : Trading) (r : Option Candidate) → next_candidate all_on t ≡ r → IsRules rules → IsRunning all_on (month_count rules) ps past t → AllFit rules t → AllFit rules (after_match (references_of rules) t r)
+traded_fits : (rules : Rules) (ps : List PastTicket) (past : List Fill) (t : Trading) (r : Option Candidate) → next_candidate (implied rules) t ≡ r → IsRules rules → IsRunning (month_count rules) ps past t → AllFit rules t → AllFit rules (after_match (references_of rules) t r)
 traded_fits rules ps past t None e lawful run h = h
 traded_fits rules ps past t (Some o) e lawful run h = record {
   own = less_fits rules t.new _ h.own;
-  each = traded_all all_on (FitsOrder rules) (less_fits rules) (references_of rules) t (Some o) h.each;
+  each = traded_all (FitsOrder rules) (less_fits rules) (references_of rules) t (Some o) h.each;
   fills = λ f c. elim (Contains-append_cases t.fills (fills_of (references_of rules) t.new o) f c) [
     | inl d ↦ h.fills f d
-    | inr d ↦ turn_fits rules t.new o.counterparty o.price lawful h.own (no_more ps (past ++ t.fills) t.new run.counted.own) (next_meets all_on t o e) t.orders (members_rest all_on t o e) (λ w m. All-contains (FitsOrder rules) t.orders w h.each m) (λ w m. no_more ps (past ++ t.fills) w (run.counted.each w m)) f d
+    | inr d ↦ turn_fits rules t.new o.counterparty o.price lawful h.own (no_more ps (past ++ t.fills) t.new run.counted.own) (next_meets (implied rules) t o e) t.orders (members_rest (implied rules) t o e) (λ w m. All-contains (FitsOrder rules) t.orders w h.each m) (λ w m. no_more ps (past ++ t.fills) w (run.counted.each w m)) f d
   ];
 }
 
-turns_fits : (rules : Rules) (ps : List PastTicket) (past : List Fill) (k : ℕ) (t : Trading) → IsRules rules → IsRunning all_on (month_count rules) ps past t → AllFit rules t → AllFit rules (turns all_on (references_of rules) k t)
+turns_fits : (rules : Rules) (ps : List PastTicket) (past : List Fill) (k : ℕ) (t : Trading) → IsRules rules → IsRunning (month_count rules) ps past t → AllFit rules t → AllFit rules (turns (implied rules) (references_of rules) k t)
 turns_fits rules ps past zero t lawful run h = h
 turns_fits rules ps past (suc k) t lawful run h =
-    turns_fits rules ps past k (turn all_on (references_of rules) t) lawful (running_with all_on (references_of rules) (month_count rules) ps past t (next_candidate all_on t) refl run) (traded_fits rules ps past t (next_candidate all_on t) refl lawful run h)
+    turns_fits rules ps past k (turn (implied rules) (references_of rules) t) lawful (running_with (implied rules) (references_of rules) (month_count rules) ps past t (next_candidate (implied rules) t) refl run) (traded_fits rules ps past t (next_candidate (implied rules) t) refl lawful run h)
 
 -- ---- entries
 
@@ -177,9 +178,9 @@ record PastFits (rules : Rules) (xs : List Order) (fs : List Fill) : Type 0 wher
 
 cleared_fits : (rules : Rules) (past : JournalState) (last place : ℕ) (p : PastTicket) (n : Order) (xs : List Order) (immediate : Bool) → IsRules rules → last < place → AsksFor place p n → IsSound (month_count rules) past last →
     IsTradable (month_count rules) xs → ((o : Order) → Contains xs o → Contains past.orders o) → All (FitsOrder rules) xs → FitsOrder rules n →
-    PastFits rules (resting immediate (clear all_on (references_of rules) n xs)) (clear all_on (references_of rules) n xs).fills
+    PastFits rules (resting immediate (clear (implied rules) (references_of rules) n xs)) (clear (implied rules) (references_of rules) n xs).fills
 cleared_fits rules past last place p n xs immediate lawful l a s t on h own =
-    let d = clear all_on (references_of rules) n xs in
+    let d = clear (implied rules) (references_of rules) n xs in
     let all : AllFit rules d = turns_fits rules _ past.fills (length xs) (begin n xs) lawful (started (month_count rules) past last place p n xs l a s t on) (record { own = own; each = h; fills = λ f c. absurd (not_in_nil f c) }) in
     record {
       orders = λ k z lt. rests_all (FitsOrder rules) d immediate (λ o c. All-contains (FitsOrder rules) d.orders o all.each c) all.own (d.new.leaves == 0 || immediate) (get_or (resting immediate d) k z) (Contains-get_or (resting immediate d) k z lt);
@@ -190,7 +191,7 @@ entered_fits : (rules : Rules) (past : JournalState) (last place session : ℕ) 
     PastFits rules (new_order_means rules past.orders place session t r).orders (new_order_means rules past.orders place session t r).fills
 entered_fits rules past last place session t earlier (Err reason) e lawful l s h k = record { orders = h; fills = λ f c. absurd (not_in_nil f c) }
 entered_fits rules past last place session t earlier (Ok i) e lawful l s h k =
-    let w = taken_is all_on rules t earlier i e in
+    let w = taken_is rules t earlier i e in
     cleared_fits rules past last place _ (order_of place session t i) past.orders t.immediate lawful l (new_asks place session t i Rested) s s.tradable (λ o c. c) h
     (record { quantity = w.most; low = k.low; high = k.high; listed = listed_found rules t.symbol i w.names })
 
@@ -212,11 +213,11 @@ replaced_fits rules past last place session original t earlier other (Some o) e 
     let own = All-contains (FitsOrder rules) past.orders o h stands in
     by_replace (λ (m : EntryMeaning). PastFits rules m.orders m.fills) rules past.orders place t instrument o
     (λ reason. record { orders = h; fills = λ f c. absurd (not_in_nil f c) })
-    (λ a b. record { orders = amended_fits rules past.orders o.place t.id t.quantity (taken_is all_on rules t earlier o.instrument a.fits).most h; fills = λ f c. absurd (not_in_nil f c) })
+    (λ a b. record { orders = amended_fits rules past.orders o.place t.id t.quantity (taken_is rules t earlier o.instrument a.fits).most h; fills = λ f c. absurd (not_in_nil f c) })
     (λ a. cleared_fits rules past last place _ (moved_to place t o) (removed o.place past.orders) false lawful l
     (moved_asks place session original t o Rested (own_is past.orders session original o e).session_is a.side) s (removed_tradable (month_count rules) o.place past.orders s.tradable)
-    (λ w c. in_filter all_on (λ (x : Order). not (x.place == o.place)) past.orders w c) (All-filter (λ (w : Order). not (w.place == o.place)) (FitsOrder rules) past.orders h)
-    (record { quantity = (taken_is all_on rules t earlier o.instrument a.fits).most; low = k.low; high = k.high; listed = own.listed }))
+    (λ w c. from_filter (λ (x : Order). not (x.place == o.place)) past.orders w c) (All-filter (λ (w : Order). not (w.place == o.place)) (FitsOrder rules) past.orders h)
+    (record { quantity = (taken_is rules t earlier o.instrument a.fits).most; low = k.low; high = k.high; listed = own.listed }))
 
 event_fits : (rules : Rules) (past : JournalState) (last place session : ℕ) (event : Event) → IsRules rules → last < place → IsSound (month_count rules) past last → All (FitsOrder rules) past.orders → IsPriced event →
     PastFits rules (meaning_of rules past place (record { session = session; event = event })).orders (meaning_of rules past place (record { session = session; event = event })).fills

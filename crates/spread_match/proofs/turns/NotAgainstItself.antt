@@ -15,67 +15,89 @@ use Rattle.spread_rules.specs.Clearing.{removed, reduced, with_less_left}
 use Rattle.spread_match.specs.code.Turns.{AreApart}
 use Rattle.spread_rules.proofs.clearings.BoughtIsSold.{on_price}
 
+not_first : (s : Side) (I : Instrument) (sb : Side) (B : Instrument) (x y p : ℤ) → implied_price s I s I sb B x y ≡ Some p → ⊥
+not_first Buy (Outright m) sb B x y p h = cc
+not_first Buy (Spread i j) sb B x y p h = cc
+not_first Sell (Outright m) sb B x y p h = cc
+not_first Sell (Spread i j) sb B x y p h = cc
+
+not_second : (s : Side) (I : Instrument) (sa : Side) (A : Instrument) (x y p : ℤ) → implied_price s I sa A s I x y ≡ Some p → ⊥
+not_second Buy (Outright m) Buy (Outright u) x y p h = cc
+not_second Buy (Outright m) Buy (Spread u v) x y p h = cc
+not_second Buy (Outright m) Sell (Outright u) x y p h = cc
+not_second Buy (Outright m) Sell (Spread u v) x y p h = cc
+not_second Buy (Spread i j) Buy (Outright u) x y p h = cc
+not_second Buy (Spread i j) Buy (Spread u v) x y p h = cc
+not_second Buy (Spread i j) Sell (Outright u) x y p h = cc
+not_second Buy (Spread i j) Sell (Spread u v) x y p h = cc
+not_second Sell (Outright m) Buy (Outright u) x y p h = cc
+not_second Sell (Outright m) Buy (Spread u v) x y p h = cc
+not_second Sell (Outright m) Sell (Outright u) x y p h = cc
+not_second Sell (Outright m) Sell (Spread u v) x y p h = cc
+not_second Sell (Spread i j) Buy (Outright u) x y p h = cc
+not_second Sell (Spread i j) Buy (Spread u v) x y p h = cc
+not_second Sell (Spread i j) Sell (Outright u) x y p h = cc
+not_second Sell (Spread i j) Sell (Spread u v) x y p h = cc
+
+-- the two of a pair are of two queues
+not_both : (s : Side) (I : Instrument) (sa : Side) (A : Instrument) (x y p : ℤ) → implied_price s I sa A sa A x y ≡ Some p → ⊥
+not_both Buy (Outright m) Buy (Outright u) x y p h = cc
+not_both Buy (Outright m) Buy (Spread u v) x y p h = cc
+not_both Buy (Outright m) Sell (Outright u) x y p h = cc
+not_both Buy (Outright m) Sell (Spread u v) x y p h = cc
+not_both Buy (Spread i j) Buy (Outright u) x y p h = cc
+not_both Buy (Spread i j) Buy (Spread u v) x y p h = cc
+not_both Buy (Spread i j) Sell (Outright u) x y p h = cc
+not_both Buy (Spread i j) Sell (Spread u v) x y p h = cc
+not_both Sell (Outright m) Buy (Outright u) x y p h = cc
+not_both Sell (Outright m) Buy (Spread u v) x y p h = cc
+not_both Sell (Outright m) Sell (Outright u) x y p h = cc
+not_both Sell (Outright m) Sell (Spread u v) x y p h = cc
+not_both Sell (Spread i j) Buy (Outright u) x y p h = cc
+not_both Sell (Spread i j) Buy (Spread u v) x y p h = cc
+not_both Sell (Spread i j) Sell (Outright u) x y p h = cc
+not_both Sell (Spread i j) Sell (Spread u v) x y p h = cc
+
+not_opposite : (s : Side) → are_opposite s s ≡ true → ⊥
+not_opposite Buy h = cc
+not_opposite Sell h = cc
+
+so_true : (b : Bool) (v p : ℤ) → price_if b v ≡ Some p → b ≡ true
+so_true true v p h = refl
+so_true false v p h = cc
+
+and_right : (a b : Bool) → (a && b) ≡ true → b ≡ true
+and_right true b h = h
+and_right false b h = cc
+
+-- of the instrument and side of the new order
+pub record IsLike (n own : Order) : Type 0 where
+  pub instrument : own.instrument ≡ n.instrument
+  pub side : own.side ≡ n.side
+
+with_own : (own : Order) (xs : List Order) (p : Counterparty) → AllStandIn xs p → AllStandIn (xs ++ own ∷ []) p
+with_own own xs (Direct o) c = Contains-append_left xs (own ∷ []) o c
+with_own own xs (Implied a b) c = (Contains-append_left xs (own ∷ []) a c.0, Contains-append_left xs (own ∷ []) b c.1)
+
+-- ---- the new order stays
+
+other_place : (a b : ℕ) → b ≢ a → (b == a) ≡ false
+other_place a b h = grind (arith, nat_tests)
+
+pub map_push : (f : Order → Order) (xs : List Order) (y : Order) → map f (xs ++ y ∷ []) ≡ map f xs ++ f y ∷ []
+map_push f [] y = refl
+map_push f (x ∷ xs) y = ap (λ (ys : List Order). f x ∷ ys) (map_push f xs y)
+
+pub fill_own : (q : ℕ) (xs : List Order) (m own : Order) (b : Bool) → own.place ≢ m.place →
+    cond b (removed m.place (xs ++ own ∷ [])) (reduced m.place q (xs ++ own ∷ [])) ≡ cond b (removed m.place xs) (reduced m.place q xs) ++ own ∷ []
+fill_own q xs m own true h =
+    let e = other_place m.place own.place h in
+    filter-append (λ (o : Order). not (o.place == m.place)) xs (own ∷ []) ∙ ap (λ (t : Bool). removed m.place xs ++ cond (not t) (own ∷ []) []) e
+fill_own q xs m own false h =
+    let e = other_place m.place own.place h in
+    map_push (with_less_left m.place q) xs own ∙ ap (λ (t : Bool). reduced m.place q xs ++ cond t (record own { leaves = own.leaves - q }) own ∷ []) e
+
 module _ (on : Pairs) where
-  not_first : (s : Side) (I : Instrument) (sb : Side) (B : Instrument) (x y p : ℤ) → implied_price s I s I sb B x y ≡ Some p → ⊥
-  not_first Buy (Outright m) sb B x y p h = cc
-  not_first Buy (Spread i j) sb B x y p h = cc
-  not_first Sell (Outright m) sb B x y p h = cc
-  not_first Sell (Spread i j) sb B x y p h = cc
-
-  not_second : (s : Side) (I : Instrument) (sa : Side) (A : Instrument) (x y p : ℤ) → implied_price s I sa A s I x y ≡ Some p → ⊥
-  not_second Buy (Outright m) Buy (Outright u) x y p h = cc
-  not_second Buy (Outright m) Buy (Spread u v) x y p h = cc
-  not_second Buy (Outright m) Sell (Outright u) x y p h = cc
-  not_second Buy (Outright m) Sell (Spread u v) x y p h = cc
-  not_second Buy (Spread i j) Buy (Outright u) x y p h = cc
-  not_second Buy (Spread i j) Buy (Spread u v) x y p h = cc
-  not_second Buy (Spread i j) Sell (Outright u) x y p h = cc
-  not_second Buy (Spread i j) Sell (Spread u v) x y p h = cc
-  not_second Sell (Outright m) Buy (Outright u) x y p h = cc
-  not_second Sell (Outright m) Buy (Spread u v) x y p h = cc
-  not_second Sell (Outright m) Sell (Outright u) x y p h = cc
-  not_second Sell (Outright m) Sell (Spread u v) x y p h = cc
-  not_second Sell (Spread i j) Buy (Outright u) x y p h = cc
-  not_second Sell (Spread i j) Buy (Spread u v) x y p h = cc
-  not_second Sell (Spread i j) Sell (Outright u) x y p h = cc
-  not_second Sell (Spread i j) Sell (Spread u v) x y p h = cc
-
-  -- the two of a pair are of two queues
-  not_both : (s : Side) (I : Instrument) (sa : Side) (A : Instrument) (x y p : ℤ) → implied_price s I sa A sa A x y ≡ Some p → ⊥
-  not_both Buy (Outright m) Buy (Outright u) x y p h = cc
-  not_both Buy (Outright m) Buy (Spread u v) x y p h = cc
-  not_both Buy (Outright m) Sell (Outright u) x y p h = cc
-  not_both Buy (Outright m) Sell (Spread u v) x y p h = cc
-  not_both Buy (Spread i j) Buy (Outright u) x y p h = cc
-  not_both Buy (Spread i j) Buy (Spread u v) x y p h = cc
-  not_both Buy (Spread i j) Sell (Outright u) x y p h = cc
-  not_both Buy (Spread i j) Sell (Spread u v) x y p h = cc
-  not_both Sell (Outright m) Buy (Outright u) x y p h = cc
-  not_both Sell (Outright m) Buy (Spread u v) x y p h = cc
-  not_both Sell (Outright m) Sell (Outright u) x y p h = cc
-  not_both Sell (Outright m) Sell (Spread u v) x y p h = cc
-  not_both Sell (Spread i j) Buy (Outright u) x y p h = cc
-  not_both Sell (Spread i j) Buy (Spread u v) x y p h = cc
-  not_both Sell (Spread i j) Sell (Outright u) x y p h = cc
-  not_both Sell (Spread i j) Sell (Spread u v) x y p h = cc
-
-  not_opposite : (s : Side) → are_opposite s s ≡ true → ⊥
-  not_opposite Buy h = cc
-  not_opposite Sell h = cc
-
-  so_true : (b : Bool) (v p : ℤ) → price_if b v ≡ Some p → b ≡ true
-  so_true true v p h = refl
-  so_true false v p h = cc
-
-  and_right : (a b : Bool) → (a && b) ≡ true → b ≡ true
-  and_right true b h = h
-  and_right false b h = cc
-
-  -- of the instrument and side of the new order
-  pub record IsLike (n own : Order) : Type 0 where
-    pub instrument : own.instrument ≡ n.instrument
-    pub side : own.side ≡ n.side
-
   -- own is in no candidate
   pub own_single : (n own o : Order) (p : ℤ) → IsLike n own → own ≡ o → price_of on n (Direct o) ≡ Some p → ⊥
   own_single n own o p l e h =
@@ -107,10 +129,6 @@ module _ (on : Pairs) where
     elim (Contains-push_cases xs own b c.1) [ inl d ↦ d | inr e ↦ absurd (own_second n own a b price l e h) ],
   )
 
-  with_own : (own : Order) (xs : List Order) (p : Counterparty) → AllStandIn xs p → AllStandIn (xs ++ own ∷ []) p
-  with_own own xs (Direct o) c = Contains-append_left xs (own ∷ []) o c
-  with_own own xs (Implied a b) c = (Contains-append_left xs (own ∷ []) a c.0, Contains-append_left xs (own ∷ []) b c.1)
-
   wider : (n own : Order) (xs : List Order) (q : Candidate) → IsEligible on n xs q → IsEligible on n (xs ++ own ∷ []) q
   wider n own xs q e = record { stands = with_own own xs q.counterparty e.stands; meets = e.meets; within = e.within }
 
@@ -128,21 +146,3 @@ module _ (on : Pairs) where
       let same = d a b c.0 c.1 e in
       not_both n.side n.instrument a.side a.instrument a.price b.price price
       (subst (λ (o : Order). implied_price n.side n.instrument a.side a.instrument o.side o.instrument a.price b.price ≡ Some price) (sym same) (on_price _ _ price h))
-
-  -- ---- the new order stays
-
-  other_place : (a b : ℕ) → b ≢ a → (b == a) ≡ false
-  other_place a b h = grind (arith, nat_tests)
-
-  pub map_push : (f : Order → Order) (xs : List Order) (y : Order) → map f (xs ++ y ∷ []) ≡ map f xs ++ f y ∷ []
-  map_push f [] y = refl
-  map_push f (x ∷ xs) y = ap (λ (ys : List Order). f x ∷ ys) (map_push f xs y)
-
-  pub fill_own : (q : ℕ) (xs : List Order) (m own : Order) (b : Bool) → own.place ≢ m.place →
-      cond b (removed m.place (xs ++ own ∷ [])) (reduced m.place q (xs ++ own ∷ [])) ≡ cond b (removed m.place xs) (reduced m.place q xs) ++ own ∷ []
-  fill_own q xs m own true h =
-      let e = other_place m.place own.place h in
-      filter-append (λ (o : Order). not (o.place == m.place)) xs (own ∷ []) ∙ ap (λ (t : Bool). removed m.place xs ++ cond (not t) (own ∷ []) []) e
-  fill_own q xs m own false h =
-      let e = other_place m.place own.place h in
-      map_push (with_less_left m.place q) xs own ∙ ap (λ (t : Bool). reduced m.place q xs ++ cond t (record own { leaves = own.leaves - q }) own ∷ []) e

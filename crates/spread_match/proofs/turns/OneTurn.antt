@@ -14,14 +14,37 @@ use Rattle.spread_match.specs.code.Turns.{IsAfter}
 use Rattle.spread_match.proofs.turns.NotAgainstItself.{best_of_others}
 use Rattle.spread_match.proofs.turns.StaysTradable.{others_after, turns_more, next_is, like_own, fewer_differ, cleared_at, spent_next}
 
-module _ (on : Pairs) where
-  pub least_some : (n : Order) (xs : List Order) (p : Counterparty) → AllStandIn xs p → All (λ o. 0 < o.leaves) xs → 0 < n.leaves → 0 < least_left n p
-  least_some n xs (Direct o) c h l = let a = All-contains (λ (w : Order). 0 < w.leaves) xs o h c in omega (arith, a)
-  least_some n xs (Implied x y) c h l =
-      let a = All-contains (λ (w : Order). 0 < w.leaves) xs x h c.0 in
-      let b = All-contains (λ (w : Order). 0 < w.leaves) xs y h c.1 in
-      omega (arith, a, b)
+pub least_some : (n : Order) (xs : List Order) (p : Counterparty) → AllStandIn xs p → All (λ o. 0 < o.leaves) xs → 0 < n.leaves → 0 < least_left n p
+least_some n xs (Direct o) c h l = let a = All-contains (λ (w : Order). 0 < w.leaves) xs o h c in omega (arith, a)
+least_some n xs (Implied x y) c h l =
+    let a = All-contains (λ (w : Order). 0 < w.leaves) xs x h c.0 in
+    let b = All-contains (λ (w : Order). 0 < w.leaves) xs y h c.1 in
+    omega (arith, a, b)
 
+-- ---- the room for fills
+
+pub length_push : (xs : List Order) (y : Order) → length (xs ++ y ∷ []) ≡ length xs + 1
+length_push [] y = refl
+length_push (x ∷ xs) y = omega (arith, length_push xs y)
+
+some_rest : (xs : List Order) (p : Counterparty) → AllStandIn xs p → 0 < length xs
+some_rest xs (Direct o) c = omega (arith, c.1)
+some_rest xs (Implied a b) c = omega (arith, c.0.1)
+
+room_by : (len more cap wide leaves fewer q old new : ℕ) (b : Bool) → nat_lt q leaves ≡ b → len + 3 * min leaves (old - 1) ≤ cap → more ≤ len + 3 → cap ≤ wide → 0 < q → 0 < leaves → 0 < old - 1 → fewer ≡ leaves - q → (q < leaves → new < old) → more + 3 * min fewer (new - 1) ≤ wide
+room_by len more cap wide leaves fewer q old new true e h l c p o w f s = let lt : q < leaves = grind (arith, nat_tests) in let n = s lt in omega arith
+room_by len more cap wide leaves fewer q old new false e h l c p o w f s = let ge : leaves ≤ q = grind (arith, nat_tests) in omega arith
+
+pub room_kept : (len more cap wide leaves fewer q old new : ℕ) → len + 3 * min leaves (old - 1) ≤ cap → more ≤ len + 3 → cap ≤ wide → 0 < q → 0 < leaves → 0 < old - 1 → fewer ≡ leaves - q → (q < leaves → new < old) → more + 3 * min fewer (new - 1) ≤ wide
+room_kept len more cap wide leaves fewer q old new h l c p o w f s = room_by len more cap wide leaves fewer q old new (nat_lt q leaves) refl h l c p o w f s
+
+pub room_first : (len cap leaves old new : ℕ) → len + 3 * min leaves old ≤ cap → new ≡ old + 1 → len + 3 * min leaves (new - 1) ≤ cap
+room_first len cap leaves old new h e = omega arith
+
+pub room_once : (len cap leaves old : ℕ) → len + 3 * min leaves (old - 1) ≤ cap → 0 < leaves → 0 < old - 1 → len + 3 ≤ cap
+room_once len cap leaves old h l o = omega arith
+
+module _ (on : Pairs) where
   after_at : (references : List ℤ) (months k : ℕ) (own : Order) (rest : List Order) (candidate : Candidate) →
       IsTradable months ((turns on references k (begin own rest)).orders ++ own ∷ []) → 0 < (turns on references k (begin own rest)).new.leaves →
       IsLeast on (turns on references k (begin own rest)).new ((turns on references k (begin own rest)).orders ++ own ∷ []) candidate →
@@ -33,7 +56,7 @@ module _ (on : Pairs) where
       let t = turns on references k (begin own rest) in
       let like = like_own on references k own rest in
       let narrow : IsLeast on t.new t.orders candidate = best_of_others on t.new own t.orders (Some candidate) like least in
-      let found : next_candidate on t ≡ Some candidate = next_is on t (Some candidate) pos (fewer_differ on own t.orders tr.places) narrow in
+      let found : next_candidate on t ≡ Some candidate = next_is on t (Some candidate) pos (fewer_differ own t.orders tr.places) narrow in
       let more : turns on references (suc k) (begin own rest) ≡ after_match references t (Some candidate) = turns_more on references k (begin own rest) ∙ ap (after_match references t) found in
       record {
         count = suc k;
@@ -78,17 +101,7 @@ module _ (on : Pairs) where
       let tr2 = subst (IsTradable months) a.orders_is tr in
       let none2 = subst (λ (n : Order). IsBest on n (t.orders ++ own ∷ []) None) a.left_is (subst (λ (xs : List Order). IsBest on left xs None) a.orders_is none) in
       done_at references own rest left book made a
-      (next_is on t None (subst (λ (n : Order). 0 < n.leaves) a.left_is pos) (fewer_differ on own t.orders tr2.places) (best_of_others on t.new own t.orders None (like_own on references a.count own rest) none2))
-
-  -- ---- the room for fills
-
-  pub length_push : (xs : List Order) (y : Order) → length (xs ++ y ∷ []) ≡ length xs + 1
-  length_push [] y = refl
-  length_push (x ∷ xs) y = omega (arith, length_push xs y)
-
-  some_rest : (xs : List Order) (p : Counterparty) → AllStandIn xs p → 0 < length xs
-  some_rest xs (Direct o) c = omega (arith, c.1)
-  some_rest xs (Implied a b) c = omega (arith, c.0.1)
+      (next_is on t None (subst (λ (n : Order). 0 < n.leaves) a.left_is pos) (fewer_differ own t.orders tr2.places) (best_of_others on t.new own t.orders None (like_own on references a.count own rest) none2))
 
   -- while there is a candidate, another order rests beside the new one
   pub others_some : (references : List ℤ) (own : Order) (rest : List Order) (left : Order) (book : List Order) (made : List Fill) (candidate : Candidate) →
@@ -101,16 +114,3 @@ module _ (on : Pairs) where
       let more = length_push t.orders own in
       let long : length book ≡ length (t.orders ++ own ∷ []) = ap (λ (xs : List Order). length xs) a.orders_is in
       omega arith
-
-  room_by : (len more cap wide leaves fewer q old new : ℕ) (b : Bool) → nat_lt q leaves ≡ b → len + 3 * min leaves (old - 1) ≤ cap → more ≤ len + 3 → cap ≤ wide → 0 < q → 0 < leaves → 0 < old - 1 → fewer ≡ leaves - q → (q < leaves → new < old) → more + 3 * min fewer (new - 1) ≤ wide
-  room_by len more cap wide leaves fewer q old new true e h l c p o w f s = let lt : q < leaves = grind (arith, nat_tests) in let n = s lt in omega arith
-  room_by len more cap wide leaves fewer q old new false e h l c p o w f s = let ge : leaves ≤ q = grind (arith, nat_tests) in omega arith
-
-  pub room_kept : (len more cap wide leaves fewer q old new : ℕ) → len + 3 * min leaves (old - 1) ≤ cap → more ≤ len + 3 → cap ≤ wide → 0 < q → 0 < leaves → 0 < old - 1 → fewer ≡ leaves - q → (q < leaves → new < old) → more + 3 * min fewer (new - 1) ≤ wide
-  room_kept len more cap wide leaves fewer q old new h l c p o w f s = room_by len more cap wide leaves fewer q old new (nat_lt q leaves) refl h l c p o w f s
-
-  pub room_first : (len cap leaves old new : ℕ) → len + 3 * min leaves old ≤ cap → new ≡ old + 1 → len + 3 * min leaves (new - 1) ≤ cap
-  room_first len cap leaves old new h e = omega arith
-
-  pub room_once : (len cap leaves old : ℕ) → len + 3 * min leaves (old - 1) ≤ cap → 0 < leaves → 0 < old - 1 → len + 3 ≤ cap
-  room_once len cap leaves old h l o = omega arith

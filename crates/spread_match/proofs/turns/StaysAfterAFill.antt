@@ -4,8 +4,7 @@ use Rattle.std.proofs.lemmas.Bool.Decides.{nat_tests}
 use Rattle.spread_rules.specs.declared.order.Order.{Order}
 use Rattle.spread_rules.specs.Clearing.{removed, reduced, with_less_left}
 use Rattle.spread_rules.proofs.lists.Membership.{not_in_nil, in_head, in_tail, in_cons_cases, in_map, from_map}
-use Rattle.spread_rules.proofs.clearings.TurnsEnd.{in_filter}
-use Rattle.spread_rules.specs.Candidates.{all_on, PlacesDiffer}
+use Rattle.spread_rules.specs.Candidates.{PlacesDiffer}
 
 other_place : (a b : ℕ) → b ≢ a → (b == a) ≡ false
 other_place a b h = grind (arith, nat_tests)
@@ -23,6 +22,14 @@ in_filtered p (x ∷ xs) b h c =
     (elim (in_cons_cases x xs b c) [ inl e ↦ inl (subst (Contains (x ∷ [])) e (in_head x [])) | inr d ↦ inr (in_filtered p xs b h d) ])
     (λ d. elim (in_cons_cases x [] b d) [ inl e ↦ ap p e ∙ h | inr z ↦ absurd (not_in_nil b z) ])
 
+from_head : (x : Order) (ys xs : List Order) (o : Order) (b : Bool) → (Contains ys o → Contains xs o) → Contains (cond b (x ∷ ys) ys) o → Contains (x ∷ xs) o
+from_head x ys xs o true h c = elim (in_cons_cases x ys o c) [ inl e ↦ subst (Contains (x ∷ xs)) e (in_head x xs) | inr d ↦ in_tail x xs o (h d) ]
+from_head x ys xs o false h c = in_tail x xs o (h c)
+
+pub from_filter : (p : Order → Bool) (xs : List Order) (o : Order) → Contains (filter p xs) o → Contains xs o
+from_filter p [] o c = c
+from_filter p (x ∷ xs) o c = from_head x (filter p xs) xs o (p x) (from_filter p xs o) c
+
 less_place : (place by : ℕ) (o : Order) (t : Bool) → (cond t (record o { leaves = o.leaves - by }) o).place ≡ o.place
 less_place place by o true = refl
 less_place place by o false = refl
@@ -38,7 +45,7 @@ still_there q xs a b false h c =
 
 -- places still differ
 pub still_differ : (q : ℕ) (xs : List Order) (a : Order) (t : Bool) → PlacesDiffer xs → PlacesDiffer (cond t (removed a.place xs) (reduced a.place q xs))
-still_differ q xs a true d = λ x y cx cy e. d x y (in_filter all_on (λ (o : Order). not (o.place == a.place)) xs x cx) (in_filter all_on (λ (o : Order). not (o.place == a.place)) xs y cy) e
+still_differ q xs a true d = λ x y cx cy e. d x y (from_filter (λ (o : Order). not (o.place == a.place)) xs x cx) (from_filter (λ (o : Order). not (o.place == a.place)) xs y cy) e
 still_differ q xs a false d = λ x y cx cy e.
     let mx = from_map (with_less_left a.place q) xs x cx in
     let my = from_map (with_less_left a.place q) xs y cy in

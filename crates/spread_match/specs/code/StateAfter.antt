@@ -8,7 +8,6 @@ use Rattle.spread_rules.specs.declared.codes.ord_rej_reason.TheConstants as ord_
 use Rattle.spread_rules.specs.declared.codes.ord_status.TheConstants as ord_status
 use Rattle.spread_rules.specs.declared.order.Order.{Order}
 use Rattle.spread_rules.specs.declared.fill.Fill.{Fill}
-use Rattle.spread_rules.specs.Candidates.{all_on}
 use Rattle.spread_rules.specs.Clearing.{clear, removed, reduced, Trading}
 use Rattle.spread_rules.specs.declared.outcome.OrderStatus.{OrderStatus}
 use Rattle.spread_rules.specs.declared.order.Instrument.{Instrument}
@@ -19,7 +18,7 @@ use Rattle.spread_rules.specs.declared.outcome.Outcome.TheVariants.{Refused}
 use Rattle.spread_match.specs.Trade.{IsTradable}
 use Rattle.spread_rules.specs.Amended.{done}
 use Rattle.spread_rules.specs.Meaning.{EntryMeaning, has_id, instrument_or_refusal_of, is_own, is_refused, may_replace, meaning_with, moved_to, moving_means, order_of, original_of, place_left, replace_of_resting, ticket_of, unchanged_with, clearing_means, cancel_means}
-use Rattle.spread_rules.specs.Rulebook.{Rules, references_of}
+use Rattle.spread_rules.specs.Rulebook.{implied, Rules, references_of}
 use Rattle.spread_match.specs.State.{MarketState}
 
 -- the order of that session and id, which was not refused
@@ -80,7 +79,7 @@ abbrev pub matched_in : Rules → MarketState → ℕ → ℕ → Ticket → Ins
 matched_in rules m place session t i =
     refused_if_used (find (has_id session t.id) m.statuses) m.orders
     (clearing_means t.immediate
-    (clear all_on (references_of rules) (order_of place session t i) m.orders))
+    (clear (implied rules) (references_of rules) (order_of place session t i) m.orders))
 
 -- what a cancel of that order comes to
 abbrev pub cancel_in : MarketState → ℕ → List ℕ → EntryMeaning
@@ -100,7 +99,7 @@ replace_refusal t r instrument =
 abbrev pub moved_in : Rules → MarketState → ℕ → Ticket → Order → EntryMeaning
 moved_in rules m place t r =
     moving_means (moved_to place t r)
-    (clear all_on (references_of rules) (moved_to place t r) (removed r.place m.orders))
+    (clear (implied rules) (references_of rules) (moved_to place t r) (removed r.place m.orders))
 
 -- what a replace of that resting order comes to
 abbrev pub replaced_in : Rules → MarketState → ℕ → Ticket → Order → EntryMeaning
@@ -111,7 +110,7 @@ replaced_in rules m place t r =
 -- how that order is traded with all other orders
 abbrev pub trading_in : Rules → MarketState → Order → Trading
 trading_in rules m order =
-    clear all_on (references_of rules) order (removed order.place m.orders)
+    clear (implied rules) (references_of rules) order (removed order.place m.orders)
 
 -- the state after an entry that came to this
 abbrev pub state_with : MarketState → ℕ → ℕ → Event → EntryMeaning → MarketState

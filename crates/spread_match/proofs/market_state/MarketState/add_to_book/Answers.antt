@@ -3,7 +3,6 @@ use Rattle.std.specs.Result.{result_unwrap_or}
 use Rattle.std.specs.Prelude.{IfOk}
 use Rattle.spread_rules.specs.declared.order.Order.{Order}
 use Rattle.spread_rules.specs.declared.outcome.OrderStatus.{OrderStatus}
-use Rattle.spread_rules.specs.Candidates.{all_on}
 use Rattle.spread_rules.specs.Clearing.{removed}
 use Rattle.spread_match.specs.code.StateAfter.{entered_status}
 use Rattle.spread_match.specs.State.{MarketState}
@@ -56,7 +55,7 @@ returns-then-unwrap_or-clause-refused g c =
     let xs = c.args.self.now.orders in
     let new = c.args.order.now in
     let added : g.B.Book.orders c.add.new.self ≡ xs ++ new ∷ [] = c.in_ok-add.ensures.ok ∙ ap (λ (m : MarketState). m.orders ++ new ∷ []) c.self.view_is in
-    let book : g.B.Book.orders c.remove.new.self ≡ xs = c.remove.ensures ∙ (ap (removed new.place) added ∙ removed_newest all_on new xs c.requires.orders) in
+    let book : g.B.Book.orders c.remove.new.self ≡ xs = c.remove.ensures ∙ (ap (removed new.place) added ∙ removed_newest new xs c.requires.orders) in
     if_ok c.add-noted.result
     (λ used kept is.
     ap (λ (ys : List Order). record { orders = ys; statuses = c.add-noted.new.self; last = c.self.inside.last }) book
@@ -69,7 +68,7 @@ returns-then-unwrap_or-clause-err g c =
     let xs = c.args.self.now.orders in
     let new = c.args.order.now in
     let added : g.B.Book.orders c.add.new.self ≡ xs ++ new ∷ [] = c.in_ok-add.ensures.ok ∙ ap (λ (m : MarketState). m.orders ++ new ∷ []) c.self.view_is in
-    let book : g.B.Book.orders c.remove.new.self ≡ xs = c.remove.ensures ∙ (ap (removed new.place) added ∙ removed_newest all_on new xs c.requires.orders) in
+    let book : g.B.Book.orders c.remove.new.self ≡ xs = c.remove.ensures ∙ (ap (removed new.place) added ∙ removed_newest new xs c.requires.orders) in
     on_err c.add-noted.result
     (λ kept.
     ap (λ (ys : List Order). record { orders = ys; statuses = c.add-noted.new.self; last = c.self.inside.last }) book

@@ -4,10 +4,9 @@ use Rattle.std.specs.Option.{is_some}
 use Rattle.spread_rules.specs.declared.order.Order.{Order}
 use Rattle.spread_rules.specs.declared.fill.Fill.{Fill}
 use Rattle.spread_rules.specs.declared.outcome.OrderStatus.{OrderStatus}
-use Rattle.spread_rules.specs.Candidates.{all_on}
 use Rattle.spread_rules.specs.Clearing.{clear, removed, Trading}
 use Rattle.spread_rules.specs.Meaning.{has_id, moved_to}
-use Rattle.spread_rules.specs.Rulebook.{month_count, references_of}
+use Rattle.spread_rules.specs.Rulebook.{month_count, references_of, implied}
 use Rattle.spread_match.specs.State.{MarketState}
 use Rattle.spread_match.specs.code.StateAfter.{entered_status, status_after_replace, statuses_after}
 use Rattle.spread_match.proofs.entries.NewOrder.{clear_same}
@@ -56,9 +55,9 @@ returns-clause-fills g c =
     let used = not_used m.statuses n (moved_to c.args.place c.args.ticket.now r) c.in_ok-add_to_book.field-0 c.moved_order-order.ensures c.in_ok-add_to_book.ensures.used c.requires.unused in
     let book = c.remove.ensures ∙ ap (λ (x : MarketState). removed r.place x.orders) (c.self-2.view_is ∙ c.in_ok-add_to_book.ensures.stands used) in
     let rest = moved_rest m.orders (g.B.Book.orders c.remove.new.self) m.last c.args.place r n c.requires.ready.below c.requires.place c.requires.rests (ap (λ (o : Order). o.place) c.moved_order-order.ensures) book in
-    let same = clear_same all_on refs refs n (moved_to c.args.place c.args.ticket.now r) (removed n.place (g.B.Book.orders c.remove.new.self)) (removed r.place m.orders) refl c.moved_order-order.ensures rest in
+    let same = clear_same (implied c.args.rules.now) refs refs n (moved_to c.args.place c.args.ticket.now r) (removed n.place (g.B.Book.orders c.remove.new.self)) (removed r.place m.orders) refl c.moved_order-order.ensures rest in
     c.trade_newest.ensures.fills
-    ∙ (ap (λ (fs : List Fill). fs ++ (clear all_on refs n (removed n.place (g.B.Book.orders c.remove.new.self))).fills) c.reserve.ensures.items
+    ∙ (ap (λ (fs : List Fill). fs ++ (clear (implied c.args.rules.now) refs n (removed n.place (g.B.Book.orders c.remove.new.self))).fills) c.reserve.ensures.items
     ∙ ap (λ (d : Trading). c.args.fills.now.items ++ d.fills) same)
 
 pub returns-clause-after : goal.returns-clause-after
@@ -72,9 +71,9 @@ returns-clause-after g c =
     let stands = c.self-2.view_is ∙ c.in_ok-add_to_book.ensures.stands used in
     let book = c.remove.ensures ∙ ap (λ (x : MarketState). removed r.place x.orders) stands in
     let rest = moved_rest m.orders (g.B.Book.orders c.remove.new.self) m.last c.args.place r n c.requires.ready.below c.requires.place c.requires.rests (ap (λ (o : Order). o.place) c.moved_order-order.ensures) book in
-    let d = clear all_on refs n (removed n.place (g.B.Book.orders c.remove.new.self)) in
-    let same : d ≡ clear all_on refs (moved_to c.args.place c.args.ticket.now r) (removed r.place m.orders) =
-    clear_same all_on refs refs n (moved_to c.args.place c.args.ticket.now r) (removed n.place (g.B.Book.orders c.remove.new.self)) (removed r.place m.orders) refl c.moved_order-order.ensures rest in
+    let d = clear (implied c.args.rules.now) refs n (removed n.place (g.B.Book.orders c.remove.new.self)) in
+    let same : d ≡ clear (implied c.args.rules.now) refs (moved_to c.args.place c.args.ticket.now r) (removed r.place m.orders) =
+    clear_same (implied c.args.rules.now) refs refs n (moved_to c.args.place c.args.ticket.now r) (removed n.place (g.B.Book.orders c.remove.new.self)) (removed r.place m.orders) refl c.moved_order-order.ensures rest in
     let statuses : made.statuses ≡ statuses_after d.fills (map (status_after_replace r.session r.id) (m.statuses ++ entered_status n ∷ [])) =
     c.trade_newest.ensures.statuses
     ∙ ap (statuses_after d.fills) (c.mark_replaced.ensures ∙ ap (λ (x : MarketState). map (status_after_replace r.session r.id) x.statuses) stands) in

@@ -6,10 +6,10 @@ use Rattle.spread_rules.specs.declared.order.Instrument.{Instrument}
 use Rattle.spread_rules.specs.declared.fill.Fill.{Fill}
 use Rattle.spread_rules.specs.declared.event.Ticket.{Ticket}
 use Rattle.spread_rules.specs.declared.event.Event.TheVariants.{New}
-use Rattle.spread_rules.specs.Candidates.{HasOrderPrice, all_on}
+use Rattle.spread_rules.specs.Candidates.{HasOrderPrice}
 use Rattle.spread_rules.specs.Clearing.{clear, removed, Trading}
 use Rattle.spread_rules.specs.Meaning.{EntryMeaning, clearing_means, has_id, order_of, outcome_of, resting}
-use Rattle.spread_rules.specs.Rulebook.{Rules, month_count, references_of}
+use Rattle.spread_rules.specs.Rulebook.{Rules, month_count, references_of, implied}
 use Rattle.spread_books.specs.Listed.{IsNearFirst, IsInMonths}
 use Rattle.spread_match.specs.State.{MarketState}
 use Rattle.spread_match.specs.Trade.{IsTradable}
@@ -25,14 +25,14 @@ added m after n e = ap (λ (x : MarketState). x.orders) e
 
 -- how it is traded
 traded : (rules : Rules) (m after : MarketState) (place session : ℕ) (t : Ticket) (i : Instrument) (n : Order) → n ≡ order_of place session t i → after ≡ with_order m n → m.last < place → All (λ o. o.place ≤ m.last) m.orders →
-    trading_in rules after n ≡ clear all_on (references_of rules) (order_of place session t i) m.orders
+    trading_in rules after n ≡ clear (implied rules) (references_of rules) (order_of place session t i) m.orders
 traded rules m after place session t i n same e later below =
-    clear_same all_on (references_of rules) (references_of rules) n _ (removed n.place after.orders) m.orders refl same
-    (rest_is all_on n place m.last after.orders m.orders (ap (λ (o : Order). o.place) same) later below (added m after n e))
+    clear_same (implied rules) (references_of rules) (references_of rules) n _ (removed n.place after.orders) m.orders refl same
+    (rest_is n place m.last after.orders m.orders (ap (λ (o : Order). o.place) same) later below (added m after n e))
 
 -- an id that was not used is matched
 not_used : (rules : Rules) (m : MarketState) (place session : ℕ) (t : Ticket) (i : Instrument) (n : Order) (used : _) → n ≡ order_of place session t i → used ≡ is_some (find (has_id n.session n.id) m.statuses) → used ≡ false →
-    matched_in rules m place session t i ≡ clearing_means t.immediate (clear all_on (references_of rules) (order_of place session t i) m.orders)
+    matched_in rules m place session t i ≡ clearing_means t.immediate (clear (implied rules) (references_of rules) (order_of place session t i) m.orders)
 not_used rules m place session t i n used same e f =
     id_is_new (find (has_id session t.id) m.statuses) m.orders _ (ap (λ (o : Order). is_some (find (has_id o.session o.id) m.statuses)) (sym same) ∙ (sym e ∙ f))
 
@@ -43,7 +43,7 @@ trade_newest-left-requires-clause-tradable g c =
     let months = month_count c.args.rules.now in
     let at = ap (λ (o : Order). o.place) c.new_order-order.ensures in
     subst (IsTradable months) (sym (added m c.add_to_book.new.self n (c.in_ok-used.ensures.stands c.if-used.false)))
-    (tradable_more all_on months m.orders n c.requires.ready.tradable (subst (λ (k : ℕ). All (λ (o : Order). o.place < k) m.orders) (sym at) (below_new all_on m.orders m.last c.args.place c.requires.ready.below c.requires.place))
+    (tradable_more months m.orders n c.requires.ready.tradable (subst (λ (k : ℕ). All (λ (o : Order). o.place < k) m.orders) (sym at) (below_new m.orders m.last c.args.place c.requires.ready.below c.requires.place))
     (subst HasOrderPrice (sym c.new_order-order.ensures) (record { low = c.requires.price.low; high = c.requires.price.high }))
     (subst IsNearFirst (sym c.new_order-order.ensures) (record { near_before_far = c.requires.listed }))
     (subst (λ (o : Order). IsInMonths months o.instrument) (sym c.new_order-order.ensures) c.requires.within)
@@ -55,8 +55,8 @@ trade_newest-left-requires-clause-room g c =
     let n = c.new_order-order.result in
     let after = c.add_to_book.new.self in
     let at = ap (λ (o : Order). o.place) c.new_order-order.ensures in
-    let rest : removed n.place after.orders ≡ m.orders = rest_is all_on n c.args.place m.last after.orders m.orders at c.requires.place c.requires.ready.below (added m after n (c.in_ok-used.ensures.stands c.if-used.false)) in
-    room_new all_on _ _ c.min.result c.len.result c.args.ticket.now.quantity n.leaves (length (removed n.place after.orders)) c.in_ok-reserve.ensures.ok c.min.ensures
+    let rest : removed n.place after.orders ≡ m.orders = rest_is n c.args.place m.last after.orders m.orders at c.requires.place c.requires.ready.below (added m after n (c.in_ok-used.ensures.stands c.if-used.false)) in
+    room_new _ _ c.min.result c.len.result c.args.ticket.now.quantity n.leaves (length (removed n.place after.orders)) c.in_ok-reserve.ensures.ok c.min.ensures
     (c.len.ensures ∙ (ap (λ (x : MarketState). length x.orders) c.self.view_is ∙ ap (λ (ys : List Order). length ys) (sym rest))) (ap (λ (o : Order). o.leaves) c.new_order-order.ensures)
 
 pub returns-clause-outcome : goal.returns-clause-outcome
@@ -89,7 +89,7 @@ returns-clause-after g c =
     let after = c.add_to_book.new.self in
     let made = c.trade_newest-left.new.self in
     let stands = c.in_ok-used.ensures.stands c.if-used.false in
-    let d = clear all_on (references_of c.args.rules.now) (order_of c.args.place c.args.session t c.args.instrument) m.orders in
+    let d = clear (implied c.args.rules.now) (references_of c.args.rules.now) (order_of c.args.place c.args.session t c.args.instrument) m.orders in
     let same = traded c.args.rules.now m after c.args.place c.args.session t c.args.instrument n c.new_order-order.ensures stands c.requires.place c.requires.ready.below in
     let orders : made.orders ≡ resting t.immediate d = c.trade_newest-left.ensures.orders ∙ ap (λ (x : Trading). resting t.immediate x) same in
     let statuses : made.statuses ≡ statuses_after d.fills (m.statuses ++ entered_status (order_of c.args.place c.args.session t c.args.instrument) ∷ []) =

@@ -1,10 +1,9 @@
-use Rattle.std.proofs.Common.{◌≡◌, ℕ, ◌<◌, ◌≤◌, ◌+◌, ◌*◌, min, List, All, ◌++◌, ◌∷◌, [], length, sym, subst, ap, ◌∙◌}
+use Rattle.std.proofs.Common.{◌≡◌, ◌<◌, ◌≤◌, ◌+◌, ◌*◌, min, List, All, ◌++◌, ◌∷◌, [], length, sym, subst, ap, ◌∙◌}
 use Rattle.std.specs.Vec.{vec_len, vec_capacity}
 use Rattle.spread_rules.specs.declared.order.Order.{Order}
-use Rattle.spread_rules.specs.Candidates.{all_on}
 use Rattle.spread_rules.specs.Clearing.{clear, removed, begin}
 use Rattle.spread_rules.specs.Meaning.{resting}
-use Rattle.spread_rules.specs.Rulebook.{month_count, references_of}
+use Rattle.spread_rules.specs.Rulebook.{month_count, references_of, implied}
 use Rattle.spread_match.specs.State.{MarketState}
 use Rattle.spread_match.specs.Trade.{IsTradable}
 use Rattle.spread_match.specs.code.StateAfter.{orders_after_trading}
@@ -15,7 +14,7 @@ use Rattle.spread_match.proofs.market_state.MarketState.trade_newest.Goals as go
 
 -- the others
 rest_is : (n : Order) (xs book : List Order) → book ≡ xs → (w : IsNewest n xs) → removed n.place book ≡ w.rest
-rest_is n xs book e w = ap (removed n.place) (e ∙ w.ends) ∙ removed_newest all_on n w.rest w.below
+rest_is n xs book e w = ap (removed n.place) (e ∙ w.ends) ∙ removed_newest n w.rest w.below
 
 below_is : (n : Order) (xs book : List Order) → book ≡ xs → IsNewest n xs → All (λ o. o.place < n.place) (removed n.place book)
 below_is n xs book e w = subst (All (λ (o : Order). o.place < n.place)) (sym (rest_is n xs book e w)) w.below
@@ -33,7 +32,7 @@ trade-left-requires g c κs within =
         (
           (same ∙ w.ends) ∙ ap (λ (ys : List Order). ys ++ n ∷ []) (sym (rest_is n xs book same w)),
           (
-            subst (λ (m : ℕ). IsTradable m book) (sym c.months.ensures.count) (subst (IsTradable (month_count c.args.rules.now)) (sym same) c.requires.tradable),
+            subst (IsTradable (month_count c.args.rules.now)) (sym same) c.requires.tradable,
             (
               small_references c.args.rules.now c.months.ensures.lawful,
               subst (λ (ys : List Order). vec_len c.args.fills.now + 3 * min n.leaves (length (removed n.place ys)) ≤ vec_capacity c.args.fills.now) (sym same) c.requires.room,
@@ -47,14 +46,14 @@ pub rest_or_remove-requires-clause-newest : goal.rest_or_remove-requires-clause-
 rest_or_remove-requires-clause-newest g c =
     let n = c.args.order.now in
     let book = g.B.Book.orders c.self.inside.book in
-    newest_after all_on (references_of c.args.rules.now) n (removed n.place book) (g.B.Book.orders c.trade-left.new.book)
+    newest_after (implied c.args.rules.now) (references_of c.args.rules.now) n (removed n.place book) (g.B.Book.orders c.trade-left.new.book)
     (below_is n c.args.self.now.orders book (ap (λ (m : MarketState). m.orders) c.self.view_is) c.requires.newest) c.trade-left.ensures.orders
 
 pub rest_or_remove-requires-clause-most : goal.rest_or_remove-requires-clause-most
 rest_or_remove-requires-clause-most g c =
     let n = c.args.order.now in
     let rest = removed n.place (g.B.Book.orders c.self.inside.book) in
-    subst (λ (o : Order). o.leaves ≤ n.leaves) (sym c.trade-left.ensures.left) (turns_most all_on (references_of c.args.rules.now) (length rest) (begin n rest))
+    subst (λ (o : Order). o.leaves ≤ n.leaves) (sym c.trade-left.ensures.left) (turns_most (implied c.args.rules.now) (references_of c.args.rules.now) (length rest) (begin n rest))
 
 pub returns-clause-orders : goal.returns-clause-orders
 returns-clause-orders g c =
@@ -63,9 +62,9 @@ returns-clause-orders g c =
     let book = g.B.Book.orders c.self.inside.book in
     let same : book ≡ xs = ap (λ (m : MarketState). m.orders) c.self.view_is in
     let refs = references_of c.args.rules.now in
-    let d = clear all_on refs n (removed n.place book) in
+    let d = clear (implied c.args.rules.now) refs n (removed n.place book) in
     c.rest_or_remove.ensures
     ∙ (ap (orders_after_trading c.args.immediate n c.trade-left.result.leaves) c.trade-left.ensures.orders
     ∙ (ap (λ (o : Order). orders_after_trading c.args.immediate n o.leaves (d.orders ++ n ∷ [])) c.trade-left.ensures.left
-    ∙ (settled_is all_on refs c.args.immediate n (removed n.place book) (below_is n xs book same c.requires.newest)
-    ∙ ap (λ (ys : List Order). resting c.args.immediate (clear all_on refs n (removed n.place ys))) same)))
+    ∙ (settled_is (implied c.args.rules.now) refs c.args.immediate n (removed n.place book) (below_is n xs book same c.requires.newest)
+    ∙ ap (λ (ys : List Order). resting c.args.immediate (clear (implied c.args.rules.now) refs n (removed n.place ys))) same)))
