@@ -54,7 +54,10 @@ fn apply_again<H: Allocator, B: Book, A: Allocator + Copy>(
 }
 
 /// An empty book, made again where a request was refused.
-fn empty_book<A: Allocator + Copy>(heap: A, rules: &Rulebook) -> Result<IndexBook<A>, NoMemory>
+fn empty_book<'r, A: Allocator + Copy>(
+    heap: A,
+    rules: &'r Rulebook,
+) -> Result<IndexBook<'r, A>, NoMemory>
     ensures { IfOk result (λ b. b ≡ []) }
 {
     match IndexBook::new(heap, rules) {
