@@ -5,12 +5,11 @@ use Rattle.host_base.specs.declared.limits.TheConstants.{SESSIONS}
 use Rattle.fix_wire.specs.Frames.{IsFrameRow}
 use Rattle.spread_rules.specs.declared.event.Entry.{Entry}
 use Rattle.spread_rules.specs.declared.fill.Fill.{Fill}
-use Rattle.spread_rules.specs.Candidates.{all_on}
 use Rattle.spread_rules.specs.Journal.{IsLawful, restricted}
 use Rattle.spread_rules.specs.Legs.{bought, sold, paid, received}
 use Rattle.spread_rules.specs.Meaning.{meaning_of_journal, filled}
 use Rattle.spread_rules.specs.Quiet.{IsQuiet}
-use Rattle.spread_rules.specs.Rulebook.{Rules}
+use Rattle.spread_rules.specs.Rulebook.{implied, Rules}
 use Rattle.spread_match.specs.Sound.{KeepsOrder}
 use Rattle.spread_report.specs.Messages.{IsRow, messages_to}
 use Rattle.spread_report.specs.Sessions.{bytes_of}
@@ -51,7 +50,7 @@ PaidIsReceived fills = (month : ℕ) → paid month fills ≡ received month fil
 -- After each entry nothing direct or first-generation implied can trade.
 abbrev pub IsAlwaysQuiet : Rules → List Entry → Type 0
 IsAlwaysQuiet rules journal =
-    (n : ℕ) → IsQuiet all_on (meaning_of_journal rules (take n journal)).orders
+    (n : ℕ) → IsQuiet (implied rules) (meaning_of_journal rules (take n journal)).orders
 
 -- ---- what else is true of a day
 

@@ -1,10 +1,8 @@
 //! A rulebook read, and its faults.
+use super::THREE_MONTHS;
 use spread_rules::laws::{codes, least_in_rank, one_rulebook, quiet};
 use spread_rules::{Instrument, RuleFault, Rulebook};
 use std::test::Fail;
-
-const THREE_MONTHS: &[u8] =
-    b"# March, June and September\n\ntick 1\nmonth H6 10000\nmonth M6 9800\nmonth U6 9500";
 
 #[test]
 fn rulebook_read(rt: HostRuntime) -> Result<(), Fail> {
@@ -66,7 +64,7 @@ fn rulebook_faults(rt: HostRuntime) {
             4,
         ),
         (
-            b"tick 1\nmonth a 1\nmonth b 1\nmonth c 1\nmonth d 1\nmonth e 1\nmonth f 1\nmonth g 1\nmonth h 1\nmonth i 1\nmonth j 1\nmonth k 1\nmonth l 1\nmonth a 1\n",
+            b"tick 1\nmonth a 1\nmonth b 1\nmonth c 1\nmonth d 1\nmonth e 1\nmonth f 1\nmonth g 1\nmonth h 1\nmonth i 1\nmonth j 1\nmonth k 1\nmonth l 1\nmonth m 1\nmonth n 1\nmonth o 1\nmonth p 1\nmonth q 1\nmonth r 1\nmonth s 1\nmonth t 1\nmonth u 1\nmonth v 1\nmonth w 1\nmonth x 1\nmonth a 1\n",
             RuleFault::TooManyMonths,
             3,
         ),
