@@ -4,11 +4,11 @@ ghost use Rattle.std.specs.Io.KnownBytes.{Appends, IsAtEnd};
 ghost use Rattle.std.specs.Prelude.{◌≡◌, ℕ, ◌<◌, ◌≤◌, ◌+◌, ◌⊎◌, ◌≢◌, Contains, IfOk, IfErr, IfSome, OnOk, IsErrOf, length, take, true, false, Ok, [], All};
 ghost use Rattle.host_base.specs.declared.limits.TheConstants.{MAX_INPUT_BYTES, SESSIONS};
 ghost use Rattle.fix_wire.specs.Frames.{IsFrameRow};
-ghost use Rattle.spread_rules.specs.Rulebook.{implied};
 ghost use Rattle.spread_rules.specs.Journal.{IsLawful, restricted};
 ghost use Rattle.spread_rules.specs.Legs.{bought, sold, paid, received};
 ghost use Rattle.spread_rules.specs.Meaning.{meaning_of_journal, filled};
 ghost use Rattle.spread_rules.specs.Quiet.{IsQuiet};
+ghost use Rattle.spread_rules.specs.Rulebook.{implied};
 ghost use Rattle.spread_rules.specs.declared.fill.Fill.{Fill};
 ghost use Rattle.spread_match.specs.Sound.{KeepsOrder};
 ghost use Rattle.spread_report.specs.Messages.{IsRow, messages_to};
@@ -64,7 +64,8 @@ pub fn day_of_streams<R: Threads + Wait + Sync, G: Gate, A: Allocator + Copy + S
     ensures paid_is_received { IfOk result (λ day.
         (month : ℕ) → paid month day.fills.items ≡ received month day.fills.items) }
     ensures quiet { IfOk result (λ day. (n : ℕ)
-        → IsQuiet (implied rulebook.now) (meaning_of_journal rulebook.now (take n day.journal.items)).orders) }
+        → IsQuiet (implied rulebook.now)
+        (meaning_of_journal rulebook.now (take n day.journal.items)).orders) }
     ensures limits { IfOk result (λ day.
         (f : Fill) → Contains day.fills.items f → KeepsOrder day.journal.items f) }
     ensures totals { IfOk result (λ day.
@@ -110,7 +111,8 @@ pub fn day_of_lines<S: Source, K: Sink, A: Allocator + Copy>(
     ensures paid_is_received { IfOk result (λ day.
         (month : ℕ) → paid month day.fills.items ≡ received month day.fills.items) }
     ensures quiet { IfOk result (λ day. (n : ℕ)
-        → IsQuiet (implied rulebook.now) (meaning_of_journal rulebook.now (take n day.journal.items)).orders) }
+        → IsQuiet (implied rulebook.now)
+        (meaning_of_journal rulebook.now (take n day.journal.items)).orders) }
     ensures limits { IfOk result (λ day.
         (f : Fill) → Contains day.fills.items f → KeepsOrder day.journal.items f) }
     ensures totals { IfOk result (λ day.

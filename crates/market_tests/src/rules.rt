@@ -26,6 +26,9 @@ fn order(place: u64, instrument: Instrument, side: Side, quantity: u32, price: i
     }
 }
 
+const THREE_MONTHS: &[u8] =
+    b"# March, June and September\n\ntick 1\nmonth H6 10000\nmonth M6 9800\nmonth U6 9500";
+
 const H6: Instrument = Instrument::Outright(0);
 
 const M6: Instrument = Instrument::Outright(1);

@@ -9,7 +9,7 @@ use Rattle.spread_rules.specs.Journal.{IsLawful, restricted}
 use Rattle.spread_rules.specs.Legs.{bought, sold, paid, received}
 use Rattle.spread_rules.specs.Meaning.{meaning_of_journal, filled}
 use Rattle.spread_rules.specs.Quiet.{IsQuiet}
-use Rattle.spread_rules.specs.Rulebook.{Rules, implied}
+use Rattle.spread_rules.specs.Rulebook.{implied, Rules}
 use Rattle.spread_match.specs.Sound.{KeepsOrder}
 use Rattle.spread_report.specs.Messages.{IsRow, messages_to}
 use Rattle.spread_report.specs.Sessions.{bytes_of}

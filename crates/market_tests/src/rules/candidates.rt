@@ -1,12 +1,13 @@
 //! Candidates and their rank.
-use super::{H6, M6, order};
+use super::{H6, M6, THREE_MONTHS, order};
 use spread_rules::{
-    Choice, Counterparty, Instrument, Level, Members, Rank, Side, better, candidate_for, chosen,
-    is_within, levels_meet, plain_candidate, price_at, ranking,
+    Choice, Counterparty, Instrument, Level, Members, Rank, Rulebook, Side, better, candidate_for,
+    chosen, is_within, levels_meet, plain_candidate, price_at, ranking,
 };
+use std::test::Fail;
 
 #[test]
-fn candidates_ranked(rt: HostRuntime) {
+fn candidates_ranked(rt: HostRuntime) -> Result<(), Fail> {
     let buy = order(5, H6, Side::Buy, 6, 10000);
     let spread = order(3, Instrument::Spread(0, 1), Side::Sell, 3, 200);
     let far = order(4, M6, Side::Sell, 4, 9700);
@@ -47,8 +48,10 @@ fn candidates_ranked(rt: HostRuntime) {
         }
     }
     let resting = [order(2, H6, Side::Sell, 2, 10000)];
-    match plain_candidate(&resting, &buy) {
+    let rules = Rulebook::read(THREE_MONTHS)?;
+    match plain_candidate(&rules, &resting, &buy) {
         None => assert!(rt; false, "no candidate"),
         Some(found) => assert!(rt; found.price == 10000),
     }
+    Ok(())
 }

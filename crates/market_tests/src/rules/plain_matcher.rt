@@ -1,9 +1,11 @@
 //! The plain matcher over the worked rows.
-use super::{H6, M6, U6, order};
-use spread_rules::{Choice, Instrument, Members, Side, plain_best};
+use super::{H6, M6, THREE_MONTHS, U6, order};
+use spread_rules::{Choice, Instrument, Members, Rulebook, Side, plain_best};
+use std::test::Fail;
 
 #[test]
-fn spread_meets_two_months(rt: HostRuntime) {
+fn spread_meets_two_months(rt: HostRuntime) -> Result<(), Fail> {
+    let rules = Rulebook::read(THREE_MONTHS)?;
     let resting = [
         order(2, H6, Side::Sell, 1, 10000),
         order(3, M6, Side::Buy, 1, 9800),
@@ -14,13 +16,15 @@ fn spread_meets_two_months(rt: HostRuntime) {
         quantity: 1,
         members: Members::Implied(2, 3),
     };
-    assert!(rt; plain_best(&resting, &buy) == Some(choice));
+    assert!(rt; plain_best(&rules, &resting, &buy) == Some(choice));
     let low = order(4, Instrument::Spread(0, 1), Side::Buy, 1, 199);
-    assert!(rt; plain_best(&resting, &low) == None);
+    assert!(rt; plain_best(&rules, &resting, &low) == None);
+    Ok(())
 }
 
 #[test]
-fn direct_before_implied(rt: HostRuntime) {
+fn direct_before_implied(rt: HostRuntime) -> Result<(), Fail> {
+    let rules = Rulebook::read(THREE_MONTHS)?;
     let all = [
         order(2, H6, Side::Sell, 2, 10000),
         order(3, Instrument::Spread(0, 1), Side::Sell, 3, 200),
@@ -36,17 +40,19 @@ fn direct_before_implied(rt: HostRuntime) {
         quantity: 2,
         members: Members::Direct(2),
     };
-    assert!(rt; plain_best(&all, &buy) == Some(direct));
+    assert!(rt; plain_best(&rules, &all, &buy) == Some(direct));
     let implied = Choice {
         price: 10000,
         quantity: 3,
         members: Members::Implied(3, 4),
     };
-    assert!(rt; plain_best(&pair, &buy) == Some(implied));
+    assert!(rt; plain_best(&rules, &pair, &buy) == Some(implied));
+    Ok(())
 }
 
 #[test]
-fn earlier_month_first(rt: HostRuntime) {
+fn earlier_month_first(rt: HostRuntime) -> Result<(), Fail> {
+    let rules = Rulebook::read(THREE_MONTHS)?;
     let resting = [
         order(2, H6, Side::Sell, 1, 10000),
         order(3, Instrument::Spread(0, 2), Side::Buy, 1, 500),
@@ -58,11 +64,13 @@ fn earlier_month_first(rt: HostRuntime) {
         quantity: 1,
         members: Members::Implied(3, 2),
     };
-    assert!(rt; plain_best(&resting, &order(6, U6, Side::Buy, 1, 9500)) == Some(choice));
+    assert!(rt; plain_best(&rules, &resting, &order(6, U6, Side::Buy, 1, 9500)) == Some(choice));
+    Ok(())
 }
 
 #[test]
-fn negative_prices(rt: HostRuntime) {
+fn negative_prices(rt: HostRuntime) -> Result<(), Fail> {
+    let rules = Rulebook::read(THREE_MONTHS)?;
     let resting = [
         order(2, Instrument::Spread(0, 1), Side::Sell, 1, -300),
         order(3, M6, Side::Sell, 1, 200),
@@ -72,5 +80,6 @@ fn negative_prices(rt: HostRuntime) {
         quantity: 1,
         members: Members::Implied(2, 3),
     };
-    assert!(rt; plain_best(&resting, &order(4, H6, Side::Buy, 1, -100)) == Some(choice));
+    assert!(rt; plain_best(&rules, &resting, &order(4, H6, Side::Buy, 1, -100)) == Some(choice));
+    Ok(())
 }

@@ -1,10 +1,8 @@
 //! A rulebook read, and its faults.
+use super::THREE_MONTHS;
 use spread_rules::laws::{codes, least_in_rank, one_rulebook, quiet, twelve_months};
 use spread_rules::{Instrument, RuleFault, Rulebook};
 use std::test::Fail;
-
-const THREE_MONTHS: &[u8] =
-    b"# March, June and September\n\ntick 1\nmonth H6 10000\nmonth M6 9800\nmonth U6 9500";
 
 #[test]
 fn rulebook_read(rt: HostRuntime) -> Result<(), Fail> {
