@@ -206,7 +206,10 @@ const INSTRUMENTS: [Instrument; 6] = [
 ];
 
 /// How many quotes there are, each of them as the search finds it.
-fn compare(rt: &impl Abort, market: &Market<'_, IndexBook<'_, Global>, Global>) -> Result<usize, Fail> {
+fn compare(
+    rt: &impl Abort,
+    market: &Market<'_, IndexBook<'_, Global>, Global>,
+) -> Result<usize, Fail> {
     let book = market.book();
     let mut quotes = 0usize;
     for instrument in INSTRUMENTS {
