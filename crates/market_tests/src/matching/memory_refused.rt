@@ -58,7 +58,7 @@ fn empty_book<'r, A: Allocator + Copy>(
     heap: A,
     rules: &'r Rulebook,
 ) -> Result<IndexBook<'r, A>, NoMemory>
-    ensures { IfOk result (λ b. b ≡ []) }
+    ensures { IfOk result (λ b. b.orders ≡ []) }
 {
     match IndexBook::new(heap, rules) {
         Ok(book) => Ok(book),
