@@ -56,7 +56,7 @@ class Picture:
 
 
 def implied_triangle():
-    it = Picture(860, 400, "Which two resting orders meet a third instrument")
+    it = Picture(860, 416, "Which two resting orders meet a third instrument")
     it.box(350, 20, 160, 56, ["H6-M6", "the calendar spread"], STRONG)
     it.box(60, 250, 160, 56, ["H6", "the near month"], STRONG)
     it.box(640, 250, 160, 56, ["M6", "the far month"], STRONG)
@@ -72,6 +72,8 @@ def implied_triangle():
         [
             "Each side of the triangle is a pair of resting orders; it meets an order of the corner opposite to it.",
             "A seller of that corner is met by the pair with both sides turned.",
+            "Where the rulebook switched the pair H6 M6 off, no side of the triangle meets its corner;",
+            "orders of one corner still trade with one another.",
         ],
         size=13,
         colour=GREY,
