@@ -6,7 +6,7 @@ mod words;
 
 use fault::Fault;
 use host_base::{FromReader, Id, ToWriter};
-use spread_host::{Caps, Gate, HostFault, check, replay, run_day, write_day};
+use spread_host::{AuditFault, Caps, Gate, HostFault, audit, check, replay, run_day, write_day};
 use spread_rules::Rulebook;
 use std::env::Env;
 use std::fs::Files;
@@ -116,6 +116,23 @@ fn run_check<'a>(
     Ok(())
 }
 
+/// A journal text, and what somebody claims of it.
+fn run_audit<'a>(
+    rt: &(impl Files + AllocGlobal),
+    rules: &'a str,
+    journal: &'a str,
+    claim: &'a str,
+) -> Result<(), Fault<'a>> {
+    let rulebook = read_rules(rt, rules)?;
+    let text = read_file(rt, journal)?;
+    let claimed = read_file(rt, claim)?;
+    match audit(rt.alloc(), &rulebook, &text, &claimed) {
+        Ok(()) => Ok(()),
+        Err(AuditFault::Host(fault)) => Err(Fault::Host(fault)),
+        Err(AuditFault::Differs(difference)) => Err(Fault::Claim(difference)),
+    }
+}
+
 fn run<'a>(
     rt: &(impl Input + Print + Files + AllocGlobal + Threads + Wait + Sync),
     request: &Request<'a>,
@@ -140,6 +157,11 @@ fn run<'a>(
             run_live(rt, rules, sessions, stamp, caps)
         }
         Request::Check { rules, journal } => run_check(rt, rules, journal),
+        Request::Audit {
+            rules,
+            journal,
+            claim,
+        } => run_audit(rt, rules, journal, claim),
     }
 }
 

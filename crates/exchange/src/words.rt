@@ -29,6 +29,12 @@ pub enum Request<'a> {
         rules: &'a str,
         journal: &'a str,
     },
+    /// A journal text, and the lines of fills and months that somebody claims for it.
+    Audit {
+        rules: &'a str,
+        journal: &'a str,
+        claim: &'a str,
+    },
 }
 
 /// Why the command line asks for nothing.
@@ -118,15 +124,35 @@ fn live_command<'a>(alloc: Global) -> Result<Command<'a>, AllocError> {
         .arg(number_word(alloc, "entries", "100000", ENTRIES_HELP))
 }
 
-fn check_command<'a>(alloc: Global) -> Result<Command<'a>, AllocError> {
-    let journal = Arg::new(alloc, "JOURNAL")
+/// A file that a command asks for.
+fn file_word<'a>(alloc: Global, name: &'a str, help: &'a str) -> Arg<'a> {
+    Arg::new(alloc, name)
         .required(true)
-        .help("A journal text, as `replay` writes it")
-        .action(ArgAction::Set);
+        .help(help)
+        .action(ArgAction::Set)
+}
+
+const JOURNAL_HELP: &str = "A journal text, as `replay` writes it";
+
+fn check_command<'a>(alloc: Global) -> Result<Command<'a>, AllocError> {
+    let journal = file_word(alloc, "JOURNAL", JOURNAL_HELP);
     Command::new(alloc, "check")
         .about("Reads a journal text, works it again, and writes its fills and month totals")
         .arg(rules_word(alloc))?
         .arg(journal)
+}
+
+const CLAIM_HELP: &str =
+    "The lines of fills and month totals that somebody claims, as `check` writes them";
+
+fn audit_command<'a>(alloc: Global) -> Result<Command<'a>, AllocError> {
+    Command::new(alloc, "audit")
+        .about(
+            "Says whether a claim is exactly the fills and month totals of a journal, or the first line that is another",
+        )
+        .arg(rules_word(alloc))?
+        .arg(file_word(alloc, "JOURNAL", JOURNAL_HELP))?
+        .arg(file_word(alloc, "CLAIM", CLAIM_HELP))
 }
 
 fn exchange_command<'a>(alloc: Global) -> Result<Command<'a>, AllocError> {
@@ -138,7 +164,8 @@ fn exchange_command<'a>(alloc: Global) -> Result<Command<'a>, AllocError> {
         .subcommand_required(true)
         .subcommand(replay_command(alloc)?)?
         .subcommand(live_command(alloc)?)?
-        .subcommand(check_command(alloc)?)
+        .subcommand(check_command(alloc)?)?
+        .subcommand(audit_command(alloc)?)
 }
 
 fn text_of<'a>(found: &ArgMatches<'a>, name: &str) -> &'a str {
@@ -153,6 +180,14 @@ fn check_request<'a>(found: &ArgMatches<'a>) -> Request<'a> {
     Request::Check {
         rules: text_of(found, "RULES"),
         journal: text_of(found, "JOURNAL"),
+    }
+}
+
+fn audit_request<'a>(found: &ArgMatches<'a>) -> Request<'a> {
+    Request::Audit {
+        rules: text_of(found, "RULES"),
+        journal: text_of(found, "JOURNAL"),
+        claim: text_of(found, "CLAIM"),
     }
 }
 
@@ -180,6 +215,7 @@ pub fn read_words<'a>(alloc: Global, words: &'a [String]) -> Result<Request<'a>,
     let matches = exchange_command(alloc)?.try_get_matches_from(words)?;
     match matches.subcommand() {
         Some(("check", found)) => Ok(check_request(found)),
+        Some(("audit", found)) => Ok(audit_request(found)),
         Some(("live", found)) => Ok(live_request(alloc, found)?),
         Some((_, found)) => Ok(replay_request(found)),
         // The parser has asked for a command by now.
