@@ -7,7 +7,7 @@ mod fills;
 mod messages;
 mod months;
 
-pub use day_text::{Day, write_day, write_fills};
+pub use day_text::{Day, text_of_fills, write_day, write_fills};
 pub use fault::TextFault;
 pub use fills::put_fills;
 pub use messages::write_sessions;

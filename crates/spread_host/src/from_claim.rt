@@ -1,16 +1,13 @@
 //! A claim of a journal's fills and month totals, held against what the rule gives.
-ghost use Rattle.std.specs.Prelude.{◌≡◌, ◌≤◌, IfOk, IfErr, OnOk, All, length};
-ghost use Rattle.spread_rules.specs.Rulebook.{IsListed};
-ghost use Rattle.day_text.specs.DayText.{fills_text};
-ghost use Rattle.day_text.specs.Totals.{IsSummable};
+ghost use Rattle.std.specs.Prelude.{◌≤◌, IfErr, OnOk, length};
 ghost use Rattle.spread_host.specs.Claims.{IsRight, IsAuditFault};
 
 use crate::fault::HostFault;
+use crate::from_journal::journal_of_text;
 use day_apply::fills_of_journal;
-use day_text::{put_fills, put_months};
-use spread_journal::{JournalFault, read_journal};
+use day_text::text_of_fills;
 use spread_match::laws::ranges;
-use spread_rules::{Fill, Rulebook};
+use spread_rules::Rulebook;
 use std::alloc::{AllocError, Allocator};
 
 /// The first line in which a claim differs from what the rule gives.
@@ -31,20 +28,12 @@ pub enum AuditFault<A: Allocator> {
     Differs(Difference<A>),
 }
 
-/// The lines of fills, and of months.
-fn text_of_fills<A: Allocator>(
-    alloc: A,
-    rulebook: &Rulebook,
-    fills: &[Fill],
-) -> Result<Vec<u8, A>, AllocError>
-    requires listed { All (λ f. IsListed rulebook.now f.instrument) fills.now }
-    requires summable { All IsSummable fills.now }
-    ensures { IfOk result (λ v. v.items ≡ fills_text rulebook.now fills.now) }
-{
-    let mut text = Vec::new(alloc);
-    put_fills(&mut text, rulebook, fills)?;
-    put_months(&mut text, rulebook, fills)?;
-    Ok(text)
+impl<A: Allocator> From<HostFault> for AuditFault<A> {
+    fn from(fault: HostFault) -> Self
+        ensures { result ≡ AuditFault.Host fault }
+    {
+        AuditFault::Host(fault)
+    }
 }
 
 /// The first line of a text, with its line end where it has one.
@@ -113,23 +102,17 @@ pub fn audit<A: Allocator + Copy>(
     // Cites the ranges of a journal's fills, and that a rulebook is lawful.
     ranges();
     rulebook.months();
-    let journal = match read_journal(alloc, text) {
-        Ok(journal) => journal,
-        Err(JournalFault::NoMemory) => return Err(AuditFault::Host(HostFault::NoMemory(0))),
-        Err(fault) => return Err(AuditFault::Host(HostFault::Journal(fault))),
-    };
-    let fills = match fills_of_journal(alloc, rulebook, &journal) {
-        Ok(fills) => fills,
-        Err(fault) => return Err(AuditFault::Host(HostFault::from(fault))),
-    };
+    let journal = journal_of_text(alloc, text)?;
+    let fills = fills_of_journal(alloc, rulebook, &journal).map_err(HostFault::from)?;
+    let no_memory = HostFault::NoMemory(journal.len() as u64 + 1);
     let Ok(right) = text_of_fills(alloc, rulebook, &fills) else {
-        return Err(AuditFault::Host(HostFault::NoMemory(journal.len() as u64 + 1)));
+        return Err(AuditFault::Host(no_memory));
     };
     if claim == right.as_slice() {
         return Ok(());
     }
     match first_difference(alloc, claim, &right) {
         Ok(difference) => Err(AuditFault::Differs(difference)),
-        Err(_) => Err(AuditFault::Host(HostFault::NoMemory(journal.len() as u64 + 1))),
+        Err(_) => Err(AuditFault::Host(no_memory)),
     }
 }
