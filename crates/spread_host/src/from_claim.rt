@@ -1,23 +1,14 @@
 //! A claim of a journal's fills and month totals, held against what the rule gives.
-ghost use Rattle.std.specs.Prelude.{◌≤◌, IfErr, OnOk, length};
+ghost use Rattle.std.specs.Prelude.{◌≡◌, IfErr, OnOk};
 ghost use Rattle.spread_host.specs.Claims.{IsRight, IsAuditFault};
 
 use crate::fault::HostFault;
 use crate::from_journal::journal_of_text;
 use day_apply::fills_of_journal;
-use day_text::text_of_fills;
+use day_text::{Difference, first_difference, text_of_fills};
 use spread_match::laws::ranges;
 use spread_rules::Rulebook;
-use std::alloc::{AllocError, Allocator};
-
-/// The first line in which a claim differs from what the rule gives.
-#[derive(Drop)]
-pub struct Difference<A: Allocator> {
-    /// Its number, counted from 1.
-    pub line: u64,
-    /// The line that should stand there, with its line end; empty where the claim should have ended.
-    pub right: Vec<u8, A>,
-}
+use std::alloc::Allocator;
 
 /// Why a claim was not confirmed.
 #[derive(Drop)]
@@ -34,56 +25,6 @@ impl<A: Allocator> From<HostFault> for AuditFault<A> {
     {
         AuditFault::Host(fault)
     }
-}
-
-/// The first line of a text, with its line end where it has one.
-fn first_line(text: &[u8]) -> &[u8] {
-    for (at, byte) in text.iter().enumerate() {
-        if *byte == b'\n' {
-            return &text[..at + 1];
-        }
-    }
-    text
-}
-
-/// How many lines end in a text, and where the last of them ends.
-fn lines_ended(text: &[u8]) -> (u64, usize)
-    ensures { result.1 ≤ length text.now }
-{
-    let mut lines = 0u64;
-    let mut end = 0;
-    for (at, byte) in text.iter().enumerate() {
-        if *byte == b'\n' {
-            lines = lines.wrapping_add(1);
-            end = at + 1;
-        }
-    }
-    (lines, end)
-}
-
-/// How many bytes two texts have in common at their beginning.
-fn common_front(claim: &[u8], right: &[u8]) -> usize
-    ensures { result ≤ length right.now }
-{
-    for (at, byte) in right.iter().enumerate() {
-        if claim.get(at) != Some(byte) {
-            return at;
-        }
-    }
-    right.len()
-}
-
-/// The first line in which two texts differ, as the right one has it.
-fn first_difference<A: Allocator>(
-    alloc: A,
-    claim: &[u8],
-    right: &[u8],
-) -> Result<Difference<A>, AllocError> {
-    let (lines, end) = lines_ended(&right[..common_front(claim, right)]);
-    Ok(Difference {
-        line: lines.wrapping_add(1),
-        right: first_line(&right[end..]).to_vec(alloc)?,
-    })
 }
 
 /// Reads a journal text, applies its entries, and looks whether the claim is the lines of their fills and of the months, and

@@ -13,10 +13,10 @@ mod from_lines;
 mod from_sessions;
 
 pub use day::{day_of, write_day, write_fills};
-pub use day_text::Day;
+pub use day_text::{Day, Difference};
 pub use day_threads::{Caps, Gate};
 pub use fault::HostFault;
-pub use from_claim::{AuditFault, Difference, audit};
+pub use from_claim::{AuditFault, audit};
 pub use from_journal::check;
 pub use from_lines::replay;
 pub use from_sessions::run_day;
