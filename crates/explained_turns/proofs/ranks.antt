@@ -1,0 +1,3 @@
+pub mod NextIsLeast
+pub mod PassedOver
+pub mod Rows
