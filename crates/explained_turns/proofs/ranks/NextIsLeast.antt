@@ -1,12 +1,12 @@
 -- the fold over all counterparties gives the next in rank behind the bound
-use Rattle.std.proofs.Common.{◌≡◌, Bool, true, false, cond, List, [], ◌∷◌, fold, map, Contains, Option, Some, None, MatchOption, refl, sym, ap, subst, ◌∙◌}
+use Rattle.std.proofs.Common.{◌≡◌, Bool, true, false, cond, List, [], ◌∷◌, fold, Option, Some, None, refl, sym, ap, subst, ◌∙◌}
 use Rattle.spread_rules.specs.declared.order.Order.{Order}
 use Rattle.spread_rules.specs.declared.candidate.Candidate.{Candidate}
 use Rattle.spread_rules.specs.declared.candidate.Counterparty.{Counterparty}
-use Rattle.spread_rules.specs.Candidates.{Pairs, AllStandIn, IsEligible, candidate_of, counterparties, is_before, least_candidate, step, better_of, price_of}
+use Rattle.spread_rules.specs.Candidates.{Pairs, AllStandIn, candidate_of, counterparties, is_before, least_candidate, step, better_of, price_of}
 use Rattle.spread_rules.proofs.ranks.FirstOfAFold.{IsFirst, fold_first}
 use Rattle.spread_rules.proofs.ranks.PlainIsLeast.{ranks, candidate_is, eligible_candidate, listed, of_list, IsOwn}
-use Rattle.explained_turns.specs.Explained.{is_behind, IsNext, IsNextBest}
+use Rattle.explained_turns.specs.Explained.{is_behind, IsNextBest}
 use Rattle.explained_turns.specs.code.Search.{only_behind, next_of, next_step, next_candidate_of}
 
 module _ (on : Pairs) where

@@ -1,5 +1,5 @@
 -- which pairs of orders meet no order
-use Rattle.std.proofs.Common.{◌≡◌, ◌==◌, ◌&&◌, ◌||◌, Bool, true, false, List, [], ◌∷◌, map, fold, Option, Some, None, is_some, ℤ, ◌+ℤ◌, ◌-ℤ◌, refl, sym, ap, ◌∙◌}
+use Rattle.std.proofs.Common.{◌≡◌, ◌==◌, ◌&&◌, ◌||◌, Bool, true, false, List, [], ◌∷◌, map, fold, Option, Some, None, is_some, ℤ, ◌+ℤ◌, ◌-ℤ◌, refl, ap, ◌∙◌}
 use Rattle.spread_rules.specs.declared.order.Side.{Side}
 use Rattle.spread_rules.specs.declared.order.Side.TheVariants.{Buy, Sell}
 use Rattle.spread_rules.specs.declared.order.Instrument.{Instrument}
@@ -8,7 +8,7 @@ use Rattle.spread_rules.specs.declared.order.Order.{Order}
 use Rattle.spread_rules.specs.declared.candidate.Candidate.{Candidate}
 use Rattle.spread_rules.specs.declared.candidate.Counterparty.{Counterparty}
 use Rattle.spread_rules.specs.declared.candidate.Counterparty.TheVariants.{Implied}
-use Rattle.spread_rules.specs.Candidates.{Pairs, all_on, implied_price, price_if, offered_if, takes_part, candidate_of, candidate_at, price_of, better_of}
+use Rattle.spread_rules.specs.Candidates.{Pairs, all_on, implied_price, price_if, offered_if, takes_part, candidate_of, candidate_at, better_of}
 use Rattle.spread_rules.proofs.ranks.PairsSwitched.{candidate_on, candidate_off}
 use Rattle.explained_turns.specs.code.Search.{may_be_first, next_step, only_behind}
 

@@ -1,6 +1,6 @@
 -- The search for the next candidate, as a fold over all counterparties.
 -- Words of the code alone.
-use Rattle.std.specs.Prelude.{◌==◌, Bool, true, false, not, ◌&&◌, ◌||◌, cond, List, Option, Some, None, fold}
+use Rattle.std.specs.Prelude.{◌==◌, Bool, true, false, ◌&&◌, ◌||◌, cond, List, Option, Some, None, fold}
 use Rattle.spread_rules.specs.Legs.{is_side}
 use Rattle.spread_rules.specs.declared.order.Side.{Side}
 use Rattle.spread_rules.specs.declared.order.Instrument.{Instrument}

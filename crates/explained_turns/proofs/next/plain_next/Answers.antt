@@ -1,4 +1,4 @@
-use Rattle.std.proofs.Common.{Option, None, subst, sym, ap, ◌∙◌}
+use Rattle.std.proofs.Common.{Option, subst, sym, ap, ◌∙◌}
 use Rattle.spread_rules.specs.declared.candidate.Candidate.{Candidate}
 use Rattle.spread_rules.specs.Candidates.{counterparties}
 use Rattle.spread_rules.specs.Rulebook.{implied}
