@@ -1,4 +1,6 @@
 //! The fault lines and the statuses.
+use day_explain::ExplainFault;
+use day_picture::DrawFault;
 use gate_link::LinkFault;
 use spread_host::{Difference, HostFault};
 use spread_journal::JournalFault;
@@ -17,6 +19,8 @@ pub enum Fault<'a> {
     Host(HostFault),
     /// A claim is not what the rule gives the journal.
     Claim(Difference<Global>),
+    /// The journal has no entry of this place.
+    Place(u32),
 }
 
 /// What a fault line ends with.
@@ -32,14 +36,34 @@ impl<'a> From<HostFault> for Fault<'a> {
     }
 }
 
+impl<'a> From<DrawFault> for Fault<'a> {
+    fn from(fault: DrawFault) -> Fault<'a> {
+        Fault::Host(match fault {
+            DrawFault::Journal(fault) => HostFault::Journal(fault),
+            DrawFault::NoMemory => HostFault::NoMemory(0),
+            DrawFault::Write => HostFault::Write,
+        })
+    }
+}
+
 impl<'a> Fault<'a> {
+    /// Why the entry of a place was not explained.
+    pub fn of_explain(fault: ExplainFault, place: u32) -> Fault<'a> {
+        Fault::Host(match fault {
+            ExplainFault::Place => return Fault::Place(place),
+            ExplainFault::Journal(fault) => HostFault::Journal(fault),
+            ExplainFault::NoMemory => HostFault::NoMemory(0),
+            ExplainFault::Write => HostFault::Write,
+        })
+    }
+
     /// The exit status.
     pub fn status(&self) -> u8 {
         match self {
             Fault::Stamp => 2,
             Fault::File(_) => 3,
             Fault::Host(fault) => host_status(fault),
-            Fault::Claim(_) => 5,
+            Fault::Claim(_) | Fault::Place(_) => 5,
         }
     }
 
@@ -50,6 +74,7 @@ impl<'a> Fault<'a> {
             Fault::File(path) => ("cannot read", Detail::Name(path)),
             Fault::Host(fault) => host_line(fault),
             Fault::Claim(difference) => ("claim line", Detail::Number(difference.line)),
+            Fault::Place(place) => ("no place", Detail::Number(*place as u64)),
         }
     }
 }

@@ -35,6 +35,17 @@ pub enum Request<'a> {
         journal: &'a str,
         claim: &'a str,
     },
+    /// A journal text, and the place of the entry that is explained.
+    Explain {
+        rules: &'a str,
+        journal: &'a str,
+        place: u32,
+    },
+    /// A journal text, whose day is drawn.
+    Draw {
+        rules: &'a str,
+        journal: &'a str,
+    },
 }
 
 /// Why the command line asks for nothing.
@@ -155,6 +166,26 @@ fn audit_command<'a>(alloc: Global) -> Result<Command<'a>, AllocError> {
         .arg(file_word(alloc, "CLAIM", CLAIM_HELP))
 }
 
+fn explain_command<'a>(alloc: Global) -> Result<Command<'a>, AllocError> {
+    let place = Arg::new(alloc, "PLACE")
+        .required(true)
+        .help("The entry's place in the journal, counted from 1")
+        .value_parser(ValueParser::unsigned(0, 4_294_967_295))
+        .action(ArgAction::Set);
+    Command::new(alloc, "explain")
+        .about("Says in words why an entry of a journal came to what it came to")
+        .arg(rules_word(alloc))?
+        .arg(file_word(alloc, "JOURNAL", JOURNAL_HELP))?
+        .arg(place)
+}
+
+fn draw_command<'a>(alloc: Global) -> Result<Command<'a>, AllocError> {
+    Command::new(alloc, "draw")
+        .about("Draws the day of a journal, prices and fills over places, as an SVG picture")
+        .arg(rules_word(alloc))?
+        .arg(file_word(alloc, "JOURNAL", JOURNAL_HELP))
+}
+
 fn exchange_command<'a>(alloc: Global) -> Result<Command<'a>, AllocError> {
     Command::new(alloc, "exchange")
         .about(
@@ -165,7 +196,9 @@ fn exchange_command<'a>(alloc: Global) -> Result<Command<'a>, AllocError> {
         .subcommand(replay_command(alloc)?)?
         .subcommand(live_command(alloc)?)?
         .subcommand(check_command(alloc)?)?
-        .subcommand(audit_command(alloc)?)
+        .subcommand(audit_command(alloc)?)?
+        .subcommand(explain_command(alloc)?)?
+        .subcommand(draw_command(alloc)?)
 }
 
 fn text_of<'a>(found: &ArgMatches<'a>, name: &str) -> &'a str {
@@ -188,6 +221,21 @@ fn audit_request<'a>(found: &ArgMatches<'a>) -> Request<'a> {
         rules: text_of(found, "RULES"),
         journal: text_of(found, "JOURNAL"),
         claim: text_of(found, "CLAIM"),
+    }
+}
+
+fn explain_request<'a>(found: &ArgMatches<'a>) -> Request<'a> {
+    Request::Explain {
+        rules: text_of(found, "RULES"),
+        journal: text_of(found, "JOURNAL"),
+        place: number_of(found, "PLACE"),
+    }
+}
+
+fn draw_request<'a>(found: &ArgMatches<'a>) -> Request<'a> {
+    Request::Draw {
+        rules: text_of(found, "RULES"),
+        journal: text_of(found, "JOURNAL"),
     }
 }
 
@@ -216,6 +264,8 @@ pub fn read_words<'a>(alloc: Global, words: &'a [String]) -> Result<Request<'a>,
     match matches.subcommand() {
         Some(("check", found)) => Ok(check_request(found)),
         Some(("audit", found)) => Ok(audit_request(found)),
+        Some(("explain", found)) => Ok(explain_request(found)),
+        Some(("draw", found)) => Ok(draw_request(found)),
         Some(("live", found)) => Ok(live_request(alloc, found)?),
         Some((_, found)) => Ok(replay_request(found)),
         // The parser has asked for a command by now.
