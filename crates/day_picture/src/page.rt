@@ -9,7 +9,7 @@ use std::alloc::{AllocError, Allocator};
 use std::fmt::Write;
 
 /// How wide a page is, in units.
-const PAGE_WIDTH: i64 = 960;
+const PAGE_WIDTH: i64 = 984;
 /// How many columns all panels of a page have together at most.
 const PAGE_COLUMNS: u64 = 30_000;
 /// How many columns a panel has at most.

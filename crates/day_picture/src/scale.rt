@@ -158,24 +158,28 @@ fn fits(step: i64, unit: i64, length: i64, most: i64) -> bool {
     step % unit.max(1) == 0 && length / step.max(1) <= most
 }
 
-/// The least step of 1, 2 or 5 times a power of ten that is a multiple of the unit and divides the length in no more
-/// than so many parts. Where none of them is a multiple, the same of the unit.
+/// The least step of 1, 2 or 5 times a power of ten, so many times, that fits; the greatest number where none does.
+fn least_step(length: i64, most: i64, unit: i64, times: i64) -> i64 {
+    for step in STEPS {
+        let step = step.saturating_mul(times);
+        if fits(step, unit, length, most) {
+            return step;
+        }
+    }
+    i64::MAX
+}
+
+/// The step of an axis of that length: a multiple of the unit, with no more than so many marks. It is the unit, or 1, 2 or
+/// 5 times a power of ten, or so many units where that leaves too few marks.
 pub fn step(length: i64, most: i64, unit: i64) -> i64 {
     if fits(unit, unit, length, most) {
         return unit;
     }
-    for step in STEPS {
-        if fits(step, unit, length, most) {
-            return step;
-        }
+    let round = least_step(length, most, unit, 1);
+    if length / round.max(1) >= 2 {
+        return round;
     }
-    for step in STEPS {
-        let step = step.saturating_mul(unit);
-        if fits(step, unit, length, most) {
-            return step;
-        }
-    }
-    length.max(1)
+    round.min(least_step(length, most, unit, unit))
 }
 
 /// The least multiple of a step that is not below a price.
