@@ -26,7 +26,7 @@ fn put_order(out: &mut String, chance: &mut Chance, serial: u64) -> Result<(), A
     let price = near.wrapping_add(chance.below(21)).wrapping_sub(10);
     out.push_str("0 new ")?;
     for digit in [100_000, 10_000, 1_000, 100, 10, 1] {
-        let digit = serial / digit % 10;
+        let digit = serial / digit.max(1) % 10;
         write!(out, "3{digit}")?;
     }
     write!(out, " {symbol} {side} {quantity} {price} day\n")?;
