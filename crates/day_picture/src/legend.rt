@@ -60,20 +60,20 @@ fn put_keys<A: Allocator>(out: &mut String<A>) -> Result<(), AllocError> {
     let line = KEYS - 5;
     write!(
         out,
-        "<path class=\"buy key\" d=\"M80 {line}h30\"/><text x=\"117\" y=\"{KEYS}\">best buy</text>\n"
+        "<path class=\"buy key\" d=\"M100 {line}h30\"/><text x=\"137\" y=\"{KEYS}\">best buy</text>\n"
     )?;
     write!(
         out,
-        "<path class=\"sell key\" d=\"M200 {line}h30\"/><text x=\"237\" y=\"{KEYS}\">best sell</text>\n"
+        "<path class=\"sell key\" d=\"M220 {line}h30\"/><text x=\"257\" y=\"{KEYS}\">best sell</text>\n"
     )?;
     write!(
         out,
-        "<g class=\"direct\"><circle class=\"size\" cx=\"330\" cy=\"{line}\" r=\"6\"/></g><text x=\"343\" y=\"{KEYS}\">direct trade</text>\n"
+        "<g class=\"direct\"><circle class=\"size\" cx=\"350\" cy=\"{line}\" r=\"6\"/></g><text x=\"363\" y=\"{KEYS}\">direct trade</text>\n"
     )?;
     let top = line - 8;
     write!(
         out,
-        "<g class=\"implied\"><path class=\"size\" d=\"M450 {top}l8 8-8 8-8-8z\"/></g><text x=\"465\" y=\"{KEYS}\">implied trade, a mark in each of its three instruments</text>\n"
+        "<g class=\"implied\"><path class=\"size\" d=\"M470 {top}l8 8-8 8-8-8z\"/></g><text x=\"485\" y=\"{KEYS}\">implied trade, a mark in each of its three instruments</text>\n"
     )?;
     Ok(())
 }
@@ -111,14 +111,14 @@ fn put_sizes<A: Allocator>(out: &mut String<A>, most: u64) -> Result<(), AllocEr
     let small = round_below(large / 20);
     write!(
         out,
-        "<text x=\"80\" y=\"{SIZES}\">area: lots at one point</text>\n"
+        "<text x=\"100\" y=\"{SIZES}\">area: lots at one point</text>\n"
     )?;
-    put_size(out, 240, large, most)?;
+    put_size(out, 260, large, most)?;
     if middle < large {
-        put_size(out, 370, middle, most)?;
+        put_size(out, 390, middle, most)?;
     }
     if small < middle {
-        put_size(out, 500, small, most)?;
+        put_size(out, 520, small, most)?;
     }
     Ok(())
 }
@@ -126,13 +126,13 @@ fn put_sizes<A: Allocator>(out: &mut String<A>, most: u64) -> Result<(), AllocEr
 /// The head of the page.
 pub fn put_head<A: Allocator>(out: &mut String<A>, totals: &Totals) -> Result<(), AllocError> {
     out.push_str(
-        "<text class=\"title\" x=\"80\" y=\"36\">Price over place in the journal</text>\n",
+        "<text class=\"title\" x=\"100\" y=\"36\">Price over place in the journal</text>\n",
     )?;
-    out.push_str("<text class=\"note\" x=\"80\" y=\"58\">")?;
+    out.push_str("<text class=\"note\" x=\"100\" y=\"58\">")?;
     put_totals(out, totals)?;
     out.push_str("</text>\n")?;
     if totals.most == 0 {
-        return out.push_str("<text x=\"80\" y=\"100\">Nothing was traded.</text>\n");
+        return out.push_str("<text x=\"100\" y=\"100\">Nothing was traded.</text>\n");
     }
     out.push_str("<g id=\"legend\">\n")?;
     put_keys(out)?;

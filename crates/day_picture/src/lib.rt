@@ -19,3 +19,4 @@ mod words;
 
 pub use drawing::draw;
 pub use fault::DrawFault;
+pub use words::put_bytes;

@@ -9,13 +9,13 @@ use std::alloc::{AllocError, Allocator};
 use std::fmt::Write;
 
 /// How wide a page is, in units.
-const PAGE_WIDTH: i64 = 960;
+const PAGE_WIDTH: i64 = 984;
 /// How many columns all panels of a page have together at most.
-const PAGE_COLUMNS: u64 = 30_000;
+const PAGE_COLUMNS: u64 = 24_000;
 /// How many columns a panel has at most.
 const PANEL_COLUMNS: u64 = 1_000;
 /// How many points all panels of a page have together at most.
-const PAGE_POINTS: u64 = 16_000;
+const PAGE_POINTS: u64 = 12_000;
 /// How many points each panel may have, however many there are.
 const LEAST_POINTS: u64 = 20;
 

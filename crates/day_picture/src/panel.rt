@@ -9,7 +9,7 @@ use std::alloc::{AllocError, Allocator};
 use std::fmt::Write;
 
 /// Where panels begin, from the left.
-const LEFT: i64 = 80;
+const LEFT: i64 = 100;
 /// The room above a panel for its heading.
 const HEADING: i64 = 26;
 /// The room below a panel for its places.

@@ -23,14 +23,17 @@ pub struct Point {
     pub lots: u64,
 }
 
+/// The cell of a length, where each is so wide.
+fn cell(length: i64, width: i64) -> i64 {
+    length.max(0) / width.max(1)
+}
+
 impl Point {
     /// The point in cells of that width. A cell is lower than it is wide, since a price tells more than a place.
     fn in_cells(self, width: i64) -> Point {
-        let width = width.max(1);
-        let height = (width / 8).max(LEAST_CELL).max(1);
         Point {
-            row: self.y.max(0) / height,
-            column: self.x.max(0) / width,
+            row: cell(self.y, (width / 8).max(LEAST_CELL)),
+            column: cell(self.x, width),
             ..self
         }
     }

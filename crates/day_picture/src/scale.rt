@@ -1,5 +1,5 @@
 //! Where places and prices stand in a panel. Inside a panel all is in tenths of a unit of the page.
-use crate::course::{Course, Span, columns_of, joined};
+use crate::course::{Course, Span, Stretch, columns_of, joined};
 use std::alloc::Allocator;
 
 /// How wide a panel is inside, in tenths.
@@ -107,19 +107,10 @@ fn traded<A: Allocator>(course: &Course<A>) -> Option<Span> {
     span
 }
 
-/// All best prices of the instrument's orders to buy.
-fn bid<A: Allocator>(course: &Course<A>) -> Option<Span> {
+/// All best prices of an instrument and side.
+fn best(stretches: &[Stretch]) -> Option<Span> {
     let mut span = None;
-    for stretch in &course.buy {
-        span = joined(span, stretch.span);
-    }
-    span
-}
-
-/// All best prices of the instrument's orders to sell.
-fn asked<A: Allocator>(course: &Course<A>) -> Option<Span> {
-    let mut span = None;
-    for stretch in &course.sell {
+    for stretch in stretches {
         span = joined(span, stretch.span);
     }
     span
@@ -153,7 +144,7 @@ pub fn scale_of<A: Allocator>(
     height: i64,
 ) -> Option<Scale> {
     let trades = traded(course)?;
-    let prices = shown(trades, joined(bid(course), asked(course)), tick);
+    let prices = shown(trades, joined(best(&course.buy), best(&course.sell)), tick);
     Some(Scale {
         entries,
         prices,
@@ -162,26 +153,33 @@ pub fn scale_of<A: Allocator>(
     })
 }
 
-/// The least step of 1, 2 or 5 times a power of ten that is a multiple of the unit and divides the length in no more
-/// than so many parts. Where none of them is a multiple, the same of the unit.
+/// Whether a step is a multiple of a unit, and divides a length in no more than so many parts.
+fn fits(step: i64, unit: i64, length: i64, most: i64) -> bool {
+    step % unit.max(1) == 0 && length / step.max(1) <= most
+}
+
+/// The least step of 1, 2 or 5 times a power of ten, so many times, that fits; the greatest number where none does.
+fn least_step(length: i64, most: i64, unit: i64, times: i64) -> i64 {
+    for step in STEPS {
+        let step = step.saturating_mul(times);
+        if fits(step, unit, length, most) {
+            return step;
+        }
+    }
+    i64::MAX
+}
+
+/// The step of an axis of that length: a multiple of the unit, with no more than so many marks. It is the unit, or 1, 2 or
+/// 5 times a power of ten, or so many units where that leaves too few marks.
 pub fn step(length: i64, most: i64, unit: i64) -> i64 {
-    let unit = unit.max(1);
-    if length / unit <= most {
+    if fits(unit, unit, length, most) {
         return unit;
     }
-    for step in STEPS {
-        let step = step.max(1);
-        if step % unit == 0 && length / step <= most {
-            return step;
-        }
+    let round = least_step(length, most, unit, 1);
+    if length / round.max(1) >= 2 {
+        return round;
     }
-    for step in STEPS {
-        let step = step.saturating_mul(unit).max(1);
-        if length / step <= most {
-            return step;
-        }
-    }
-    length.max(1)
+    round.min(least_step(length, most, unit, unit))
 }
 
 /// The least multiple of a step that is not below a price.
