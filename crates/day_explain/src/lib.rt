@@ -2,15 +2,17 @@
 #![tactic(auto)]
 
 mod entry_words;
-mod explain;
+mod explaining;
 mod fault;
 mod outcome_words;
 mod refusal_words;
 mod standing;
+mod telling;
 mod told;
 mod turn_words;
 mod words;
 
-pub use explain::explain;
+pub use explaining::explain;
 pub use fault::ExplainFault;
-pub use told::{Told, Traded, tell};
+pub use telling::tell;
+pub use told::{Told, Traded};

@@ -7,7 +7,7 @@ ghost use Rattle.day_explain.specs.declared.fault.ExplainFault.{ExplainFault};
 use crate::entry_words::put_entry;
 use crate::fault::ExplainFault;
 use crate::outcome_words::{put_loses_place, put_outcome};
-use crate::told::tell;
+use crate::telling::tell;
 use crate::turn_words::put_turns;
 use crate::words::Words;
 use host_base::{NoMemory, Sink, write_all};
