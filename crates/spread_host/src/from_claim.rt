@@ -1,11 +1,11 @@
 //! A claim of a journal's fills and month totals, held against what the rule gives.
-ghost use Rattle.std.specs.Prelude.{◌≡◌, IfErr, OnOk};
+ghost use Rattle.std.specs.Prelude.{IfErr, OnOk};
 ghost use Rattle.spread_host.specs.Claims.{IsRight, IsAuditFault};
 
 use crate::fault::HostFault;
-use crate::from_journal::journal_of_text;
 use day_apply::fills_of_journal;
 use day_text::{Difference, first_difference, text_of_fills};
+use spread_journal::{JournalFault, read_journal};
 use spread_match::laws::ranges;
 use spread_rules::Rulebook;
 use std::alloc::Allocator;
@@ -17,14 +17,6 @@ pub enum AuditFault<A: Allocator> {
     Host(HostFault),
     /// The claim is not what the rule gives the journal.
     Differs(Difference<A>),
-}
-
-impl<A: Allocator> From<HostFault> for AuditFault<A> {
-    fn from(fault: HostFault) -> Self
-        ensures { result ≡ AuditFault.Host fault }
-    {
-        AuditFault::Host(fault)
-    }
 }
 
 /// Reads a journal text, applies its entries, and looks whether the claim is the lines of their fills and of the months, and
@@ -43,8 +35,15 @@ pub fn audit<A: Allocator + Copy>(
     // Cites the ranges of a journal's fills, and that a rulebook is lawful.
     ranges();
     rulebook.months();
-    let journal = journal_of_text(alloc, text)?;
-    let fills = fills_of_journal(alloc, rulebook, &journal).map_err(HostFault::from)?;
+    let journal = match read_journal(alloc, text) {
+        Ok(journal) => journal,
+        Err(JournalFault::NoMemory) => return Err(AuditFault::Host(HostFault::NoMemory(0))),
+        Err(fault) => return Err(AuditFault::Host(HostFault::Journal(fault))),
+    };
+    let fills = match fills_of_journal(alloc, rulebook, &journal) {
+        Ok(fills) => fills,
+        Err(fault) => return Err(AuditFault::Host(HostFault::from(fault))),
+    };
     let no_memory = HostFault::NoMemory(journal.len() as u64 + 1);
     let Ok(right) = text_of_fills(alloc, rulebook, &fills) else {
         return Err(AuditFault::Host(no_memory));
