@@ -2,3 +2,4 @@ pub mod MonthSums
 pub mod MonthLines
 pub mod PiecesInTurn
 pub mod SessionLines
+pub mod FirstLines

@@ -4,3 +4,4 @@ pub mod Months
 pub mod Messages
 pub mod DayText
 pub mod code
+pub mod Differences

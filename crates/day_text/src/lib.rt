@@ -2,12 +2,14 @@
 #![tactic(auto)]
 
 mod day_text;
+mod difference;
 mod fault;
 mod fills;
 mod messages;
 mod months;
 
-pub use day_text::{Day, write_day, write_fills};
+pub use day_text::{Day, text_of_fills, write_day, write_fills};
+pub use difference::{Difference, first_difference};
 pub use fault::TextFault;
 pub use fills::put_fills;
 pub use messages::write_sessions;

@@ -1,8 +1,11 @@
 //! The fault lines and the statuses.
+use day_explain::ExplainFault;
+use day_picture::DrawFault;
 use gate_link::LinkFault;
-use spread_host::HostFault;
+use spread_host::{Difference, HostFault};
 use spread_journal::JournalFault;
 use spread_rules::RuleFault;
+use std::alloc::Global;
 use std::fmt;
 
 /// Why the program ended without its text.
@@ -14,6 +17,10 @@ pub enum Fault<'a> {
     File(&'a str),
     /// The run ended without its text.
     Host(HostFault),
+    /// A claim is not what the rule gives the journal.
+    Claim(Difference<Global>),
+    /// The journal has no entry of this place.
+    Place(u32),
 }
 
 /// What a fault line ends with.
@@ -29,13 +36,34 @@ impl<'a> From<HostFault> for Fault<'a> {
     }
 }
 
+impl<'a> From<DrawFault> for Fault<'a> {
+    fn from(fault: DrawFault) -> Fault<'a> {
+        Fault::Host(match fault {
+            DrawFault::Journal(fault) => HostFault::Journal(fault),
+            DrawFault::NoMemory => HostFault::NoMemory(0),
+            DrawFault::Write => HostFault::Write,
+        })
+    }
+}
+
 impl<'a> Fault<'a> {
+    /// Why the entry of a place was not explained.
+    pub fn of_explain(fault: ExplainFault, place: u32) -> Fault<'a> {
+        Fault::Host(match fault {
+            ExplainFault::Place => return Fault::Place(place),
+            ExplainFault::Journal(fault) => HostFault::Journal(fault),
+            ExplainFault::NoMemory => HostFault::NoMemory(0),
+            ExplainFault::Write => HostFault::Write,
+        })
+    }
+
     /// The exit status.
     pub fn status(&self) -> u8 {
         match self {
             Fault::Stamp => 2,
             Fault::File(_) => 3,
             Fault::Host(fault) => host_status(fault),
+            Fault::Claim(_) | Fault::Place(_) => 5,
         }
     }
 
@@ -45,6 +73,8 @@ impl<'a> Fault<'a> {
             Fault::Stamp => ("stamp", Detail::Nothing),
             Fault::File(path) => ("cannot read", Detail::Name(path)),
             Fault::Host(fault) => host_line(fault),
+            Fault::Claim(difference) => ("claim line", Detail::Number(difference.line)),
+            Fault::Place(place) => ("no place", Detail::Number(*place as u64)),
         }
     }
 }
@@ -70,10 +100,25 @@ impl<'a> fmt::Display for Fault<'a> {
     fn fmt<W: fmt::Write>(&self, f: &mut fmt::Formatter<W>) -> fmt::Result {
         let (text, detail) = self.line();
         match detail {
-            Detail::Nothing => f.write_str(text),
-            Detail::Number(number) => write!(f, "{} {}", text, number),
-            Detail::Name(name) => write!(f, "{} {}", text, name),
+            Detail::Nothing => f.write_str(text)?,
+            Detail::Number(number) => write!(f, "{} {}", text, number)?,
+            Detail::Name(name) => write!(f, "{} {}", text, name)?,
         }
+        match self {
+            Fault::Claim(difference) => put_right(f, difference),
+            _ => Ok(()),
+        }
+    }
+}
+
+/// What a line of a claim should be.
+fn put_right<W: fmt::Write>(
+    f: &mut fmt::Formatter<W>,
+    difference: &Difference<Global>,
+) -> fmt::Result {
+    match std::str::from_utf8(&difference.right) {
+        Ok(right) if !right.is_empty() => write!(f, " should be {}", right.trim_end()),
+        _ => f.write_str(" should not be there"),
     }
 }
 

@@ -4,9 +4,11 @@
 mod fault;
 mod words;
 
+use day_explain::explain;
+use day_picture::draw;
 use fault::Fault;
 use host_base::{FromReader, Id, ToWriter};
-use spread_host::{Caps, Gate, HostFault, check, replay, run_day, write_day};
+use spread_host::{AuditFault, Caps, Gate, HostFault, audit, check, replay, run_day, write_day};
 use spread_rules::Rulebook;
 use std::env::Env;
 use std::fs::Files;
@@ -116,6 +118,52 @@ fn run_check<'a>(
     Ok(())
 }
 
+/// A journal text, and what somebody claims of it.
+fn run_audit<'a>(
+    rt: &(impl Files + AllocGlobal),
+    rules: &'a str,
+    journal: &'a str,
+    claim: &'a str,
+) -> Result<(), Fault<'a>> {
+    let rulebook = read_rules(rt, rules)?;
+    let text = read_file(rt, journal)?;
+    let claimed = read_file(rt, claim)?;
+    match audit(rt.alloc(), &rulebook, &text, &claimed) {
+        Ok(()) => Ok(()),
+        Err(AuditFault::Host(fault)) => Err(Fault::Host(fault)),
+        Err(AuditFault::Differs(difference)) => Err(Fault::Claim(difference)),
+    }
+}
+
+/// A journal text, and the place of the entry that is explained.
+fn run_explain<'a>(
+    rt: &(impl Print + Files + AllocGlobal),
+    rules: &'a str,
+    journal: &'a str,
+    place: u32,
+) -> Result<(), Fault<'a>> {
+    let rulebook = read_rules(rt, rules)?;
+    let text = read_file(rt, journal)?;
+    let mut sink = ToWriter::new(io::writer(rt));
+    match explain(rt.alloc(), &rulebook, &text, place as u64, &mut sink) {
+        Ok(()) => Ok(()),
+        Err(fault) => Err(Fault::of_explain(fault, place)),
+    }
+}
+
+/// A journal text, drawn.
+fn run_draw<'a>(
+    rt: &(impl Print + Files + AllocGlobal),
+    rules: &'a str,
+    journal: &'a str,
+) -> Result<(), Fault<'a>> {
+    let rulebook = read_rules(rt, rules)?;
+    let text = read_file(rt, journal)?;
+    let mut sink = ToWriter::new(io::writer(rt));
+    draw(rt.alloc(), &rulebook, &text, &mut sink)?;
+    Ok(())
+}
+
 fn run<'a>(
     rt: &(impl Input + Print + Files + AllocGlobal + Threads + Wait + Sync),
     request: &Request<'a>,
@@ -140,6 +188,17 @@ fn run<'a>(
             run_live(rt, rules, sessions, stamp, caps)
         }
         Request::Check { rules, journal } => run_check(rt, rules, journal),
+        Request::Audit {
+            rules,
+            journal,
+            claim,
+        } => run_audit(rt, rules, journal, claim),
+        Request::Explain {
+            rules,
+            journal,
+            place,
+        } => run_explain(rt, rules, journal, *place),
+        Request::Draw { rules, journal } => run_draw(rt, rules, journal),
     }
 }
 

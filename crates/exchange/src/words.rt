@@ -29,6 +29,23 @@ pub enum Request<'a> {
         rules: &'a str,
         journal: &'a str,
     },
+    /// A journal text, and the lines of fills and months that somebody claims for it.
+    Audit {
+        rules: &'a str,
+        journal: &'a str,
+        claim: &'a str,
+    },
+    /// A journal text, and the place of the entry that is explained.
+    Explain {
+        rules: &'a str,
+        journal: &'a str,
+        place: u32,
+    },
+    /// A journal text, whose day is drawn.
+    Draw {
+        rules: &'a str,
+        journal: &'a str,
+    },
 }
 
 /// Why the command line asks for nothing.
@@ -118,15 +135,55 @@ fn live_command<'a>(alloc: Global) -> Result<Command<'a>, AllocError> {
         .arg(number_word(alloc, "entries", "100000", ENTRIES_HELP))
 }
 
-fn check_command<'a>(alloc: Global) -> Result<Command<'a>, AllocError> {
-    let journal = Arg::new(alloc, "JOURNAL")
+/// A file that a command asks for.
+fn file_word<'a>(alloc: Global, name: &'a str, help: &'a str) -> Arg<'a> {
+    Arg::new(alloc, name)
         .required(true)
-        .help("A journal text, as `replay` writes it")
-        .action(ArgAction::Set);
+        .help(help)
+        .action(ArgAction::Set)
+}
+
+const JOURNAL_HELP: &str = "A journal text, as `replay` writes it";
+
+fn check_command<'a>(alloc: Global) -> Result<Command<'a>, AllocError> {
+    let journal = file_word(alloc, "JOURNAL", JOURNAL_HELP);
     Command::new(alloc, "check")
         .about("Reads a journal text, works it again, and writes its fills and month totals")
         .arg(rules_word(alloc))?
         .arg(journal)
+}
+
+const CLAIM_HELP: &str =
+    "The lines of fills and month totals that somebody claims, as `check` writes them";
+
+fn audit_command<'a>(alloc: Global) -> Result<Command<'a>, AllocError> {
+    Command::new(alloc, "audit")
+        .about(
+            "Says whether a claim is exactly the fills and month totals of a journal, or the first line that is another",
+        )
+        .arg(rules_word(alloc))?
+        .arg(file_word(alloc, "JOURNAL", JOURNAL_HELP))?
+        .arg(file_word(alloc, "CLAIM", CLAIM_HELP))
+}
+
+fn explain_command<'a>(alloc: Global) -> Result<Command<'a>, AllocError> {
+    let place = Arg::new(alloc, "PLACE")
+        .required(true)
+        .help("The entry's place in the journal, counted from 1")
+        .value_parser(ValueParser::unsigned(0, 4_294_967_295))
+        .action(ArgAction::Set);
+    Command::new(alloc, "explain")
+        .about("Says in words why an entry of a journal came to what it came to")
+        .arg(rules_word(alloc))?
+        .arg(file_word(alloc, "JOURNAL", JOURNAL_HELP))?
+        .arg(place)
+}
+
+fn draw_command<'a>(alloc: Global) -> Result<Command<'a>, AllocError> {
+    Command::new(alloc, "draw")
+        .about("Draws the day of a journal, prices and fills over places, as an SVG picture")
+        .arg(rules_word(alloc))?
+        .arg(file_word(alloc, "JOURNAL", JOURNAL_HELP))
 }
 
 fn exchange_command<'a>(alloc: Global) -> Result<Command<'a>, AllocError> {
@@ -138,7 +195,10 @@ fn exchange_command<'a>(alloc: Global) -> Result<Command<'a>, AllocError> {
         .subcommand_required(true)
         .subcommand(replay_command(alloc)?)?
         .subcommand(live_command(alloc)?)?
-        .subcommand(check_command(alloc)?)
+        .subcommand(check_command(alloc)?)?
+        .subcommand(audit_command(alloc)?)?
+        .subcommand(explain_command(alloc)?)?
+        .subcommand(draw_command(alloc)?)
 }
 
 fn text_of<'a>(found: &ArgMatches<'a>, name: &str) -> &'a str {
@@ -151,6 +211,29 @@ fn number_of(found: &ArgMatches, name: &str) -> u32 {
 
 fn check_request<'a>(found: &ArgMatches<'a>) -> Request<'a> {
     Request::Check {
+        rules: text_of(found, "RULES"),
+        journal: text_of(found, "JOURNAL"),
+    }
+}
+
+fn audit_request<'a>(found: &ArgMatches<'a>) -> Request<'a> {
+    Request::Audit {
+        rules: text_of(found, "RULES"),
+        journal: text_of(found, "JOURNAL"),
+        claim: text_of(found, "CLAIM"),
+    }
+}
+
+fn explain_request<'a>(found: &ArgMatches<'a>) -> Request<'a> {
+    Request::Explain {
+        rules: text_of(found, "RULES"),
+        journal: text_of(found, "JOURNAL"),
+        place: number_of(found, "PLACE"),
+    }
+}
+
+fn draw_request<'a>(found: &ArgMatches<'a>) -> Request<'a> {
+    Request::Draw {
         rules: text_of(found, "RULES"),
         journal: text_of(found, "JOURNAL"),
     }
@@ -180,6 +263,9 @@ pub fn read_words<'a>(alloc: Global, words: &'a [String]) -> Result<Request<'a>,
     let matches = exchange_command(alloc)?.try_get_matches_from(words)?;
     match matches.subcommand() {
         Some(("check", found)) => Ok(check_request(found)),
+        Some(("audit", found)) => Ok(audit_request(found)),
+        Some(("explain", found)) => Ok(explain_request(found)),
+        Some(("draw", found)) => Ok(draw_request(found)),
         Some(("live", found)) => Ok(live_request(alloc, found)?),
         Some((_, found)) => Ok(replay_request(found)),
         // The parser has asked for a command by now.

@@ -8,6 +8,7 @@ use std::alloc::Global;
 use std::test::Fail;
 
 mod applied;
+mod audit;
 mod check;
 mod day;
 mod faults;

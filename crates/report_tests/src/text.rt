@@ -1,1 +1,2 @@
+mod differences;
 mod fills;

@@ -1,7 +1,7 @@
 //! The lines of fills and of months.
 ghost use Rattle.std.specs.Prelude.{◌≡◌};
 
-use day_text::{MonthTotals, TextFault, month_totals, write_fills};
+use day_text::{MonthTotals, TextFault, month_totals, text_of_fills, write_fills};
 use host_base::TestSink;
 use spread_rules::{Fill, Instrument, Rulebook, Side};
 use std::test::Fail;
@@ -72,6 +72,7 @@ fn spread_lifts_two_months(rt: HostRuntime) -> Result<(), Fail> {
     assert!(rt; rules.months() == 3);
     let mut sink = TestSink::new(rt.alloc(), 1000, 0)?;
     write_fills(rt.alloc(), &rules, &fills, &mut sink)?;
+    assert!(rt; text_of_fills(rt.alloc(), &rules, &fills)?.as_slice() == text.as_slice());
     assert!(rt; sink.bytes() == text.as_slice());
     Ok(())
 }

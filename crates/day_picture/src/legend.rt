@@ -1,0 +1,141 @@
+//! The head of a page: what it shows, and what its lines and marks mean.
+use crate::panel::{corner, radius};
+use crate::scale::round_below;
+use crate::words::put_count;
+use std::alloc::{AllocError, Allocator};
+use std::fmt::Write;
+
+/// How far from the top the first panel's heading may begin.
+pub const HEAD: i64 = 132;
+
+/// How far from the top the rows of the legend stand.
+const KEYS: i64 = 86;
+
+const SIZES: i64 = 112;
+
+/// What a page shows in all.
+#[derive(Clone, Copy)]
+pub struct Totals {
+    pub entries: u64,
+    pub months: u64,
+    pub spreads: u64,
+    /// The most lots of a point.
+    pub most: u64,
+}
+
+/// How many entries there were, and how many months and spreads traded.
+fn put_totals<A: Allocator>(out: &mut String<A>, totals: &Totals) -> Result<(), AllocError> {
+    put_count(out, totals.entries)?;
+    out.push_str(if totals.entries == 1 {
+        " entry; "
+    } else {
+        " entries; "
+    })?;
+    put_count(out, totals.months)?;
+    out.push_str(if totals.months == 1 {
+        " month and "
+    } else {
+        " months and "
+    })?;
+    put_count(out, totals.spreads)?;
+    out.push_str(if totals.spreads == 1 {
+        " spread traded."
+    } else {
+        " spreads traded."
+    })
+}
+
+/// What a reader who sees no picture is told.
+pub fn put_about<A: Allocator>(out: &mut String<A>, totals: &Totals) -> Result<(), AllocError> {
+    out.push_str("<title id=\"title\">A day's prices over the places of its journal</title>\n")?;
+    out.push_str("<desc id=\"desc\">")?;
+    put_totals(out, totals)?;
+    out.push_str(
+        " Best buy and best sell price of each as steps, trades as marks: circles direct, diamonds implied.</desc>\n",
+    )
+}
+
+/// The keys of lines and marks.
+fn put_keys<A: Allocator>(out: &mut String<A>) -> Result<(), AllocError> {
+    let line = KEYS - 5;
+    write!(
+        out,
+        "<path class=\"buy key\" d=\"M100 {line}h30\"/><text x=\"137\" y=\"{KEYS}\">best buy</text>\n"
+    )?;
+    write!(
+        out,
+        "<path class=\"sell key\" d=\"M220 {line}h30\"/><text x=\"257\" y=\"{KEYS}\">best sell</text>\n"
+    )?;
+    write!(
+        out,
+        "<g class=\"direct\"><circle class=\"size\" cx=\"350\" cy=\"{line}\" r=\"6\"/></g><text x=\"363\" y=\"{KEYS}\">direct trade</text>\n"
+    )?;
+    let top = line - 8;
+    write!(
+        out,
+        "<g class=\"implied\"><path class=\"size\" d=\"M470 {top}l8 8-8 8-8-8z\"/></g><text x=\"485\" y=\"{KEYS}\">implied trade, a mark in each of its three instruments</text>\n"
+    )?;
+    Ok(())
+}
+
+/// One size: both its marks, and the lots that they stand for.
+fn put_size<A: Allocator>(
+    out: &mut String<A>,
+    x: i64,
+    lots: u64,
+    most: u64,
+) -> Result<(), AllocError> {
+    let line = SIZES - 5;
+    let radius = radius(lots, most);
+    let (units, tenths) = (radius / 10, radius % 10);
+    let far = corner(radius);
+    let across = x.saturating_add(26);
+    write!(
+        out,
+        "<g class=\"direct\"><circle class=\"size\" cx=\"{x}\" cy=\"{line}\" r=\"{units}.{tenths}\"/></g>"
+    )?;
+    write!(
+        out,
+        "<g class=\"implied\" transform=\"translate({across} {line}) scale(.1)\"><path d=\"M0-{far}l{far} {far}-{far} {far}-{far}-{far}z\"/></g>"
+    )?;
+    let text = x.saturating_add(43);
+    write!(out, "<text x=\"{text}\" y=\"{SIZES}\">")?;
+    put_count(out, lots)?;
+    out.push_str("</text>\n")
+}
+
+/// What the sizes of marks mean.
+fn put_sizes<A: Allocator>(out: &mut String<A>, most: u64) -> Result<(), AllocError> {
+    let large = round_below(most);
+    let middle = round_below(large / 4);
+    let small = round_below(large / 20);
+    write!(
+        out,
+        "<text x=\"100\" y=\"{SIZES}\">area: lots at one point</text>\n"
+    )?;
+    put_size(out, 260, large, most)?;
+    if middle < large {
+        put_size(out, 390, middle, most)?;
+    }
+    if small < middle {
+        put_size(out, 520, small, most)?;
+    }
+    Ok(())
+}
+
+/// The head of the page.
+pub fn put_head<A: Allocator>(out: &mut String<A>, totals: &Totals) -> Result<(), AllocError> {
+    out.push_str(
+        "<text class=\"title\" x=\"100\" y=\"36\">Price over place in the journal</text>\n",
+    )?;
+    out.push_str("<text class=\"note\" x=\"100\" y=\"58\">")?;
+    put_totals(out, totals)?;
+    out.push_str("</text>\n")?;
+    if totals.most == 0 {
+        return out.push_str("<text x=\"100\" y=\"100\">Nothing was traded.</text>\n");
+    }
+    out.push_str("<g id=\"legend\">\n")?;
+    put_keys(out)?;
+    put_sizes(out, totals.most)?;
+    out.push_str("</g>\n")
+}

@@ -1,0 +1,326 @@
+//! The panel of one instrument: its axes, its best prices as steps, its trades as marks.
+use crate::course::{Course, Kind, Stretch};
+use crate::points::{Point, points_of};
+use crate::scale::{Scale, WIDTH, first_multiple, length_of, scale_of, step};
+use crate::steps::{put_steps, widened};
+use crate::words::{put_count, put_price, put_symbol};
+use spread_rules::{Instrument, Rulebook};
+use std::alloc::{AllocError, Allocator};
+use std::fmt::Write;
+
+/// Where panels begin, from the left.
+const LEFT: i64 = 100;
+/// The room above a panel for its heading.
+const HEADING: i64 = 26;
+/// The room below a panel for its places.
+const FOOT: i64 = 30;
+/// How many marks an axis of places has at most.
+const MOST_PLACES: i64 = 10;
+/// How far the marks of an axis of prices lie apart at least.
+const PRICE_ROOM: i64 = 28;
+/// How large a mark is at least and at most, in tenths: the distance of its edge from its middle where it is a circle.
+const LEAST_RADIUS: u64 = 16;
+
+const MOST_RADIUS: u64 = 95;
+
+/// What is drawn of one instrument.
+#[derive(Drop)]
+pub struct Panel<A: Allocator> {
+    pub instrument: Instrument,
+    scale: Scale,
+    buy: Vec<Stretch, A>,
+    sell: Vec<Stretch, A>,
+    pub points: Vec<Point, A>,
+    direct: u64,
+    implied: u64,
+    lots: u64,
+}
+
+/// How much room there is for a panel, in units, columns and points.
+#[derive(Clone, Copy)]
+pub struct Room {
+    pub height: i64,
+    /// How many columns are drawn as one.
+    pub columns: u64,
+    /// How many points it has at most.
+    pub points: u64,
+}
+
+/// The panel of an instrument of the rulebook. None where the instrument did not trade.
+pub fn panel_of<A: Allocator + Copy>(
+    alloc: A,
+    rulebook: &Rulebook,
+    course: &Course<A>,
+    entries: u64,
+    room: Room,
+) -> Result<Option<Panel<A>>, AllocError> {
+    let height = room.height.saturating_mul(10);
+    let Some(scale) = scale_of(course, entries, rulebook.tick(), height) else {
+        return Ok(None);
+    };
+    Ok(Some(Panel {
+        instrument: course.instrument,
+        scale,
+        buy: widened(alloc, &course.buy, room.columns)?,
+        sell: widened(alloc, &course.sell, room.columns)?,
+        points: points_of(alloc, &course.trades, &scale, room.points)?,
+        direct: course.direct,
+        implied: course.implied,
+        lots: course.lots,
+    }))
+}
+
+/// The distance of a mark's edge from its middle, where its area is to that of the greatest mark as its lots are to most.
+pub fn radius(lots: u64, most: u64) -> u64 {
+    for radius in LEAST_RADIUS..MOST_RADIUS {
+        let area = radius.saturating_mul(radius).saturating_mul(most);
+        if lots.saturating_mul(MOST_RADIUS * MOST_RADIUS) <= area {
+            return radius;
+        }
+    }
+    MOST_RADIUS
+}
+
+/// The distance of a diamond's corners from its middle, where its area is that of a circle.
+pub fn corner(radius: u64) -> i64 {
+    length_of(radius.saturating_mul(1_253) / 1_000)
+}
+
+/// One mark, in the order of a panel's points.
+fn put_mark<A: Allocator>(out: &mut String<A>, point: &Point, most: u64) -> Result<(), AllocError> {
+    let radius = radius(point.lots, most);
+    let x = point.x;
+    match point.kind {
+        Kind::Direct => {
+            let y = point.y;
+            write!(out, "<circle cx=\"{x}\" cy=\"{y}\" r=\"{radius}\"/>")?;
+        }
+        Kind::Implied => {
+            let far = corner(radius);
+            let top = point.y.saturating_sub(far);
+            write!(
+                out,
+                "<path d=\"M{x} {top}l{far} {far}-{far} {far}-{far}-{far}z\"/>"
+            )?;
+        }
+    }
+    Ok(())
+}
+
+/// The marks of one kind.
+fn put_marks<A: Allocator>(
+    out: &mut String<A>,
+    points: &[Point],
+    kind: Kind,
+    most: u64,
+) -> Result<(), AllocError> {
+    let class = match kind {
+        Kind::Direct => "direct",
+        Kind::Implied => "implied",
+    };
+    write!(out, "<g class=\"{class}\">")?;
+    for point in points {
+        if point.kind == kind {
+            put_mark(out, point, most)?;
+        }
+    }
+    out.push_str("</g>\n")
+}
+
+/// A line of the grid, and the place that it marks.
+fn put_place<A: Allocator>(
+    out: &mut String<A>,
+    scale: &Scale,
+    foot: i64,
+    place: u64,
+) -> Result<(), AllocError> {
+    let x = LEFT.saturating_add(scale.x_of_place(place) / 10);
+    write!(out, "<text class=\"note mid\" x=\"{x}\" y=\"{foot}\">")?;
+    put_count(out, place)?;
+    out.push_str("</text>")
+}
+
+/// The places below a panel.
+fn put_places<A: Allocator>(
+    out: &mut String<A>,
+    scale: &Scale,
+    foot: i64,
+) -> Result<(), AllocError> {
+    for n in 0..MOST_PLACES {
+        match nth_place(scale, n) {
+            Some(place) => put_place(out, scale, foot, place)?,
+            None => break,
+        }
+    }
+    out.push_str("\n")
+}
+
+/// The n-th round place of a panel, from 0.
+fn nth_place(scale: &Scale, n: i64) -> Option<u64> {
+    let step = step(length_of(scale.entries), MOST_PLACES, 1);
+    let place = step.saturating_mul(n.saturating_add(1)).unsigned_abs();
+    if place <= scale.entries {
+        Some(place)
+    } else {
+        None
+    }
+}
+
+/// How many marks the prices of a panel have at most.
+fn most_prices(scale: &Scale) -> i64 {
+    (scale.height / 10 / PRICE_ROOM).max(1)
+}
+
+/// The n-th round price of a panel, from 0, in hundredths.
+fn nth_price(scale: &Scale, n: i64) -> Option<i64> {
+    let length = scale.prices.most.saturating_sub(scale.prices.least);
+    let step = step(length, most_prices(scale), scale.tick);
+    let first = first_multiple(scale.prices.least, step);
+    let price = first.saturating_add(step.saturating_mul(n));
+    if price <= scale.prices.most {
+        Some(price)
+    } else {
+        None
+    }
+}
+
+/// The prices beside a panel.
+fn put_prices<A: Allocator>(
+    out: &mut String<A>,
+    scale: &Scale,
+    top: i64,
+) -> Result<(), AllocError> {
+    let x = LEFT - 8;
+    for n in 0..most_prices(scale).saturating_add(1) {
+        let Some(price) = nth_price(scale, n) else {
+            break;
+        };
+        let y = top.saturating_add(scale.y(price) / 10).saturating_add(4);
+        write!(out, "<text class=\"note end\" x=\"{x}\" y=\"{y}\">")?;
+        put_price(out, price)?;
+        out.push_str("</text>")?;
+    }
+    out.push_str("\n")
+}
+
+/// The lines of a panel's grid at its round places.
+fn put_uprights<A: Allocator>(out: &mut String<A>, scale: &Scale) -> Result<(), AllocError> {
+    let height = scale.height;
+    for n in 0..MOST_PLACES {
+        let Some(place) = nth_place(scale, n) else {
+            break;
+        };
+        let x = scale.x_of_place(place);
+        write!(out, "M{x} 0v{height}")?;
+    }
+    Ok(())
+}
+
+/// The lines of a panel's grid at its round prices.
+fn put_levels<A: Allocator>(out: &mut String<A>, scale: &Scale) -> Result<(), AllocError> {
+    for n in 0..most_prices(scale).saturating_add(1) {
+        let Some(price) = nth_price(scale, n) else {
+            break;
+        };
+        let y = scale.y(price);
+        write!(out, "M0 {y}h{WIDTH}")?;
+    }
+    Ok(())
+}
+
+/// The ground of a panel, and its grid.
+fn put_ground<A: Allocator>(out: &mut String<A>, scale: &Scale) -> Result<(), AllocError> {
+    let height = scale.height;
+    write!(
+        out,
+        "<rect class=\"ground\" width=\"{WIDTH}\" height=\"{height}\"/><path class=\"grid\" d=\""
+    )?;
+    put_uprights(out, scale)?;
+    put_levels(out, scale)?;
+    out.push_str("\"/>\n")
+}
+
+/// The steps of one side.
+fn put_side<A: Allocator>(
+    out: &mut String<A>,
+    class: &str,
+    stretches: &[Stretch],
+    scale: &Scale,
+) -> Result<(), AllocError> {
+    if stretches.is_empty() {
+        return Ok(());
+    }
+    write!(out, "<path class=\"{class}\" d=\"")?;
+    put_steps(out, stretches, scale)?;
+    out.push_str("\"/>\n")
+}
+
+impl<A: Allocator> Panel<A> {
+    /// Its symbol, and what was traded.
+    fn put_heading(
+        &self,
+        out: &mut String<A>,
+        rulebook: &Rulebook,
+        top: i64,
+    ) -> Result<(), AllocError> {
+        let y = top.saturating_sub(8);
+        let right = LEFT + WIDTH / 10;
+        write!(out, "<text class=\"symbol\" x=\"{LEFT}\" y=\"{y}\">")?;
+        put_symbol(out, rulebook, self.instrument)?;
+        write!(
+            out,
+            "</text><text class=\"note end\" x=\"{right}\" y=\"{y}\">"
+        )?;
+        put_count(out, self.direct)?;
+        out.push_str(" direct, ")?;
+        put_count(out, self.implied)?;
+        out.push_str(" implied, ")?;
+        put_count(out, self.lots)?;
+        out.push_str(" lots</text>\n")
+    }
+
+    /// What stands inside its frame.
+    fn put_inside(&self, out: &mut String<A>, most: u64) -> Result<(), AllocError> {
+        put_ground(out, &self.scale)?;
+        put_side(out, "buy", &self.buy, &self.scale)?;
+        put_side(out, "sell", &self.sell, &self.scale)?;
+        put_marks(out, &self.points, Kind::Direct, most)?;
+        put_marks(out, &self.points, Kind::Implied, most)?;
+        let height = self.scale.height;
+        write!(
+            out,
+            "<rect class=\"frame\" width=\"{WIDTH}\" height=\"{height}\"/></svg>\n"
+        )?;
+        Ok(())
+    }
+
+    /// How much of the page it takes, with its heading and its places.
+    pub fn height(&self) -> i64 {
+        (self.scale.height / 10)
+            .saturating_add(HEADING)
+            .saturating_add(FOOT)
+    }
+
+    /// The whole panel, that far from the top of the page. The greatest mark stands for so many lots.
+    pub fn put(
+        &self,
+        out: &mut String<A>,
+        rulebook: &Rulebook,
+        top: i64,
+        most: u64,
+    ) -> Result<(), AllocError> {
+        let top = top.saturating_add(HEADING);
+        self.put_heading(out, rulebook, top)?;
+        let width = WIDTH / 10;
+        let inside = self.scale.height;
+        let height = inside / 10;
+        put_prices(out, &self.scale, top)?;
+        let foot = top.saturating_add(height).saturating_add(17);
+        put_places(out, &self.scale, foot)?;
+        write!(
+            out,
+            "<svg class=\"panel\" x=\"{LEFT}\" y=\"{top}\" width=\"{width}\" height=\"{height}\" viewBox=\"0 0 {WIDTH} {inside}\">"
+        )?;
+        self.put_inside(out, most)
+    }
+}

@@ -1,0 +1,87 @@
+//! What is not explained.
+use day_explain::{ExplainFault, explain};
+use host_base::{NoMemory, TestSink};
+use spread_journal::JournalFault;
+use spread_rules::Rulebook;
+use std::alloc::{Allocator, Global};
+use std::process::Abort;
+use std::test::Fail;
+use test_support::{FIRST_TRADE_JOURNAL, Refusing, THREE_MONTHS};
+
+#[test]
+fn no_such_place(rt: HostRuntime) -> Result<(), Fail> {
+    let rules = Rulebook::read(THREE_MONTHS)?;
+    for place in [0, 5, u64::MAX] {
+        let mut sink = TestSink::new(rt.alloc(), 1000, 0)?;
+        let fault = explain(rt.alloc(), &rules, FIRST_TRADE_JOURNAL, place, &mut sink).err();
+        assert!(rt; fault == Some(ExplainFault::Place));
+        assert!(rt; sink.bytes() == b"".as_slice());
+    }
+    Ok(())
+}
+
+#[test]
+fn bad_journals(rt: HostRuntime) -> Result<(), Fail> {
+    let rules = Rulebook::read(THREE_MONTHS)?;
+    let rows: [(&[u8], JournalFault); 4] = [
+        (b"", JournalFault::Version),
+        (b"JOURNAL 1\n", JournalFault::Cut),
+        (b"JOURNAL 1\nEND 1\n", JournalFault::Line(2)),
+        (
+            b"JOURNAL 1\n0 new 61 4836 2 5 10000 day\nEND 1\n",
+            JournalFault::Order(2),
+        ),
+    ];
+    for (journal, want) in rows {
+        let mut sink = TestSink::new(rt.alloc(), 1000, 0)?;
+        let fault = explain(rt.alloc(), &rules, journal, 1, &mut sink).err();
+        assert!(rt; fault == Some(ExplainFault::Journal(want)));
+        assert!(rt; sink.bytes() == b"".as_slice());
+    }
+    Ok(())
+}
+
+#[test]
+fn sink_that_fails(rt: HostRuntime) -> Result<(), Fail> {
+    let rules = Rulebook::read(THREE_MONTHS)?;
+    let mut sink = TestSink::new(rt.alloc(), 10, 0)?;
+    let fault = explain(rt.alloc(), &rules, FIRST_TRADE_JOURNAL, 3, &mut sink).err();
+    assert!(rt; fault == Some(ExplainFault::Write));
+    assert!(rt; sink.bytes() == b"entry 3, s".as_slice());
+    Ok(())
+}
+
+/// An explanation in which all memory is the heap's: nothing is written where it has no answer.
+fn explain_over<A: Allocator + Copy>(
+    rt: &impl Abort,
+    alloc: Global,
+    heap: A,
+    rules: &Rulebook,
+) -> Result<Option<ExplainFault>, NoMemory> {
+    let mut sink = TestSink::new(alloc, 1000, 0)?;
+    let fault = explain(heap, rules, FIRST_TRADE_JOURNAL, 3, &mut sink).err();
+    match fault {
+        None => assert!(rt; !sink.bytes().is_empty()),
+        Some(_) => assert!(rt; sink.bytes().is_empty()),
+    }
+    Ok(fault)
+}
+
+#[test]
+fn refused_memory(rt: HostRuntime) -> Result<(), Fail> {
+    let rules = Rulebook::read(THREE_MONTHS)?;
+    for number in 1..500u64 {
+        let heap = Refusing::new(rt.alloc(), number);
+        match explain_over(&rt, rt.alloc(), &heap, &rules)? {
+            // A guess of a row that finds no memory is left out, and the answer is the same.
+            None if heap.has_refused() => {}
+            None => {
+                assert!(rt; number > 10);
+                return Ok(());
+            }
+            Some(fault) => assert!(rt; fault == ExplainFault::NoMemory && heap.has_refused()),
+        }
+    }
+    assert!(rt; false);
+    Ok(())
+}

@@ -1,0 +1,3 @@
+pub mod ranks
+pub mod lists
+pub mod turns_told

@@ -1,0 +1,84 @@
+//! Days that are not drawn.
+use crate::pictures::{DIRECT_BEFORE_IMPLIED, drawn};
+use day_picture::{DrawFault, draw};
+use host_base::{NoMemory, TestSink};
+use spread_journal::JournalFault;
+use spread_rules::Rulebook;
+use std::alloc::{Allocator, Global};
+use std::test::Fail;
+use test_support::{Refusing, THREE_MONTHS};
+
+#[test]
+fn journal_faults(rt: HostRuntime) -> Result<(), Fail> {
+    let rows: [(&[u8], JournalFault); 6] = [
+        (b"", JournalFault::Version),
+        (b"JOURNAL 3\nEND 0\n", JournalFault::Version),
+        (b"JOURNAL 1\n", JournalFault::Cut),
+        (b"JOURNAL 1\nEND 1\n", JournalFault::Line(2)),
+        (
+            b"JOURNAL 1\n0 new 61 4836 2 5 10000 day\nEND 1\n",
+            JournalFault::Order(2),
+        ),
+        (b"JOURNAL 1\n0 close 1\nEND 1\nx", JournalFault::Line(4)),
+    ];
+    let rules = Rulebook::read(THREE_MONTHS)?;
+    for (journal, want) in rows {
+        let mut sink = TestSink::new(rt.alloc(), 1000, 0)?;
+        match draw(rt.alloc(), &rules, journal, &mut sink) {
+            Ok(()) => assert!(rt; false, "no {want}"),
+            Err(fault) => assert!(rt; fault == DrawFault::Journal(want)),
+        }
+        assert!(rt; sink.bytes() == b"".as_slice());
+    }
+    Ok(())
+}
+
+/// The sink takes a thousand bytes, or fails at once: so much of the picture is out.
+#[test]
+fn failing_sink(rt: HostRuntime) -> Result<(), Fail> {
+    let rules = Rulebook::read(THREE_MONTHS)?;
+    let whole = drawn(rt.alloc(), DIRECT_BEFORE_IMPLIED)?;
+    for (fail, out) in [(0, 1000), (1, 0)] {
+        let mut sink = TestSink::new(rt.alloc(), 1000, fail)?;
+        let fault = draw(rt.alloc(), &rules, DIRECT_BEFORE_IMPLIED, &mut sink).err();
+        assert!(rt; fault == Some(DrawFault::Write));
+        assert!(rt; sink.bytes().len() == out && whole.bytes().starts_with(sink.bytes()));
+    }
+    Ok(())
+}
+
+/// A picture for which all memory is the heap's: nothing is written where there is none.
+fn draw_over<A: Allocator + Copy>(
+    alloc: Global,
+    heap: A,
+    rules: &Rulebook,
+) -> Result<(Option<DrawFault>, usize), NoMemory> {
+    let mut sink = TestSink::new(alloc, 100_000, 0)?;
+    let fault = draw(heap, rules, DIRECT_BEFORE_IMPLIED, &mut sink).err();
+    Ok((fault, sink.bytes().len()))
+}
+
+#[test]
+fn refused_memory(rt: HostRuntime) -> Result<(), Fail> {
+    let rules = Rulebook::read(THREE_MONTHS)?;
+    let whole = drawn(rt.alloc(), DIRECT_BEFORE_IMPLIED)?.bytes().len();
+    let mut refused = 0u64;
+    for number in 1..1000u64 {
+        let heap = Refusing::new(rt.alloc(), number);
+        let (fault, written) = draw_over(rt.alloc(), &heap, &rules)?;
+        match fault {
+            // A guess of a row that finds no memory is left out, and the picture is the same.
+            None => assert!(rt; written == whole),
+            Some(fault) => {
+                assert!(rt; fault == DrawFault::NoMemory && written == 0 && heap.has_refused());
+                refused = refused.wrapping_add(1);
+            }
+        }
+        if !heap.has_refused() {
+            assert!(rt; refused > 20);
+            return Ok(());
+        }
+    }
+    assert!(rt; false);
+    Ok(())
+}

@@ -1,0 +1,171 @@
+//! Pictures of small days, their parts counted and placed by hand.
+use day_picture::{draw, put_bytes};
+use host_base::TestSink;
+use spread_rules::Rulebook;
+use std::alloc::Global;
+use std::test::Fail;
+use test_support::{FIRST_TRADE_JOURNAL, THREE_MONTHS};
+
+/// Orders to sell H6, H6-M6 and M6, and one to buy H6 that trades two lots with the first and three with the others.
+pub const DIRECT_BEFORE_IMPLIED: &[u8] =
+    b"JOURNAL 1\n0 logon 4331 484f5354 30\n0 new 61 4836 2 2 10000 day\n0 new 62 48362d4d36 2 3 200 day\n0 new 63 4d36 2 4 9800 day\n0 new 64 4836 1 6 10000 day\nEND 5\n";
+
+/// The picture of a journal under the rulebook of three months.
+pub fn drawn(alloc: Global, journal: &[u8]) -> Result<TestSink, Fail> {
+    let rules = Rulebook::read(THREE_MONTHS)?;
+    let mut sink = TestSink::new(alloc, 100_000, 0)?;
+    draw(alloc, &rules, journal, &mut sink)?;
+    Ok(sink)
+}
+
+/// How often that stands in a picture.
+pub fn count(picture: &[u8], part: &[u8]) -> u64 {
+    let mut found = 0u64;
+    for at in 0..picture.len() {
+        if picture[at..].starts_with(part) {
+            found = found.wrapping_add(1);
+        }
+    }
+    found
+}
+
+#[test]
+fn panels_of_what_traded(rt: HostRuntime) -> Result<(), Fail> {
+    let sink = drawn(rt.alloc(), DIRECT_BEFORE_IMPLIED)?;
+    let picture = sink.bytes();
+    assert!(rt; count(picture, b"<svg class=\"panel\"") == 3);
+    for (symbol, panels) in [
+        (b">H6</text>".as_slice(), 1),
+        (b">M6</text>", 1),
+        (b">H6-M6</text>", 1),
+        (b">U6</text>", 0),
+        (b">H6-U6</text>", 0),
+        (b">1 direct, 1 implied, 5 lots</text>", 1),
+        (b">0 direct, 1 implied, 3 lots</text>", 2),
+        (b">5 entries; 2 months and 1 spread traded.</text>", 1),
+    ] {
+        assert!(rt; count(picture, symbol) == panels);
+    }
+    Ok(())
+}
+
+/// Five places share 8,390 tenths from 125 on, so the fifth begins at 6,837. Each panel shows one price, and two ticks on
+/// either side of it, in a height of 1,900 less 125 at each edge: it stands at 950. The greatest mark, of three lots, has
+/// the radius 95 and so corners at 119, and that of two lots the least radius whose square is two thirds of it, 78.
+#[test]
+fn marks_of_trades(rt: HostRuntime) -> Result<(), Fail> {
+    let sink = drawn(rt.alloc(), DIRECT_BEFORE_IMPLIED)?;
+    let picture = sink.bytes();
+    assert!(rt; count(picture, b"<circle cx=") == 1);
+    assert!(rt; count(picture, b"<circle cx=\"6837\" cy=\"950\" r=\"78\"/>") == 1);
+    assert!(rt; count(picture, b"<path d=\"M6837 831l119 119-119 119-119-119z\"/>") == 3);
+    Ok(())
+}
+
+/// The places 2, 3, 4 and 5 begin at 1,803, 3,481, 5,159 and 6,837, and the day ends at 8,515.
+#[test]
+fn steps_of_best_prices(rt: HostRuntime) -> Result<(), Fail> {
+    let sink = drawn(rt.alloc(), DIRECT_BEFORE_IMPLIED)?;
+    let picture = sink.bytes();
+    assert!(rt; count(picture, b"<path class=\"buy\" ") == 1);
+    assert!(rt; count(picture, b"<path class=\"sell\" ") == 3);
+    assert!(rt; count(picture, b"<path class=\"buy\" d=\"M6837 950h1678\"/>") == 1);
+    assert!(rt; count(picture, b"<path class=\"sell\" d=\"M1803 950h5034\"/>") == 1);
+    assert!(rt; count(picture, b"<path class=\"sell\" d=\"M3481 950h3356\"/>") == 1);
+    assert!(rt; count(picture, b"<path class=\"sell\" d=\"M5159 950h3356\"/>") == 1);
+    Ok(())
+}
+
+/// Orders to sell at 100.02, 100.00 and 100.04, of which the second is cancelled, and one to buy that takes the first.
+/// Six places of 1,398 tenths; a tick has 412 of them, from 100.04 at 125 down, and the last price stands at 1,775.
+#[test]
+fn steps_up_and_down(rt: HostRuntime) -> Result<(), Fail> {
+    let journal =
+        b"JOURNAL 1\n0 logon 4331 484f5354 30\n0 new 61 4836 2 2 10002 day\n0 new 62 4836 2 3 10000 day\n0 new 63 4836 2 4 10004 day\n0 cancel 64 62\n0 new 65 4836 1 2 10002 day\nEND 6\n";
+    let sink = drawn(rt.alloc(), journal)?;
+    let picture = sink.bytes();
+    assert!(rt;
+        count(
+            picture,
+            b"<path class=\"sell\" d=\"M1523 950h1398v825h2797v-825h1398v-825h1399\"/>"
+        ) == 1
+    );
+    assert!(rt; count(picture, b"<path class=\"buy\" ") == 0);
+    assert!(rt; count(picture, b"<circle cx=\"7116\" cy=\"950\" r=\"95\"/>") == 1);
+    Ok(())
+}
+
+#[test]
+fn axes_and_legend(rt: HostRuntime) -> Result<(), Fail> {
+    let sink = drawn(rt.alloc(), DIRECT_BEFORE_IMPLIED)?;
+    let picture = sink.bytes();
+    for (part, times) in [
+        (b">99.98</text>".as_slice(), 1),
+        (b">100.00</text>", 1),
+        (b">100.02</text>", 1),
+        (b">100.03</text>", 0),
+        (b">97.98</text>", 1),
+        (b">98.02</text>", 1),
+        (b">1.98</text>", 1),
+        (b">2.02</text>", 1),
+        (b">best buy</text>", 1),
+        (b">best sell</text>", 1),
+        (b">direct trade</text>", 1),
+        (b"<title id=\"title\">", 1),
+        (b"<desc id=\"desc\">", 1),
+        (b"@media (prefers-color-scheme:dark){", 1),
+        (b"</svg>\n", 4),
+    ] {
+        assert!(rt; count(picture, part) == times);
+    }
+    // The places 1 to 5 below each of three panels; the legend has the sizes of 2 lots and of none below.
+    assert!(rt; count(picture, b">5</text>") == 3);
+    Ok(())
+}
+
+#[test]
+fn first_trade(rt: HostRuntime) -> Result<(), Fail> {
+    let sink = drawn(rt.alloc(), FIRST_TRADE_JOURNAL)?;
+    let picture = sink.bytes();
+    assert!(rt; count(picture, b"<svg class=\"panel\"") == 1);
+    assert!(rt; count(picture, b"<circle cx=") == 1);
+    assert!(rt; count(picture, b">1 direct, 0 implied, 5 lots</text>") == 1);
+    Ok(())
+}
+
+#[test]
+fn days_without_trades(rt: HostRuntime) -> Result<(), Fail> {
+    let none = b">0 entries; 0 months and 0 spreads traded.</text>".as_slice();
+    let one = b">1 entry; 0 months and 0 spreads traded.</text>".as_slice();
+    let two = b">2 entries; 0 months and 0 spreads traded.</text>".as_slice();
+    let rows: [(&[u8], &[u8]); 4] = [
+        (b"JOURNAL 2\nEND 0\n", none),
+        (b"JOURNAL 2\n0 close 1\nEND 1\n", one),
+        (
+            b"JOURNAL 2\n0 logon 4331 484f5354 30\n0 new 61 4836 2 5 10000 day\nEND 2\n",
+            two,
+        ),
+        // A symbol that names no instrument: <&>" and byte 2.
+        (
+            b"JOURNAL 2\n0 logon 4331 484f5354 30\n0 new 61 3c263e2202 2 5 10000 day\nEND 2\n",
+            two,
+        ),
+    ];
+    for (journal, totals) in rows {
+        let sink = drawn(rt.alloc(), journal)?;
+        let picture = sink.bytes();
+        assert!(rt; count(picture, totals) == 1);
+        assert!(rt; count(picture, b">Nothing was traded.</text>") == 1);
+        assert!(rt; count(picture, b"<svg ") == 1);
+        assert!(rt; count(picture, b"<circle ") == 0);
+    }
+    Ok(())
+}
+
+#[test]
+fn bytes_as_text(rt: HostRuntime) -> Result<(), Fail> {
+    let mut text = String::new(rt.alloc());
+    put_bytes(&mut text, b"<H6&\"M6\">\x02~ ")?;
+    assert!(rt; text.as_bytes() == b"&lt;H6&amp;&quot;M6&quot;&gt;&#xfffd;~ ".as_slice());
+    Ok(())
+}

@@ -1,0 +1,27 @@
+//! The first line in which two texts differ.
+use day_text::first_difference;
+use std::test::Fail;
+
+/// Texts, the number of the first line that is another, and how it should be.
+const ROWS: [(&[u8], &[u8], u64, &[u8]); 8] = [
+    (b"", b"a\n", 1, b"a\n"),
+    (b"a\n", b"", 1, b""),
+    (b"a\nb\nc\n", b"a\nB\nc\n", 2, b"B\n"),
+    (b"a\nb\n", b"a\nb\nc\n", 3, b"c\n"),
+    (b"a\nb\nc\n", b"a\nb\n", 3, b""),
+    (b"a\nb", b"a\nb\n", 2, b"b\n"),
+    (b"a\r\n", b"a\n", 1, b"a\n"),
+    (b"a\n\n", b"a\nb", 2, b"b"),
+];
+
+#[test]
+fn first_line_that_is_another(rt: HostRuntime) -> Result<(), Fail> {
+    for (claim, right, line, wanted) in ROWS {
+        if claim == right {
+            continue;
+        }
+        let difference = first_difference(rt.alloc(), claim, right)?;
+        assert!(rt; difference.line == line && difference.right.as_slice() == wanted);
+    }
+    Ok(())
+}

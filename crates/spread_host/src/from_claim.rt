@@ -1,0 +1,58 @@
+//! A claim of a journal's fills and month totals, held against what the rule gives.
+ghost use Rattle.std.specs.Prelude.{IfErr, OnOk};
+ghost use Rattle.spread_host.specs.Claims.{IsRight, IsAuditFault};
+
+use crate::fault::HostFault;
+use day_apply::fills_of_journal;
+use day_text::{Difference, first_difference, text_of_fills};
+use spread_journal::{JournalFault, read_journal};
+use spread_match::laws::ranges;
+use spread_rules::Rulebook;
+use std::alloc::Allocator;
+
+/// Why a claim was not confirmed.
+#[derive(Drop)]
+pub enum AuditFault<A: Allocator> {
+    /// The journal could not be checked.
+    Host(HostFault),
+    /// The claim is not what the rule gives the journal.
+    Differs(Difference<A>),
+}
+
+/// Reads a journal text, applies its entries, and looks whether the claim is the lines of their fills and of the months, and
+/// nothing else: byte for byte what `check` writes. Ok exactly where it is.
+///
+/// Faults: Host, as `check` answers it of the journal; Differs, with the first line that is another.
+pub fn audit<A: Allocator + Copy>(
+    alloc: A,
+    rulebook: &Rulebook,
+    text: &[u8],
+    claim: &[u8],
+) -> Result<(), AuditFault<A>>
+    ensures right { OnOk result (IsRight rulebook.now text.now claim.now) }
+    ensures fault { IfErr result (IsAuditFault rulebook.now text.now claim.now) }
+{
+    // Cites the ranges of a journal's fills, and that a rulebook is lawful.
+    ranges();
+    rulebook.months();
+    let journal = match read_journal(alloc, text) {
+        Ok(journal) => journal,
+        Err(JournalFault::NoMemory) => return Err(AuditFault::Host(HostFault::NoMemory(0))),
+        Err(fault) => return Err(AuditFault::Host(HostFault::Journal(fault))),
+    };
+    let fills = match fills_of_journal(alloc, rulebook, &journal) {
+        Ok(fills) => fills,
+        Err(fault) => return Err(AuditFault::Host(HostFault::from(fault))),
+    };
+    let no_memory = HostFault::NoMemory(journal.len() as u64 + 1);
+    let Ok(right) = text_of_fills(alloc, rulebook, &fills) else {
+        return Err(AuditFault::Host(no_memory));
+    };
+    if claim == right.as_slice() {
+        return Ok(());
+    }
+    match first_difference(alloc, claim, &right) {
+        Ok(difference) => Err(AuditFault::Differs(difference)),
+        Err(_) => Err(AuditFault::Host(no_memory)),
+    }
+}
