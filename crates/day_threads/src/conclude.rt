@@ -1,9 +1,9 @@
 //! A day from the joined parts of its threads.
-ghost use Rattle.std.specs.Prelude.{◌≡◌, ◌≤◌, ◌<◌, ℕ, length, true, IfOk, IfErr, vec_len};
+ghost use Rattle.std.specs.Prelude.{◌≡◌, ◌≤◌, ◌<◌, ℕ, length, true, IfOk, IfErr, IfSome, IfNone, vec_len};
 ghost use Rattle.spread_report.specs.Sessions.{bytes_of};
 ghost use Rattle.day_apply.specs.Sending.{sending_rules, stamp_of};
 ghost use Rattle.day_threads.specs.Streams.{IsDayOfSessions, IsThreadsFault};
-ghost use Rattle.day_threads.specs.code.Concluding.{AreJoined, of_apply};
+ghost use Rattle.day_threads.specs.code.Concluding.{AreJoined, IsWhole, of_apply};
 ghost use Rattle.day_threads.specs.code.Posting.{posted_at};
 ghost use Rattle.session_threads.specs.code.Writing.{AreJoinedPairs, written_at};
 
@@ -81,6 +81,48 @@ fn with_written<A: Allocator>(
     out
 }
 
+/// The fault with the least number, if there is any. Else each part has ended, and has what the others gave it.
+fn fault_of<A: Allocator + Copy>(
+    sequenced: &mut Sequenced<A>,
+    matched: &mut Matched<'_, A>,
+    written: &mut [Written<A>],
+    streams: &[Vec<u8, A>],
+    room: usize,
+) -> Option<ThreadsFault>
+    requires { AreJoined room streams.now sequenced.old matched.old written.old }
+    ensures journal { sequenced.new.journal ≡ sequenced.old.journal }
+    ensures reported { matched.new.posted.reported ≡ matched.old.posted.reported }
+    ensures count { length written.new ≡ length written.old }
+    ensures fault { IfSome result (λ f. (ring : ℕ)
+        → IsThreadsFault (sending_rules matched.old.posted.reported) streams.now ring room f) }
+    ensures whole { IfNone result
+        (IsWhole streams.now sequenced.old.journal.items matched.old.posted written.new) }
+{
+    if let SequenceEnd::JournalFull = sequenced.end {
+        return Some(ThreadsFault::JournalFull);
+    }
+    let agreed = agree(&mut sequenced.feeder, &mut matched.matcher);
+    // Where the matching thread found no memory, its place is the same.
+    let refused = ThreadsFault::NoMemory(matched.worked.saturating_add(1));
+    if any_refused(written) {
+        return Some(refused);
+    }
+    if let MatchEnd::Fault(fault) = matched.end {
+        return Some(of_apply(fault));
+    }
+    // No thread stops but for a fault of its own or of another.
+    if !agreed {
+        return Some(refused);
+    }
+    if !all_finished(matched.posted.posters.as_mut_slice(), written) {
+        return Some(refused);
+    }
+    match (sequenced.end, matched.end) {
+        (SequenceEnd::Whole, MatchEnd::Whole) => None,
+        _ => Some(refused),
+    }
+}
+
 /// The day, or of the faults that arose the one with the least number.
 pub(crate) fn conclude<A: Allocator + Copy>(
     sequenced: Sequenced<A>,
@@ -97,50 +139,24 @@ pub(crate) fn conclude<A: Allocator + Copy>(
         → IsThreadsFault (sending_rules matched.entry.posted.reported)
         streams.entry.now ring room f) }
 {
-    let Sequenced {
-        journal,
-        feeder,
-        end,
-    } = sequenced;
-    let Matched {
-        matcher,
-        posted,
-        worked,
-        end: matching,
-    } = matched;
-    let PostedEntries { reported, posters } = posted;
-    let mut feeder = feeder;
-    let mut matcher = matcher;
-    let mut posters = posters;
+    let mut sequenced = sequenced;
+    let mut matched = matched;
     let mut written = written;
-    if let SequenceEnd::JournalFull = end {
-        return Err(ThreadsFault::JournalFull);
+    if let Some(fault) = fault_of(
+        &mut sequenced,
+        &mut matched,
+        written.as_mut_slice(),
+        streams,
+        room,
+    ) {
+        return Err(fault);
     }
-    let agreed = agree(&mut feeder, &mut matcher);
-    // Where the matching thread found no memory, its place is the same.
-    let refused = ThreadsFault::NoMemory(worked.saturating_add(1));
-    if any_refused(written.as_slice()) {
-        return Err(refused);
-    }
-    if let MatchEnd::Fault(fault) = matching {
-        return Err(of_apply(fault));
-    }
-    // No thread stops but for a fault of its own or of another.
-    if !agreed {
-        return Err(refused);
-    }
-    if !all_finished(posters.as_mut_slice(), written.as_mut_slice()) {
-        return Err(refused);
-    }
-    match (end, matching) {
-        (SequenceEnd::Whole, MatchEnd::Whole) => {
-            let FillsAndMessages { fills, out } = reported.into_parts();
-            let out = with_written(out, written);
-            Ok(SessionsDay {
-                journal,
-                applied: FillsAndMessages { fills, out },
-            })
-        }
-        _ => Err(refused),
-    }
+    let Sequenced { journal, .. } = sequenced;
+    let Matched { posted, .. } = matched;
+    let FillsAndMessages { fills, out } = posted.reported.into_parts();
+    let out = with_written(out, written);
+    Ok(SessionsDay {
+        journal,
+        applied: FillsAndMessages { fills, out },
+    })
 }

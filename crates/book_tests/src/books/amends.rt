@@ -203,38 +203,69 @@ fn run<B: Book, A: Allocator + Copy>(
 }
 
 #[test]
-fn amended_by_hand(rt: HostRuntime) -> Result<(), Fail> {
-    amended_in_place(&rt, &mut ListBook::new(rt.alloc()))?;
-    amended_in_place(&rt, &mut TreeBook::new(rt.alloc()))?;
-    amended_in_place(&rt, &mut FrontBook::new(rt.alloc()))?;
-    let rules = Rulebook::read(THREE_MONTHS)?;
-    amended_in_place(&rt, &mut IndexBook::new(rt.alloc(), &rules)?)
+fn list_book_by_hand(rt: HostRuntime) -> Result<(), Fail> {
+    amended_in_place(&rt, &mut ListBook::new(rt.alloc()))
 }
 
 #[test]
-fn amended_at_random(rt: HostRuntime) -> Result<(), Fail> {
+fn tree_book_by_hand(rt: HostRuntime) -> Result<(), Fail> {
+    amended_in_place(&rt, &mut TreeBook::new(rt.alloc()))
+}
+
+#[test]
+fn front_book_by_hand(rt: HostRuntime) -> Result<(), Fail> {
+    amended_in_place(&rt, &mut FrontBook::new(rt.alloc()))
+}
+
+#[test]
+fn index_book_by_hand(rt: HostRuntime) -> Result<(), Fail> {
     let rules = Rulebook::read(THREE_MONTHS)?;
+    let mut book = IndexBook::new(rt.alloc(), &rules)?;
+    amended_in_place(&rt, &mut book)
+}
+
+#[test]
+fn tree_book_at_random(rt: HostRuntime) -> Result<(), Fail> {
     for seed in 0..6 {
-        assert!(rt; run(&rt, &mut TreeBook::new(rt.alloc()), rt.alloc(), seed)? > 5);
-        assert!(rt; run(&rt, &mut FrontBook::new(rt.alloc()), rt.alloc(), seed)? > 5);
-        assert!(rt;
-            run(
-                &rt,
-                &mut IndexBook::new(rt.alloc(), &rules)?,
-                rt.alloc(),
-                seed
-            )? > 5
-        );
+        let mut book = TreeBook::new(rt.alloc());
+        assert!(rt; run(&rt, &mut book, rt.alloc(), seed)? > 5);
     }
     Ok(())
 }
 
 #[test]
-fn amended_without_memory(rt: HostRuntime) -> Result<(), Fail> {
+fn front_book_at_random(rt: HostRuntime) -> Result<(), Fail> {
+    for seed in 0..6 {
+        let mut book = FrontBook::new(rt.alloc());
+        assert!(rt; run(&rt, &mut book, rt.alloc(), seed)? > 5);
+    }
+    Ok(())
+}
+
+#[test]
+fn index_book_at_random(rt: HostRuntime) -> Result<(), Fail> {
     let rules = Rulebook::read(THREE_MONTHS)?;
+    for seed in 0..6 {
+        let mut book = IndexBook::new(rt.alloc(), &rules)?;
+        assert!(rt; run(&rt, &mut book, rt.alloc(), seed)? > 5);
+    }
+    Ok(())
+}
+
+#[test]
+fn tree_book_without_memory(rt: HostRuntime) -> Result<(), Fail> {
     for number in 1..20 {
         let heap = Refusing::new(rt.alloc(), number);
-        run(&rt, &mut TreeBook::new(&heap), rt.alloc(), number)?;
+        let mut book = TreeBook::new(&heap);
+        run(&rt, &mut book, rt.alloc(), number)?;
+    }
+    Ok(())
+}
+
+#[test]
+fn index_book_without_memory(rt: HostRuntime) -> Result<(), Fail> {
+    let rules = Rulebook::read(THREE_MONTHS)?;
+    for number in 1..20 {
         let heap = Refusing::new(rt.alloc(), number);
         if let Ok(mut book) = IndexBook::new(&heap, &rules) {
             run(&rt, &mut book, rt.alloc(), number)?;

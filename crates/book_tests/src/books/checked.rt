@@ -7,6 +7,7 @@ use host_base::limits::MAX_ORDER_QTY;
 use host_base::{Id, NoMemory};
 use spread_books::Book;
 use spread_rules::Order;
+use std::process::Abort;
 
 /// Whether that order's place is below this one.
 fn is_below_at<B: Book>(book: &B, n: usize, place: u64) -> bool
@@ -86,6 +87,14 @@ pub fn remove<B: Book>(book: &mut B, n: usize) -> bool {
             true
         }
     }
+}
+
+/// All orders leave, the first one first.
+pub fn clear<B: Book>(rt: &impl Abort, book: &mut B) {
+    for _ in 0..book.len() {
+        assert!(rt; remove(book, 0));
+    }
+    assert!(rt; book.len() == 0);
 }
 
 /// Whether so many lots of it are filled.

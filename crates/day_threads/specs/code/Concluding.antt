@@ -1,6 +1,6 @@
 -- The ends of a day's rings, at its start and in one thread again.
 -- Words of the code alone.
-use Rattle.std.specs.Prelude.{◌≡◌, ℕ, ◌≤◌, List, [], length, Vec}
+use Rattle.std.specs.Prelude.{◌≡◌, ℕ, ◌<◌, ◌≤◌, List, [], length, Vec}
 use mathlib.Core.List.{IsPrefix}
 use Rattle.host_base.specs.declared.limits.TheConstants.{SESSIONS}
 use Rattle.gate_link.specs.Links.{IsLinkOf, room_of}
@@ -8,14 +8,18 @@ use Rattle.gate_link.specs.Opening.{AreFresh, IsRefusal}
 use Rattle.stage_rings.specs.Feeding.{given, taken, AreFeedPair}
 use Rattle.day_apply.specs.declared.fault.ApplyFault.{ApplyFault}
 use Rattle.day_apply.specs.declared.fault.ApplyFault.TheVariants as apply
-use Rattle.session_threads.specs.Streams.{IsBeginningOf}
+use Rattle.spread_rules.specs.declared.event.Entry.{Entry}
+use Rattle.spread_rules.specs.Journal.{restricted}
+use Rattle.session_threads.specs.Streams.{IsBeginningOf, whole_at}
 use Rattle.day_threads.specs.code.Matching.{IsUnfed, MatchEnds}
 use Rattle.session_threads.specs.code.Sequencing.{SequenceEnds}
-use Rattle.session_threads.specs.code.Writing.{AreJoinedPairs, ArePostPairs}
+use Rattle.day_threads.specs.code.Posting.{HasPosted, posted_at}
+use Rattle.session_threads.specs.code.Writing.{AreJoinedPairs, ArePostPairs, written_at}
 use Rattle.day_threads.specs.declared.fault.ThreadsFault.{ThreadsFault}
 use Rattle.day_threads.specs.declared.fault.ThreadsFault.TheVariants.{Link, NoMemory, NumbersSpent}
 use Rattle.day_threads.specs.declared.matching.Matched.{Matched}
 use Rattle.session_threads.specs.declared.sequencing.Sequenced.{Sequenced}
+use Rattle.day_threads.specs.declared.posting.PostedEntries.{PostedEntries}
 use Rattle.day_threads.specs.declared.stages.Stages.{Stages}
 use Rattle.session_threads.specs.declared.writing.Written.{Written}
 
@@ -54,6 +58,13 @@ pub record AreJoined {A : Type 0} (room : ℕ) (streams : List (Vec ℕ A)) (q :
   pub size : length q.journal.items ≤ room
   pub sequenced : SequenceEnds q.end room streams q.journal.items q.feeder
   pub matched : MatchEnds m.end (taken m.matcher) m.posted
+
+-- the journal is that of these streams, what its entries send was given to the writers, and each writer has it
+pub record IsWhole {A : Type 0} (streams : List (Vec ℕ A)) (journal : List Entry) (p : PostedEntries A) (ws : List (Written A)) : Type 0 where
+  pub parts : (s : ℕ) → restricted s journal ≡ whole_at streams s
+  pub posted : HasPosted journal p
+  pub count : length p.posters.items ≡ length ws
+  pub written : (s : ℕ) → s < length ws → written_at ws s ≡ posted_at p.posters.items s
 
 -- the fault of the day whose matching thread had this one
 abbrev pub of_apply : ApplyFault → ThreadsFault

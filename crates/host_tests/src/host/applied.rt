@@ -12,6 +12,16 @@ use std::process::Abort;
 use std::test::Fail;
 use test_support::{THREE_MONTHS, stamp};
 
+/// The book's orders have these places, and so much of each is left.
+fn expect_orders(rt: &impl Abort, book: &impl Book, want: &[(u64, u32)]) -> Result<(), Fail> {
+    assert!(rt; book.len() == want.len());
+    for n in 0..want.len() {
+        let order = book.walk(n).ok_or("an order")?;
+        assert!(rt; (order.place, order.leaves) == want[n]);
+    }
+    Ok(())
+}
+
 /// Each order that rests, in order of place: its place, and how much of it is left.
 fn expect_resting(
     rt: &impl Abort,
@@ -27,13 +37,7 @@ fn expect_resting(
         applied.apply(entry)?;
     }
     assert!(rt; applied.count() == journal.len() as u64);
-    let book = applied.book();
-    assert!(rt; book.len() == want.len());
-    for n in 0..want.len() {
-        let order = book.walk(n).ok_or("an order")?;
-        assert!(rt; (order.place, order.leaves) == want[n]);
-    }
-    Ok(())
+    expect_orders(rt, applied.book(), want)
 }
 
 #[test]

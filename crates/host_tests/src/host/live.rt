@@ -1,4 +1,5 @@
 //! Days in threads. Each ends by itself, whatever the schedule.
+ghost use Rattle.std.specs.Prelude.{IfOk};
 ghost use Rattle.day_text.specs.DayText.{AreShown};
 
 use crate::headline::day_of_streams;
@@ -9,9 +10,12 @@ use gate_link::LinkFault;
 use spread_host::{HostFault, run_day};
 use spread_rules::{Entry, Event, Rulebook, Side, Ticket};
 use std::alloc::{AllocError, Allocator, Global};
+use std::process::Abort;
+use std::sync::Wait;
 use std::sync::atomic::{AtomicU32, Ordering};
 use std::test::Fail;
 use std::thread;
+use std::thread::Threads;
 use test_support::{FIRST_TRADE, THREE_MONTHS, id, stamp};
 
 pub const USUAL: Caps = Caps {
@@ -230,12 +234,68 @@ impl Gate for InTurn {
     }
 }
 
-/// A stream of no bytes: its session is closed at its end, and nothing goes out.
-#[test]
-fn no_bytes(rt: HostRuntime) -> Result<(), Fail> {
-    let rulebook = Rulebook::read(THREE_MONTHS)?;
-    let streams = streams_of(rt.alloc(), 1, b"")?;
-    let day = day_of_streams(&rt, rt.alloc(), &rulebook, stamp(), streams, &Open, USUAL)?;
+/// So many streams of the first trade, in threads.
+fn day_of_trades<R: Threads + Wait + Sync, G: Gate>(
+    rt: &R,
+    alloc: Global,
+    rulebook: &Rulebook,
+    count: usize,
+    gate: &G,
+    caps: Caps,
+) -> Result<Day<Global>, Fail>
+    ensures shown { IfOk result (λ day. AreShown rulebook.now day.fills.items) }
+{
+    let streams = streams_of(alloc, count, FIRST_TRADE)?;
+    let day = run_day(rt, alloc, rulebook, stamp(), streams, gate, caps)?;
+    Ok(day)
+}
+
+/// The session's part of the journal is these events.
+fn expect_part(
+    rt: &impl Abort,
+    alloc: Global,
+    journal: &[Entry],
+    session: u8,
+    want: &[Event],
+) -> Result<(), AllocError> {
+    let events = part(alloc, journal, session)?;
+    assert!(rt; events.as_slice() == want, "{session}");
+    Ok(())
+}
+
+/// The journal has so many entries, and the first trade's events of each session.
+fn expect_trades(
+    rt: &impl Abort,
+    alloc: Global,
+    journal: &[Entry],
+    entries: usize,
+    sessions: u8,
+) -> Result<(), AllocError> {
+    assert!(rt; journal.len() == entries);
+    let want = first_trade();
+    for session in 0..sessions {
+        expect_part(rt, alloc, journal, session, &want)?;
+    }
+    Ok(())
+}
+
+/// The month lines of the day are these.
+fn expect_months(
+    rt: &impl Abort,
+    alloc: Global,
+    rulebook: &Rulebook,
+    day: &Day<Global>,
+    want: &[u8],
+) -> Result<(), AllocError>
+    requires { AreShown rulebook.now day.now.fills.items }
+{
+    let months = months_of(alloc, rulebook, day)?;
+    assert!(rt; months.as_slice() == want);
+    Ok(())
+}
+
+/// The journal is one close, nothing is filled, and nothing goes out.
+fn expect_close_alone(rt: &impl Abort, day: &Day<Global>) {
     assert!(rt; day.journal.len() == 1);
     assert!(rt;
         day.journal[0]
@@ -249,6 +309,15 @@ fn no_bytes(rt: HostRuntime) -> Result<(), Fail> {
     for list in &day.out {
         assert!(rt; list.is_empty());
     }
+}
+
+/// A stream of no bytes: its session is closed at its end, and nothing goes out.
+#[test]
+fn no_bytes(rt: HostRuntime) -> Result<(), Fail> {
+    let rulebook = Rulebook::read(THREE_MONTHS)?;
+    let streams = streams_of(rt.alloc(), 1, b"")?;
+    let day = day_of_streams(&rt, rt.alloc(), &rulebook, stamp(), streams, &Open, USUAL)?;
+    expect_close_alone(&rt, &day);
     Ok(())
 }
 
@@ -261,19 +330,11 @@ fn two_sessions_meet(rt: HostRuntime) -> Result<(), Fail> {
         late: AtomicU32::new(0),
     };
     let rulebook = Rulebook::read(THREE_MONTHS)?;
-    let streams = streams_of(rt.alloc(), 2, FIRST_TRADE)?;
-    let day = run_day(&rt, rt.alloc(), &rulebook, stamp(), streams, &gate, USUAL)?;
+    let day = day_of_trades(&rt, rt.alloc(), &rulebook, 2, &gate, USUAL)?;
     assert!(rt; gate.late.load(Ordering::SeqCst) == 0);
-    assert!(rt; day.journal.len() == 8);
-    let want = first_trade();
-    let first = part(rt.alloc(), &day.journal, 0)?;
-    assert!(rt; first.as_slice() == want.as_slice());
-    let second = part(rt.alloc(), &day.journal, 1)?;
-    assert!(rt; second.as_slice() == want.as_slice());
-    let months = months_of(rt.alloc(), &rulebook, &day)?;
-    assert!(rt;
-        months.as_slice() == b"M H6 10 10 100000 100000\nM M6 0 0 0 0\nM U6 0 0 0 0\n".as_slice()
-    );
+    expect_trades(&rt, rt.alloc(), &day.journal, 8, 2)?;
+    let months = b"M H6 10 10 100000 100000\nM M6 0 0 0 0\nM U6 0 0 0 0\n";
+    expect_months(&rt, rt.alloc(), &rulebook, &day, months)?;
     Ok(())
 }
 
@@ -283,12 +344,17 @@ fn numbers_of_streams(rt: HostRuntime) -> Result<(), Fail> {
     let rulebook = Rulebook::read(THREE_MONTHS)?;
     for count in [0, 17] {
         let streams = streams_of(rt.alloc(), count, FIRST_TRADE)?;
-        match run_day(&rt, rt.alloc(), &rulebook, stamp(), streams, &Open, USUAL) {
-            Err(fault) => assert!(rt; fault == HostFault::Link(LinkFault::Sessions)),
-            Ok(_) => return Err(Fail::from("a day")),
-        }
+        let fault = run_day(&rt, rt.alloc(), &rulebook, stamp(), streams, &Open, USUAL).err();
+        assert!(rt; fault == Some(HostFault::Link(LinkFault::Sessions)));
     }
     Ok(())
+}
+
+/// Four messages have come, each once, in order, and all of them before the first entry was matched.
+fn expect_all_at_first(rt: &impl Abort, gate: &InTurn) {
+    assert!(rt; gate.next.load(Ordering::SeqCst) == 4);
+    assert!(rt; gate.at_first.load(Ordering::SeqCst) == 4);
+    assert!(rt; gate.wrong.load(Ordering::SeqCst) == 0);
 }
 
 /// The gate sees each message once, in order, and all that are stepped on together before the first of them is.
@@ -302,12 +368,9 @@ fn each_message_once(rt: HostRuntime) -> Result<(), Fail> {
     };
     let streams = streams_of(rt.alloc(), 1, FIRST_TRADE)?;
     let day = run_sessions(&rt, rt.alloc(), &rules, streams, &gate, USUAL)?;
-    assert!(rt; gate.next.load(Ordering::SeqCst) == 4);
-    assert!(rt; gate.at_first.load(Ordering::SeqCst) == 4);
-    assert!(rt; gate.wrong.load(Ordering::SeqCst) == 0);
+    expect_all_at_first(&rt, &gate);
     assert!(rt; day.applied.fills.len() == 2);
-    let events = part(rt.alloc(), &day.journal, 0)?;
-    assert!(rt; events.as_slice() == first_trade().as_slice());
+    expect_part(&rt, rt.alloc(), &day.journal, 0, &first_trade())?;
     Ok(())
 }
 
@@ -332,23 +395,35 @@ fn test_requests(alloc: Global, count: u32) -> Result<Vec<u8>, Fail> {
     Ok(stream)
 }
 
+/// A Logon and three hundred TestRequests over a ring of this size, of which so many are stepped on together.
+fn requests_in_turn<R: Threads + Wait + Sync + Abort>(
+    rt: &R,
+    alloc: Global,
+    rulebook: &Rulebook,
+    ring: usize,
+    most: u32,
+) -> Result<(), Fail> {
+    let caps = Caps {
+        ring,
+        journal: 1_000,
+    };
+    let gate = InTurn::of(most);
+    let stream = test_requests(alloc, 300)?;
+    let streams = streams_of(alloc, 1, &stream)?;
+    let day = run_day(rt, alloc, rulebook, stamp(), streams, &gate, caps)?;
+    assert!(rt; day.journal.len() == 302);
+    assert!(rt; gate.next.load(Ordering::SeqCst) == 301);
+    assert!(rt; gate.wrong.load(Ordering::SeqCst) == 0);
+    Ok(())
+}
+
 /// The gate sees each message once also where the ring is full and messages have to be stepped on again, however many are
 /// stepped on together.
 #[test]
 fn each_message_once_over_a_full_ring(rt: HostRuntime) -> Result<(), Fail> {
     let rulebook = Rulebook::read(THREE_MONTHS)?;
     for (ring, most) in [(1, 64), (4, 3), (4, 64), (64, 1), (256, 0), (256, u32::MAX)] {
-        let gate = InTurn::of(most);
-        let mut streams = Vec::new(rt.alloc());
-        streams.push(test_requests(rt.alloc(), 300)?)?;
-        let caps = Caps {
-            ring,
-            journal: 1_000,
-        };
-        let day = run_day(&rt, rt.alloc(), &rulebook, stamp(), streams, &gate, caps)?;
-        assert!(rt; day.journal.len() == 302);
-        assert!(rt; gate.next.load(Ordering::SeqCst) == 301);
-        assert!(rt; gate.wrong.load(Ordering::SeqCst) == 0);
+        requests_in_turn(&rt, rt.alloc(), &rulebook, ring, most)?;
     }
     Ok(())
 }
@@ -368,33 +443,66 @@ fn said_by_requests(alloc: Global, count: u32) -> Result<Vec<Event>, AllocError>
     Ok(events)
 }
 
+/// A stream of a Logon and seventy TestRequests, and one of the first trade.
+fn two_streams(alloc: Global) -> Result<Vec<Vec<u8>>, Fail> {
+    let mut streams = streams_of(alloc, 1, FIRST_TRADE)?;
+    let requests = test_requests(alloc, 70)?;
+    streams.insert(0, requests)?;
+    Ok(streams)
+}
+
+/// Both streams over a ring of this size, of whose messages so many are stepped on together.
+fn expect_both_said<R: Threads + Wait + Sync + Abort>(
+    rt: &R,
+    alloc: Global,
+    rulebook: &Rulebook,
+    ring: usize,
+    most: u32,
+    first_said: &[Event],
+) -> Result<(), Fail> {
+    let caps = Caps { ring, journal: 100 };
+    let streams = two_streams(alloc)?;
+    let gate = Together { most };
+    let day = run_day(rt, alloc, rulebook, stamp(), streams, &gate, caps)?;
+    expect_part(rt, alloc, &day.journal, 0, first_said)?;
+    expect_part(rt, alloc, &day.journal, 1, &first_trade())?;
+    Ok(())
+}
+
 /// However many messages are stepped on together, over a ring of any size, a session's part is what its stream says.
 #[test]
 fn slices_of_every_size(rt: HostRuntime) -> Result<(), Fail> {
     let rulebook = Rulebook::read(THREE_MONTHS)?;
     let first_said = said_by_requests(rt.alloc(), 70)?;
-    let second_said = first_trade();
     for ring in [1, 2, 5, 64, 4_096] {
         for most in 1..=64u32 {
-            let mut streams = Vec::new(rt.alloc());
-            streams.push(test_requests(rt.alloc(), 70)?)?;
-            streams.push(Vec::from_slice(rt.alloc(), FIRST_TRADE)?)?;
-            let caps = Caps { ring, journal: 100 };
-            let day = run_day(
-                &rt,
-                rt.alloc(),
-                &rulebook,
-                stamp(),
-                streams,
-                &Together { most },
-                caps,
-            )?;
-            let first = part(rt.alloc(), &day.journal, 0)?;
-            assert!(rt; first.as_slice() == first_said.as_slice());
-            let second = part(rt.alloc(), &day.journal, 1)?;
-            assert!(rt; second.as_slice() == second_said.as_slice());
+            expect_both_said(&rt, rt.alloc(), &rulebook, ring, most, &first_said)?;
         }
     }
+    Ok(())
+}
+
+/// The session is held while the other goes on over a ring of one event.
+fn hold_session<R: Threads + Wait + Sync + Abort>(
+    rt: &R,
+    alloc: Global,
+    rulebook: &Rulebook,
+    held: u8,
+) -> Result<(), Fail> {
+    let caps = Caps {
+        ring: 1,
+        journal: 100_000,
+    };
+    let gate = Hold {
+        held,
+        come: AtomicU32::new(0),
+        late: AtomicU32::new(0),
+    };
+    let day = day_of_trades(rt, alloc, rulebook, 2, &gate, caps)?;
+    assert!(rt; gate.late.load(Ordering::SeqCst) == 0);
+    assert!(rt; day.journal.len() == 8);
+    assert!(rt; day.journal[0].session != held);
+    assert!(rt; day.journal[1].session != held);
     Ok(())
 }
 
@@ -403,22 +511,31 @@ fn slices_of_every_size(rt: HostRuntime) -> Result<(), Fail> {
 fn one_session_held(rt: HostRuntime) -> Result<(), Fail> {
     let rulebook = Rulebook::read(THREE_MONTHS)?;
     for held in [0u8, 1] {
-        let gate = Hold {
-            held,
-            come: AtomicU32::new(0),
-            late: AtomicU32::new(0),
-        };
-        let caps = Caps {
-            ring: 1,
-            journal: 100_000,
-        };
-        let streams = streams_of(rt.alloc(), 2, FIRST_TRADE)?;
-        let day = run_day(&rt, rt.alloc(), &rulebook, stamp(), streams, &gate, caps)?;
-        assert!(rt; gate.late.load(Ordering::SeqCst) == 0);
-        assert!(rt; day.journal.len() == 8);
-        assert!(rt; day.journal[0].session != held);
-        assert!(rt; day.journal[1].session != held);
+        hold_session(&rt, rt.alloc(), &rulebook, held)?;
     }
+    Ok(())
+}
+
+/// The last message and the match of the first entry wait for each other over a ring of this size.
+fn match_meanwhile<R: Threads + Wait + Sync + Abort>(
+    rt: &R,
+    alloc: Global,
+    rulebook: &Rulebook,
+    ring: usize,
+) -> Result<(), Fail> {
+    let caps = Caps {
+        ring,
+        journal: 100_000,
+    };
+    let gate = MatchedMeanwhile {
+        come: AtomicU32::new(0),
+        matched: AtomicU32::new(0),
+        late: AtomicU32::new(0),
+    };
+    let day = day_of_trades(rt, alloc, rulebook, 1, &gate, caps)?;
+    assert!(rt; gate.late.load(Ordering::SeqCst) == 0);
+    assert!(rt; day.journal.len() == 4);
+    assert!(rt; day.fills.len() == 2);
     Ok(())
 }
 
@@ -427,22 +544,24 @@ fn one_session_held(rt: HostRuntime) -> Result<(), Fail> {
 fn matched_while_the_session_runs(rt: HostRuntime) -> Result<(), Fail> {
     let rulebook = Rulebook::read(THREE_MONTHS)?;
     for ring in [1, 256] {
-        let gate = MatchedMeanwhile {
-            come: AtomicU32::new(0),
-            matched: AtomicU32::new(0),
-            late: AtomicU32::new(0),
-        };
-        let caps = Caps {
-            ring,
-            journal: 100_000,
-        };
-        let streams = streams_of(rt.alloc(), 1, FIRST_TRADE)?;
-        let day = run_day(&rt, rt.alloc(), &rulebook, stamp(), streams, &gate, caps)?;
-        assert!(rt; gate.late.load(Ordering::SeqCst) == 0);
-        assert!(rt; day.journal.len() == 4);
-        assert!(rt; day.fills.len() == 2);
+        match_meanwhile(&rt, rt.alloc(), &rulebook, ring)?;
     }
     Ok(())
+}
+
+/// How many entries the journal has of two sessions over rings of one event, or the fault.
+fn entries_with_room<R: Threads + Wait + Sync>(
+    rt: &R,
+    alloc: Global,
+    rulebook: &Rulebook,
+    journal: usize,
+) -> Result<Result<usize, HostFault>, Fail> {
+    let streams = streams_of(alloc, 2, FIRST_TRADE)?;
+    let caps = Caps { ring: 1, journal };
+    match run_day(rt, alloc, rulebook, stamp(), streams, &Open, caps) {
+        Ok(day) => Ok(Ok(day.journal.len())),
+        Err(fault) => Ok(Err(fault)),
+    }
 }
 
 /// Rings of one event are enough, and so is a journal of just so many entries as there are; one fewer is not.
@@ -450,20 +569,20 @@ fn matched_while_the_session_runs(rt: HostRuntime) -> Result<(), Fail> {
 fn journal_of_just_enough(rt: HostRuntime) -> Result<(), Fail> {
     let rulebook = Rulebook::read(THREE_MONTHS)?;
     for journal in [100_000, 8, 7, 1, 0] {
-        let streams = streams_of(rt.alloc(), 2, FIRST_TRADE)?;
-        let caps = Caps { ring: 1, journal };
-        match run_day(&rt, rt.alloc(), &rulebook, stamp(), streams, &Open, caps) {
-            Ok(day) => {
-                assert!(rt; journal >= 8);
-                assert!(rt; day.journal.len() == 8);
-            }
-            Err(fault) => {
-                assert!(rt; journal < 8);
-                assert!(rt; fault == HostFault::JournalFull);
-            }
+        match entries_with_room(&rt, rt.alloc(), &rulebook, journal)? {
+            Ok(entries) => assert!(rt; journal >= 8 && entries == 8),
+            Err(fault) => assert!(rt; journal < 8 && fault == HostFault::JournalFull),
         }
     }
     Ok(())
+}
+
+/// There are sixteen lists, and each begins with the answer to a Logon.
+fn expect_logons_first(rt: &impl Abort, out: &[Vec<u8>]) {
+    assert!(rt; out.len() == 16);
+    for list in out {
+        assert!(rt; list.starts_with(b"8=FIX.4.2\x019=57\x0135=A\x0134=1\x01"));
+    }
 }
 
 /// Sixteen sessions and their writers over rings of one item, more threads than processors: each session is answered,
@@ -471,37 +590,30 @@ fn journal_of_just_enough(rt: HostRuntime) -> Result<(), Fail> {
 #[test]
 fn sixteen_sessions(rt: HostRuntime) -> Result<(), Fail> {
     let rulebook = Rulebook::read(THREE_MONTHS)?;
-    let streams = streams_of(rt.alloc(), 16, FIRST_TRADE)?;
     let caps = Caps {
         ring: 1,
         journal: 64,
     };
-    let day = run_day(&rt, rt.alloc(), &rulebook, stamp(), streams, &Open, caps)?;
-    assert!(rt; day.journal.len() == 64);
-    assert!(rt; day.out.len() == 16);
-    for list in &day.out {
-        assert!(rt; list.starts_with(b"8=FIX.4.2\x019=57\x0135=A\x0134=1\x01"));
-    }
-    let want = first_trade();
-    for session in 0..16u8 {
-        let events = part(rt.alloc(), &day.journal, session)?;
-        assert!(rt; events.as_slice() == want.as_slice(), "{session}");
-    }
-    let months = months_of(rt.alloc(), &rulebook, &day)?;
-    assert!(rt;
-        months.as_slice() == b"M H6 80 80 800000 800000\nM M6 0 0 0 0\nM U6 0 0 0 0\n".as_slice()
-    );
+    let day = day_of_trades(&rt, rt.alloc(), &rulebook, 16, &Open, caps)?;
+    expect_logons_first(&rt, &day.out);
+    expect_trades(&rt, rt.alloc(), &day.journal, 64, 16)?;
+    let months = b"M H6 80 80 800000 800000\nM M6 0 0 0 0\nM U6 0 0 0 0\n";
+    expect_months(&rt, rt.alloc(), &rulebook, &day, months)?;
     Ok(())
+}
+
+/// Twenty thousand bytes that hold no frame, and the first trade behind them.
+fn long_bytes(alloc: Global) -> Result<Vec<u8>, AllocError> {
+    let mut stream = Vec::new(alloc);
+    stream.resize(20_000, b'x')?;
+    stream.extend_from_slice(FIRST_TRADE)?;
+    Ok(stream)
 }
 
 /// A stream longer than a gateway's buffer.
 #[test]
 fn long_stream(rt: HostRuntime) -> Result<(), Fail> {
-    let mut stream = Vec::new(rt.alloc());
-    for _ in 0..20_000 {
-        stream.push(b'x')?;
-    }
-    stream.extend_from_slice(FIRST_TRADE)?;
+    let stream = long_bytes(rt.alloc())?;
     let streams = streams_of(rt.alloc(), 3, &stream)?;
     let caps = Caps {
         ring: 1,
@@ -509,11 +621,6 @@ fn long_stream(rt: HostRuntime) -> Result<(), Fail> {
     };
     let rulebook = Rulebook::read(THREE_MONTHS)?;
     let day = run_day(&rt, rt.alloc(), &rulebook, stamp(), streams, &Open, caps)?;
-    assert!(rt; day.journal.len() == 12);
-    let want = first_trade();
-    for session in 0..3u8 {
-        let events = part(rt.alloc(), &day.journal, session)?;
-        assert!(rt; events.as_slice() == want.as_slice(), "{session}");
-    }
+    expect_trades(&rt, rt.alloc(), &day.journal, 12, 3)?;
     Ok(())
 }

@@ -3,7 +3,8 @@ use crate::headline::day_of_lines;
 use host_base::{TestSink, TestSource};
 use spread_host::{HostFault, replay};
 use spread_rules::Rulebook;
-use std::alloc::Global;
+use std::alloc::{AllocError, Global};
+use std::process::Abort;
 use std::test::Fail;
 use test_support::{FIRST_TRADE_LINES, FIRST_TRADE_TEXT, THREE_MONTHS, stamp};
 
@@ -30,26 +31,60 @@ fn cut_into_lines(message: &[u8], lines: &mut Vec<u8>) -> Result<(), Fail> {
 const MESSAGES: &[u8] =
     b"8=FIX.4.2|9=57|35=A|34=1|49=C1|52=20260105-14:30:00|56=HOST|98=0|108=30|10=220|8=FIX.4.2|9=104|35=D|34=2|49=C1|52=20260105-14:30:00|56=HOST|11=a|21=1|55=H6|54=2|60=20260105-14:30:00|38=5|40=2|44=100|10=168|8=FIX.4.2|9=104|35=D|34=3|49=C1|52=20260105-14:30:00|56=HOST|11=b|21=1|55=H6|54=1|60=20260105-14:30:00|38=5|40=2|44=100|10=169|8=FIX.4.2|9=45|35=5|34=4|49=C1|52=20260105-14:30:00|56=HOST|10=183|";
 
+/// These bytes, so many fillers, these bytes again, and the messages.
+fn before_messages(
+    alloc: Global,
+    start: &[u8],
+    fillers: usize,
+    end: &[u8],
+) -> Result<Vec<u8>, AllocError> {
+    let mut lines = Vec::from_slice(alloc, start)?;
+    for _ in 0..fillers {
+        lines.push(b'x')?;
+    }
+    lines.extend_from_slice(end)?;
+    lines.extend_from_slice(MESSAGES)?;
+    Ok(lines)
+}
+
+/// What is written on these day lines.
+fn expect_text(
+    rt: &impl Abort,
+    alloc: Global,
+    lines: &[u8],
+    journal_only: bool,
+    want: &[u8],
+) -> Result<(), Fail> {
+    let sink = text_of(alloc, lines, journal_only)?;
+    assert!(rt; sink.bytes() == want);
+    Ok(())
+}
+
 #[test]
-fn cut_and_nested_frames(rt: HostRuntime) -> Result<(), Fail> {
+fn cut_frames(rt: HostRuntime) -> Result<(), Fail> {
     let mut cut = Vec::new(rt.alloc());
     cut_into_lines(MESSAGES, &mut cut)?;
-    assert!(rt; text_of(rt.alloc(), &cut, false)?.bytes() == FIRST_TRADE_TEXT);
-    let mut nested = Vec::from_slice(rt.alloc(), b"0:8=FIX.4.2|9=4000|35=0|58=")?;
-    for _ in 0..3991 {
-        nested.push(b'x')?;
+    expect_text(&rt, rt.alloc(), &cut, false, FIRST_TRADE_TEXT)
+}
+
+#[test]
+fn nested_frames(rt: HostRuntime) -> Result<(), Fail> {
+    let waiting = b"JOURNAL 2\n0 close 5\nEND 1\n".as_slice();
+    let rows: [(&[u8], usize, &[u8], bool, &[u8]); 3] = [
+        (
+            b"0:8=FIX.4.2|9=4000|35=0|58=",
+            3991,
+            b"|10=000|",
+            false,
+            FIRST_TRADE_TEXT,
+        ),
+        (b"0:8=FIX.4.2|9=200|", 0, b"", false, FIRST_TRADE_TEXT),
+        (b"0:8=FIX.4.2|9=4000|", 0, b"", true, waiting),
+    ];
+    for (start, fillers, end, journal_only, want) in rows {
+        let lines = before_messages(rt.alloc(), start, fillers, end)?;
+        expect_text(&rt, rt.alloc(), &lines, journal_only, want)?;
     }
-    nested.extend_from_slice(b"|10=000|")?;
-    nested.extend_from_slice(MESSAGES)?;
-    assert!(rt; text_of(rt.alloc(), &nested, false)?.bytes() == FIRST_TRADE_TEXT);
-    let mut short = Vec::from_slice(rt.alloc(), b"0:8=FIX.4.2|9=200|")?;
-    short.extend_from_slice(MESSAGES)?;
-    assert!(rt; text_of(rt.alloc(), &short, false)?.bytes() == FIRST_TRADE_TEXT);
-    let mut waiting = Vec::from_slice(rt.alloc(), b"0:8=FIX.4.2|9=4000|")?;
-    waiting.extend_from_slice(MESSAGES)?;
-    assert!(rt;
-        text_of(rt.alloc(), &waiting, true)?.bytes() == b"JOURNAL 2\n0 close 5\nEND 1\n".as_slice()
-    );
     Ok(())
 }
 

@@ -1,5 +1,6 @@
 //! Runs of orders, cancels and replaces, which come to the same over every kind of book.
 ghost use Rattle.std.specs.Prelude.{◌≡◌, []};
+ghost use Rattle.spread_match.specs.State.{empty_state};
 ghost use Rattle.spread_match.specs.Trade.{ArePriced};
 
 use super::{are_priced, cancel, day, replace};
@@ -21,6 +22,25 @@ struct Run {
     resting: Vec<Order>,
 }
 
+impl Run {
+    fn new(alloc: Global) -> Run {
+        Run {
+            outcomes: Vec::new(alloc),
+            fills: Vec::new(alloc),
+            ends: Vec::new(alloc),
+            resting: Vec::new(alloc),
+        }
+    }
+
+    /// One entry more came to this, and left that book.
+    fn note<B: Book>(&mut self, outcome: Outcome, book: &B) -> Result<(), Fail> {
+        self.outcomes.push(outcome)?;
+        append_resting(&mut self.resting, book)?;
+        self.ends.push((self.fills.len(), self.resting.len()))?;
+        Ok(())
+    }
+}
+
 /// A run of entries over that book.
 fn run_over<B: Book + Drop>(
     alloc: Global,
@@ -32,19 +52,24 @@ fn run_over<B: Book + Drop>(
     requires prices { ArePriced journal.now }
 {
     let mut market = Market::new(alloc, rules, book);
-    let mut run = Run {
-        outcomes: Vec::new(alloc),
-        fills: Vec::new(alloc),
-        ends: Vec::new(alloc),
-        resting: Vec::new(alloc),
-    };
+    let mut run = Run::new(alloc);
+    note_all(&mut market, &mut run, journal)?;
+    Ok(run)
+}
+
+fn note_all<B: Book>(
+    market: &mut Market<'_, B, Global>,
+    run: &mut Run,
+    journal: &[Entry],
+) -> Result<(), Fail>
+    requires first { market.old.state ≡ empty_state }
+    requires prices { ArePriced journal.now }
+{
     for n in 0..journal.len() {
         let outcome = market.apply(n as u64 + 1, &journal[n], &mut run.fills)?;
-        run.outcomes.push(outcome)?;
-        append_resting(&mut run.resting, market.book())?;
-        run.ends.push((run.fills.len(), run.resting.len()))?;
+        run.note(outcome, market.book())?;
     }
-    Ok(run)
+    Ok(())
 }
 
 fn append_resting<B: Book>(resting: &mut Vec<Order>, book: &B) -> Result<(), Fail> {
@@ -73,7 +98,8 @@ fn name(chance: &mut Chance, place: usize) -> [u8; 2] {
     [b'a' + (n / 26 % 26) as u8, b'a' + (n % 26) as u8]
 }
 
-fn instrument(chance: &mut Chance) -> (&'static [u8], i64) {
+/// The symbol of a month or a spread, and its reference price.
+pub(super) fn instrument(chance: &mut Chance) -> (&'static [u8], i64) {
     match chance.below(6) {
         0 => (b"H6", 10000),
         1 => (b"M6", 9800),
@@ -187,22 +213,51 @@ fn replaced(run: &Run) -> (usize, usize) {
     (kept, lost)
 }
 
+/// A run over the list book, in which orders trade, keep their places and lose them.
+fn wanted_run(
+    rt: &impl Abort,
+    alloc: Global,
+    rules: &Rulebook,
+    journal: &[Entry],
+) -> Result<Run, Fail>
+    requires { ArePriced journal.now }
+{
+    let wanted = run_over(alloc, rules, ListBook::new(alloc), journal)?;
+    let (kept, lost) = replaced(&wanted);
+    assert!(rt; kept > 2 && lost > 5 && wanted.fills.len() > 20);
+    Ok(wanted)
+}
+
+/// A run over that book comes to the same.
+fn expect_run<B: Book + Drop>(
+    rt: &impl Abort,
+    alloc: Global,
+    rules: &Rulebook,
+    book: B,
+    journal: &[Entry],
+    wanted: &Run,
+) -> Result<(), Fail>
+    requires empty { B.orders book ≡ [] }
+    requires prices { ArePriced journal.now }
+{
+    let run = run_over(alloc, rules, book, journal)?;
+    expect_same(rt, &run, wanted);
+    Ok(())
+}
+
 #[test]
 fn every_book_answers_alike(rt: HostRuntime) -> Result<(), Fail> {
     let rules = Rulebook::read(THREE_MONTHS)?;
     for seed in 0..12 {
         let journal = chosen_entries(rt.alloc(), seed)?;
         assert!(rt; are_priced(&journal));
-        let wanted = run_over(rt.alloc(), &rules, ListBook::new(rt.alloc()), &journal)?;
-        let (kept, lost) = replaced(&wanted);
-        assert!(rt; kept > 2 && lost > 5 && wanted.fills.len() > 20);
-        let tree = run_over(rt.alloc(), &rules, TreeBook::new(rt.alloc()), &journal)?;
-        expect_same(&rt, &tree, &wanted);
-        let front = run_over(rt.alloc(), &rules, FrontBook::new(rt.alloc()), &journal)?;
-        expect_same(&rt, &front, &wanted);
-        let book = IndexBook::new(rt.alloc(), &rules)?;
-        let index = run_over(rt.alloc(), &rules, book, &journal)?;
-        expect_same(&rt, &index, &wanted);
+        let wanted = wanted_run(&rt, rt.alloc(), &rules, &journal)?;
+        let tree = TreeBook::new(rt.alloc());
+        expect_run(&rt, rt.alloc(), &rules, tree, &journal, &wanted)?;
+        let front = FrontBook::new(rt.alloc());
+        expect_run(&rt, rt.alloc(), &rules, front, &journal, &wanted)?;
+        let index = IndexBook::new(rt.alloc(), &rules)?;
+        expect_run(&rt, rt.alloc(), &rules, index, &journal, &wanted)?;
     }
     Ok(())
 }

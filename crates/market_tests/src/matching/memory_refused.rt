@@ -1,5 +1,6 @@
 //! Each request for memory that a market makes, refused in turn.
 ghost use Rattle.std.specs.Prelude.{◌<◌, ◌≡◌, [], IfOk, OnOk};
+ghost use Rattle.spread_match.specs.State.{empty_state};
 ghost use Rattle.spread_match.specs.Trade.{ArePriced, IsPriced};
 
 use super::{Applied, are_priced, buy, cancel, replace, run_journal, sell};
@@ -23,11 +24,21 @@ fn resting<B: Book>(alloc: Global, book: &B) -> Result<Vec<Order>, NoMemory> {
     Ok(orders)
 }
 
+/// The heap of a market, which refuses one request, and one that gives what it can.
+#[derive(Clone, Copy)]
+struct Heaps<'h> {
+    refusing: &'h Refusing<Global>,
+    ample: Global,
+}
+
+fn heaps_of<'h>(refusing: &'h Refusing<Global>, ample: Global) -> Heaps<'h> {
+    Heaps { refusing, ample }
+}
+
 /// Applies the entry, and again where a request was refused in it: then nothing has changed.
-fn apply_again<H: Allocator, B: Book, A: Allocator + Copy>(
+fn apply_again<B: Book, A: Allocator + Copy>(
     rt: &impl Abort,
-    alloc: Global,
-    heap: &Refusing<H>,
+    heaps: &Heaps<'_>,
     market: &mut Market<'_, B, A>,
     place: u64,
     entry: &Entry,
@@ -37,14 +48,14 @@ fn apply_again<H: Allocator, B: Book, A: Allocator + Copy>(
     requires place { market.old.state.last < place }
     ensures last { OnOk result (market.new.state.last ≡ place) }
 {
-    let refused_before = heap.has_refused();
-    let orders = resting(alloc, market.book())?;
+    let refused_before = heaps.refusing.has_refused();
+    let orders = resting(heaps.ample, market.book())?;
     let before = fills.len();
     match market.apply(place, entry, fills) {
         Ok(outcome) => Ok(outcome),
         Err(NoMemory) => {
-            assert!(rt; !refused_before && heap.has_refused());
-            let now = resting(alloc, market.book())?;
+            assert!(rt; !refused_before && heaps.refusing.has_refused());
+            let now = resting(heaps.ample, market.book())?;
             assert!(rt; now.as_slice() == orders.as_slice());
             assert!(rt; fills.len() == before);
             let outcome = market.apply(place, entry, fills)?;
@@ -67,10 +78,29 @@ fn empty_book<'r, A: Allocator + Copy>(
 }
 
 /// The entries of a journal over this heap come to what they came to with memory.
-fn expect_applied<H: Allocator, B: Book + Drop>(
+fn expect_outcomes<B: Book, A: Allocator + Copy>(
     rt: &impl Abort,
-    alloc: Global,
-    heap: &Refusing<H>,
+    heaps: &Heaps<'_>,
+    market: &mut Market<'_, B, A>,
+    journal: &[Entry],
+    fills: &mut Vec<Fill, A>,
+    wanted: &Applied,
+) -> Result<(), Fail>
+    requires first { market.old.state ≡ empty_state }
+    requires prices { ArePriced journal.now }
+{
+    for n in 0..journal.len() {
+        let outcome = apply_again(rt, heaps, market, n as u64 + 1, &journal[n], fills)?;
+        assert!(rt; wanted.outcomes.get(n) == Some(&outcome));
+    }
+    assert!(rt; fills.as_slice() == wanted.fills.as_slice());
+    Ok(())
+}
+
+/// The same in a market over that book.
+fn expect_applied<B: Book + Drop>(
+    rt: &impl Abort,
+    heaps: &Heaps<'_>,
     rules: &Rulebook,
     book: B,
     journal: &[Entry],
@@ -79,31 +109,31 @@ fn expect_applied<H: Allocator, B: Book + Drop>(
     requires empty { B.orders book ≡ [] }
     requires prices { ArePriced journal.now }
 {
-    let mut market = Market::new(heap, rules, book);
-    let mut fills = Vec::new(heap);
-    for n in 0..journal.len() {
-        let place = n as u64 + 1;
-        let outcome = apply_again(rt, alloc, heap, &mut market, place, &journal[n], &mut fills)?;
-        assert!(rt; wanted.outcomes.get(n) == Some(&outcome));
-    }
-    assert!(rt; fills.as_slice() == wanted.fills.as_slice());
-    Ok(())
+    let mut market = Market::new(heaps.refusing, rules, book);
+    let mut fills = Vec::new(heaps.refusing);
+    expect_outcomes(rt, heaps, &mut market, journal, &mut fills, wanted)
 }
 
 /// Each request for memory of that journal is refused in turn, in a book of each kind that makes any by itself.
-fn refuse_each(rt: &impl Abort, alloc: Global, journal: &[Entry]) -> Result<(), Fail>
-    requires { ArePriced journal.now }
-{
+fn refuse_each(rt: &impl Abort, alloc: Global, journal: &[Entry]) -> Result<(), Fail> {
     let rules = Rulebook::read(THREE_MONTHS)?;
     let wanted = run_journal(rt, alloc, THREE_MONTHS, journal)?;
+    assert!(rt; are_priced(journal));
     for number in 1..500u64 {
-        let heap = Refusing::new(alloc, number);
-        let book = empty_book(&heap, &rules)?;
-        expect_applied(rt, alloc, &heap, &rules, book, journal, &wanted)?;
+        let refusing = Refusing::new(alloc, number);
+        let book = empty_book(&refusing, &rules)?;
+        expect_applied(
+            rt,
+            &heaps_of(&refusing, alloc),
+            &rules,
+            book,
+            journal,
+            &wanted,
+        )?;
         let other = Refusing::new(alloc, number);
         let book = ListBook::new(&other);
-        expect_applied(rt, alloc, &other, &rules, book, journal, &wanted)?;
-        if !heap.has_refused() && !other.has_refused() {
+        expect_applied(rt, &heaps_of(&other, alloc), &rules, book, journal, &wanted)?;
+        if !refusing.has_refused() && !other.has_refused() {
             return Ok(());
         }
     }
@@ -120,7 +150,6 @@ fn each_request_refused_in_turn(rt: HostRuntime) -> Result<(), Fail> {
         sell(b"c", b"M6", 4, 9800),
         buy(b"d", b"H6", 6, 10000),
     ];
-    assert!(rt; are_priced(&journal));
     refuse_each(&rt, rt.alloc(), &journal)
 }
 
@@ -145,6 +174,5 @@ fn each_request_of_a_replace_refused_in_turn(rt: HostRuntime) -> Result<(), Fail
     journal.push(buy(b"b", b"H6", 9, 9900))?;
     journal.push(replace(b"b", b"c", b"H6", Side::Buy, 8, 10010))?;
     journal.push(cancel(b"d", b"b"))?;
-    assert!(rt; are_priced(&journal));
     refuse_each(&rt, rt.alloc(), &journal)
 }

@@ -1,11 +1,14 @@
 //! Pairs of months that are switched on or off.
+use super::quotes::quote_after;
 use super::{
     H6, H6_M6, H6_U6, Line, M6, U6, apply_all, are_priced, buy, expect_fills, logon, outright,
     run_journal, sell,
 };
-use spread_books::{Book, IndexBook, ListBook};
+use spread_books::{Book, ListBook};
 use spread_match::Market;
 use spread_rules::{Choice, Entry, Instrument, Members, Outcome, Rulebook, Side};
+use std::alloc::Global;
+use std::process::Abort;
 use std::test::Fail;
 
 const H6_M6_OFF: &[u8] = b"tick 1\nmonth H6 10000\nmonth M6 9800\nmonth U6 9500\npair H6 M6 off\n";
@@ -79,42 +82,55 @@ fn spreads_of_a_pair_that_is_off_trade_directly(rt: HostRuntime) -> Result<(), F
     Ok(())
 }
 
-#[test]
-fn quotes_are_of_pairs_that_are_on(rt: HostRuntime) -> Result<(), Fail> {
-    let journal = [
+/// What an order of a spread and one of a month cost by two orders of those places, one lot each.
+fn implied(price: i64, first: u64, second: u64) -> Option<Choice> {
+    Some(Choice {
+        price,
+        quantity: 1,
+        members: Members::Implied(first, second),
+    })
+}
+
+/// Orders that would make an implied quote of each spread with H6, and of U6.
+fn quoted() -> [Entry; 5] {
+    [
         logon(),
         sell(b"a", b"H6", 1, 10000),
         buy(b"b", b"M6", 1, 9800),
         buy(b"c", b"U6", 1, 9500),
         buy(b"d", b"H6-U6", 1, 400),
-    ];
-    for (text, of_m6, of_u6) in [(H6_M6_OFF, false, true), (H6_U6_OFF, true, false)] {
-        let rules = Rulebook::read(text)?;
-        let book = IndexBook::new(rt.alloc(), &rules)?;
-        let mut market = Market::new(rt.alloc(), &rules, book);
-        assert!(rt; are_priced(&journal));
-        let done = apply_all(rt.alloc(), &mut market, &journal)?;
-        assert!(rt; done.fills.len() == 0);
-        let m6 = Choice {
-            price: 200,
-            quantity: 1,
-            members: Members::Implied(2, 3),
-        };
-        let u6 = Choice {
-            price: 500,
-            quantity: 1,
-            members: Members::Implied(2, 4),
-        };
-        let sold = Choice {
-            price: 9600,
-            quantity: 1,
-            members: Members::Implied(5, 2),
-        };
-        let quote = |of: bool, choice: Choice| if of { Some(choice) } else { None };
-        assert!(rt; market.book().quote(H6_M6, Side::Buy) == quote(of_m6, m6));
-        assert!(rt; market.book().quote(H6_U6, Side::Buy) == quote(of_u6, u6));
-        assert!(rt; market.book().quote(U6, Side::Buy) == quote(of_u6, sold));
-        assert!(rt; market.book().quote(H6, Side::Buy) == None);
-    }
+    ]
+}
+
+/// What a buyer would get by an implied quote over those months.
+fn expect_quote(
+    rt: &impl Abort,
+    alloc: Global,
+    months: &[u8],
+    instrument: Instrument,
+    wanted: Option<Choice>,
+) -> Result<(), Fail> {
+    let quote = quote_after(rt, alloc, months, &quoted(), instrument, Side::Buy)?;
+    assert!(rt; quote == wanted);
     Ok(())
+}
+
+#[test]
+fn quotes_without_the_earlier_pair(rt: HostRuntime) -> Result<(), Fail> {
+    let done = run_journal(&rt, rt.alloc(), H6_M6_OFF, &quoted())?;
+    assert!(rt; done.fills.len() == 0);
+    expect_quote(&rt, rt.alloc(), H6_M6_OFF, H6_M6, None)?;
+    expect_quote(&rt, rt.alloc(), H6_M6_OFF, H6_U6, implied(500, 2, 4))?;
+    expect_quote(&rt, rt.alloc(), H6_M6_OFF, U6, implied(9600, 5, 2))?;
+    expect_quote(&rt, rt.alloc(), H6_M6_OFF, H6, None)
+}
+
+#[test]
+fn quotes_without_the_later_pair(rt: HostRuntime) -> Result<(), Fail> {
+    let done = run_journal(&rt, rt.alloc(), H6_U6_OFF, &quoted())?;
+    assert!(rt; done.fills.len() == 0);
+    expect_quote(&rt, rt.alloc(), H6_U6_OFF, H6_M6, implied(200, 2, 3))?;
+    expect_quote(&rt, rt.alloc(), H6_U6_OFF, H6_U6, None)?;
+    expect_quote(&rt, rt.alloc(), H6_U6_OFF, U6, None)?;
+    expect_quote(&rt, rt.alloc(), H6_U6_OFF, H6, None)
 }

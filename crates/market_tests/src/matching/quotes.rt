@@ -1,8 +1,6 @@
 //! Implied quotes of a market's book.
-ghost use Rattle.std.specs.Prelude.{◌≡◌, ◌≤◌, ◌<◌, OnOk};
-ghost use Rattle.spread_match.specs.Trade.{ArePriced};
-
-use super::{H6_M6, U6, are_priced, buy, cancel, day, is_priced, logon, sell};
+use super::every_book::instrument;
+use super::{H6_M6, U6, apply_all, are_priced, buy, cancel, day, is_priced, logon, sell};
 use spread_books::{Book, IndexBook};
 use spread_match::Market;
 use spread_rules::{Choice, Entry, Instrument, Members, Order, Rulebook, Side};
@@ -11,22 +9,20 @@ use std::process::Abort;
 use std::test::Fail;
 use test_support::{Chance, THREE_MONTHS};
 
-/// The quote behind the entries of a journal.
-fn quote_after(
+/// The quote behind the entries of a journal, over the rulebook with this text.
+pub(super) fn quote_after(
+    rt: &impl Abort,
     alloc: Global,
+    months: &[u8],
     journal: &[Entry],
     instrument: Instrument,
     side: Side,
-) -> Result<Option<Choice>, Fail>
-    requires { ArePriced journal.now }
-{
-    let rules = Rulebook::read(THREE_MONTHS)?;
+) -> Result<Option<Choice>, Fail> {
+    let rules = Rulebook::read(months)?;
     let book = IndexBook::new(alloc, &rules)?;
     let mut market = Market::new(alloc, &rules, book);
-    let mut fills = Vec::new(alloc);
-    for n in 0..journal.len() {
-        market.apply(n as u64 + 1, &journal[n], &mut fills)?;
-    }
+    assert!(rt; are_priced(journal));
+    let _done = apply_all(alloc, &mut market, journal)?;
     Ok(market.book().quote(instrument, side))
 }
 
@@ -45,8 +41,7 @@ fn of_a_spread(rt: HostRuntime) -> Result<(), Fail> {
         sell(b"a", b"H6", 1, 10000),
         buy(b"b", b"M6", 1, 9800),
     ];
-    assert!(rt; are_priced(&journal));
-    let quote = quote_after(rt.alloc(), &journal, H6_M6, Side::Buy)?;
+    let quote = quote_after(&rt, rt.alloc(), THREE_MONTHS, &journal, H6_M6, Side::Buy)?;
     assert!(rt; quote == choice(200, 2, 3));
     Ok(())
 }
@@ -59,8 +54,7 @@ fn of_a_spread_that_lost_an_order(rt: HostRuntime) -> Result<(), Fail> {
         buy(b"b", b"M6", 1, 9800),
         cancel(b"c", b"a"),
     ];
-    assert!(rt; are_priced(&journal));
-    let quote = quote_after(rt.alloc(), &journal, H6_M6, Side::Buy)?;
+    let quote = quote_after(&rt, rt.alloc(), THREE_MONTHS, &journal, H6_M6, Side::Buy)?;
     assert!(rt; quote == None);
     Ok(())
 }
@@ -79,8 +73,7 @@ fn two_months() -> [Entry; 5] {
 #[test]
 fn of_the_earlier_month(rt: HostRuntime) -> Result<(), Fail> {
     let journal = two_months();
-    assert!(rt; are_priced(&journal));
-    let quote = quote_after(rt.alloc(), &journal, U6, Side::Buy)?;
+    let quote = quote_after(&rt, rt.alloc(), THREE_MONTHS, &journal, U6, Side::Buy)?;
     assert!(rt; quote == choice(9500, 3, 2));
     Ok(())
 }
@@ -89,8 +82,7 @@ fn of_the_earlier_month(rt: HostRuntime) -> Result<(), Fail> {
 fn of_the_month_that_is_left(rt: HostRuntime) -> Result<(), Fail> {
     let [logon, first, second, third, fourth] = two_months();
     let journal = [logon, first, second, third, fourth, cancel(b"e", b"a")];
-    assert!(rt; are_priced(&journal));
-    let quote = quote_after(rt.alloc(), &journal, U6, Side::Buy)?;
+    let quote = quote_after(&rt, rt.alloc(), THREE_MONTHS, &journal, U6, Side::Buy)?;
     assert!(rt; quote == choice(9500, 5, 4));
     Ok(())
 }
@@ -179,20 +171,25 @@ fn chosen_entry(chance: &mut Chance) -> Entry {
     if chance.below(3) == 0 {
         return cancel(b"x", &name);
     }
-    let (symbol, reference): (&[u8], i64) = match chance.below(6) {
-        0 => (b"H6", 10000),
-        1 => (b"M6", 9800),
-        2 => (b"U6", 9500),
-        3 => (b"H6-M6", 200),
-        4 => (b"H6-U6", 500),
-        _ => (b"M6-U6", 300),
-    };
+    let (symbol, reference) = instrument(chance);
     let away = 10 + chance.below(8) as i64;
     let quantity = 1 + chance.below(5) as u32;
     if chance.below(2) == 0 {
-        day(&name, symbol, Side::Buy, quantity, reference - away)
+        day(
+            &name,
+            symbol,
+            Side::Buy,
+            quantity,
+            reference.wrapping_sub(away),
+        )
     } else {
-        day(&name, symbol, Side::Sell, quantity, reference + away)
+        day(
+            &name,
+            symbol,
+            Side::Sell,
+            quantity,
+            reference.wrapping_add(away),
+        )
     }
 }
 
