@@ -40,6 +40,7 @@ pub fn is(found: Option<Order>, want: &Order) -> bool {
 
 /// Three sellers of one month, the second and the third at the better price.
 fn sellers<B: Book>(rt: &impl Abort, book: &mut B) -> Result<(), Fail> {
+    assert!(rt; book.len() == 0);
     let first = sell(2, b"a", 10000);
     let second = sell(3, b"b", 9900);
     let third = sell(5, b"c", 9900);

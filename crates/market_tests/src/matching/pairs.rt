@@ -1,12 +1,12 @@
 //! Pairs of months that are switched on or off.
-use super::quotes::quote_after;
+use super::quotes::{choice, quote_after};
 use super::{
     H6, H6_M6, H6_U6, Line, M6, U6, apply_all, are_priced, buy, expect_fills, logon, outright,
     run_journal, sell,
 };
 use spread_books::{Book, ListBook};
 use spread_match::Market;
-use spread_rules::{Choice, Entry, Instrument, Members, Outcome, Rulebook, Side};
+use spread_rules::{Choice, Entry, Instrument, Outcome, Rulebook, Side};
 use std::alloc::Global;
 use std::process::Abort;
 use std::test::Fail;
@@ -82,15 +82,6 @@ fn spreads_of_a_pair_that_is_off_trade_directly(rt: HostRuntime) -> Result<(), F
     Ok(())
 }
 
-/// What an order of a spread and one of a month cost by two orders of those places, one lot each.
-fn implied(price: i64, first: u64, second: u64) -> Option<Choice> {
-    Some(Choice {
-        price,
-        quantity: 1,
-        members: Members::Implied(first, second),
-    })
-}
-
 /// Orders that would make an implied quote of each spread with H6, and of U6.
 fn quoted() -> [Entry; 5] {
     [
@@ -120,8 +111,8 @@ fn quotes_without_the_earlier_pair(rt: HostRuntime) -> Result<(), Fail> {
     let done = run_journal(&rt, rt.alloc(), H6_M6_OFF, &quoted())?;
     assert!(rt; done.fills.len() == 0);
     expect_quote(&rt, rt.alloc(), H6_M6_OFF, H6_M6, None)?;
-    expect_quote(&rt, rt.alloc(), H6_M6_OFF, H6_U6, implied(500, 2, 4))?;
-    expect_quote(&rt, rt.alloc(), H6_M6_OFF, U6, implied(9600, 5, 2))?;
+    expect_quote(&rt, rt.alloc(), H6_M6_OFF, H6_U6, choice(500, 2, 4))?;
+    expect_quote(&rt, rt.alloc(), H6_M6_OFF, U6, choice(9600, 5, 2))?;
     expect_quote(&rt, rt.alloc(), H6_M6_OFF, H6, None)
 }
 
@@ -129,7 +120,7 @@ fn quotes_without_the_earlier_pair(rt: HostRuntime) -> Result<(), Fail> {
 fn quotes_without_the_later_pair(rt: HostRuntime) -> Result<(), Fail> {
     let done = run_journal(&rt, rt.alloc(), H6_U6_OFF, &quoted())?;
     assert!(rt; done.fills.len() == 0);
-    expect_quote(&rt, rt.alloc(), H6_U6_OFF, H6_M6, implied(200, 2, 3))?;
+    expect_quote(&rt, rt.alloc(), H6_U6_OFF, H6_M6, choice(200, 2, 3))?;
     expect_quote(&rt, rt.alloc(), H6_U6_OFF, H6_U6, None)?;
     expect_quote(&rt, rt.alloc(), H6_U6_OFF, U6, None)?;
     expect_quote(&rt, rt.alloc(), H6_U6_OFF, H6, None)

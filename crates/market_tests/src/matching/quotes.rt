@@ -9,7 +9,7 @@ use std::process::Abort;
 use std::test::Fail;
 use test_support::{Chance, THREE_MONTHS};
 
-/// The quote behind the entries of a journal, over the rulebook with this text.
+/// The quote behind the entries of a journal in which nothing trades, over the rulebook with this text.
 pub(super) fn quote_after(
     rt: &impl Abort,
     alloc: Global,
@@ -22,11 +22,13 @@ pub(super) fn quote_after(
     let book = IndexBook::new(alloc, &rules)?;
     let mut market = Market::new(alloc, &rules, book);
     assert!(rt; are_priced(journal));
-    let _done = apply_all(alloc, &mut market, journal)?;
+    let done = apply_all(alloc, &mut market, journal)?;
+    assert!(rt; done.fills.len() == 0);
     Ok(market.book().quote(instrument, side))
 }
 
-fn choice(price: i64, first: u64, second: u64) -> Option<Choice> {
+/// A quote of one lot by two orders of those places.
+pub(super) fn choice(price: i64, first: u64, second: u64) -> Option<Choice> {
     Some(Choice {
         price,
         quantity: 1,
