@@ -1,15 +1,17 @@
 //! Matching, and what the sessions are sent.
-ghost use Rattle.std.specs.Prelude.{◌<◌, ◌≤◌, All};
+ghost use Rattle.std.specs.Prelude.{◌≡◌, ◌<◌, ◌≤◌, All, OnOk, IfOk};
 ghost use Rattle.spread_rules.specs.Journal.{FitsEntry};
+ghost use Rattle.spread_match.specs.State.{empty_state};
 
 use crate::fault::Fault;
 use crate::reports::{Applied, send_all};
 use crate::timing::{RUNS, nanos, tell};
 use crate::wire::{bytes_of, scanned};
-use spread_books::IndexBook;
+use host_base::NoMemory;
+use spread_books::{Book, IndexBook};
 use spread_journal::read_journal;
 use spread_match::Market;
-use spread_rules::{Entry, Rulebook};
+use spread_rules::{Entry, Fill, Outcome, Rulebook};
 use std::alloc::{AllocGlobal, Allocator};
 use std::time::CpuClock;
 
@@ -17,41 +19,108 @@ fn rulebook_of(text: &[u8]) -> Result<Rulebook, Fault> {
     Rulebook::read(text).map_err(|_| Fault::Input)
 }
 
-/// Applies the entries of a journal, and keeps what came of them.
+/// A market before its first entry.
+fn new_market<'r, A: Allocator + Copy>(
+    alloc: A,
+    rulebook: &'r Rulebook,
+) -> Result<Market<'r, IndexBook<'r, A>, A>, NoMemory>
+    ensures { IfOk result (λ market. market.state ≡ empty_state) }
+{
+    let book = IndexBook::new(alloc, rulebook)?;
+    Ok(Market::new(alloc, rulebook, book))
+}
+
+/// Applies an entry that fits: a new order's price is then within the limits that the market asks for.
+fn apply_entry<B: Book, A: Allocator + Copy>(
+    market: &mut Market<'_, B, A>,
+    place: u64,
+    entry: &Entry,
+    fills: &mut Vec<Fill, A>,
+) -> Result<Outcome, NoMemory>
+    requires entry { FitsEntry entry.now }
+    requires place { market.old.state.last < place }
+    ensures { OnOk result (market.new.state.last ≡ place) }
+{
+    market.apply(place, entry, fills)
+}
+
+/// Applies the entries of a journal in a market before its first entry, and keeps what came of them.
+fn apply_each<B: Book, A: Allocator + Copy>(
+    market: &mut Market<'_, B, A>,
+    journal: &[Entry],
+    applied: &mut Applied<A>,
+) -> Result<(), NoMemory>
+    requires first { market.old.state ≡ empty_state }
+    requires entries { All FitsEntry journal.now }
+{
+    for n in 0..journal.len() {
+        let outcome = apply_entry(market, n as u64 + 1, &journal[n], &mut applied.fills)?;
+        applied.outcomes.push(outcome)?;
+    }
+    Ok(())
+}
+
+/// What comes of the entries of a journal.
 fn apply_all<A: Allocator + Copy>(
     alloc: A,
     rulebook: &Rulebook,
     journal: &[Entry],
-) -> Result<Applied<A>, Fault>
+) -> Result<Applied<A>, NoMemory>
     requires { All FitsEntry journal.now }
 {
-    let mut market = Market::new(alloc, rulebook, IndexBook::new(alloc, rulebook)?);
-    let mut fills = Vec::new(alloc);
-    let mut outcomes = Vec::new(alloc);
-    for n in 0..journal.len() {
-        let outcome = market.apply(n as u64 + 1, &journal[n], &mut fills)?;
-        outcomes.push(outcome)?;
-    }
-    Ok(Applied { fills, outcomes })
+    let mut market = new_market(alloc, rulebook)?;
+    let mut applied = Applied {
+        fills: Vec::new(alloc),
+        outcomes: Vec::new(alloc),
+    };
+    apply_each(&mut market, journal, &mut applied)?;
+    Ok(applied)
 }
 
-/// Applies the entries of a journal, each one's fills over those of the one before, and counts the fills.
+/// Applies an entry that fits, its fills over those of the one before, and counts them.
+fn match_entry<B: Book, A: Allocator + Copy>(
+    market: &mut Market<'_, B, A>,
+    place: u64,
+    entry: &Entry,
+    fills: &mut Vec<Fill, A>,
+) -> Result<u64, NoMemory>
+    requires entry { FitsEntry entry.now }
+    requires place { market.old.state.last < place }
+    ensures { OnOk result (market.new.state.last ≡ place) }
+{
+    fills.clear();
+    apply_entry(market, place, entry, fills)?;
+    Ok(fills.len() as u64)
+}
+
+/// Applies the entries of a journal in a market before its first entry, and counts the fills.
+fn match_each<B: Book, A: Allocator + Copy>(
+    market: &mut Market<'_, B, A>,
+    journal: &[Entry],
+    fills: &mut Vec<Fill, A>,
+) -> Result<u64, NoMemory>
+    requires first { market.old.state ≡ empty_state }
+    requires entries { All FitsEntry journal.now }
+{
+    let mut count = 0u64;
+    for n in 0..journal.len() {
+        let made = match_entry(market, n as u64 + 1, &journal[n], fills)?;
+        count = count.wrapping_add(made);
+    }
+    Ok(count)
+}
+
+/// How many fills the entries of a journal make. They are not kept.
 fn match_all<A: Allocator + Copy>(
     alloc: A,
     rulebook: &Rulebook,
     journal: &[Entry],
-) -> Result<u64, Fault>
+) -> Result<u64, NoMemory>
     requires { All FitsEntry journal.now }
 {
-    let mut market = Market::new(alloc, rulebook, IndexBook::new(alloc, rulebook)?);
+    let mut market = new_market(alloc, rulebook)?;
     let mut fills = Vec::new(alloc);
-    let mut count = 0u64;
-    for n in 0..journal.len() {
-        fills.clear();
-        market.apply(n as u64 + 1, &journal[n], &mut fills)?;
-        count = count.wrapping_add(fills.len() as u64);
-    }
-    Ok(count)
+    match_each(&mut market, journal, &mut fills)
 }
 
 /// Applies the entries of a journal, and keeps neither fills nor outcomes.

@@ -74,6 +74,27 @@ fn row_of<A: Allocator + Copy>(table: &IdTable<A>, keys: &[IdKey], n: usize) -> 
     table.find(&Keys { keys }, &numbered(n))
 }
 
+/// Whether the row before that one stands, if there is one.
+fn row_before_stands<A: Allocator + Copy>(table: &IdTable<A>, keys: &[IdKey], n: usize) -> bool
+    requires { IsTableOf table.now keys.now }
+{
+    n == 0 || row_of(table, keys, n - 1) == Some(n - 1)
+}
+
+/// Each of so many numbers stands at its row.
+fn rows_stand<A: Allocator + Copy>(
+    rt: &impl Abort,
+    table: &IdTable<A>,
+    keys: &[IdKey],
+    count: usize,
+)
+    requires { IsTableOf table.now keys.now }
+{
+    for n in 0..count {
+        assert!(rt; row_of(table, keys, n) == Some(n));
+    }
+}
+
 /// Rows of the numbers up to there, which stand at those rows then. A request for memory that is refused leaves all as it
 /// was.
 fn note_numbers<A: Allocator + Copy>(
@@ -90,15 +111,30 @@ fn note_numbers<A: Allocator + Copy>(
             Ok(used) => used,
             Err(NoMemory) => {
                 assert!(rt; row_of(table, keys, n).is_none());
-                assert!(rt; n == 0 || row_of(table, keys, n - 1) == Some(n - 1));
+                assert!(rt; row_before_stands(table, keys, n));
                 note_next(table, keys, numbered(n))?
             }
         };
         assert!(rt; !used);
     }
-    for n in 0..count {
-        assert!(rt; row_of(table, keys, n) == Some(n));
-    }
+    rows_stand(rt, table, keys, count);
+    Ok(())
+}
+
+/// Behind 8,190 rows a number of one of them is known and keeps its first row, and another session's is new.
+fn rows_behind<A: Allocator + Copy>(
+    rt: &impl Abort,
+    table: &mut IdTable<A>,
+    keys: &mut Vec<IdKey, A>,
+) -> Result<(), Fail>
+    requires { IsTableOf table.old keys.old.items }
+{
+    assert!(rt; row_of(table, keys, 8_190).is_none());
+    assert!(rt; row_of(table, keys, 65_536).is_none());
+    assert!(rt; note_next(table, keys, numbered(17))?);
+    assert!(rt; row_of(table, keys, 17) == Some(17));
+    assert!(rt; !note_next(table, keys, numbered(65_553))?);
+    assert!(rt; row_of(table, keys, 65_553) == Some(8_191));
     Ok(())
 }
 
@@ -107,12 +143,23 @@ fn ids_are_found(rt: HostRuntime) -> Result<(), Fail> {
     let mut table = IdTable::new(rt.alloc());
     let mut keys = Vec::new(rt.alloc());
     note_numbers(&rt, &mut table, &mut keys, 8_190)?;
-    assert!(rt; row_of(&table, &keys, 8_190).is_none());
-    assert!(rt; row_of(&table, &keys, 65_536).is_none());
-    assert!(rt; note_next(&mut table, &mut keys, numbered(17))?);
-    assert!(rt; row_of(&table, &keys, 17) == Some(17));
-    assert!(rt; !note_next(&mut table, &mut keys, numbered(65_553))?);
-    assert!(rt; row_of(&table, &keys, 65_553) == Some(8_191));
+    rows_behind(&rt, &mut table, &mut keys)
+}
+
+/// Notes the key of the next row, and again once it is known.
+fn note_known<A: Allocator + Copy>(
+    rt: &impl Abort,
+    table: &mut IdTable<A>,
+    keys: &mut Vec<IdKey, A>,
+    n: usize,
+) -> Result<(), Fail>
+    requires { IsTableOf table.old keys.old.items }
+    ensures { IsTableOf table.new keys.new.items }
+{
+    assert!(rt; !note_next(table, keys, numbered(n))?);
+    assert!(rt; row_of(table, keys, n) == Some(n));
+    assert!(rt; note_and_take_back(table, keys, numbered(n))?.is_known());
+    assert!(rt; row_of(table, keys, n) == Some(n));
     Ok(())
 }
 
@@ -128,11 +175,8 @@ fn note_again<A: Allocator + Copy>(
 {
     let noted = note_and_take_back(table, keys, numbered(n))?;
     assert!(rt; row_of(table, keys, n).is_none());
-    assert!(rt; n == 0 || row_of(table, keys, n - 1) == Some(n - 1));
-    assert!(rt; !note_next(table, keys, numbered(n))?);
-    assert!(rt; row_of(table, keys, n) == Some(n));
-    assert!(rt; note_and_take_back(table, keys, numbered(n))?.is_known());
-    assert!(rt; row_of(table, keys, n) == Some(n));
+    assert!(rt; row_before_stands(table, keys, n));
+    note_known(rt, table, keys, n)?;
     Ok(noted)
 }
 
@@ -152,9 +196,7 @@ fn ids_are_taken_back(rt: HostRuntime) -> Result<(), Fail> {
     }
     assert!(rt; in_lines > 8_000);
     assert!(rt; behind > 0);
-    for n in 0..8_190 {
-        assert!(rt; row_of(&table, &keys, n) == Some(n));
-    }
+    rows_stand(&rt, &table, &keys, 8_190);
     Ok(())
 }
 

@@ -2,7 +2,7 @@
 ghost use Rattle.std.specs.Prelude.{◌<◌};
 
 use super::checked::{add, amend, reduce, remove};
-use super::queues::is;
+use super::queues::{is, is_at, is_found, is_front, none_has};
 use host_base::{Id, NoMemory};
 use spread_books::{Book, FrontBook, IndexBook, ListBook, TreeBook};
 use spread_rules::{Instrument, Order, Rulebook, Side};
@@ -31,14 +31,34 @@ fn amended_in_place<B: Book>(rt: &impl Abort, book: &mut B) -> Result<(), Fail> 
     let second = sell(3, b"b");
     assert!(rt; add(book, first)?);
     assert!(rt; add(book, second)?);
+    first_amended(rt, book, &first, &second)?;
+    filled_and_amended(rt, book, &first, &second)
+}
+
+/// The first one takes another id and three lots, and stays the front.
+fn first_amended<B: Book>(
+    rt: &impl Abort,
+    book: &mut B,
+    first: &Order,
+    second: &Order,
+) -> Result<(), Fail> {
     assert!(rt; amend(book, 0, id(b"c"), 3)?);
     let smaller = Order {
         id: id(b"c"),
         quantity: 3,
         leaves: 3,
-        ..first
+        ..*first
     };
-    stand(rt, book, &smaller, &second, b"a")?;
+    stand(rt, book, &smaller, second, b"a")
+}
+
+/// Two lots of the first one are filled, so that it cannot take a quantity of two.
+fn filled_and_amended<B: Book>(
+    rt: &impl Abort,
+    book: &mut B,
+    first: &Order,
+    second: &Order,
+) -> Result<(), Fail> {
     assert!(rt; reduce(book, 0, 2));
     assert!(rt; !amend(book, 0, id(b"d"), 2)?);
     assert!(rt; !amend(book, 0, id(b"b"), 3)?);
@@ -47,17 +67,27 @@ fn amended_in_place<B: Book>(rt: &impl Abort, book: &mut B) -> Result<(), Fail> 
         id: id(b"d"),
         quantity: 7,
         leaves: 5,
-        ..first
+        ..*first
     };
-    stand(rt, book, &larger, &second, b"c")?;
+    stand(rt, book, &larger, second, b"c")?;
+    second_amended(rt, book, &larger, second)
+}
+
+/// The second one takes the id that the first one had.
+fn second_amended<B: Book>(
+    rt: &impl Abort,
+    book: &mut B,
+    first: &Order,
+    second: &Order,
+) -> Result<(), Fail> {
     assert!(rt; amend(book, 1, id(b"a"), 4)?);
     let last = Order {
         id: id(b"a"),
         quantity: 4,
         leaves: 4,
-        ..second
+        ..*second
     };
-    stand(rt, book, &larger, &last, b"b")
+    stand(rt, book, first, &last, b"b")
 }
 
 /// The first and the second rest alone, the first as the front, and no order with that id does.
@@ -69,12 +99,12 @@ fn stand<B: Book>(
     gone: &[u8],
 ) -> Result<(), Fail> {
     assert!(rt; book.len() == 2);
-    assert!(rt; is(book.walk(0), first));
-    assert!(rt; is(book.walk(1), second));
-    assert!(rt; is(book.find(0, &first.id), first));
-    assert!(rt; is(book.find(0, &second.id), second));
-    assert!(rt; book.find(0, &id(gone)) == None);
-    assert!(rt; is(book.front(first.instrument, first.side), first));
+    assert!(rt; is_at(book, 0, first));
+    assert!(rt; is_at(book, 1, second));
+    assert!(rt; is_found(book, first));
+    assert!(rt; is_found(book, second));
+    assert!(rt; none_has(book, 0, gone));
+    assert!(rt; is_front(book, first));
     assert!(rt; book.front_level(first.instrument, first.side) == Some(first.level()));
     Ok(())
 }
@@ -169,8 +199,27 @@ fn compare<B: Book, C: Book>(rt: &impl Abort, book: &B, other: &C) -> Result<(),
     Ok(())
 }
 
-/// Changes chosen at random, made in that book and in the list book. A change that finds no memory leaves the book as it
-/// was, and is made again.
+/// Makes that change in both books, and says whether it was made. A change that finds no memory leaves the book as it was,
+/// and is made again.
+fn make_in_both<B: Book, C: Book>(
+    rt: &impl Abort,
+    book: &mut B,
+    other: &mut C,
+    next: Change,
+) -> Result<bool, Fail> {
+    let done = match make(book, next) {
+        Ok(done) => done,
+        Err(NoMemory) => {
+            compare(rt, book, other)?;
+            make(book, next)?
+        }
+    };
+    assert!(rt; make(other, next)? == done);
+    compare(rt, book, other)?;
+    Ok(done)
+}
+
+/// Changes chosen at random, made in that book and in the list book.
 fn run<B: Book, A: Allocator + Copy>(
     rt: &impl Abort,
     book: &mut B,
@@ -182,21 +231,12 @@ fn run<B: Book, A: Allocator + Copy>(
     let mut amended: usize = 0;
     for place in 1..80 {
         let next = next_change(&mut chance, place, list.len());
-        let done = match make(book, next) {
-            Ok(done) => done,
-            Err(NoMemory) => {
-                compare(rt, book, &list)?;
-                make(book, next)?
-            }
-        };
-        assert!(rt; make(&mut list, next)? == done);
-        compare(rt, book, &list)?;
+        let amends = matches!(next, Change::Amend(_, _, _));
+        let done = make_in_both(rt, book, &mut list, next)?;
         let gone = name(&mut chance);
         assert!(rt; book.find(0, &gone) == list.find(0, &gone));
-        if let Change::Amend(_, _, _) = next {
-            if done {
-                amended = amended.saturating_add(1);
-            }
+        if amends && done {
+            amended = amended.saturating_add(1);
         }
     }
     Ok(amended)

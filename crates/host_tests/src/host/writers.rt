@@ -1,6 +1,6 @@
 //! The writers of what the sessions are sent. Each day ends by itself, whatever the schedule.
 use super::live::{USUAL, comes, streams_of};
-use super::reported::{FIRST_TRADE_SENT, lists_with_bytes};
+use super::reported::{FIRST_TRADE_SENT, first_is_sent, lists_with_bytes};
 use day_threads::{Caps, Gate};
 use spread_host::run_day;
 use spread_rules::Rulebook;
@@ -51,8 +51,7 @@ fn written_while_entries_are_matched(rt: HostRuntime) -> Result<(), Fail> {
     let streams = streams_of(rt.alloc(), 1, FIRST_TRADE)?;
     let day = run_day(&rt, rt.alloc(), &rulebook, stamp(), streams, &gate, USUAL)?;
     assert!(rt; gate.late.load(Ordering::SeqCst) == 0);
-    let first = day.out.first().ok_or("a list")?;
-    assert!(rt; first.as_slice() == FIRST_TRADE_SENT);
+    assert!(rt; first_is_sent(&day.out));
     assert!(rt; lists_with_bytes(&day.out) == 1);
     Ok(())
 }
@@ -89,8 +88,7 @@ fn totals_grow(rt: HostRuntime) -> Result<(), Fail> {
         let day = run_day(&rt, rt.alloc(), &rulebook, stamp(), streams, &gate, caps)?;
         assert!(rt; gate.wrong.load(Ordering::SeqCst) == 0);
         assert!(rt; gate.last.load(Ordering::SeqCst) == FIRST_TRADE_SENT.len() as u64);
-        let first = day.out.first().ok_or("a list")?;
-        assert!(rt; first.as_slice() == FIRST_TRADE_SENT);
+        assert!(rt; first_is_sent(&day.out));
     }
     Ok(())
 }

@@ -1,6 +1,11 @@
 //! Implied quotes of a market's book.
+ghost use Rattle.std.specs.Prelude.{◌≡◌, IfOk};
+ghost use Rattle.spread_match.specs.State.{empty_state};
+ghost use Rattle.spread_match.specs.Trade.{ArePriced};
+
 use super::every_book::instrument;
 use super::{H6_M6, U6, apply_all, are_priced, buy, cancel, day, is_priced, logon, sell};
+use host_base::NoMemory;
 use spread_books::{Book, IndexBook};
 use spread_match::Market;
 use spread_rules::{Choice, Entry, Instrument, Members, Order, Rulebook, Side};
@@ -8,6 +13,56 @@ use std::alloc::Global;
 use std::process::Abort;
 use std::test::Fail;
 use test_support::{Chance, THREE_MONTHS};
+
+fn quote_of(
+    market: &Market<'_, IndexBook<'_, Global>, Global>,
+    instrument: Instrument,
+    side: Side,
+) -> Option<Choice> {
+    let book = market.book();
+    book.quote(instrument, side)
+}
+
+/// Applies the entries of a journal in which nothing trades to a market before its first entry.
+fn apply_quietly(
+    rt: &impl Abort,
+    alloc: Global,
+    market: &mut Market<'_, IndexBook<'_, Global>, Global>,
+    journal: &[Entry],
+) -> Result<(), NoMemory>
+    requires first { market.old.state ≡ empty_state }
+    requires prices { ArePriced journal.now }
+{
+    let done = apply_all(alloc, market, journal)?;
+    assert!(rt; done.fills.len() == 0);
+    Ok(())
+}
+
+/// The quote behind the entries of such a journal.
+fn quote_behind(
+    rt: &impl Abort,
+    alloc: Global,
+    market: &mut Market<'_, IndexBook<'_, Global>, Global>,
+    journal: &[Entry],
+    instrument: Instrument,
+    side: Side,
+) -> Result<Option<Choice>, Fail>
+    requires first { market.old.state ≡ empty_state }
+    requires prices { ArePriced journal.now }
+{
+    apply_quietly(rt, alloc, market, journal)?;
+    Ok(quote_of(market, instrument, side))
+}
+
+/// A market before its first entry.
+fn market_of<'r>(
+    alloc: Global,
+    rules: &'r Rulebook,
+) -> Result<Market<'r, IndexBook<'r, Global>, Global>, NoMemory>
+    ensures { IfOk result (λ market. market.state ≡ empty_state) }
+{
+    Ok(Market::new(alloc, rules, IndexBook::new(alloc, rules)?))
+}
 
 /// The quote behind the entries of a journal in which nothing trades, over the rulebook with this text.
 pub(super) fn quote_after(
@@ -18,13 +73,10 @@ pub(super) fn quote_after(
     instrument: Instrument,
     side: Side,
 ) -> Result<Option<Choice>, Fail> {
-    let rules = Rulebook::read(months)?;
-    let book = IndexBook::new(alloc, &rules)?;
-    let mut market = Market::new(alloc, &rules, book);
     assert!(rt; are_priced(journal));
-    let done = apply_all(alloc, &mut market, journal)?;
-    assert!(rt; done.fills.len() == 0);
-    Ok(market.book().quote(instrument, side))
+    let rules = Rulebook::read(months)?;
+    let mut market = market_of(alloc, &rules)?;
+    quote_behind(rt, alloc, &mut market, journal, instrument, side)
 }
 
 /// A quote of one lot by two orders of those places.
@@ -167,32 +219,40 @@ fn with_pair(
     Some((found, choice))
 }
 
+/// The price that is so far from the reference that an order of that side seldom trades.
+fn price_away(reference: i64, side: Side, away: i64) -> i64 {
+    match side {
+        Side::Buy => reference.wrapping_sub(away),
+        Side::Sell => reference.wrapping_add(away),
+    }
+}
+
+/// A letter of eight.
+fn letter(chance: &mut Chance) -> u8 {
+    b'a' + chance.below(8) as u8
+}
+
 /// An order that seldom trades, or a cancel.
 fn chosen_entry(chance: &mut Chance) -> Entry {
-    let name = [b'a' + chance.below(8) as u8, b'a' + chance.below(8) as u8];
+    let name = [letter(chance), letter(chance)];
     if chance.below(3) == 0 {
         return cancel(b"x", &name);
     }
     let (symbol, reference) = instrument(chance);
     let away = 10 + chance.below(8) as i64;
     let quantity = 1 + chance.below(5) as u32;
-    if chance.below(2) == 0 {
-        day(
-            &name,
-            symbol,
-            Side::Buy,
-            quantity,
-            reference.wrapping_sub(away),
-        )
+    let side = if chance.below(2) == 0 {
+        Side::Buy
     } else {
-        day(
-            &name,
-            symbol,
-            Side::Sell,
-            quantity,
-            reference.wrapping_add(away),
-        )
-    }
+        Side::Sell
+    };
+    day(
+        &name,
+        symbol,
+        side,
+        quantity,
+        price_away(reference, side, away),
+    )
 }
 
 const INSTRUMENTS: [Instrument; 6] = [
@@ -221,25 +281,35 @@ fn compare(
     Ok(quotes)
 }
 
-/// How many quotes there are behind the entries of a run, each of them as the search finds it.
-fn quotes_of_a_run(
+/// How many quotes there are behind the entries of a run in that market, each of them as the search finds it.
+fn quotes_behind(
     rt: &impl Abort,
     alloc: Global,
-    rules: &Rulebook,
+    market: &mut Market<'_, IndexBook<'_, Global>, Global>,
     seed: u64,
-) -> Result<usize, Fail> {
+) -> Result<usize, Fail>
+    requires { market.old.state ≡ empty_state }
+{
     let mut chance = Chance::new(seed);
-    let book = IndexBook::new(alloc, rules)?;
-    let mut market = Market::new(alloc, rules, book);
     let mut fills = Vec::new(alloc);
     let mut quotes = 0usize;
     for place in 1..100u64 {
         let entry = chosen_entry(&mut chance);
         assert!(rt; is_priced(&entry));
         market.apply(place, &entry, &mut fills)?;
-        quotes = quotes.wrapping_add(compare(rt, &market)?);
+        quotes = quotes.wrapping_add(compare(rt, market)?);
     }
     Ok(quotes)
+}
+
+fn quotes_of_a_run(
+    rt: &impl Abort,
+    alloc: Global,
+    rules: &Rulebook,
+    seed: u64,
+) -> Result<usize, Fail> {
+    let mut market = market_of(alloc, rules)?;
+    quotes_behind(rt, alloc, &mut market, seed)
 }
 
 #[test]

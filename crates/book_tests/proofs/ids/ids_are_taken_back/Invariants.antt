@@ -3,6 +3,3 @@ use Rattle.book_tests.proofs.ids.ids_are_taken_back.Given as goal
 
 abbrev pub invariant-loop-n : goal.invariant-loop-n
 invariant-loop-n g l = record { table : IsTableOf l.table l.keys.items }
-
-abbrev pub invariant-loop-n-2 : goal.invariant-loop-n-2
-invariant-loop-n-2 g l = record { table : IsTableOf l.table l.keys.items }
