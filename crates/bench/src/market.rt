@@ -1,5 +1,5 @@
 //! Matching, and what the sessions are sent.
-ghost use Rattle.std.specs.Prelude.{◌≡◌, ◌<◌, ◌≤◌, All, OnOk, IfOk};
+ghost use Rattle.std.specs.Prelude.{◌≡◌, ◌<◌, [], All, OnOk};
 ghost use Rattle.spread_rules.specs.Journal.{FitsEntry};
 ghost use Rattle.spread_match.specs.State.{empty_state};
 
@@ -17,17 +17,6 @@ use std::time::CpuClock;
 
 fn rulebook_of(text: &[u8]) -> Result<Rulebook, Fault> {
     Rulebook::read(text).map_err(|_| Fault::Input)
-}
-
-/// A market before its first entry.
-fn new_market<'r, A: Allocator + Copy>(
-    alloc: A,
-    rulebook: &'r Rulebook,
-) -> Result<Market<'r, IndexBook<'r, A>, A>, NoMemory>
-    ensures { IfOk result (λ market. market.state ≡ empty_state) }
-{
-    let book = IndexBook::new(alloc, rulebook)?;
-    Ok(Market::new(alloc, rulebook, book))
 }
 
 /// Applies an entry that fits: a new order's price is then within the limits that the market asks for.
@@ -60,15 +49,17 @@ fn apply_each<B: Book, A: Allocator + Copy>(
     Ok(())
 }
 
-/// What comes of the entries of a journal.
-fn apply_all<A: Allocator + Copy>(
+/// What comes of the entries of a journal, over an empty book.
+fn apply_all<B: Book + Drop, A: Allocator + Copy>(
     alloc: A,
     rulebook: &Rulebook,
+    book: B,
     journal: &[Entry],
 ) -> Result<Applied<A>, NoMemory>
-    requires { All FitsEntry journal.now }
+    requires empty { B.orders book ≡ [] }
+    requires entries { All FitsEntry journal.now }
 {
-    let mut market = new_market(alloc, rulebook)?;
+    let mut market = Market::new(alloc, rulebook, book);
     let mut applied = Applied {
         fills: Vec::new(alloc),
         outcomes: Vec::new(alloc),
@@ -110,17 +101,31 @@ fn match_each<B: Book, A: Allocator + Copy>(
     Ok(count)
 }
 
-/// How many fills the entries of a journal make. They are not kept.
-fn match_all<A: Allocator + Copy>(
+/// How many fills the entries of a journal make, over an empty book. They are not kept.
+fn match_all<B: Book + Drop, A: Allocator + Copy>(
+    alloc: A,
+    rulebook: &Rulebook,
+    book: B,
+    journal: &[Entry],
+) -> Result<u64, NoMemory>
+    requires empty { B.orders book ≡ [] }
+    requires entries { All FitsEntry journal.now }
+{
+    let mut market = Market::new(alloc, rulebook, book);
+    let mut fills = Vec::new(alloc);
+    match_each(&mut market, journal, &mut fills)
+}
+
+/// The same over the book that the host has.
+fn match_indexed<A: Allocator + Copy>(
     alloc: A,
     rulebook: &Rulebook,
     journal: &[Entry],
 ) -> Result<u64, NoMemory>
     requires { All FitsEntry journal.now }
 {
-    let mut market = new_market(alloc, rulebook)?;
-    let mut fills = Vec::new(alloc);
-    match_each(&mut market, journal, &mut fills)
+    let book = IndexBook::new(alloc, rulebook)?;
+    match_all(alloc, rulebook, book, journal)
 }
 
 /// Applies the entries of a journal, and keeps neither fills nor outcomes.
@@ -135,7 +140,7 @@ pub fn time_match(
     let mut least = u64::MAX;
     for _ in 0..RUNS {
         let start = nanos(rt)?;
-        fills = match_all(rt.alloc(), &rulebook, &journal)?;
+        fills = match_indexed(rt.alloc(), &rulebook, &journal)?;
         least = least.min(nanos(rt)?.saturating_sub(start));
     }
     tell(rt, "match", journal.len() as u64, "entries", least)?;
@@ -151,7 +156,8 @@ pub fn time_report(
 ) -> Result<(), Fault> {
     let rulebook = rulebook_of(rules)?;
     let journal = read_journal(rt.alloc(), text)?;
-    let applied = apply_all(rt.alloc(), &rulebook, &journal)?;
+    let book = IndexBook::new(rt.alloc(), &rulebook)?;
+    let applied = apply_all(rt.alloc(), &rulebook, book, &journal)?;
     let mut lists = Vec::new(rt.alloc());
     let mut least = u64::MAX;
     for _ in 0..RUNS {

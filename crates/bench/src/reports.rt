@@ -5,8 +5,8 @@ ghost use Rattle.spread_rules.specs.declared.fill.Fill.{Fill};
 ghost use Rattle.spread_rules.specs.Rulebook.{IsListed};
 ghost use Rattle.spread_rules.specs.Ranges.{FitsOutcome, FitsFill};
 
-use crate::content::id;
 use crate::fault::Fault;
+use host_base::Id;
 use spread_report::{Desk, DeskFault};
 use spread_rules::{Entry, Event, Fill, Instrument, Outcome, Rulebook};
 use std::alloc::{AllocError, Allocator};
@@ -121,7 +121,7 @@ pub fn send_all<A: Allocator + Copy>(
     applied: &Applied<A>,
 ) -> Result<Vec<Vec<u8, A>, A>, Fault> {
     let mut lists = new_lists(alloc)?;
-    let mut desk = Desk::new(id(b"20260105-14:30:00"));
+    let mut desk = Desk::new(Id::new(b"20260105-14:30:00").unwrap_or(Id::default()));
     let mut rest = applied.fills.as_slice();
     let mut place = 0u64;
     for (entry, outcome) in journal.iter().zip(applied.outcomes.iter()) {

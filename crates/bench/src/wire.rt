@@ -1,13 +1,8 @@
 //! Frames and messages.
-ghost use Rattle.std.specs.Prelude.{◌≤◌, length};
-
-use crate::content::{fill_fields, head};
 use crate::fault::Fault;
 use crate::timing::{RUNS, nanos, tell};
 use fix_session::{Reader, Verdict};
-use fix_wire::{Framer, Next, write_message};
-use host_base::NoMemory;
-use std::alloc::{AllocGlobal, Allocator};
+use fix_wire::{Framer, Next};
 use std::time::CpuClock;
 
 /// A piece of a stream, as a connection would give it.
@@ -44,7 +39,7 @@ fn scan_piece(framer: &mut Framer, piece: &[u8]) -> u64 {
 }
 
 /// Puts a stream in pieces, passes every message, and counts them.
-pub fn scan(stream: &[u8]) -> u64 {
+fn scan(stream: &[u8]) -> u64 {
     let mut framer = Framer::new();
     let mut passed = 0u64;
     for piece in stream.chunks(PIECE) {
@@ -83,25 +78,13 @@ fn judge_piece(reader: &mut Reader, piece: &[u8]) -> u64 {
 }
 
 /// Puts a session's stream in pieces, judges every message, and counts the events.
-pub fn judge(stream: &[u8]) -> u64 {
+fn judge(stream: &[u8]) -> u64 {
     let mut reader = Reader::new();
     let mut events = 0u64;
     for piece in stream.chunks(PIECE) {
         events = events.wrapping_add(judge_piece(&mut reader, piece));
     }
     events
-}
-
-/// Writes so many reports of fills, each over the one before, and counts the bytes.
-fn write_reports<A: Allocator + Copy>(alloc: A, reports: u32) -> Result<u64, NoMemory> {
-    let mut out = Vec::new(alloc);
-    let mut bytes = 0u64;
-    for serial in 0..u64::from(reports) {
-        out.clear();
-        write_message(&mut out, &head(b'8', serial + 2), &fill_fields(serial))?;
-        bytes = bytes.wrapping_add(out.len() as u64);
-    }
-    Ok(bytes)
 }
 
 /// Scans streams, and counts their messages.
@@ -130,11 +113,7 @@ pub fn bytes_of(streams: &[Vec<u8>]) -> u64 {
 }
 
 /// Scans streams, and tells the bytes and the messages.
-pub fn time_scan(
-    rt: &(impl CpuClock + Print),
-    phase: &str,
-    streams: &[Vec<u8>],
-) -> Result<(), Fault> {
+pub fn time_scan(rt: &(impl CpuClock + Print), streams: &[Vec<u8>]) -> Result<(), Fault> {
     let mut passed = 0u64;
     let mut least = u64::MAX;
     for _ in 0..RUNS {
@@ -142,7 +121,7 @@ pub fn time_scan(
         passed = scanned(streams);
         least = least.min(nanos(rt)?.saturating_sub(start));
     }
-    tell(rt, phase, bytes_of(streams), "bytes", least)?;
+    tell(rt, "scan", bytes_of(streams), "bytes", least)?;
     println!(rt; "# {passed} messages passed")?;
     Ok(())
 }
@@ -160,17 +139,4 @@ pub fn time_judge(rt: &(impl CpuClock + Print), streams: &[Vec<u8>]) -> Result<(
     tell(rt, "judge", messages, "messages", least)?;
     println!(rt; "# {events} events")?;
     Ok(())
-}
-
-/// Writes so many reports.
-pub fn time_write(rt: &(impl CpuClock + Print + AllocGlobal), reports: u32) -> Result<(), Fault> {
-    let mut bytes = 0u64;
-    let mut least = u64::MAX;
-    for _ in 0..RUNS {
-        let start = nanos(rt)?;
-        bytes = write_reports(rt.alloc(), reports)?;
-        least = least.min(nanos(rt)?.saturating_sub(start));
-    }
-    tell(rt, "write", u64::from(reports), "messages", least)?;
-    tell(rt, "write-bytes", bytes, "bytes", least)
 }
