@@ -6,8 +6,8 @@ ghost use Rattle.std.specs.Prelude.{All};
 ghost use Rattle.spread_rules.specs.Journal.{FitsEntry};
 
 use crate::fault::DrawFault;
-use crate::page::page_of;
 use crate::watch::courses_of;
+use day_page::page_of;
 use host_base::{Failed, Sink, write_all};
 use spread_journal::{JournalFault, read_journal};
 use spread_rules::{Entry, Rulebook};

@@ -1,4 +1,3 @@
-pub mod MonthSums
 pub mod MonthLines
 pub mod PiecesInTurn
 pub mod SessionLines

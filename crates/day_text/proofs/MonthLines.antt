@@ -2,8 +2,8 @@
 use Rattle.std.proofs.Common.{◌≡◌, ℕ, zero, suc, ◌+◌, ◌<◌, List, [], ◌∷◌, ◌++◌, length, take, get_or, sym, ap, ◌∙◌, arith}
 use Rattle.std.proofs.lemmas.List.{append_assoc, append-nil}
 use Rattle.spread_rules.specs.declared.fill.Fill.{Fill}
-use Rattle.day_text.specs.declared.months.MonthTotals.{MonthTotals}
-use Rattle.day_text.specs.Totals.{totals_of}
+use Rattle.month_totals.specs.declared.totals.MonthTotals.{MonthTotals}
+use Rattle.month_totals.specs.Totals.{totals_of}
 use Rattle.day_text.specs.Months.{totals_line, month_line, month_lines_from}
 
 -- one more month's line

@@ -8,7 +8,7 @@ use Rattle.spread_rules.specs.Rulebook.{Rules, IsListed}
 use Rattle.day_text.specs.Fills.{fill_lines}
 use Rattle.day_text.specs.Messages.{outgoing_lines_from}
 use Rattle.day_text.specs.Months.{month_lines}
-use Rattle.day_text.specs.Totals.{IsSummable}
+use Rattle.month_totals.specs.Totals.{IsSummable}
 
 -- the lines of fills, and of months
 abbrev pub fills_text : Rules → List Fill → List ℕ

@@ -1,4 +1,3 @@
-pub mod Totals
 pub mod Fills
 pub mod Months
 pub mod Messages

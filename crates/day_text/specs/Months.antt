@@ -4,8 +4,8 @@ use Rattle.std.specs.Fmt.{signed_decimal}
 use Rattle.spread_rules.specs.declared.fill.Fill.{Fill}
 use Rattle.spread_rules.specs.Rulebook.{Rules, names_of}
 use Rattle.host_base.specs.Ascii.{line_feed, space}
-use Rattle.day_text.specs.declared.months.MonthTotals.{MonthTotals}
-use Rattle.day_text.specs.Totals.{totals_of}
+use Rattle.month_totals.specs.declared.totals.MonthTotals.{MonthTotals}
+use Rattle.month_totals.specs.Totals.{totals_of}
 
 -- bought and sold
 abbrev pub lots_text : MonthTotals → List ℕ

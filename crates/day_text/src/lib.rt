@@ -13,4 +13,5 @@ pub use difference::{Difference, first_difference};
 pub use fault::TextFault;
 pub use fills::put_fills;
 pub use messages::write_sessions;
-pub use months::{MonthTotals, month_totals, put_months};
+pub use month_totals::{MonthTotals, month_totals};
+pub use months::put_months;

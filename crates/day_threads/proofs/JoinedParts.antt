@@ -16,7 +16,7 @@ use Rattle.day_apply.specs.declared.fault.ApplyFault.{ApplyFault}
 use Rattle.day_apply.specs.declared.fault.ApplyFault.TheVariants.{NoMemory, NumbersSpent}
 use Rattle.session_threads.specs.Streams.{IsBeginningOf, whole_at}
 use Rattle.day_threads.specs.Streams.{IsThreadsFault}
-use Rattle.day_threads.specs.code.Concluding.{of_apply}
+use Rattle.day_stages.specs.code.Making.{of_apply}
 
 pub agrees_prefix : (b ended : Bool) (gave took : List Entry) → Agrees b ended gave took → IsPrefix took gave
 agrees_prefix true ended gave took h = ([], append-nil took ∙ h.1)

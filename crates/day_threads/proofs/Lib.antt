@@ -1,6 +1,3 @@
 pub mod CollectedBytes
 pub mod JoinedParts
 pub mod LawfulJournal
-pub mod PostPairs
-pub mod Posters
-pub mod RingEnds

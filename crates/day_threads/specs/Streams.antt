@@ -11,16 +11,11 @@ use Rattle.day_apply.specs.Applied.{SpendsAt, applied_entries, outgoing_bytes}
 use Rattle.gate_link.specs.Opening.{IsRefusal}
 use Rattle.stage_rings.specs.Faults.{Between}
 use Rattle.session_threads.specs.Streams.{IsBeginningOf, all_events, whole_at}
-use Rattle.day_threads.specs.declared.fault.ThreadsFault.{ThreadsFault}
-use Rattle.day_threads.specs.declared.fault.ThreadsFault.TheVariants.{Link, Spawn, JournalFull, NoMemory, NumbersSpent}
+use Rattle.day_stages.specs.declared.fault.ThreadsFault.{ThreadsFault}
+use Rattle.day_stages.specs.declared.fault.ThreadsFault.TheVariants.{Link, Spawn, JournalFull, NoMemory, NumbersSpent}
 use Rattle.day_threads.specs.declared.conclude.SessionsDay.{SessionsDay}
 
--- this many sessions, a ring of this size and a journal of this size are within the limits
-abbrev pub IsWithinLimits : ℕ → ℕ → ℕ → Type 0
-IsWithinLimits sessions ring journal =
-    Between 1 SESSIONS sessions × Between 1 MAX_RING ring × (journal ≤ MAX_JOURNAL_ENTRIES)
-
--- a place of such a journal, or the one behind its last entry
+-- a place of a journal that begins that of these streams, or the one behind its last entry
 pub record IsLivePlace {A : Type 0} (streams : List (Vec ℕ A)) (place : ℕ) : Type 0 where
   pub journal : List Entry
   pub parts : IsBeginningOf streams journal

@@ -3,14 +3,13 @@ ghost use Rattle.std.specs.Prelude.{◌≡◌, ◌≤◌, ◌<◌, ℕ, length, 
 ghost use Rattle.spread_report.specs.Sessions.{bytes_of};
 ghost use Rattle.day_apply.specs.Sending.{sending_rules, stamp_of};
 ghost use Rattle.day_threads.specs.Streams.{IsDayOfSessions, IsThreadsFault};
-ghost use Rattle.day_threads.specs.code.Concluding.{AreJoined, IsWhole, of_apply};
-ghost use Rattle.day_threads.specs.code.Posting.{posted_at};
+ghost use Rattle.day_threads.specs.code.Concluding.{AreJoined, IsWhole};
+ghost use Rattle.day_stages.specs.code.Making.{of_apply};
+ghost use Rattle.day_stages.specs.code.Posting.{posted_at};
 ghost use Rattle.session_threads.specs.code.Writing.{AreJoinedPairs, written_at};
 
-use crate::fault::ThreadsFault;
-use crate::matching::{MatchEnd, Matched};
-use crate::posting::PostedEntries;
-use day_apply::{ApplyFault, FillsAndMessages};
+use day_apply::FillsAndMessages;
+use day_stages::{MatchEnd, Matched, ThreadsFault, of_apply};
 use gate_link::{Poster, agree, finished};
 use session_threads::{SequenceEnd, Sequenced, Written};
 use spread_rules::Entry;
@@ -21,16 +20,6 @@ use std::alloc::Allocator;
 pub struct SessionsDay<A: Allocator> {
     pub journal: Vec<Entry, A>,
     pub applied: FillsAndMessages<A>,
-}
-
-/// The fault of the day whose matching thread had this one.
-pub(crate) fn of_apply(fault: ApplyFault) -> ThreadsFault
-    ensures { result ≡ of_apply fault }
-{
-    match fault {
-        ApplyFault::NoMemory(place) => ThreadsFault::NoMemory(place),
-        ApplyFault::NumbersSpent(place) => ThreadsFault::NumbersSpent(place),
-    }
 }
 
 /// Whether some writer found no memory.

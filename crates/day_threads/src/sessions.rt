@@ -5,31 +5,21 @@ ghost use Rattle.host_base.specs.declared.limits.TheConstants.{SESSIONS};
 ghost use Rattle.day_apply.specs.Sending.{sending_rules, stamp_of};
 ghost use Rattle.day_threads.specs.code.Concluding.{AreReady};
 ghost use Rattle.session_threads.specs.code.Handing.{IsRoom};
-ghost use Rattle.day_threads.specs.Streams.{IsDayOfSessions, IsWithinLimits, IsThreadsFault};
-ghost use Rattle.day_threads.specs.declared.fault.ThreadsFault.TheVariants.{Spawn};
+ghost use Rattle.day_threads.specs.Streams.{IsDayOfSessions, IsThreadsFault};
+ghost use Rattle.day_stages.specs.Limits.{IsWithinLimits};
+ghost use Rattle.day_stages.specs.declared.fault.ThreadsFault.TheVariants.{NoMemory, Spawn};
 
 use crate::conclude::{SessionsDay, conclude};
-use crate::fault::ThreadsFault;
-use crate::matching::start_matching;
-use crate::stages::{Stages, stages_of};
-use host_base::Id;
+use day_stages::{Caps, DayRules, Stages, ThreadsFault, stages_of, start_matching};
 use session_threads::{
     Gate, SequenceEnd, Shared, Started, StartedWriters, Workers, WritingHandle, Written, join_all,
     join_writers, sequence, start_all, start_writers,
 };
-use spread_rules::Rulebook;
 use std::alloc::{AllocError, Allocator};
 use std::sync::Wait;
 use std::sync::atomic::{AtomicBool, Ordering};
 use std::thread;
 use std::thread::{Scope, Threads};
-
-/// How many events each ring takes, 1 to 4,096, and how many entries the journal, at most 1,000,000.
-#[derive(Clone, Copy, Debug, PartialEq, Eq)]
-pub struct Caps {
-    pub ring: usize,
-    pub journal: usize,
-}
 
 /// The handles of all writers' threads, and room for what they hand back.
 #[derive(Drop)]
@@ -38,18 +28,20 @@ struct Writing<A: Allocator> {
     room: Vec<Written<A>, A>,
 }
 
-/// The rulebook of a day, and the SendingTime (tag 52) of all its messages.
-#[derive(Clone, Copy)]
-pub struct DayRules<'r> {
-    pub rulebook: &'r Rulebook,
-    pub stamp: Id,
+/// The fault of a day whose stages found no room for their threads' handles.
+fn no_room<T: Drop>(_unused: T) -> ThreadsFault
+    ensures { result ≡ NoMemory 0 }
+{
+    ThreadsFault::NoMemory(0)
 }
 
-/// Tells the threads that run to stop, and joins them, since the one of this number could not be started.
-fn stop_workers<R: Threads, G, A: Allocator>(
+/// Tells the threads that run to stop, and joins them, since the one of this number could not be started. What no
+/// thread took goes.
+fn stop_workers<R: Threads, G, A: Allocator, T: Drop>(
     shared: &Shared<'_, '_, R, G>,
     workers: Workers<'_, A>,
     number: u8,
+    _unused: T,
 ) -> ThreadsFault
     requires { (vec_len workers.room ≡ 0) × (vec_len workers.handles ≤ vec_capacity workers.room) }
     ensures { result ≡ Spawn number }
@@ -99,6 +91,10 @@ fn sessions_in<'r: 's, 's, E, R: Wait + Threads + Sync, G: Gate, A: Allocator + 
         → IsThreadsFault (sending_rules stages.entry.posted.reported)
         streams.entry.now ring stages.entry.room f) }
 {
+    let sessions = stages.gateways.len();
+    let Ok((workers, writing)) = rooms_of(alloc, sessions) else {
+        return Err(no_room(stages));
+    };
     let Stages {
         gateways,
         sequencer,
@@ -108,19 +104,17 @@ fn sessions_in<'r: 's, 's, E, R: Wait + Threads + Sync, G: Gate, A: Allocator + 
         writers,
         room: size,
     } = stages;
-    let sessions = gateways.len();
-    let Ok((workers, writing)) = rooms_of(alloc, sessions) else {
-        return Err(ThreadsFault::NoMemory(0));
-    };
     let Workers { handles, room } = workers;
     let Started { handles, refused } = start_all(scope, shared, gateways, streams, handles);
     let workers = Workers { handles, room };
     if let Some(session) = refused {
-        return Err(stop_workers(shared, workers, session));
+        let unused = (sequencer, feeder, matcher, posted, writers, writing);
+        return Err(stop_workers(shared, workers, session, unused));
     }
     let Shared { rt, gate, stop, .. } = *shared;
     let Some(matching) = start_matching(scope, rt, gate, stop, matcher, posted) else {
-        return Err(stop_workers(shared, workers, sessions as u8));
+        let unused = (sequencer, feeder, writers, writing);
+        return Err(stop_workers(shared, workers, sessions as u8, unused));
     };
     let Writing { handles, room } = writing;
     let StartedWriters { handles, refused } = start_writers(
@@ -128,7 +122,8 @@ fn sessions_in<'r: 's, 's, E, R: Wait + Threads + Sync, G: Gate, A: Allocator + 
     );
     let writing = Writing { handles, room };
     if let Some(session) = refused {
-        let fault = stop_workers(shared, workers, sessions as u8 + 1 + session);
+        let number = sessions as u8 + 1 + session;
+        let fault = stop_workers(shared, workers, number, (sequencer, feeder));
         drop(matching.join(rt));
         drop(join_writers(rt, writing.handles, writing.room));
         return Err(fault);

@@ -3,7 +3,7 @@ use Rattle.std.proofs.Common.{List, All, get_or}
 use Rattle.spread_rules.specs.declared.fill.Fill.{Fill}
 use Rattle.spread_rules.specs.Rulebook.{Rules}
 use Rattle.spread_rules.specs.Ranges.{IsFillInRange}
-use Rattle.day_text.specs.Totals.{IsSummable}
+use Rattle.month_totals.specs.Totals.{IsSummable}
 use Rattle.day_text.specs.DayText.{AreShown}
 
 summable_of : (rules : Rules) (f : Fill) → IsFillInRange rules f → IsSummable f

@@ -9,7 +9,7 @@ ghost use Rattle.spread_journal.specs.JournalText.{HasByteIds};
 ghost use Rattle.fix_wire.specs.Frames.{IsFrameRow};
 ghost use Rattle.day_apply.specs.Applied.{IsApplyFault};
 ghost use Rattle.day_text.specs.DayText.{AreShown, day_text, fills_text, texts_of};
-ghost use Rattle.day_text.specs.Totals.{IsSummable};
+ghost use Rattle.month_totals.specs.Totals.{IsSummable};
 ghost use Rattle.spread_host.specs.Headline.{HasFills, HasOutgoing, BoughtIsSold, PaidIsReceived, IsAlwaysQuiet, IsDayOf};
 ghost use Rattle.spread_host.specs.declared.fault.HostFault.{HostFault};
 

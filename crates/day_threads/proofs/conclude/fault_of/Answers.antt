@@ -10,9 +10,9 @@ use Rattle.session_threads.specs.Streams.{IsBeginningOf}
 use Rattle.session_threads.specs.code.Sequencing.{SequenceEnds}
 use Rattle.session_threads.specs.declared.sequencing.SequenceEnd.{SequenceEnd}
 use Rattle.day_threads.specs.Streams.{IsLivePlace, IsThreadsFault}
-use Rattle.day_threads.specs.code.Matching.{MatchEnds}
-use Rattle.day_threads.specs.code.Posting.{HasPosted, posted_at}
-use Rattle.day_threads.specs.declared.matching.MatchEnd.{MatchEnd}
+use Rattle.day_stages.specs.code.Matching.{MatchEnds}
+use Rattle.day_stages.specs.code.Posting.{HasPosted, posted_at}
+use Rattle.day_stages.specs.declared.matching.MatchEnd.{MatchEnd}
 use Rattle.day_threads.proofs.JoinedParts.{agrees_prefix, agrees_whole, parts_of_front, live_fault}
 use Rattle.day_threads.proofs.conclude.fault_of.Goals as goal
 use Rattle.day_threads.proofs.conclude.fault_of.Goals.{After-agree-agreed, After-saturating_add}

@@ -4,10 +4,10 @@ use Rattle.spread_rules.specs.Rulebook.{Rules}
 use Rattle.gate_link.specs.Links.{journal_of}
 use Rattle.day_apply.specs.Sending.{sending_rules}
 use Rattle.day_threads.specs.Streams.{IsThreadsFault}
-use Rattle.day_threads.specs.code.Matching.{HasMatched}
+use Rattle.day_stages.specs.code.Matching.{HasMatched}
 use Rattle.session_threads.specs.code.Sequencing.{SequenceEnds}
-use Rattle.day_threads.proofs.PostPairs.{posts_kept}
-use Rattle.day_threads.proofs.RingEnds.{feed_kept}
+use Rattle.day_stages.proofs.PostPairs.{posts_kept}
+use Rattle.day_stages.proofs.RingEnds.{feed_kept}
 use Rattle.day_threads.proofs.sessions.sessions_in.Goals as goal
 use Rattle.day_threads.proofs.sessions.sessions_in.Goals.{After-join-matched}
 

@@ -1,0 +1,3 @@
+pub mod PostPairs
+pub mod Posters
+pub mod RingEnds

@@ -1,0 +1,3 @@
+pub mod Making
+pub mod Matching
+pub mod Posting

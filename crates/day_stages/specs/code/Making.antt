@@ -1,0 +1,46 @@
+-- The ends of a day's rings, at its start and in one thread again.
+-- Words of the code alone.
+use Rattle.std.specs.Prelude.{◌≡◌, ℕ, ◌<◌, ◌≤◌, List, [], length, Vec}
+use mathlib.Core.List.{IsPrefix}
+use Rattle.host_base.specs.declared.limits.TheConstants.{SESSIONS}
+use Rattle.gate_link.specs.Links.{IsLinkOf, room_of}
+use Rattle.gate_link.specs.Opening.{AreFresh, IsRefusal}
+use Rattle.stage_rings.specs.Feeding.{given, taken, AreFeedPair}
+use Rattle.day_apply.specs.declared.fault.ApplyFault.{ApplyFault}
+use Rattle.day_apply.specs.declared.fault.ApplyFault.TheVariants as apply
+use Rattle.spread_rules.specs.declared.event.Entry.{Entry}
+use Rattle.spread_rules.specs.Journal.{restricted}
+use Rattle.session_threads.specs.Streams.{IsBeginningOf, whole_at}
+use Rattle.day_stages.specs.code.Matching.{IsUnfed, MatchEnds}
+use Rattle.session_threads.specs.code.Sequencing.{SequenceEnds}
+use Rattle.day_stages.specs.code.Posting.{HasPosted, posted_at}
+use Rattle.session_threads.specs.code.Writing.{AreJoinedPairs, ArePostPairs, written_at}
+use Rattle.day_stages.specs.declared.fault.ThreadsFault.{ThreadsFault}
+use Rattle.day_stages.specs.declared.fault.ThreadsFault.TheVariants.{Link, NoMemory, NumbersSpent}
+use Rattle.day_stages.specs.declared.matching.Matched.{Matched}
+use Rattle.session_threads.specs.declared.sequencing.Sequenced.{Sequenced}
+use Rattle.day_stages.specs.declared.posting.PostedEntries.{PostedEntries}
+use Rattle.day_stages.specs.declared.stages.Stages.{Stages}
+use Rattle.session_threads.specs.declared.writing.Written.{Written}
+
+-- the stages of a day that has not begun
+pub record IsMade {A : Type 0} (ring : ℕ) (stages : Stages A) : Type 0 where
+  pub fresh : AreFresh ring stages.gateways.items
+  pub pairs : IsLinkOf stages.sequencer stages.gateways.items
+  pub room : room_of stages.sequencer ≡ stages.room
+  pub feed : AreFeedPair stages.feeder stages.matcher
+  pub given_none : given stages.feeder ≡ []
+  pub unfed : IsUnfed stages.matcher stages.posted
+  pub posts : ArePostPairs stages.posted.posters.items stages.writers.items
+  pub writer_count : length stages.writers.items ≡ length stages.gateways.items
+
+-- why there are none
+abbrev pub IsStagesFault : ℕ → ℕ → ℕ → ThreadsFault → Type 0
+IsStagesFault sessions ring journal (Link fault) = IsRefusal fault sessions ring journal
+IsStagesFault sessions ring journal (NoMemory place) = place ≡ 0
+IsStagesFault sessions ring journal _ = ⊥
+
+-- the fault of the day whose matching thread had this one
+abbrev pub of_apply : ApplyFault → ThreadsFault
+of_apply (apply.NoMemory place) = NoMemory place
+of_apply (apply.NumbersSpent place) = NumbersSpent place

@@ -1,0 +1,2 @@
+pub mod Totals
+pub mod code

@@ -1,0 +1,36 @@
+-- What each month's fills sum to: lots bought and sold, money paid and received.
+use Rattle.std.specs.Prelude.{◌≡◌, ℕ, ◌<◌, ◌≤◌, List, get_or}
+use Rattle.host_base.specs.declared.limits.TheConstants.{MAX_MONTHS, MAX_ORDER_QTY}
+use Rattle.spread_rules.specs.declared.order.Instrument.{Instrument}
+use Rattle.spread_rules.specs.declared.order.Instrument.TheVariants.{Outright, Spread}
+use Rattle.spread_rules.specs.declared.fill.Fill.{Fill}
+use Rattle.spread_rules.specs.Legs.{bought, sold, paid, received}
+use Rattle.spread_rules.specs.Prices.{IsLegPrice}
+use Rattle.month_totals.specs.declared.totals.MonthTotals.{MonthTotals}
+
+-- what these fills sum to in a month
+abbrev pub totals_of : ℕ → List Fill → MonthTotals
+totals_of month fills = record {
+  bought = bought month fills;
+  sold = sold month fills;
+  paid = paid month fills;
+  received = received month fills;
+}
+
+-- each of these is its month's sums, the first month first
+abbrev pub AreTotals : List Fill → List MonthTotals → Type 0
+AreTotals fills totals =
+    (month : ℕ) (other : MonthTotals) → month < MAX_MONTHS
+    → get_or totals month other ≡ totals_of month fills
+
+-- the months of the instrument are below n
+abbrev pub IsBelow : ℕ → Instrument → Type 0
+IsBelow n (Outright m) = m < n
+IsBelow n (Spread i j) = (i < n) × (j < n)
+
+-- a quantity and prices for which a day's sums have room
+pub record IsSummable (f : Fill) : Type 0 where
+  pub quantity : f.quantity ≤ MAX_ORDER_QTY
+  pub price : IsLegPrice f.price
+  pub near : IsLegPrice f.near
+  pub far : IsLegPrice f.far

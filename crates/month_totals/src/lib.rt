@@ -1,0 +1,6 @@
+//! What a day's fills sum to in each month of the rulebook.
+#![tactic(auto)]
+
+mod totals;
+
+pub use totals::{MonthTotals, month_totals};
