@@ -1,22 +1,20 @@
-//! The program `exchange`: its command line, its files, its fault lines and its statuses.
+//! The program `exchange`: its files, its fault lines and its statuses.
 #![tactic(auto)]
 
 mod fault;
-mod words;
 
+use command_line::{Request, read_words, refuse, words_of};
 use day_explain::explain;
 use day_picture::draw;
 use fault::Fault;
 use host_base::{FromReader, Id, ToWriter};
 use spread_host::{AuditFault, Caps, Gate, HostFault, audit, check, replay, run_day, write_day};
 use spread_rules::Rulebook;
-use std::env::Env;
 use std::fs::Files;
 use std::process::ExitCode;
 use std::sync::Wait;
 use std::thread::Threads;
 use std::{fs, io};
-use words::{Refused, Request, read_words, refusal_of};
 
 fn read_file<'a>(rt: &(impl Files + AllocGlobal), path: &'a str) -> Result<Vec<u8>, Fault<'a>> {
     match fs::read(rt, path) {
@@ -202,32 +200,10 @@ fn run<'a>(
     }
 }
 
-/// Says why there is nothing to run, and gives the status.
-fn refuse(rt: &(impl Print + Eprint), refused: Refused) -> ExitCode {
-    match refused {
-        Refused::NoMemory => {
-            let _ = eprintln!(rt; "exchange: no memory");
-            ExitCode::from(6)
-        }
-        Refused::Words(error) => {
-            let _ = error.print(rt);
-            ExitCode::from(if error.use_stderr() { 2 } else { 0 })
-        }
-    }
-}
-
-/// The program's words, its own name first.
-fn words_of(rt: &(impl Env + AllocGlobal)) -> Result<Vec<String>, Refused> {
-    match std::env::args(rt) {
-        Ok(words) => Ok(words.collect(rt.alloc())?),
-        Err(error) => Err(refusal_of(rt.alloc(), &error)?),
-    }
-}
-
 fn main(rt: HostRuntime) -> ExitCode {
     let words = match words_of(&rt) {
         Ok(words) => words,
-        Err(refused) => return refuse(&rt, refused),
+        Err(refused) => return ExitCode::from(refuse(&rt, refused)),
     };
     match read_words(rt.alloc(), words.as_slice()) {
         Ok(request) => match run(&rt, &request) {
@@ -237,6 +213,6 @@ fn main(rt: HostRuntime) -> ExitCode {
                 ExitCode::from(fault.status())
             }
         },
-        Err(refused) => refuse(&rt, refused),
+        Err(refused) => ExitCode::from(refuse(&rt, refused)),
     }
 }

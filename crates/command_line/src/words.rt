@@ -1,9 +1,10 @@
-//! The command line: its options, and what they ask for.
+//! The commands, their options, and what they ask for.
 use clap::builder::ValueParser;
 use clap::error::ErrorKind;
 use clap::{Arg, ArgAction, ArgMatches, Command, Error};
-use std::alloc::{AllocError, Global};
-use std::io;
+use std::alloc::{AllocError, AllocGlobal, Global};
+use std::env::Env;
+use std::{env, io};
 
 const VERSION: &str = "0.1.0";
 
@@ -274,7 +275,7 @@ pub fn read_words<'a>(alloc: Global, words: &'a [String]) -> Result<Request<'a>,
 }
 
 /// Why the program's words could not be taken over from the system.
-pub fn refusal_of(alloc: Global, error: &io::Error) -> Result<Refused, AllocError> {
+fn refusal_of(alloc: Global, error: &io::Error) -> Result<Refused, AllocError> {
     match error.kind() {
         io::ErrorKind::InvalidData => {
             let mut command = exchange_command(alloc)?;
@@ -282,5 +283,28 @@ pub fn refusal_of(alloc: Global, error: &io::Error) -> Result<Refused, AllocErro
             Ok(Refused::Words(command.error(ErrorKind::InvalidValue, text)?))
         }
         _ => Ok(Refused::NoMemory),
+    }
+}
+
+/// The program's words, its own name first.
+pub fn words_of(rt: &(impl Env + AllocGlobal)) -> Result<Vec<String>, Refused> {
+    match env::args(rt) {
+        Ok(words) => Ok(words.collect(rt.alloc())?),
+        Err(error) => Err(refusal_of(rt.alloc(), &error)?),
+    }
+}
+
+/// Says why there is nothing to run, and gives the status: 6 without memory, 2 where the words ask for nothing, 0 where
+/// they ask for help.
+pub fn refuse(rt: &(impl Print + Eprint), refused: Refused) -> u8 {
+    match refused {
+        Refused::NoMemory => {
+            let _ = eprintln!(rt; "exchange: no memory");
+            6
+        }
+        Refused::Words(error) => {
+            let _ = error.print(rt);
+            if error.use_stderr() { 2 } else { 0 }
+        }
     }
 }
