@@ -6,4 +6,6 @@ mod journal;
 #[cfg(test)]
 mod report;
 #[cfg(test)]
+mod said;
+#[cfg(test)]
 mod text;

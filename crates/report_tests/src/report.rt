@@ -5,11 +5,12 @@ ghost use Rattle.spread_rules.specs.declared.fill.Fill.{Fill};
 ghost use Rattle.spread_rules.specs.Rulebook.{IsListed};
 ghost use Rattle.spread_rules.specs.Ranges.{FitsOutcome, FitsFill};
 
+use crate::said::{Said, entry_of};
 use spread_report::{Desk, DeskFault};
-use spread_rules::{Entry, Event, Fill, Instrument, Outcome, Rulebook, Side, Ticket};
+use spread_rules::{Entry, Event, Fill, Instrument, Order, Outcome, Rulebook, Side};
 use std::alloc::{Allocator, Global};
-use std::test::Fail;
-use test_support::{THREE_MONTHS, id};
+use std::process::Abort;
+use test_support::{THREE_MONTHS, id, stamp};
 
 mod admin_messages;
 mod definitions;
@@ -18,7 +19,6 @@ mod numbering;
 mod refusals_and_cancels;
 mod replaces;
 mod reports;
-mod resend;
 
 const H6: Instrument = Instrument::Outright(0);
 
@@ -79,6 +79,143 @@ fn fits_outcome(rules: &Rulebook, event: &Event, outcome: &Outcome) -> bool
     }
 }
 
+// ---- cases
+
+/// An order as its fills show it.
+#[derive(Clone, Copy)]
+struct Filled {
+    order: u64,
+    session: u8,
+    name: &'static [u8],
+    instrument: Instrument,
+    side: Side,
+    total: u32,
+}
+
+/// A fill of an order: so much of it is filled, so much is left then, and the price.
+type Part = (Filled, u32, u32, i64);
+
+/// An order of session 0, with a limit of 100.00, that a request has ended or put in the place of another.
+#[derive(Clone, Copy)]
+struct Ordered {
+    place: u64,
+    name: &'static [u8],
+    instrument: Instrument,
+    side: Side,
+    quantity: u32,
+    leaves: u32,
+}
+
+/// What came of an entry.
+#[derive(Clone, Copy)]
+enum Came {
+    Rested,
+    Filled,
+    /// Nothing rests, and so much is left.
+    Ended(u32),
+    Cancelled(Ordered),
+    Replaced(Ordered),
+    /// Refused for this reason.
+    Refused(u8),
+    /// A cancel or a replace is refused for this reason; the order's place and its status.
+    CancelRefused(u8, u64, u8),
+}
+
+/// What happens next in a case.
+enum Step {
+    /// The next entry is a session's own message, and is answered.
+    Session(u8, Said),
+    /// The next entry is a request of an order, and is answered: what came of it, and its fills.
+    Request(u8, Said, Came, &'static [Part]),
+    /// The same two, where the numbers are spent.
+    SessionSpent(u8, Said),
+    RequestSpent(u8, Said, Came, &'static [Part]),
+    /// The next entry has this place.
+    Place(u64),
+    /// A session has been sent this so far, byte 1 shown as `|`.
+    Sent(usize, &'static [u8]),
+}
+
+/// The desk of a case.
+enum Start {
+    /// With the usual stamp, its numbers from 1 on.
+    Usual,
+    /// With this stamp.
+    Stamp(&'static [u8]),
+    /// With the numbers from this one on.
+    Number(u32),
+}
+
+/// What a case shows, its desk, and what happens.
+struct Case {
+    shows: &'static str,
+    start: Start,
+    steps: &'static [Step],
+}
+
+fn order_of(ordered: &Ordered) -> Order {
+    Order {
+        place: ordered.place,
+        session: 0,
+        id: id(ordered.name),
+        instrument: ordered.instrument,
+        side: ordered.side,
+        price: 10000,
+        quantity: ordered.quantity,
+        leaves: ordered.leaves,
+    }
+}
+
+fn outcome_of(came: &Came) -> Outcome {
+    match *came {
+        Came::Rested => Outcome::Rested,
+        Came::Filled => Outcome::Filled,
+        Came::Ended(left) => Outcome::Ended { left },
+        Came::Cancelled(ordered) => Outcome::Cancelled(order_of(&ordered)),
+        Came::Replaced(ordered) => Outcome::Replaced(order_of(&ordered)),
+        Came::Refused(reason) => Outcome::Refused(reason),
+        Came::CancelRefused(reason, place, status) => Outcome::CancelRefused {
+            reason,
+            place,
+            status,
+        },
+    }
+}
+
+fn fill_of(part: &Part) -> Fill {
+    let (of, quantity, leaves, price) = *part;
+    Fill {
+        at: 0,
+        order: of.order,
+        session: of.session,
+        id: id(of.name),
+        instrument: of.instrument,
+        side: of.side,
+        quantity,
+        price,
+        near: 10000,
+        far: 9800,
+        total: of.total,
+        leaves,
+    }
+}
+
+fn fills_of(rt: &impl Abort, alloc: Global, parts: &[Part]) -> Vec<Fill> {
+    let mut fills = Vec::new(alloc);
+    for part in parts {
+        fills.push(fill_of(part)).expect(rt, "memory");
+    }
+    fills
+}
+
+fn desk_of(rt: &impl Abort, start: &Start) -> Desk {
+    match *start {
+        Start::Usual => Desk::new(stamp()),
+        Start::Stamp(text) => Desk::new(id(text)),
+        Start::Number(number) => Desk::starting(stamp(), number).expect(rt, "a desk"),
+    }
+}
+
 // ---- a run
 
 /// A desk, what it has sent, and the place of the next entry.
@@ -90,36 +227,35 @@ struct Run<A: Allocator + Copy> {
     place: u64,
 }
 
-impl<A: Allocator + Copy> Run<A> {
-    /// A run of this desk, whose lists take their memory here.
-    fn new(global: Global, alloc: A, desk: Desk) -> Result<Run<A>, Fail> {
-        let rules = Rulebook::read(THREE_MONTHS)?;
-        let mut lists = Vec::new(global);
-        for _ in 0..16 {
-            lists.push(Vec::new(alloc))?;
-        }
-        Ok(Run {
-            rules,
-            desk,
-            lists,
-            place: 1,
-        })
+/// A run of this desk, whose lists take their memory from the heap.
+fn run_of<A: Allocator + Copy>(rt: &impl Abort, alloc: Global, heap: A, desk: Desk) -> Run<A> {
+    let mut lists = Vec::new(alloc);
+    for _ in 0..16 {
+        lists.push(Vec::new(heap)).expect(rt, "memory");
     }
+    Run {
+        rules: Rulebook::read(THREE_MONTHS).expect(rt, "a rulebook"),
+        desk,
+        lists,
+        place: 1,
+    }
+}
 
+impl<A: Allocator + Copy> Run<A> {
     /// The desk's answer to an entry at the next place. After an error the next place stays.
     fn answer(
         &mut self,
+        rt: &impl Abort,
         entry: &Entry,
         outcome: &Outcome,
         fills: &[Fill],
-    ) -> Result<Result<(), DeskFault>, Fail> {
-        let fits = fits_outcome(&self.rules, &entry.event, outcome);
+    ) -> Result<(), DeskFault> {
         if self.lists.len() != 16
             || entry.session >= 16
-            || !fits
+            || !fits_outcome(&self.rules, &entry.event, outcome)
             || !fit_fills(&self.rules, fills)
         {
-            return Err(Fail::new("the desk asks for more"));
+            rt.panic("the desk asks for more");
         }
         let place = self.place;
         let lists = self.lists.as_mut_slice();
@@ -129,19 +265,7 @@ impl<A: Allocator + Copy> Run<A> {
         if answer.is_ok() && place < 1000 {
             self.place = place + 1;
         }
-        Ok(answer)
-    }
-
-    /// Works an entry.
-    fn entry(&mut self, entry: &Entry, outcome: &Outcome, fills: &[Fill]) -> Result<(), Fail> {
-        let answer = self.answer(entry, outcome, fills)?;
-        answer?;
-        Ok(())
-    }
-
-    /// Works a session's own message.
-    fn session(&mut self, entry: Entry) -> Result<(), Fail> {
-        self.entry(&entry, &Outcome::Session, &[])
+        answer
     }
 
     /// How many bytes a session was sent.
@@ -170,90 +294,65 @@ impl<A: Allocator + Copy> Run<A> {
     }
 }
 
-// ---- entries
-
-fn said(session: u8, event: Event) -> Entry {
-    Entry { session, event }
+/// The answer to a session's own message.
+fn answer_session(
+    rt: &impl Abort,
+    run: &mut Run<Global>,
+    session: u8,
+    said: &Said,
+) -> Result<(), DeskFault> {
+    run.answer(rt, &entry_of(session, said), &Outcome::Session, &[])
 }
 
-fn logon(session: u8, client: &[u8]) -> Entry {
-    let client = id(client);
-    let host = id(b"HOST");
-    said(
-        session,
-        Event::Logon {
-            client,
-            host,
-            beat: 30,
-        },
-    )
+/// The answer to a request of an order.
+fn answer_request(
+    rt: &impl Abort,
+    alloc: Global,
+    run: &mut Run<Global>,
+    session: u8,
+    said: &Said,
+    came: &Came,
+    parts: &[Part],
+) -> Result<(), DeskFault> {
+    let fills = fills_of(rt, alloc, parts);
+    run.answer(rt, &entry_of(session, said), &outcome_of(came), &fills)
 }
 
-fn test_reply(session: u8) -> Entry {
-    said(session, Event::TestReply { text: id(b"T") })
-}
+const SPENT: Result<(), DeskFault> = Err(DeskFault::NumbersSpent);
 
-fn close(session: u8, reason: u8) -> Entry {
-    said(session, Event::Close { reason })
-}
-
-fn day_ticket(name: &[u8], symbol: &[u8], side: Side, quantity: u32, price: i64) -> Ticket {
-    Ticket {
-        id: id(name),
-        symbol: id(symbol),
-        side,
-        quantity,
-        price,
-        immediate: false,
+fn take_step(rt: &impl Abort, alloc: Global, run: &mut Run<Global>, step: &Step) -> bool {
+    match *step {
+        Step::Session(session, said) => answer_session(rt, run, session, &said).is_ok(),
+        Step::Request(session, said, came, parts) => {
+            answer_request(rt, alloc, run, session, &said, &came, parts).is_ok()
+        }
+        Step::SessionSpent(session, said) => answer_session(rt, run, session, &said) == SPENT,
+        Step::RequestSpent(session, said, came, parts) => {
+            answer_request(rt, alloc, run, session, &said, &came, parts) == SPENT
+        }
+        Step::Place(place) => {
+            run.place = place;
+            true
+        }
+        Step::Sent(session, want) => run.was_sent(session, want),
     }
 }
 
-fn day(session: u8, name: &[u8], symbol: &[u8], side: Side, quantity: u32, price: i64) -> Entry {
-    let ticket = day_ticket(name, symbol, side, quantity, price);
-    said(session, Event::New(ticket))
+/// Each step of a case is as the case says.
+fn expect_case(rt: &impl Abort, alloc: Global, case: &Case) {
+    let mut run = run_of(rt, alloc, alloc, desk_of(rt, &case.start));
+    for (number, step) in case.steps.iter().enumerate() {
+        assert!(rt;
+            take_step(rt, alloc, &mut run, step),
+            "{}, step {}",
+            case.shows,
+            number
+        );
+    }
 }
 
-fn replace(session: u8, original: &[u8], ticket: Ticket) -> Entry {
-    let original = id(original);
-    said(session, Event::Replace { original, ticket })
-}
-
-fn cancel(session: u8, name: &[u8], original: &[u8]) -> Entry {
-    let original = id(original);
-    said(
-        session,
-        Event::Cancel {
-            id: id(name),
-            original,
-        },
-    )
-}
-
-/// The order that a fill is of.
-#[derive(Clone, Copy)]
-struct Filled {
-    order: u64,
-    session: u8,
-    name: &'static [u8],
-    instrument: Instrument,
-    side: Side,
-    total: u32,
-}
-
-/// A fill of so much, after which so much is left.
-fn fill(of: &Filled, quantity: u32, leaves: u32, price: i64) -> Fill {
-    Fill {
-        at: 0,
-        order: of.order,
-        session: of.session,
-        id: id(of.name),
-        instrument: of.instrument,
-        side: of.side,
-        quantity,
-        price,
-        near: 10000,
-        far: 9800,
-        total: of.total,
-        leaves,
+fn expect_cases(rt: &impl Abort, alloc: Global, cases: &[Case]) {
+    for case in cases {
+        expect_case(rt, alloc, case);
     }
 }

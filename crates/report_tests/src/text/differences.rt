@@ -1,9 +1,10 @@
 //! The first line in which two texts differ.
 use day_text::first_difference;
-use std::test::Fail;
+use std::alloc::Global;
+use std::process::Abort;
 
 /// Texts, the number of the first line that is another, and how it should be.
-const ROWS: [(&[u8], &[u8], u64, &[u8]); 8] = [
+static ROWS: [(&[u8], &[u8], u64, &[u8]); 8] = [
     (b"", b"a\n", 1, b"a\n"),
     (b"a\n", b"", 1, b""),
     (b"a\nb\nc\n", b"a\nB\nc\n", 2, b"B\n"),
@@ -14,14 +15,19 @@ const ROWS: [(&[u8], &[u8], u64, &[u8]); 8] = [
     (b"a\n\n", b"a\nb", 2, b"b"),
 ];
 
-#[test]
-fn first_line_that_is_another(rt: HostRuntime) -> Result<(), Fail> {
-    for (claim, right, line, wanted) in ROWS {
-        if claim == right {
-            continue;
-        }
-        let difference = first_difference(rt.alloc(), claim, right)?;
-        assert!(rt; difference.line == line && difference.right.as_slice() == wanted);
+/// The two texts differ, and first in that line.
+fn expect_difference(rt: &impl Abort, alloc: Global, row: &(&[u8], &[u8], u64, &[u8])) {
+    let (claim, right, line, wanted) = *row;
+    if claim == right {
+        rt.panic("no difference");
     }
-    Ok(())
+    let difference = first_difference(alloc, claim, right).expect(rt, "memory");
+    assert!(rt; difference.line == line && difference.right.as_slice() == wanted);
+}
+
+#[test]
+fn first_line_that_is_another(rt: HostRuntime) {
+    for row in &ROWS {
+        expect_difference(&rt, rt.alloc(), row);
+    }
 }
