@@ -1,27 +1,16 @@
--- The ends of a day's rings, at its start and in one thread again.
+-- What a day in threads is made of before any thread is started, and why it is not made.
 -- Words of the code alone.
-use Rattle.std.specs.Prelude.{◌≡◌, ℕ, ◌<◌, ◌≤◌, List, [], length, Vec}
-use mathlib.Core.List.{IsPrefix}
-use Rattle.host_base.specs.declared.limits.TheConstants.{SESSIONS}
+use Rattle.std.specs.Prelude.{◌≡◌, ℕ, [], length}
 use Rattle.gate_link.specs.Links.{IsLinkOf, room_of}
 use Rattle.gate_link.specs.Opening.{AreFresh, IsRefusal}
-use Rattle.stage_rings.specs.Feeding.{given, taken, AreFeedPair}
+use Rattle.stage_rings.specs.Feeding.{given, AreFeedPair}
 use Rattle.day_apply.specs.declared.fault.ApplyFault.{ApplyFault}
 use Rattle.day_apply.specs.declared.fault.ApplyFault.TheVariants as apply
-use Rattle.spread_rules.specs.declared.event.Entry.{Entry}
-use Rattle.spread_rules.specs.Journal.{restricted}
-use Rattle.session_threads.specs.Streams.{IsBeginningOf, whole_at}
-use Rattle.day_stages.specs.code.Matching.{IsUnfed, MatchEnds}
-use Rattle.session_threads.specs.code.Sequencing.{SequenceEnds}
-use Rattle.day_stages.specs.code.Posting.{HasPosted, posted_at}
-use Rattle.session_threads.specs.code.Writing.{AreJoinedPairs, ArePostPairs, written_at}
+use Rattle.session_threads.specs.code.Writing.{ArePostPairs}
+use Rattle.day_stages.specs.code.Matching.{IsUnfed}
 use Rattle.day_stages.specs.declared.fault.ThreadsFault.{ThreadsFault}
 use Rattle.day_stages.specs.declared.fault.ThreadsFault.TheVariants.{Link, NoMemory, NumbersSpent}
-use Rattle.day_stages.specs.declared.matching.Matched.{Matched}
-use Rattle.session_threads.specs.declared.sequencing.Sequenced.{Sequenced}
-use Rattle.day_stages.specs.declared.posting.PostedEntries.{PostedEntries}
 use Rattle.day_stages.specs.declared.stages.Stages.{Stages}
-use Rattle.session_threads.specs.declared.writing.Written.{Written}
 
 -- the stages of a day that has not begun
 pub record IsMade {A : Type 0} (ring : ℕ) (stages : Stages A) : Type 0 where

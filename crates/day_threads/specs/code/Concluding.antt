@@ -1,29 +1,24 @@
--- The ends of a day's rings, at its start and in one thread again.
+-- The ends of a day's rings, before any thread is started and in one thread again.
 -- Words of the code alone.
-use Rattle.std.specs.Prelude.{◌≡◌, ℕ, ◌<◌, ◌≤◌, List, [], length, Vec}
+use Rattle.std.specs.Prelude.{◌≡◌, ℕ, ◌<◌, ◌≤◌, List, length, Vec}
 use mathlib.Core.List.{IsPrefix}
 use Rattle.host_base.specs.declared.limits.TheConstants.{SESSIONS}
-use Rattle.gate_link.specs.Links.{IsLinkOf, room_of}
-use Rattle.gate_link.specs.Opening.{AreFresh, IsRefusal}
 use Rattle.stage_rings.specs.Feeding.{given, taken, AreFeedPair}
-use Rattle.day_apply.specs.declared.fault.ApplyFault.{ApplyFault}
-use Rattle.day_apply.specs.declared.fault.ApplyFault.TheVariants as apply
 use Rattle.spread_rules.specs.declared.event.Entry.{Entry}
 use Rattle.spread_rules.specs.Journal.{restricted}
 use Rattle.session_threads.specs.Streams.{IsBeginningOf, whole_at}
-use Rattle.day_stages.specs.code.Matching.{IsUnfed, MatchEnds}
 use Rattle.session_threads.specs.code.Sequencing.{SequenceEnds}
-use Rattle.day_stages.specs.code.Posting.{HasPosted, posted_at}
-use Rattle.session_threads.specs.code.Writing.{AreJoinedPairs, ArePostPairs, written_at}
-use Rattle.day_stages.specs.declared.fault.ThreadsFault.{ThreadsFault}
-use Rattle.day_stages.specs.declared.fault.ThreadsFault.TheVariants.{Link, NoMemory, NumbersSpent}
-use Rattle.day_stages.specs.declared.matching.Matched.{Matched}
+use Rattle.session_threads.specs.code.Writing.{AreJoinedPairs, written_at}
 use Rattle.session_threads.specs.declared.sequencing.Sequenced.{Sequenced}
+use Rattle.session_threads.specs.declared.writing.Written.{Written}
+use Rattle.day_stages.specs.code.Making.{IsMade}
+use Rattle.day_stages.specs.code.Matching.{MatchEnds}
+use Rattle.day_stages.specs.code.Posting.{HasPosted, posted_at}
+use Rattle.day_stages.specs.declared.matching.Matched.{Matched}
 use Rattle.day_stages.specs.declared.posting.PostedEntries.{PostedEntries}
 use Rattle.day_stages.specs.declared.stages.Stages.{Stages}
-use Rattle.session_threads.specs.declared.writing.Written.{Written}
 
--- the same, for these streams
+-- the stages of a day that has not begun, one for each of these streams
 pub record AreReady {A : Type 0} (streams : List (Vec ℕ A)) (stages : Stages A) : Type 0 where
   pub ring : ℕ
   pub made : IsMade ring stages
@@ -31,7 +26,8 @@ pub record AreReady {A : Type 0} (streams : List (Vec ℕ A)) (stages : Stages A
   pub few : length streams ≤ SESSIONS
 
 -- both ends of each ring in one thread again, with what each part promised
-pub record AreJoined {A : Type 0} (room : ℕ) (streams : List (Vec ℕ A)) (q : Sequenced A) (m : Matched A) (ws : List (Written A)) : Type 0 where
+pub record AreJoined {A : Type 0} (room : ℕ) (streams : List (Vec ℕ A)) (q : Sequenced A)
+    (m : Matched A) (ws : List (Written A)) : Type 0 where
   pub feed : AreFeedPair q.feeder m.matcher
   pub posts : AreJoinedPairs m.posted.posters.items ws
   pub few_writers : length ws ≤ SESSIONS
@@ -43,7 +39,8 @@ pub record AreJoined {A : Type 0} (room : ℕ) (streams : List (Vec ℕ A)) (q :
   pub matched : MatchEnds m.end (taken m.matcher) m.posted
 
 -- the journal is that of these streams, what its entries send was given to the writers, and each writer has it
-pub record IsWhole {A : Type 0} (streams : List (Vec ℕ A)) (journal : List Entry) (p : PostedEntries A) (ws : List (Written A)) : Type 0 where
+pub record IsWhole {A : Type 0} (streams : List (Vec ℕ A)) (journal : List Entry)
+    (p : PostedEntries A) (ws : List (Written A)) : Type 0 where
   pub parts : (s : ℕ) → restricted s journal ≡ whole_at streams s
   pub posted : HasPosted journal p
   pub count : length p.posters.items ≡ length ws
