@@ -1,5 +1,5 @@
 //! Long days.
-use crate::pictures::count;
+use super::pictures::count;
 use day_picture::draw;
 use host_base::TestSink;
 use spread_rules::Rulebook;

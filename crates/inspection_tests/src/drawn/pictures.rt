@@ -29,22 +29,27 @@ pub fn count(picture: &[u8], part: &[u8]) -> u64 {
     found
 }
 
+/// A part of a picture, and how often it stands there.
+type Part = (&'static [u8], u64);
+
+const SYMBOLS: &[Part] = &[
+    (b">H6</text>", 1),
+    (b">M6</text>", 1),
+    (b">H6-M6</text>", 1),
+    (b">U6</text>", 0),
+    (b">H6-U6</text>", 0),
+    (b">1 direct, 1 implied, 5 lots</text>", 1),
+    (b">0 direct, 1 implied, 3 lots</text>", 2),
+    (b">5 entries; 2 months and 1 spread traded.</text>", 1),
+];
+
 #[test]
 fn panels_of_what_traded(rt: HostRuntime) -> Result<(), Fail> {
     let sink = drawn(rt.alloc(), DIRECT_BEFORE_IMPLIED)?;
     let picture = sink.bytes();
     assert!(rt; count(picture, b"<svg class=\"panel\"") == 3);
-    for (symbol, panels) in [
-        (b">H6</text>".as_slice(), 1),
-        (b">M6</text>", 1),
-        (b">H6-M6</text>", 1),
-        (b">U6</text>", 0),
-        (b">H6-U6</text>", 0),
-        (b">1 direct, 1 implied, 5 lots</text>", 1),
-        (b">0 direct, 1 implied, 3 lots</text>", 2),
-        (b">5 entries; 2 months and 1 spread traded.</text>", 1),
-    ] {
-        assert!(rt; count(picture, symbol) == panels);
+    for (symbol, panels) in SYMBOLS {
+        assert!(rt; count(picture, symbol) == *panels);
     }
     Ok(())
 }
@@ -95,28 +100,30 @@ fn steps_up_and_down(rt: HostRuntime) -> Result<(), Fail> {
     Ok(())
 }
 
+const MARKS: &[Part] = &[
+    (b">99.98</text>", 1),
+    (b">100.00</text>", 1),
+    (b">100.02</text>", 1),
+    (b">100.03</text>", 0),
+    (b">97.98</text>", 1),
+    (b">98.02</text>", 1),
+    (b">1.98</text>", 1),
+    (b">2.02</text>", 1),
+    (b">best buy</text>", 1),
+    (b">best sell</text>", 1),
+    (b">direct trade</text>", 1),
+    (b"<title id=\"title\">", 1),
+    (b"<desc id=\"desc\">", 1),
+    (b"@media (prefers-color-scheme:dark){", 1),
+    (b"</svg>\n", 4),
+];
+
 #[test]
 fn axes_and_legend(rt: HostRuntime) -> Result<(), Fail> {
     let sink = drawn(rt.alloc(), DIRECT_BEFORE_IMPLIED)?;
     let picture = sink.bytes();
-    for (part, times) in [
-        (b">99.98</text>".as_slice(), 1),
-        (b">100.00</text>", 1),
-        (b">100.02</text>", 1),
-        (b">100.03</text>", 0),
-        (b">97.98</text>", 1),
-        (b">98.02</text>", 1),
-        (b">1.98</text>", 1),
-        (b">2.02</text>", 1),
-        (b">best buy</text>", 1),
-        (b">best sell</text>", 1),
-        (b">direct trade</text>", 1),
-        (b"<title id=\"title\">", 1),
-        (b"<desc id=\"desc\">", 1),
-        (b"@media (prefers-color-scheme:dark){", 1),
-        (b"</svg>\n", 4),
-    ] {
-        assert!(rt; count(picture, part) == times);
+    for (part, times) in MARKS {
+        assert!(rt; count(picture, part) == *times);
     }
     // The places 1 to 5 below each of three panels; the legend has the sizes of 2 lots and of none below.
     assert!(rt; count(picture, b">5</text>") == 3);
@@ -133,25 +140,30 @@ fn first_trade(rt: HostRuntime) -> Result<(), Fail> {
     Ok(())
 }
 
+const NO_ENTRIES: &[u8] = b">0 entries; 0 months and 0 spreads traded.</text>";
+
+const ONE_ENTRY: &[u8] = b">1 entry; 0 months and 0 spreads traded.</text>";
+
+const TWO_ENTRIES: &[u8] = b">2 entries; 0 months and 0 spreads traded.</text>";
+
+/// Journals, and what the pictures say that they have.
+const WITHOUT_TRADES: &[(&[u8], &[u8])] = &[
+    (b"JOURNAL 2\nEND 0\n", NO_ENTRIES),
+    (b"JOURNAL 2\n0 close 1\nEND 1\n", ONE_ENTRY),
+    (
+        b"JOURNAL 2\n0 logon 4331 484f5354 30\n0 new 61 4836 2 5 10000 day\nEND 2\n",
+        TWO_ENTRIES,
+    ),
+    // A symbol that names no instrument: <&>" and byte 2.
+    (
+        b"JOURNAL 2\n0 logon 4331 484f5354 30\n0 new 61 3c263e2202 2 5 10000 day\nEND 2\n",
+        TWO_ENTRIES,
+    ),
+];
+
 #[test]
 fn days_without_trades(rt: HostRuntime) -> Result<(), Fail> {
-    let none = b">0 entries; 0 months and 0 spreads traded.</text>".as_slice();
-    let one = b">1 entry; 0 months and 0 spreads traded.</text>".as_slice();
-    let two = b">2 entries; 0 months and 0 spreads traded.</text>".as_slice();
-    let rows: [(&[u8], &[u8]); 4] = [
-        (b"JOURNAL 2\nEND 0\n", none),
-        (b"JOURNAL 2\n0 close 1\nEND 1\n", one),
-        (
-            b"JOURNAL 2\n0 logon 4331 484f5354 30\n0 new 61 4836 2 5 10000 day\nEND 2\n",
-            two,
-        ),
-        // A symbol that names no instrument: <&>" and byte 2.
-        (
-            b"JOURNAL 2\n0 logon 4331 484f5354 30\n0 new 61 3c263e2202 2 5 10000 day\nEND 2\n",
-            two,
-        ),
-    ];
-    for (journal, totals) in rows {
+    for (journal, totals) in WITHOUT_TRADES {
         let sink = drawn(rt.alloc(), journal)?;
         let picture = sink.bytes();
         assert!(rt; count(picture, totals) == 1);

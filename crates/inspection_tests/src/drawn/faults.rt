@@ -1,5 +1,5 @@
 //! Days that are not drawn.
-use crate::pictures::{DIRECT_BEFORE_IMPLIED, drawn};
+use super::pictures::{DIRECT_BEFORE_IMPLIED, drawn};
 use day_picture::{DrawFault, draw};
 use host_base::{NoMemory, TestSink};
 use spread_journal::JournalFault;

@@ -1,0 +1,5 @@
+//! Days as pictures.
+
+mod faults;
+mod pictures;
+mod sizes;

@@ -1,0 +1,40 @@
+//! Entries of journals, explained.
+use day_explain::explain;
+use host_base::TestSink;
+use spread_rules::Rulebook;
+use std::alloc::Global;
+use std::process::Abort;
+use std::test::Fail;
+
+mod faults;
+mod orders;
+mod refusals;
+mod replaces;
+mod sessions;
+
+/// A tick of five hundredths.
+const TICK_5: &[u8] = b"tick 5\nmonth H6 10000\nmonth M6 9800\nmonth U6 9500\n";
+
+/// A rulebook, a journal, the place of an entry in it, and what is written of that entry.
+struct Case {
+    shows: &'static str,
+    rules: &'static [u8],
+    journal: &'static [u8],
+    place: u64,
+    words: &'static [u8],
+}
+
+fn expect_words(rt: &impl Abort, alloc: Global, case: &Case) -> Result<(), Fail> {
+    let rules = Rulebook::read(case.rules)?;
+    let mut sink = TestSink::new(alloc, 4000, 0)?;
+    explain(alloc, &rules, case.journal, case.place, &mut sink)?;
+    assert!(rt; sink.bytes() == case.words, "{}", case.shows);
+    Ok(())
+}
+
+fn expect_all(rt: &impl Abort, alloc: Global, cases: &[Case]) -> Result<(), Fail> {
+    for case in cases {
+        expect_words(rt, alloc, case)?;
+    }
+    Ok(())
+}
