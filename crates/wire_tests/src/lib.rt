@@ -4,6 +4,8 @@
 #[cfg(test)]
 mod base;
 #[cfg(test)]
+mod day;
+#[cfg(test)]
 mod lines;
 #[cfg(test)]
 mod session;

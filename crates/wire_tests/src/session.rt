@@ -2,7 +2,8 @@
 use fix_session::{Session, Verdict};
 use fix_wire::Message;
 use spread_rules::{Event, Side, Ticket};
-use std::alloc::{AllocError, Allocator};
+use std::alloc::Allocator;
+use std::process::Abort;
 use test_support::id;
 
 mod kinds;
@@ -11,13 +12,65 @@ mod numbering;
 mod reader;
 mod streams;
 
-/// The messages of a small day: a Logon, an order to sell, an order to buy, a Logout.
-const DAY: &str = "8=FIX.4.2|9=57|35=A|34=1|49=C1|52=20260105-14:30:00|56=HOST|98=0|108=30|10=220|\
-8=FIX.4.2|9=104|35=D|34=2|49=C1|52=20260105-14:30:00|56=HOST|11=a|21=1|55=H6|54=2|60=20260105-14:30:00|38=5|40=2|44=100|10=168|\
-8=FIX.4.2|9=104|35=D|34=3|49=C1|52=20260105-14:30:00|56=HOST|11=b|21=1|55=H6|54=1|60=20260105-14:30:00|38=5|40=2|44=100|10=169|\
-8=FIX.4.2|9=45|35=5|34=4|49=C1|52=20260105-14:30:00|56=HOST|10=183|";
-
 const LOGON: &str = "35=A|34=1|49=C1|52=S|56=HOST|98=0|108=30|";
+
+/// What a session says to a message, or at the end of its stream.
+enum Says {
+    Nothing,
+    /// Client C1 opens a session with HOST, with a heartbeat interval of 30 seconds.
+    Logon,
+    New(Order),
+    /// An order that is wanted in place of the one with this id.
+    Replace(&'static [u8], Order),
+    /// The cancel's id, and the id of the order that it names.
+    Cancel(&'static [u8], &'static [u8]),
+    TestReply(&'static [u8]),
+    Gap(u32),
+    Resend(u32, u32),
+    /// The message's number and the reason.
+    Reject(u32, u8),
+    Close(u8),
+}
+
+/// An order in H6.
+struct Order {
+    id: &'static [u8],
+    side: Side,
+    quantity: u32,
+    price: i64,
+    immediate: bool,
+}
+
+/// The first trade's orders: 5 lots at 100.00.
+const SELL: Says = Says::New(Order {
+    id: b"a",
+    side: Side::Sell,
+    quantity: 5,
+    price: 10_000,
+    immediate: false,
+});
+
+const BUY: Says = Says::New(Order {
+    id: b"b",
+    side: Side::Buy,
+    quantity: 5,
+    price: 10_000,
+    immediate: false,
+});
+
+/// What the first trade's messages say.
+static FIRST_TRADE_SAYS: [Says; 4] = [Says::Logon, SELL, BUY, Says::Close(1)];
+
+fn ticket_of(order: &Order) -> Ticket {
+    Ticket {
+        id: id(order.id),
+        symbol: id(b"H6"),
+        side: order.side,
+        quantity: order.quantity,
+        price: order.price,
+        immediate: order.immediate,
+    }
+}
 
 fn logon() -> Event {
     Event::Logon {
@@ -27,73 +80,92 @@ fn logon() -> Event {
     }
 }
 
-fn order(text: &[u8], side: Side) -> Event {
-    sold(text, side, 5, 10_000)
+fn verdict_of(says: &Says) -> Verdict {
+    let event = match says {
+        Says::Nothing => return Verdict::Nothing,
+        Says::Logon => logon(),
+        Says::New(order) => Event::New(ticket_of(order)),
+        Says::Replace(original, order) => Event::Replace {
+            original: id(original),
+            ticket: ticket_of(order),
+        },
+        Says::Cancel(cancel, original) => Event::Cancel {
+            id: id(cancel),
+            original: id(original),
+        },
+        Says::TestReply(text) => Event::TestReply { text: id(text) },
+        Says::Gap(first) => Event::Gap { first: *first },
+        Says::Resend(first, last) => Event::Resend {
+            first: *first,
+            last: *last,
+        },
+        Says::Reject(number, reason) => Event::Reject {
+            number: *number,
+            reason: *reason,
+        },
+        Says::Close(reason) => Event::Close { reason: *reason },
+    };
+    Verdict::Event(event)
 }
 
-fn sold(text: &[u8], side: Side, quantity: u32, price: i64) -> Event {
-    Event::New(Ticket {
-        id: id(text),
-        symbol: id(b"H6"),
-        side,
-        quantity,
-        price,
-        immediate: false,
-    })
+fn is_said(verdict: Verdict, says: &Says) -> bool {
+    verdict == verdict_of(says)
 }
 
-fn reject(number: u32, reason: u8) -> Event {
-    Event::Reject { number, reason }
+fn expect_said(rt: &impl Abort, verdict: Verdict, says: &Says) {
+    assert!(rt; is_said(verdict, says));
 }
 
-fn close(reason: u8) -> Event {
-    Event::Close { reason }
+/// These events and no others were said, in this order.
+fn expect_events(rt: &impl Abort, name: &str, events: &[Event], want: &[Says]) {
+    assert!(rt; events.len() == want.len(), "{name}");
+    for (event, says) in events.iter().zip(want) {
+        assert!(rt; is_said(Verdict::Event(*event), says), "{name}");
+    }
 }
 
 /// The bytes of a text in which `|` stands for byte 1.
-fn bytes_of<A: Allocator>(alloc: A, text: &str) -> Result<Vec<u8, A>, AllocError> {
+fn bytes_of<A: Allocator>(rt: &impl Abort, alloc: A, text: &str) -> Vec<u8, A> {
     let mut bytes = Vec::new(alloc);
     for byte in text.as_bytes() {
-        bytes.push(if *byte == b'|' { 1 } else { *byte })?;
+        let byte = if *byte == b'|' { 1 } else { *byte };
+        bytes.push(byte).expect(rt, "memory");
     }
-    Ok(bytes)
+    bytes
+}
+
+/// The sum of these bytes, as a CheckSum has it.
+fn sum_of(bytes: &[u8]) -> u8 {
+    let mut sum = 0u8;
+    for byte in bytes {
+        sum = sum.wrapping_add(*byte);
+    }
+    sum
 }
 
 /// A frame around a body.
-fn framed<A: Allocator + Copy>(alloc: A, body: &str) -> Result<Vec<u8, A>, AllocError> {
-    let text = format!(in alloc; "8=FIX.4.2|9={}|{body}", body.len())?;
-    let mut frame = bytes_of(alloc, text.as_str())?;
-    let mut sum = 0u8;
-    for byte in &frame {
-        sum = sum.wrapping_add(*byte);
-    }
-    let end = format!(in alloc; "10={sum:03}|")?;
-    frame.extend_from_slice(&bytes_of(alloc, end.as_str())?)?;
-    Ok(frame)
+fn framed<A: Allocator + Copy>(rt: &impl Abort, alloc: A, body: &str) -> Vec<u8, A> {
+    let text = format!(in alloc; "8=FIX.4.2|9={}|{body}", body.len()).expect(rt, "memory");
+    let mut frame = bytes_of(rt, alloc, text.as_str());
+    let end = format!(in alloc; "10={:03}\x01", sum_of(&frame)).expect(rt, "memory");
+    frame.extend_from_slice(end.as_bytes()).expect(rt, "memory");
+    frame
 }
 
-/// What a session says to a body, and the session after it. None where the body is none.
+/// What a session says to a body, and the session after it.
 fn judged<A: Allocator + Copy>(
+    rt: &impl Abort,
     alloc: A,
-    session: Session,
+    session: &Session,
     body: &str,
-) -> Result<Option<(Verdict, Session)>, AllocError> {
-    let frame = framed(alloc, body)?;
-    if frame.len() > 5000 {
-        return Ok(None);
-    }
-    match Message::whole(&frame) {
-        Some(message) => Ok(Some(session.judge(&message))),
-        None => Ok(None),
-    }
+) -> (Verdict, Session) {
+    let frame = framed(rt, alloc, body);
+    let message = Message::whole(&frame).expect(rt, "a frame");
+    session.judge(&message)
 }
 
-fn push_event<A: Allocator>(
-    events: &mut Vec<Event, A>,
-    verdict: Verdict,
-) -> Result<(), AllocError> {
+fn push_event<A: Allocator>(rt: &impl Abort, events: &mut Vec<Event, A>, verdict: Verdict) {
     if let Verdict::Event(event) = verdict {
-        events.push(event)?;
+        events.push(event).expect(rt, "memory");
     }
-    Ok(())
 }

@@ -1,8 +1,7 @@
-use std::test::Fail;
 use test_support::{FIRST_TRADE, FIRST_TRADE_LINES, Refusing, THREE_MONTHS, id, stamp};
 
 #[test]
-fn one_is_refused(rt: HostRuntime) -> Result<(), Fail> {
+fn one_is_refused(rt: HostRuntime) {
     let heap = Refusing::new(rt.alloc(), 2);
     let mut first = Vec::new(&heap);
     assert!(rt; first.push(1u8).is_ok());
@@ -12,7 +11,6 @@ fn one_is_refused(rt: HostRuntime) -> Result<(), Fail> {
     assert!(rt; heap.has_refused());
     assert!(rt; second.push(2u8).is_ok());
     assert!(rt; second.as_slice() == [2u8].as_slice());
-    Ok(())
 }
 
 #[test]

@@ -10,47 +10,55 @@ fn written_one_behind_the_other(rt: HostRuntime) {
     assert!(rt; &room[..5] == b".AB=.".as_slice());
 }
 
+const NUMBERS: &[(u64, &[u8])] = &[
+    (0, b"0"),
+    (9, b"9"),
+    (10, b"10"),
+    (999, b"999"),
+    (1_000, b"1000"),
+    (10_000, b"10000"),
+    (99_999_999, b"99999999"),
+    (100_000_000, b"100000000"),
+    (u64::MAX, b"18446744073709551615"),
+];
+
 #[test]
 fn written_numbers(rt: HostRuntime) {
-    let rows: [(u64, &[u8]); 9] = [
-        (0, b"0"),
-        (9, b"9"),
-        (10, b"10"),
-        (999, b"999"),
-        (1_000, b"1000"),
-        (10_000, b"10000"),
-        (99_999_999, b"99999999"),
-        (100_000_000, b"100000000"),
-        (u64::MAX, b"18446744073709551615"),
-    ];
-    for (number, text) in rows {
+    for (number, text) in NUMBERS {
         let mut room = [b'.'; 64];
-        let end = put_number(&mut room, 2, number);
-        assert!(rt; &room[2..end] == text);
+        let end = put_number(&mut room, 2, *number);
+        assert!(rt; &room[2..end] == *text);
     }
 }
+
+const PRICES: &[(i64, &[u8])] = &[
+    (10_000, b"100.00"),
+    (-5, b"-0.05"),
+    (0, b"0.00"),
+    (-1_000_000_000, b"-10000000.00"),
+    (i64::MIN, b"-92233720368547758.08"),
+];
 
 #[test]
 fn written_prices(rt: HostRuntime) {
-    let rows: [(i64, &[u8]); 5] = [
-        (10_000, b"100.00"),
-        (-5, b"-0.05"),
-        (0, b"0.00"),
-        (-1_000_000_000, b"-10000000.00"),
-        (i64::MIN, b"-92233720368547758.08"),
-    ];
-    for (price, text) in rows {
+    for (price, text) in PRICES {
         let mut room = [b'.'; 64];
-        let end = put_price(&mut room, 1, price);
-        assert!(rt; &room[1..end] == text);
+        let end = put_price(&mut room, 1, *price);
+        assert!(rt; &room[1..end] == *text);
     }
 }
 
+const DIGITS: &[(&[u8], Option<u64>)] = &[
+    (b"", Some(0)),
+    (b"007", Some(7)),
+    (b"1000000000", Some(1_000_000_000)),
+    (b"99999999999999999999999", Some(1_000_000_000)),
+    (b"1.0", None),
+];
+
 #[test]
 fn digits_up_to_the_greatest_price(rt: HostRuntime) {
-    assert!(rt; limited_digits(b"") == Some(0));
-    assert!(rt; limited_digits(b"007") == Some(7));
-    assert!(rt; limited_digits(b"1000000000") == Some(1_000_000_000));
-    assert!(rt; limited_digits(b"99999999999999999999999") == Some(1_000_000_000));
-    assert!(rt; limited_digits(b"1.0").is_none());
+    for (text, number) in DIGITS {
+        assert!(rt; limited_digits(text) == *number);
+    }
 }

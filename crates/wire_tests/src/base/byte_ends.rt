@@ -6,7 +6,6 @@ use host_base::{
 };
 use std::io;
 use std::io::{ErrorKind, Read};
-use std::test::Fail;
 use test_support::Refusing;
 
 /// What two writes into a sink with room for twelve bytes answer, and what is written then.
@@ -19,61 +18,60 @@ fn written<K: Sink>(sink: &mut K) -> (Result<(), Failed>, Result<(), Failed>)
     }
 }
 
-#[test]
-fn sources_in_memory(rt: HostRuntime) -> Result<(), Fail> {
-    let text = b"8=FIX.4.2";
-    let rows = [
-        (0, None),
-        (1, Some(ReadFault::Read)),
-        (2, Some(ReadFault::Read)),
-        (3, None),
-    ];
-    for (fail, want) in rows {
-        let mut source = TestSource::new(Vec::from_slice(rt.alloc(), text)?, fail);
-        match read_all(rt.alloc(), &mut source) {
-            Ok(bytes) => assert!(rt; want.is_none() && bytes.as_slice() == text.as_slice()),
-            Err(fault) => assert!(rt; want == Some(fault)),
-        }
-    }
-    Ok(())
-}
+/// The number of the read that fails (0: none), and whether all is read then.
+const SOURCES: &[(u32, bool)] = &[(0, true), (1, false), (2, false), (3, true)];
 
 #[test]
-fn sinks_in_memory(rt: HostRuntime) -> Result<(), Fail> {
-    let rows = [
-        (0, Ok(()), b"8=FIX10=220|".as_slice()),
-        (1, Err(Failed), b"".as_slice()),
-        (2, Ok(()), b"8=FIX".as_slice()),
-        (3, Ok(()), b"8=FIX10=220|".as_slice()),
-    ];
-    for (fail, first, bytes) in rows {
-        let mut sink = TestSink::new(rt.alloc(), 12, fail)?;
-        assert!(rt; written(&mut sink) == (first, Err(Failed)));
-        assert!(rt; sink.bytes() == bytes);
+fn sources_in_memory(rt: HostRuntime) {
+    let text = b"8=FIX.4.2";
+    for (fail, is_read) in SOURCES {
+        let bytes = Vec::from_slice(rt.alloc(), text).expect(&rt, "memory");
+        let mut source = TestSource::new(bytes, *fail);
+        match read_all(rt.alloc(), &mut source) {
+            Ok(bytes) => assert!(rt; *is_read && bytes.as_slice() == text.as_slice()),
+            Err(fault) => assert!(rt; !*is_read && fault == ReadFault::Read),
+        }
     }
-    Ok(())
+}
+
+/// The number of the write that fails (0: none), whether the first write passes, and the bytes that are written then.
+const SINKS: &[(u32, bool, &[u8])] = &[
+    (0, true, b"8=FIX10=220|"),
+    (1, false, b""),
+    (2, true, b"8=FIX"),
+    (3, true, b"8=FIX10=220|"),
+];
+
+#[test]
+fn sinks_in_memory(rt: HostRuntime) {
+    for (fail, passes, bytes) in SINKS {
+        let mut sink = TestSink::new(rt.alloc(), 12, *fail).expect(&rt, "memory");
+        let (first, second) = written(&mut sink);
+        assert!(rt; first.is_ok() == *passes && second.is_err());
+        assert!(rt; sink.bytes() == *bytes);
+    }
 }
 
 /// NoMemory comes where a request was refused, and only there.
 #[test]
-fn reading_with_memory_refused(rt: HostRuntime) -> Result<(), Fail> {
+fn reading_with_memory_refused(rt: HostRuntime) {
     for number in 1..20u64 {
         let heap = Refusing::new(rt.alloc(), number);
-        let mut source = TestSource::new(Vec::from_slice(rt.alloc(), &[b'#'; 9000])?, 0);
+        let text = Vec::from_slice(rt.alloc(), &[b'#'; 9000]).expect(&rt, "memory");
+        let mut source = TestSource::new(text, 0);
         match read_all(&heap, &mut source) {
             Ok(bytes) => {
                 assert!(rt; !heap.has_refused() && bytes.len() == 9000 && number > 1);
-                return Ok(());
+                return;
             }
             Err(fault) => assert!(rt; heap.has_refused() && fault == ReadFault::NoMemory),
         }
     }
     assert!(rt; false);
-    Ok(())
 }
 
 #[test]
-fn ends_over_std(rt: HostRuntime) -> Result<(), Fail> {
+fn ends_over_std(rt: HostRuntime) {
     let text = b"10=220|";
     let mut source = FromReader::new(text.as_slice());
     match read_all(rt.alloc(), &mut source) {
@@ -84,7 +82,6 @@ fn ends_over_std(rt: HostRuntime) -> Result<(), Fail> {
         }
         Err(_) => assert!(rt; false),
     }
-    Ok(())
 }
 
 /// A reader that a signal interrupts twice, and that then gives one byte.

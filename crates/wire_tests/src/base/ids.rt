@@ -1,25 +1,31 @@
 //! Ids and their keys.
 use host_base::laws::{limits, one_key};
 use host_base::{Id, IdKey};
+use std::process::Abort;
+
+/// Six ids that differ.
+const IDS: &[&[u8]] = &[
+    b"C1",
+    b"C1\0",
+    b"12345678C",
+    b"1234567812345678C",
+    b"123456781234567812345678C",
+    b"\0",
+];
+
+/// The keys of two ids of one session are equal where the ids are one, and those of two sessions are never.
+fn expect_keys(rt: &impl Abort, one: &[u8], other: &[u8], are_one: bool) {
+    let one = Id::new(one).expect(rt, "an id");
+    let other = Id::new(other).expect(rt, "an id");
+    assert!(rt; (IdKey::new(1, &one) == IdKey::new(1, &other)) == are_one);
+    assert!(rt; IdKey::new(1, &one) != IdKey::new(2, &other));
+}
 
 #[test]
 fn keys_of_ids(rt: HostRuntime) {
-    let rows: [&[u8]; 6] = [
-        b"C1",
-        b"C1\0",
-        b"12345678C",
-        b"1234567812345678C",
-        b"123456781234567812345678C",
-        b"\0",
-    ];
-    for (i, a) in rows.iter().enumerate() {
-        for (j, b) in rows.iter().enumerate() {
-            if let (Some(one), Some(other)) = (Id::new(a), Id::new(b)) {
-                assert!(rt; (IdKey::new(1, &one) == IdKey::new(1, &other)) == (i == j));
-                assert!(rt; IdKey::new(1, &one) != IdKey::new(2, &other));
-            } else {
-                assert!(rt; false);
-            }
+    for (i, one) in IDS.iter().enumerate() {
+        for (j, other) in IDS.iter().enumerate() {
+            expect_keys(&rt, one, other, i == j);
         }
     }
     one_key();
@@ -32,12 +38,9 @@ fn ids(rt: HostRuntime) {
     assert!(rt; Id::new(b"").is_none());
     assert!(rt; Id::new(b"a\x01b").is_none());
     assert!(rt; Id::new(&long).is_none());
-    match (Id::new(&long[..32]), Id::new(b"C1")) {
-        (Some(most), Some(id)) => {
-            assert!(rt; most.bytes() == &long[..32]);
-            assert!(rt; id.bytes() == b"C1".as_slice());
-            assert!(rt; id.is(&id) && !id.is(&most));
-        }
-        _ => assert!(rt; false),
-    }
+    let most = Id::new(&long[..32]).expect(&rt, "an id of 32 bytes");
+    let id = Id::new(b"C1").expect(&rt, "an id");
+    assert!(rt; most.bytes() == &long[..32]);
+    assert!(rt; id.bytes() == b"C1".as_slice());
+    assert!(rt; id.is(&id) && !id.is(&most));
 }

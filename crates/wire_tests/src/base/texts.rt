@@ -1,30 +1,36 @@
 //! Texts cut, and numbers in their one spelling.
 use host_base::{after, cut_at, read_decimal, read_plain};
 
+const NUMBERS: &[(&[u8], Option<u64>)] = &[
+    (b"0", Some(0)),
+    (b"18446744073709551615", Some(u64::MAX)),
+    (b"18446744073709551616", None),
+    (b"01", None),
+    (b"+1", None),
+    (b"", None),
+];
+
+const SIGNED_NUMBERS: &[(&[u8], Option<i64>)] = &[
+    (b"-1", Some(-1)),
+    (b"0", Some(0)),
+    (b"-0", None),
+    (b"-01", None),
+];
+
 #[test]
 fn texts(rt: HostRuntime) {
     assert!(rt; cut_at(b"a b c", b' ') == Some((&b"a"[..], &b"b c"[..])));
     assert!(rt; cut_at(b"abc", b' ') == None);
     assert!(rt; after(b"tick 1", b"tick ") == Some(&b"1"[..]));
     assert!(rt; after(b"tic", b"tick ") == None);
-    let numbers: [(&[u8], Option<u64>); 6] = [
-        (b"0", Some(0)),
-        (b"18446744073709551615", Some(u64::MAX)),
-        (b"18446744073709551616", None),
-        (b"01", None),
-        (b"+1", None),
-        (b"", None),
-    ];
-    for (text, number) in numbers {
-        assert!(rt; read_decimal(text) == number);
+}
+
+#[test]
+fn numbers(rt: HostRuntime) {
+    for (text, number) in NUMBERS {
+        assert!(rt; read_decimal(text) == *number);
     }
-    let plain: [(&[u8], Option<i64>); 4] = [
-        (b"-1", Some(-1)),
-        (b"0", Some(0)),
-        (b"-0", None),
-        (b"-01", None),
-    ];
-    for (text, number) in plain {
-        assert!(rt; read_plain(text) == number);
+    for (text, number) in SIGNED_NUMBERS {
+        assert!(rt; read_plain(text) == *number);
     }
 }

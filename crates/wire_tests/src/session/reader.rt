@@ -1,192 +1,233 @@
 //! A reader looks at a message, passes it, and reads whole texts.
 ghost use Rattle.std.specs.Prelude.{◌<◌};
 
-use super::{DAY, bytes_of, close, logon, order};
+use super::Says::{Close, Logon, Nothing};
+use super::{BUY, FIRST_TRADE_SAYS, SELL, Says, expect_said};
+use crate::day;
 use fix_session::{Reader, Verdict, read_pieces};
-use spread_rules::{Entry, Event, Side};
-use std::alloc::{AllocError, Allocator};
-use std::test::Fail;
+use spread_rules::{Entry, Event};
+use std::alloc::Allocator;
+use std::process::Abort;
+use test_support::FIRST_TRADE;
 
-/// The events of the day, in order.
-fn of_day() -> [Event; 4] {
-    [
-        logon(),
-        order(b"a", Side::Sell),
-        order(b"b", Side::Buy),
-        close(1),
-    ]
+/// What is done with a reader, and what it answers.
+enum Step {
+    /// So many bytes of these are taken.
+    Put(&'static [u8], usize),
+    /// The next message says this.
+    Look(Says),
+    NoMessage,
+    /// Whether a message was passed.
+    Pass(bool),
+    IsClosed(bool),
+    /// What the end would say.
+    AtEnd(Says),
+    /// What the end says.
+    End(Says),
 }
 
 /// A message is looked at as often as one likes, and bytes that come after it change nothing.
-#[test]
-fn looked_at_twice(rt: HostRuntime) -> Result<(), Fail> {
-    let day = bytes_of(rt.alloc(), DAY)?;
-    let mut reader = Reader::new();
-    assert!(rt; reader.look().is_none());
-    assert!(rt; !reader.pass());
-    let first = day.get(..100).ok_or("a short day")?;
-    let rest = day.get(100..).ok_or("a short day")?;
-    assert!(rt; reader.put(first) == 100);
-    assert!(rt; reader.look() == Some(Verdict::Event(logon())));
-    assert!(rt; reader.put(rest) == 300);
-    assert!(rt; reader.look() == Some(Verdict::Event(logon())));
-    assert!(rt; reader.pass());
-    let sell = Some(Verdict::Event(order(b"a", Side::Sell)));
-    assert!(rt; reader.look() == sell);
-    assert!(rt; reader.look() == sell);
-    assert!(rt; reader.pass());
-    assert!(rt; reader.pass());
-    assert!(rt; reader.look() == Some(Verdict::Event(close(1))));
-    assert!(rt; !reader.is_closed());
-    assert!(rt; reader.pass());
-    assert!(rt; reader.is_closed());
-    assert!(rt; !reader.pass());
-    assert!(rt; reader.end() == Verdict::Nothing);
-    Ok(())
-}
+const LOOKED_AT_TWICE: &[Step] = &[
+    Step::NoMessage,
+    Step::Pass(false),
+    Step::Put(FIRST_100_BYTES, 100),
+    Step::Look(Logon),
+    Step::Put(LAST_300_BYTES, 300),
+    Step::Look(Logon),
+    Step::Pass(true),
+    Step::Look(SELL),
+    Step::Look(SELL),
+    Step::Pass(true),
+    Step::Pass(true),
+    Step::Look(Close(1)),
+    Step::IsClosed(false),
+    Step::Pass(true),
+    Step::IsClosed(true),
+    Step::Pass(false),
+    Step::End(Nothing),
+];
+
+/// The first trade, cut in its second message.
+const FIRST_100_BYTES: &[u8] =
+    b"8=FIX.4.2\x019=57\x0135=A\x0134=1\x0149=C1\x0152=20260105-14:30:00\x0156=HOST\x0198=0\x01108=30\x0110=220\x018=FIX.4.2\x019=104\x0135=D\x01";
+
+const LAST_300_BYTES: &[u8] =
+    b"34=2\x0149=C1\x0152=20260105-14:30:00\x0156=HOST\x0111=a\x0121=1\x0155=H6\x0154=2\x0160=20260105-14:30:00\x0138=5\x0140=2\x0144=100\x0110=168\x01\
+8=FIX.4.2\x019=104\x0135=D\x0134=3\x0149=C1\x0152=20260105-14:30:00\x0156=HOST\x0111=b\x0121=1\x0155=H6\x0154=1\x0160=20260105-14:30:00\x0138=5\x0140=2\x0144=100\x0110=169\x01\
+8=FIX.4.2\x019=45\x0135=5\x0134=4\x0149=C1\x0152=20260105-14:30:00\x0156=HOST\x0110=183\x01";
 
 /// The end closes a session, whatever was looked at before.
-#[test]
-fn the_end_of_a_stream(rt: HostRuntime) -> Result<(), Fail> {
-    let day = bytes_of(rt.alloc(), DAY)?;
+const THE_END_OF_A_STREAM: &[Step] = &[
+    Step::Put(FIRST_TRADE, 400),
+    Step::Look(Logon),
+    Step::AtEnd(Close(5)),
+    Step::IsClosed(false),
+    Step::End(Close(5)),
+    Step::IsClosed(true),
+    Step::AtEnd(Nothing),
+    Step::Look(Nothing),
+    Step::Pass(true),
+];
+
+/// A full reader takes nothing until what is no message is skipped.
+const A_FULL_READER: &[Step] = &[
+    Step::Put(FIRST_TRADE, 0),
+    Step::Look(Logon),
+    Step::Put(FIRST_TRADE, 400),
+];
+
+fn expect_step(rt: &impl Abort, reader: &mut Reader, step: &Step) {
+    match step {
+        Step::Put(bytes, taken) => assert!(rt; reader.put(bytes) == *taken),
+        Step::Look(says) => expect_said(rt, reader.look().expect(rt, "a message"), says),
+        Step::NoMessage => assert!(rt; reader.look().is_none()),
+        Step::Pass(stands) => assert!(rt; reader.pass() == *stands),
+        Step::IsClosed(is_closed) => assert!(rt; reader.is_closed() == *is_closed),
+        Step::AtEnd(says) => expect_said(rt, reader.at_end(), says),
+        Step::End(says) => expect_said(rt, reader.end(), says),
+    }
+}
+
+fn expect_steps(rt: &impl Abort, steps: &[Step]) {
     let mut reader = Reader::new();
-    assert!(rt; reader.put(&day) == 400);
-    assert!(rt; reader.look() == Some(Verdict::Event(logon())));
-    assert!(rt; reader.at_end() == Verdict::Event(close(5)));
-    assert!(rt; !reader.is_closed());
-    assert!(rt; reader.end() == Verdict::Event(close(5)));
-    assert!(rt; reader.is_closed());
-    assert!(rt; reader.at_end() == Verdict::Nothing);
-    assert!(rt; reader.look() == Some(Verdict::Nothing));
-    assert!(rt; reader.pass());
-    Ok(())
+    for step in steps {
+        expect_step(rt, &mut reader, step);
+    }
 }
 
 #[test]
-fn a_full_reader(rt: HostRuntime) -> Result<(), Fail> {
-    let day = bytes_of(rt.alloc(), DAY)?;
+fn steps_of_a_reader(rt: HostRuntime) {
+    expect_steps(&rt, LOOKED_AT_TWICE);
+    expect_steps(&rt, THE_END_OF_A_STREAM);
+}
+
+#[test]
+fn a_full_reader(rt: HostRuntime) {
     let mut text = Vec::new(rt.alloc());
-    text.resize(8192 - 400, b'x')?;
-    text.extend_from_slice(&day)?;
+    text.resize(8192 - 400, b'x').expect(&rt, "memory");
+    text.extend_from_slice(FIRST_TRADE).expect(&rt, "memory");
     let mut reader = Reader::new();
     assert!(rt; reader.put(&text) == 8192);
-    assert!(rt; reader.put(&day) == 0);
-    assert!(rt; reader.look() == Some(Verdict::Event(logon())));
-    assert!(rt; reader.put(&day) == 400);
-    Ok(())
+    for step in A_FULL_READER {
+        expect_step(&rt, &mut reader, step);
+    }
 }
 
 /// Each byte is put alone, and each message is looked at once it stands.
 #[test]
-fn byte_by_byte(rt: HostRuntime) -> Result<(), Fail> {
-    let day = bytes_of(rt.alloc(), DAY)?;
-    let want = of_day();
+fn byte_by_byte(rt: HostRuntime) {
     let mut reader = Reader::new();
     let mut count = 0;
-    for i in 0..day.len() {
-        assert!(rt; reader.put(&day[i..i + 1]) == 1);
+    for byte in FIRST_TRADE.chunks(1) {
+        assert!(rt; reader.put(byte) == 1);
         if let Some(verdict) = reader.look() {
             assert!(rt; count < 4);
-            assert!(rt; verdict == Verdict::Event(want[count]));
+            expect_said(&rt, verdict, &FIRST_TRADE_SAYS[count]);
             assert!(rt; reader.pass());
             count += 1;
         }
     }
     assert!(rt; count == 4);
-    Ok(())
 }
 
 /// The entries of a text that is read in pieces of so many bytes.
 fn read_by<A: Allocator + Copy>(
+    rt: &impl Abort,
     alloc: A,
     text: &[u8],
     size: usize,
-) -> Result<Vec<Entry, A>, AllocError>
+) -> Vec<Entry, A>
     requires { 0 < size }
 {
     let mut reader = Reader::new();
     let mut entries = Vec::new(alloc);
     for piece in text.chunks(size) {
-        reader.read(7, piece, &mut entries)?;
+        reader.read(7, piece, &mut entries).expect(rt, "memory");
     }
-    Ok(entries)
+    entries
+}
+
+/// The entries are the first trade's, of the session with that number.
+fn expect_first_trade(rt: &impl Abort, entries: &[Entry], session: u8) {
+    assert!(rt; entries.len() == 4);
+    for (entry, says) in entries.iter().zip(FIRST_TRADE_SAYS.as_slice()) {
+        assert!(rt; entry.session == session);
+        expect_said(rt, Verdict::Event(entry.event), says);
+    }
+}
+
+const SIZES: &[usize] = &[1, 2, 79, 80, 399, 400];
+
+#[test]
+fn entries_of_a_text(rt: HostRuntime) {
+    for size in SIZES {
+        assert!(rt; 0 < *size);
+        let entries = read_by(&rt, rt.alloc(), FIRST_TRADE, *size);
+        expect_first_trade(&rt, &entries, 7);
+    }
+}
+
+fn expect_day<A: Allocator>(rt: &impl Abort, messages: &[Vec<u8, A>]) {
+    assert!(rt; messages.len() == 4);
+    assert!(rt; messages[0].as_slice() == day::LOGON);
+    assert!(rt; messages[1].as_slice() == day::SELL);
+    assert!(rt; messages[2].as_slice() == day::BUY);
+    assert!(rt; messages[3].as_slice() == day::LOGOUT);
 }
 
 #[test]
-fn entries_of_a_text(rt: HostRuntime) -> Result<(), Fail> {
-    let day = bytes_of(rt.alloc(), DAY)?;
-    let want = of_day();
-    for size in [1, 2, 79, 80, 399, 400] {
-        let entries = read_by(rt.alloc(), &day, size)?;
-        assert!(rt; entries.len() == 4, "{size}");
-        for (place, entry) in entries.iter().enumerate() {
-            assert!(rt; entry.session == 7);
-            assert!(rt; place < 4);
-            assert!(rt; entry.event == want[place]);
-        }
-    }
-    Ok(())
-}
-
-#[test]
-fn a_day_cut_anywhere(rt: HostRuntime) -> Result<(), Fail> {
-    let day = bytes_of(rt.alloc(), DAY)?;
-    assert!(rt; day.len() == 400);
-    let logon = day.get(..79).ok_or("a short day")?;
-    let logout = day.get(333..).ok_or("a short day")?;
+fn a_day_cut_anywhere(rt: HostRuntime) {
+    assert!(rt; FIRST_TRADE.len() == 400);
     for cut in 0..=400usize {
-        let (messages, reader) = read_pieces(rt.alloc(), &[&day[..cut], &day[cut..]])?;
-        assert!(rt; messages.len() == 4, "{cut}");
-        assert!(rt; messages[0].as_slice() == logon);
-        assert!(rt; messages[3].as_slice() == logout);
+        let pieces = [&FIRST_TRADE[..cut], &FIRST_TRADE[cut..]];
+        let (messages, reader) = read_pieces(rt.alloc(), &pieces).expect(&rt, "memory");
+        expect_day(&rt, &messages);
         assert!(rt; reader.is_closed());
     }
-    Ok(())
+}
+
+/// What entries that no message has written hold.
+fn no_entry() -> Entry {
+    Entry {
+        session: 0,
+        event: Event::Close { reason: 0 },
+    }
 }
 
 /// Messages are judged ahead, and nothing changes.
 #[test]
-fn judged_ahead(rt: HostRuntime) -> Result<(), Fail> {
-    let day = bytes_of(rt.alloc(), DAY)?;
+fn judged_ahead(rt: HostRuntime) {
     let mut reader = Reader::new();
-    assert!(rt; reader.put(&day) == 400);
+    assert!(rt; reader.put(FIRST_TRADE) == 400);
     assert!(rt; reader.standing(64) == 4);
     assert!(rt; reader.standing(2) == 2);
-    let none = Entry {
-        session: 0,
-        event: close(0),
-    };
-    let mut entries = [none; 64];
+    let mut entries = [no_entry(); 64];
     let two = reader.judge_ahead(3, 2, &mut entries);
     assert!(rt; (two.messages, two.events, two.place) == (2, 2, 206));
-    assert!(rt; entries[2] == none);
+    assert!(rt; entries[2] == no_entry());
     let all = reader.judge_ahead(3, 64, &mut entries);
     assert!(rt; (all.messages, all.events, all.place) == (4, 4, 400));
-    for (n, event) in of_day().iter().enumerate() {
-        assert!(rt; (entries[n].session, entries[n].event) == (3, *event));
-    }
-    assert!(rt; reader.look() == Some(Verdict::Event(logon())));
+    expect_first_trade(&rt, &entries[..4], 3);
+    expect_step(&rt, &mut reader, &Step::Look(Logon));
     assert!(rt; reader.standing(64) == 4);
-    Ok(())
 }
 
 /// The messages that were judged ahead are passed together.
 #[test]
-fn passed_ahead(rt: HostRuntime) -> Result<(), Fail> {
-    let day = bytes_of(rt.alloc(), DAY)?;
+fn passed_ahead(rt: HostRuntime) {
+    expect_two_passed(&rt, FIRST_TRADE);
+}
+
+/// Of a day's messages two are judged ahead and passed.
+fn expect_two_passed(rt: &impl Abort, day: &[u8]) {
     let mut reader = Reader::new();
-    assert!(rt; reader.put(&day) == 400);
-    let none = Entry {
-        session: 0,
-        event: close(0),
-    };
-    let mut entries = [none; 64];
+    assert!(rt; reader.put(day) == 400);
+    let mut entries = [no_entry(); 64];
     let two = reader.judge_ahead(3, 2, &mut entries);
     if two.messages == 0 {
-        return Err("no message stands".into());
+        panic!(rt; "no message stands");
     }
     reader.pass_ahead(&two);
     assert!(rt; reader.standing(64) == 2);
-    assert!(rt; reader.look() == Some(Verdict::Event(order(b"b", Side::Buy))));
-    Ok(())
+    expect_step(rt, &mut reader, &Step::Look(BUY));
 }

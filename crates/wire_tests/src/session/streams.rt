@@ -1,118 +1,181 @@
 //! Streams of bytes, whole and cut.
-use super::{DAY, bytes_of, close, logon, order, push_event, reject, sold};
+use super::Says::{Close, Gap, Logon, New, Reject};
+use super::{BUY, Order, SELL, Says, expect_events, push_event};
+use crate::day;
 use fix_session::Reader;
 use spread_rules::{Event, Side};
-use std::alloc::{AllocError, Allocator};
-use std::test::Fail;
+use std::alloc::Allocator;
+use std::process::Abort;
+use test_support::FIRST_TRADE;
+
+/// The order to sell, at 12.34.
+const SELL_AT_1234: Says = New(Order {
+    id: b"a",
+    side: Side::Sell,
+    quantity: 5,
+    price: 1234,
+    immediate: false,
+});
+
+/// The order to sell, of another quantity.
+const SELL_0: Says = New(Order {
+    id: b"a",
+    side: Side::Sell,
+    quantity: 0,
+    price: 10_000,
+    immediate: false,
+});
+
+const SELL_999_999: Says = New(Order {
+    id: b"a",
+    side: Side::Sell,
+    quantity: 999_999,
+    price: 10_000,
+    immediate: false,
+});
+
+const SELL_1_000_000: Says = New(Order {
+    id: b"a",
+    side: Side::Sell,
+    quantity: 1_000_000,
+    price: 10_000,
+    immediate: false,
+});
+
+struct StreamCase {
+    name: &'static str,
+    messages: &'static [&'static [u8]],
+    says: &'static [Says],
+}
+
+static STREAMS: &[StreamCase] = &[
+    StreamCase {
+        name: "no byte",
+        messages: &[],
+        says: &[Close(5)],
+    },
+    StreamCase {
+        name: "a lawful order after the Logout",
+        messages: &[
+            FIRST_TRADE,
+            b"8=FIX.4.2\x019=104\x0135=D\x0134=5\x0149=C1\x0152=20260105-14:30:00\x0156=HOST\x0111=c\x0121=1\x0155=H6\x0154=1\x0160=20260105-14:30:00\x0138=5\x0140=2\x0144=100\x0110=172\x01",
+        ],
+        says: &[Logon, SELL, BUY, Close(1)],
+    },
+    StreamCase {
+        name: "a price of three places",
+        messages: &[
+            day::LOGON,
+            b"8=FIX.4.2\x019=107\x0135=D\x0134=2\x0149=C1\x0152=20260105-14:30:00\x0156=HOST\x0111=a\x0121=1\x0155=H6\x0154=2\x0160=20260105-14:30:00\x0138=5\x0140=2\x0144=12.345\x0110=071\x01",
+        ],
+        says: &[Logon, Reject(2, 5), Close(5)],
+    },
+    StreamCase {
+        name: "a price with zeros before and behind",
+        messages: &[
+            day::LOGON,
+            b"8=FIX.4.2\x019=109\x0135=D\x0134=2\x0149=C1\x0152=20260105-14:30:00\x0156=HOST\x0111=a\x0121=1\x0155=H6\x0154=2\x0160=20260105-14:30:00\x0138=5\x0140=2\x0144=0012.340\x0110=164\x01",
+        ],
+        says: &[Logon, SELL_AT_1234, Close(5)],
+    },
+    StreamCase {
+        name: "a quantity of 0",
+        messages: &[
+            day::LOGON,
+            b"8=FIX.4.2\x019=104\x0135=D\x0134=2\x0149=C1\x0152=20260105-14:30:00\x0156=HOST\x0111=a\x0121=1\x0155=H6\x0154=2\x0160=20260105-14:30:00\x0138=0\x0140=2\x0144=100\x0110=163\x01",
+        ],
+        says: &[Logon, SELL_0, Close(5)],
+    },
+    StreamCase {
+        name: "a quantity of 999,999",
+        messages: &[
+            day::LOGON,
+            b"8=FIX.4.2\x019=109\x0135=D\x0134=2\x0149=C1\x0152=20260105-14:30:00\x0156=HOST\x0111=a\x0121=1\x0155=H6\x0154=2\x0160=20260105-14:30:00\x0138=999999\x0140=2\x0144=100\x0110=206\x01",
+        ],
+        says: &[Logon, SELL_999_999, Close(5)],
+    },
+    StreamCase {
+        name: "a quantity of 1,000,000",
+        messages: &[
+            day::LOGON,
+            b"8=FIX.4.2\x019=110\x0135=D\x0134=2\x0149=C1\x0152=20260105-14:30:00\x0156=HOST\x0111=a\x0121=1\x0155=H6\x0154=2\x0160=20260105-14:30:00\x0138=1000000\x0140=2\x0144=100\x0110=193\x01",
+        ],
+        says: &[Logon, SELL_1_000_000, Close(5)],
+    },
+    StreamCase {
+        name: "a field that no order needs",
+        messages: &[
+            day::LOGON,
+            b"8=FIX.4.2\x019=110\x0135=D\x0134=2\x0149=C1\x0152=20260105-14:30:00\x0156=HOST\x011=ACC\x0111=a\x0121=1\x0155=H6\x0154=2\x0160=20260105-14:30:00\x0138=5\x0140=2\x0144=100\x0110=219\x01",
+        ],
+        says: &[Logon, SELL, Close(5)],
+    },
+    StreamCase {
+        name: "an order whose CheckSum has lost a digit is garbled, and its number is missing",
+        messages: &[
+            day::LOGON,
+            b"8=FIX.4.2\x019=104\x0135=D\x0134=2\x0149=C1\x0152=20260105-14:30:00\x0156=HOST\x0111=a\x0121=1\x0155=H6\x0154=2\x0160=20260105-14:30:00\x0138=5\x0140=2\x0144=100\x0110=68\x01",
+            day::BUY,
+            day::LOGOUT,
+        ],
+        says: &[Logon, Gap(2), Close(5)],
+    },
+];
+
+/// The messages as one stream.
+fn joined<A: Allocator>(rt: &impl Abort, alloc: A, messages: &[&[u8]]) -> Vec<u8, A> {
+    let mut stream = Vec::new(alloc);
+    for message in messages {
+        stream.extend_from_slice(message).expect(rt, "memory");
+    }
+    stream
+}
 
 /// The events of a stream, and of its end.
-fn whole<A: Allocator + Copy>(alloc: A, text: &str) -> Result<Vec<Event, A>, AllocError> {
-    let bytes = bytes_of(alloc, text)?;
+fn events_of<A: Allocator + Copy>(rt: &impl Abort, alloc: A, stream: &[u8]) -> Vec<Event, A> {
     let mut reader = Reader::new();
     let mut entries = Vec::new(alloc);
-    reader.read(0, &bytes, &mut entries)?;
+    reader.read(0, stream, &mut entries).expect(rt, "memory");
     let mut events = Vec::new(alloc);
     for entry in &entries {
-        events.push(entry.event)?;
+        events.push(entry.event).expect(rt, "memory");
     }
-    push_event(&mut events, reader.end())?;
-    Ok(events)
+    push_event(rt, &mut events, reader.end());
+    events
 }
 
 #[test]
-fn streams_of_bytes(rt: HostRuntime) -> Result<(), Fail> {
-    let rows: [(&str, &[Event]); 8] = [
-        ("", &[close(5)]),
-        (
-            // The Logout is followed by a lawful order.
-            "8=FIX.4.2|9=104|35=D|34=5|49=C1|52=20260105-14:30:00|56=HOST|11=c|21=1|55=H6|54=1|60=20260105-14:30:00|38=5|40=2|44=100|10=172|",
-            &[
-                logon(),
-                order(b"a", Side::Sell),
-                order(b"b", Side::Buy),
-                close(1),
-            ],
-        ),
-        (
-            "8=FIX.4.2|9=107|35=D|34=2|49=C1|52=20260105-14:30:00|56=HOST|11=a|21=1|55=H6|54=2|60=20260105-14:30:00|38=5|40=2|44=12.345|10=071|",
-            &[logon(), reject(2, 5), close(5)],
-        ),
-        (
-            "8=FIX.4.2|9=109|35=D|34=2|49=C1|52=20260105-14:30:00|56=HOST|11=a|21=1|55=H6|54=2|60=20260105-14:30:00|38=5|40=2|44=0012.340|10=164|",
-            &[logon(), sold(b"a", Side::Sell, 5, 1234), close(5)],
-        ),
-        (
-            "8=FIX.4.2|9=104|35=D|34=2|49=C1|52=20260105-14:30:00|56=HOST|11=a|21=1|55=H6|54=2|60=20260105-14:30:00|38=0|40=2|44=100|10=163|",
-            &[logon(), sold(b"a", Side::Sell, 0, 10_000), close(5)],
-        ),
-        (
-            "8=FIX.4.2|9=109|35=D|34=2|49=C1|52=20260105-14:30:00|56=HOST|11=a|21=1|55=H6|54=2|60=20260105-14:30:00|38=999999|40=2|44=100|10=206|",
-            &[logon(), sold(b"a", Side::Sell, 999_999, 10_000), close(5)],
-        ),
-        (
-            "8=FIX.4.2|9=110|35=D|34=2|49=C1|52=20260105-14:30:00|56=HOST|11=a|21=1|55=H6|54=2|60=20260105-14:30:00|38=1000000|40=2|44=100|10=193|",
-            &[logon(), sold(b"a", Side::Sell, 1_000_000, 10_000), close(5)],
-        ),
-        (
-            "8=FIX.4.2|9=110|35=D|34=2|49=C1|52=20260105-14:30:00|56=HOST|1=ACC|11=a|21=1|55=H6|54=2|60=20260105-14:30:00|38=5|40=2|44=100|10=219|",
-            &[logon(), order(b"a", Side::Sell), close(5)],
-        ),
-    ];
-    for (n, (text, want)) in rows.iter().enumerate() {
-        let first = match n {
-            0 => "",
-            1 => DAY,
-            _ => "8=FIX.4.2|9=57|35=A|34=1|49=C1|52=20260105-14:30:00|56=HOST|98=0|108=30|10=220|",
-        };
-        let stream = format!(in rt.alloc(); "{first}{text}")?;
-        let got = whole(rt.alloc(), stream.as_str())?;
-        assert!(rt; got.as_slice() == *want, "{stream}");
+fn streams_of_bytes(rt: HostRuntime) {
+    for case in STREAMS {
+        let stream = joined(&rt, rt.alloc(), case.messages);
+        let events = events_of(&rt, rt.alloc(), &stream);
+        expect_events(&rt, case.name, &events, case.says);
     }
-    Ok(())
 }
 
-/// An order whose checksum has lost a digit is garbled, and its number is missing.
-#[test]
-fn a_garbled_order_is_a_gap(rt: HostRuntime) -> Result<(), Fail> {
-    let stream = "8=FIX.4.2|9=57|35=A|34=1|49=C1|52=20260105-14:30:00|56=HOST|98=0|108=30|10=220|\
-8=FIX.4.2|9=104|35=D|34=2|49=C1|52=20260105-14:30:00|56=HOST|11=a|21=1|55=H6|54=2|60=20260105-14:30:00|38=5|40=2|44=100|10=68|\
-8=FIX.4.2|9=104|35=D|34=3|49=C1|52=20260105-14:30:00|56=HOST|11=b|21=1|55=H6|54=1|60=20260105-14:30:00|38=5|40=2|44=100|10=169|\
-8=FIX.4.2|9=45|35=5|34=4|49=C1|52=20260105-14:30:00|56=HOST|10=183|";
-    let got = whole(rt.alloc(), stream)?;
-    let want = [logon(), Event::Gap { first: 2 }, Event::Close { reason: 5 }];
-    assert!(rt; got.as_slice() == want.as_slice());
-    Ok(())
-}
+const NO_MESSAGE: &[Says] = &[Close(5)];
 
-/// A stream that is cut anywhere has the events of its whole messages, and Close 5.
+const ONE_MESSAGE: &[Says] = &[Logon, Close(5)];
+
+const TWO_MESSAGES: &[Says] = &[Logon, SELL, Close(5)];
+
+const THREE_MESSAGES: &[Says] = &[Logon, SELL, BUY, Close(5)];
+
+/// A stream that is cut before a `=` or a field's end has the events of its whole messages, and Close 5.
 #[test]
-fn cut_streams(rt: HostRuntime) -> Result<(), Fail> {
-    let all = [logon(), order(b"a", Side::Sell), order(b"b", Side::Buy)];
-    let bytes = bytes_of(rt.alloc(), DAY)?;
-    assert!(rt; bytes.len() == 400);
-    for (k, byte) in DAY.as_bytes().iter().enumerate() {
-        if *byte != b'=' && *byte != b'|' {
+fn cut_streams(rt: HostRuntime) {
+    assert!(rt; FIRST_TRADE.len() == 400);
+    for (cut, byte) in FIRST_TRADE.iter().enumerate() {
+        if *byte != b'=' && *byte != 1 {
             continue;
         }
-        let Some(text) = DAY.get(..k) else {
-            continue;
+        let want = match cut {
+            0..79 => NO_MESSAGE,
+            79..206 => ONE_MESSAGE,
+            206..333 => TWO_MESSAGES,
+            _ => THREE_MESSAGES,
         };
-        let got = whole(rt.alloc(), text)?;
-        let messages = match k {
-            0..79 => 0,
-            79..206 => 1,
-            206..333 => 2,
-            _ => 3,
-        };
-        assert!(rt; got.len() == messages + 1, "{k}");
-        for (n, event) in got.iter().enumerate() {
-            let want = if n < messages && n < 3 {
-                all[n]
-            } else {
-                Event::Close { reason: 5 }
-            };
-            assert!(rt; *event == want, "{k}");
-        }
+        let events = events_of(&rt, rt.alloc(), &FIRST_TRADE[..cut]);
+        expect_events(&rt, "a cut stream", &events, want);
     }
-    Ok(())
 }

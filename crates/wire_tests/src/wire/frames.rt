@@ -1,24 +1,42 @@
 //! Frames of streams, cut and garbled.
-use super::{BUY, LOGON, LOGOUT, SELL, joined};
+use crate::day::{BUY, LOGON, LOGOUT, SELL};
 use fix_wire::{Framer, Look, Message, Next};
-use host_base::NoMemory;
 use std::alloc::Allocator;
 use std::process::Abort;
-use std::test::Fail;
+use test_support::FIRST_TRADE;
 
-fn one_by_one<A: Allocator>(alloc: A, text: &[u8]) -> Result<Vec<&[u8], A>, NoMemory> {
-    let mut pieces = Vec::new(alloc);
-    for i in 0..text.len() {
-        pieces.push(&text[i..i + 1])?;
+/// A part of a stream: bytes, or that many letters x.
+enum Part {
+    Bytes(&'static [u8]),
+    Letters(usize),
+}
+
+use Part::{Bytes, Letters};
+
+fn append<A: Allocator>(rt: &impl Abort, stream: &mut Vec<u8, A>, part: &Part) {
+    match part {
+        Bytes(bytes) => stream.extend_from_slice(bytes).expect(rt, "memory"),
+        Letters(count) => {
+            let end = stream.len().saturating_add(*count);
+            stream.resize(end, b'x').expect(rt, "memory");
+        }
     }
-    Ok(pieces)
+}
+
+/// The bytes of a stream.
+fn stream_of<A: Allocator>(rt: &impl Abort, alloc: A, parts: &[Part]) -> Vec<u8, A> {
+    let mut stream = Vec::new(alloc);
+    for part in parts {
+        append(rt, &mut stream, part);
+    }
+    stream
 }
 
 /// Passes the frames that stand, which are those from this place on, and says which one is still to come.
 fn take_frames(rt: &impl Abort, framer: &mut Framer, want: &[&[u8]], from: usize) -> usize {
     for place in from..want.len() {
         match framer.next() {
-            Next::Message(message) => assert!(rt; message.bytes() == want[place], "frame {place}"),
+            Next::Message(message) => assert!(rt; message.bytes() == want[place]),
             Next::Need => return place,
         }
         framer.pass();
@@ -38,144 +56,224 @@ fn expect_frames(rt: &impl Abort, pieces: &[&[u8]], want: &[&[u8]]) {
     assert!(rt; place == want.len());
 }
 
-/// The same, put whole and in pieces of one byte.
-fn expect_both_ways<A: Allocator>(
-    rt: &impl Abort,
-    alloc: A,
-    text: &[u8],
-    want: &[&[u8]],
-) -> Result<(), NoMemory> {
-    expect_frames(rt, &[text], want);
-    let pieces = one_by_one(alloc, text)?;
-    expect_frames(rt, &pieces, want);
-    Ok(())
-}
-
-#[test]
-fn a_stream_cut_anywhere(rt: HostRuntime) -> Result<(), Fail> {
-    let day = joined(rt.alloc(), &[LOGON, SELL, BUY, LOGOUT])?;
-    assert!(rt; day.len() == 400);
-    for cut in 0..=400usize {
-        let pieces = [&day[..cut], &day[cut..]];
-        expect_frames(&rt, &pieces, &[LOGON, SELL, BUY, LOGOUT]);
+/// The same of a stream that is put in pieces of one byte.
+fn expect_frames_byte_by_byte(rt: &impl Abort, stream: &[u8], want: &[&[u8]]) {
+    let mut framer = Framer::new();
+    let mut place = 0;
+    for piece in stream.chunks(1) {
+        assert!(rt; framer.put(piece) == 1);
+        place = take_frames(rt, &mut framer, want, place);
     }
-    Ok(())
+    assert!(rt; place == want.len());
 }
 
 #[test]
-fn nested_and_cut_frames(rt: HostRuntime) -> Result<(), Fail> {
-    let alloc = rt.alloc();
-    let all = [LOGON, SELL, BUY, LOGOUT];
-    let day = joined(alloc, &all)?;
-    expect_both_ways(&rt, alloc, &day, &all)?;
-
-    // A whole frame of 4,000 bytes of body with a wrong CheckSum.
-    let mut wrong = joined(alloc, &[b"8=FIX.4.2\x019=4000\x0135=0\x0158="])?;
-    wrong.resize(16 + 8 + 3991, b'x')?;
-    wrong.extend_from_slice(b"\x0110=000\x01")?;
-    wrong.extend_from_slice(&day)?;
-    expect_both_ways(&rt, alloc, &wrong, &all)?;
-
-    // A header whose body would end within the stream, and one that waits for more.
-    let early = joined(alloc, &[b"8=FIX.4.2\x019=200\x01", &day])?;
-    expect_both_ways(&rt, alloc, &early, &all)?;
-    let late = joined(alloc, &[b"8=FIX.4.2\x019=4000\x01", &day])?;
-    expect_both_ways(&rt, alloc, &late, &[])?;
-    Ok(())
+fn a_stream_cut_anywhere(rt: HostRuntime) {
+    assert!(rt; FIRST_TRADE.len() == 400);
+    for cut in 0..=400usize {
+        let pieces = [&FIRST_TRADE[..cut], &FIRST_TRADE[cut..]];
+        expect_frames(&rt, &pieces, DAY);
+    }
 }
 
-#[test]
-fn frames_within_a_garbled_frame(rt: HostRuntime) -> Result<(), Fail> {
-    let alloc = rt.alloc();
-    let all = [LOGON, SELL, BUY, LOGOUT];
-    let garbled = joined(
-        alloc,
-        &[
-            b"8=FIX.4.2\x019=408\x0135=0\x0158=",
-            LOGON,
-            SELL,
-            BUY,
-            LOGOUT,
-            b"10=000\x01",
+/// The frames that stand in a stream: these, or the whole stream as one.
+enum Frames {
+    These(&'static [&'static [u8]]),
+    Whole,
+}
+
+use Frames::{These, Whole};
+
+const DAY: &[&[u8]] = &[LOGON, SELL, BUY, LOGOUT];
+
+struct StreamCase {
+    name: &'static str,
+    stream: &'static [Part],
+    length: usize,
+    frames: Frames,
+}
+
+static STREAMS: &[StreamCase] = &[
+    StreamCase {
+        name: "a day",
+        stream: &[Bytes(FIRST_TRADE)],
+        length: 400,
+        frames: These(DAY),
+    },
+    StreamCase {
+        name: "a frame of 4,000 bytes of body with a wrong CheckSum, and a day",
+        stream: &[
+            Bytes(b"8=FIX.4.2\x019=4000\x0135=0\x0158="),
+            Letters(3991),
+            Bytes(b"\x0110=000\x01"),
+            Bytes(FIRST_TRADE),
         ],
-    )?;
-    expect_both_ways(&rt, alloc, &garbled, &all)?;
-    Ok(())
+        length: 4424,
+        frames: These(DAY),
+    },
+    StreamCase {
+        name: "the same, whose body is a byte short of its BodyLength",
+        stream: &[
+            Bytes(b"8=FIX.4.2\x019=4000\x0135=0\x0158="),
+            Letters(3990),
+            Bytes(b"\x0110=000\x01"),
+            Bytes(FIRST_TRADE),
+        ],
+        length: 4423,
+        frames: These(DAY),
+    },
+    StreamCase {
+        name: "a header whose body would end within the day",
+        stream: &[Bytes(b"8=FIX.4.2\x019=200\x01"), Bytes(FIRST_TRADE)],
+        length: 416,
+        frames: These(DAY),
+    },
+    StreamCase {
+        name: "a header that waits for more than the day",
+        stream: &[Bytes(b"8=FIX.4.2\x019=4000\x01"), Bytes(FIRST_TRADE)],
+        length: 417,
+        frames: These(&[]),
+    },
+    StreamCase {
+        name: "frames within a garbled frame",
+        stream: &[
+            Bytes(b"8=FIX.4.2\x019=408\x0135=0\x0158="),
+            Bytes(FIRST_TRADE),
+            Bytes(b"10=000\x01"),
+        ],
+        length: 431,
+        frames: These(DAY),
+    },
+    StreamCase {
+        name: "frames within a lawful frame",
+        stream: FRAMES_WITHIN,
+        length: 431,
+        frames: Whole,
+    },
+    StreamCase {
+        name: "a CheckSum of two digits",
+        stream: &[
+            Bytes(LOGON),
+            Bytes(
+                b"8=FIX.4.2\x019=104\x0135=D\x0134=2\x0149=C1\x0152=20260105-14:30:00\x0156=HOST\x0111=a\x0121=1\x0155=H6\x0154=2\x0160=20260105-14:30:00\x0138=5\x0140=2\x0144=100\x0110=68\x01",
+            ),
+            Bytes(BUY),
+            Bytes(LOGOUT),
+        ],
+        length: 399,
+        frames: These(&[LOGON, BUY, LOGOUT]),
+    },
+    StreamCase {
+        name: "the least frame",
+        stream: &[Bytes(b"8=FIX.4.2\x019=5\x0135=0\x0110=161\x01")],
+        length: 26,
+        frames: Whole,
+    },
+    StreamCase {
+        name: "a frame with no MsgType",
+        stream: &[Bytes(b"8=FIX.4.2\x019=4\x0135=\x0110=112\x01")],
+        length: 25,
+        frames: These(&[]),
+    },
+    StreamCase {
+        name: "the greatest frame",
+        stream: &[
+            Bytes(b"8=FIX.4.2\x019=00004096\x0135=0\x0158="),
+            Letters(4087),
+            Bytes(b"\x0110=114\x01"),
+        ],
+        length: 4124,
+        frames: Whole,
+    },
+];
+
+/// A day as the text of a lawful Heartbeat.
+const FRAMES_WITHIN: &[Part] = &[
+    Bytes(b"8=FIX.4.2\x019=408\x0135=0\x0158="),
+    Bytes(FIRST_TRADE),
+    Bytes(b"10=129\x01"),
+];
+
+/// Put whole and byte by byte, a stream has the same frames.
+#[test]
+fn frames_of_streams(rt: HostRuntime) {
+    for case in STREAMS {
+        let stream = stream_of(&rt, rt.alloc(), case.stream);
+        expect_case(&rt, case, &stream);
+    }
 }
 
+fn expect_case(rt: &impl Abort, case: &StreamCase, stream: &[u8]) {
+    assert!(rt; stream.len() == case.length);
+    match case.frames {
+        These(frames) => expect_both_ways(rt, stream, frames),
+        Whole => {
+            assert!(rt; Message::whole(stream).is_some());
+            expect_both_ways(rt, stream, &[stream]);
+        }
+    }
+}
+
+fn expect_both_ways(rt: &impl Abort, stream: &[u8], want: &[&[u8]]) {
+    expect_frames(rt, &[stream], want);
+    expect_frames_byte_by_byte(rt, stream, want);
+}
+
+/// The frame around them is the message, and the number is the one that comes first.
 #[test]
-fn frames_within_a_lawful_frame(rt: HostRuntime) -> Result<(), Fail> {
-    let alloc = rt.alloc();
-    let lawful = joined(
-        alloc,
-        &[
-            b"8=FIX.4.2\x019=408\x0135=0\x0158=",
-            LOGON,
-            SELL,
-            BUY,
-            LOGOUT,
-            b"10=129\x01",
-        ],
-    )?;
-    let text = lawful.as_slice();
-    expect_both_ways(&rt, alloc, text, &[text])?;
-    let message = Message::whole(text).ok_or("no frame")?;
+fn frames_within_a_lawful_frame(rt: HostRuntime) {
+    let stream = stream_of(&rt, rt.alloc(), FRAMES_WITHIN);
+    expect_heartbeat(&rt, &stream);
+}
+
+/// The stream is one Heartbeat of number 1.
+fn expect_heartbeat(rt: &impl Abort, stream: &[u8]) {
+    let message = Message::whole(stream).expect(rt, "a frame");
     assert!(rt; message.kind() == b"0".as_slice());
     assert!(rt; message.number() == Some(1));
-    Ok(())
 }
 
-#[test]
-fn a_checksum_of_two_digits(rt: HostRuntime) -> Result<(), Fail> {
-    let text = joined(
-        rt.alloc(),
-        &[
-            LOGON,
-            b"8=FIX.4.2\x019=104\x0135=D\x0134=2\x0149=C1\x0152=20260105-14:30:00\x0156=HOST\x0111=a\x0121=1\x0155=H6\x0154=2\x0160=20260105-14:30:00\x0138=5\x0140=2\x0144=100\x0110=68\x01",
-            BUY,
-            LOGOUT,
-        ],
-    )?;
-    expect_both_ways(&rt, rt.alloc(), &text, &[LOGON, BUY, LOGOUT])?;
-    Ok(())
+/// What is done with a framer, and what it answers.
+enum Step {
+    /// So many bytes of these are taken.
+    Put(&'static [Part], usize),
+    /// The next message is this one.
+    Next(&'static [u8]),
+    Need,
+    /// Whether a message was passed.
+    Pass(bool),
+    Held(usize),
+    /// From this place on this message stands, and ends at that place.
+    Look(usize, &'static [u8], usize),
+    /// From this place on no message stands.
+    LookNeed(usize),
 }
 
-#[test]
-fn least_and_greatest_frames(rt: HostRuntime) -> Result<(), Fail> {
-    let alloc = rt.alloc();
-    let least = b"8=FIX.4.2\x019=5\x0135=0\x0110=161\x01";
-    expect_both_ways(&rt, alloc, least, &[least])?;
-    expect_both_ways(&rt, alloc, b"8=FIX.4.2\x019=4\x0135=\x0110=112\x01", &[])?;
+const A_FULL_BUFFER: &[Step] = &[
+    Step::Pass(false),
+    Step::Put(&[Letters(8113), Bytes(LOGON)], 8192),
+    Step::Put(&[Bytes(LOGON)], 0),
+    Step::Next(LOGON),
+    Step::Held(79),
+    Step::Put(&[Bytes(SELL)], 127),
+    Step::Pass(true),
+    Step::Pass(true),
+    Step::Need,
+    Step::Pass(false),
+    Step::Held(0),
+];
 
-    let mut greatest = joined(alloc, &[b"8=FIX.4.2\x019=00004096\x0135=0\x0158="])?;
-    greatest.resize(21 + 8 + 4087, b'x')?;
-    greatest.extend_from_slice(b"\x0110=114\x01")?;
-    assert!(rt; greatest.len() == 4124);
-    let text = greatest.as_slice();
-    expect_both_ways(&rt, alloc, text, &[text])?;
-    assert!(rt; Message::whole(text).is_some());
-    Ok(())
-}
-
-#[test]
-fn a_full_buffer(rt: HostRuntime) -> Result<(), Fail> {
-    let mut text = Vec::new(rt.alloc());
-    text.resize(8192 - 79, b'x')?;
-    text.extend_from_slice(LOGON)?;
-    let mut framer = Framer::new();
-    assert!(rt; !framer.pass());
-    assert!(rt; framer.put(&text) == 8192);
-    assert!(rt; framer.put(LOGON) == 0);
-    assert!(rt; matches!(framer.next(), Next::Message(_)));
-    assert!(rt; framer.held() == 79);
-    assert!(rt; framer.put(SELL) == 127);
-    assert!(rt; framer.pass());
-    assert!(rt; framer.pass());
-    assert!(rt; matches!(framer.next(), Next::Need));
-    assert!(rt; !framer.pass());
-    assert!(rt; framer.held() == 0);
-    Ok(())
-}
+const LOOKED_AT_FROM_A_PLACE: &[Step] = &[
+    Step::Put(&[Bytes(b"xx"), Bytes(LOGON), Bytes(SELL), Bytes(BUY)], 335),
+    Step::Held(335),
+    Step::Look(0, LOGON, 81),
+    Step::Look(2, LOGON, 81),
+    Step::Look(3, SELL, 208),
+    Step::Look(81, SELL, 208),
+    Step::Look(208, BUY, 335),
+    Step::LookNeed(335),
+    Step::Held(335),
+];
 
 /// What stands from a place on: the message and the place after it.
 fn expect_look(rt: &impl Abort, framer: &Framer, at: usize, want: Option<(&[u8], usize)>) {
@@ -190,18 +288,38 @@ fn expect_look(rt: &impl Abort, framer: &Framer, at: usize, want: Option<(&[u8],
     }
 }
 
-#[test]
-fn looked_at_from_a_place(rt: HostRuntime) -> Result<(), Fail> {
-    let day = joined(rt.alloc(), &[b"xx", LOGON, SELL, BUY])?;
+/// The message that stands next in a framer.
+fn expect_next(rt: &impl Abort, framer: &mut Framer, want: Option<&[u8]>) {
+    match framer.next() {
+        Next::Message(message) => assert!(rt; want == Some(message.bytes())),
+        Next::Need => assert!(rt; want.is_none()),
+    }
+}
+
+fn expect_step<A: Allocator>(rt: &impl Abort, alloc: A, framer: &mut Framer, step: &Step) {
+    match step {
+        Step::Put(parts, taken) => {
+            let stream = stream_of(rt, alloc, parts);
+            assert!(rt; framer.put(&stream) == *taken);
+        }
+        Step::Next(message) => expect_next(rt, framer, Some(message)),
+        Step::Need => expect_next(rt, framer, None),
+        Step::Pass(stands) => assert!(rt; framer.pass() == *stands),
+        Step::Held(count) => assert!(rt; framer.held() == *count),
+        Step::Look(at, message, after) => expect_look(rt, framer, *at, Some((message, *after))),
+        Step::LookNeed(at) => expect_look(rt, framer, *at, None),
+    }
+}
+
+fn expect_steps<A: Allocator + Copy>(rt: &impl Abort, alloc: A, steps: &[Step]) {
     let mut framer = Framer::new();
-    assert!(rt; framer.put(&day) == 335);
-    assert!(rt; framer.held() == 335);
-    expect_look(&rt, &framer, 0, Some((LOGON, 81)));
-    expect_look(&rt, &framer, 2, Some((LOGON, 81)));
-    expect_look(&rt, &framer, 3, Some((SELL, 208)));
-    expect_look(&rt, &framer, 81, Some((SELL, 208)));
-    expect_look(&rt, &framer, 208, Some((BUY, 335)));
-    expect_look(&rt, &framer, 335, None);
-    assert!(rt; framer.held() == 335);
-    Ok(())
+    for step in steps {
+        expect_step(rt, alloc, &mut framer, step);
+    }
+}
+
+#[test]
+fn steps_of_a_framer(rt: HostRuntime) {
+    expect_steps(&rt, rt.alloc(), A_FULL_BUFFER);
+    expect_steps(&rt, rt.alloc(), LOOKED_AT_FROM_A_PLACE);
 }

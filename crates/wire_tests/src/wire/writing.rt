@@ -1,10 +1,10 @@
 //! Messages as they are written.
-use super::joined;
 use fix_wire::{
     Body, Field, FieldList, Head, Message, Value, put_field, read_price, write_body, write_message,
 };
 use host_base::Id;
-use std::test::Fail;
+use std::alloc::Allocator;
+use std::process::Abort;
 use test_support::{Refusing, id};
 
 const HEARTBEAT: &[u8] =
@@ -13,7 +13,7 @@ const HEARTBEAT: &[u8] =
 const GAP_FILL: &[u8] =
     b"8=FIX.4.2\x019=83\x0135=4\x0134=2\x0143=Y\x0149=HOST\x0152=20260105-14:30:00\x0156=C1\x01122=20260105-14:30:00\x0136=6\x01123=Y\x0110=234\x01";
 
-const REPORT: &[u8] =
+pub const REPORT: &[u8] =
     b"8=FIX.4.2\x019=130\x0135=8\x0134=4\x0149=HOST\x0152=20260105-14:30:00\x0156=C1\x0137=3\x0111=b\x0117=3-2\x0120=0\x01150=2\x0139=2\x0155=H6\x0154=1\x0138=5\x0132=5\x0131=100.00\x01151=0\x0114=5\x016=0\x01442=1\x0110=171\x01";
 
 fn head(kind: u8, number: u64, duplicate: bool) -> Head {
@@ -27,189 +27,215 @@ fn head(kind: u8, number: u64, duplicate: bool) -> Head {
     }
 }
 
-#[test]
-fn written_messages(rt: HostRuntime) -> Result<(), Fail> {
-    let mut out = Vec::new(rt.alloc());
-    let reply = Field {
-        tag: 112,
-        value: Value::Text(id(b"T")),
-    };
-    write_message(&mut out, &head(b'0', 2, false), &[reply])?;
-    assert!(rt; out.as_slice() == HEARTBEAT);
-
-    let fill = [
-        Field {
-            tag: 36,
-            value: Value::Number(6),
-        },
-        Field {
-            tag: 123,
-            value: Value::Text(id(b"Y")),
-        },
-    ];
-    write_message(&mut out, &head(b'4', 2, true), &fill)?;
-    let both = joined(rt.alloc(), &[HEARTBEAT, GAP_FILL])?;
-    assert!(rt; out == both);
-    Ok(())
+/// What a field holds.
+enum Content {
+    Text(&'static [u8]),
+    Number(u64),
+    Price(i64),
+    Pair(u64, u64),
 }
 
-/// NoMemory comes where a request was refused, and only there; the list is as it was, and the same call writes the message then.
+use Content::{Number, Pair, Price, Text};
+
+fn field_of(tag: u32, content: &Content) -> Field {
+    let value = match content {
+        Text(text) => Value::Text(id(text)),
+        Number(number) => Value::Number(*number),
+        Price(price) => Value::Price(*price),
+        Pair(first, second) => Value::Pair(*first, *second),
+    };
+    Field { tag, value }
+}
+
+fn fields_of<A: Allocator>(
+    rt: &impl Abort,
+    alloc: A,
+    contents: &[(u32, Content)],
+) -> Vec<Field, A> {
+    let mut fields = Vec::new(alloc);
+    for (tag, content) in contents {
+        fields.push(field_of(*tag, content)).expect(rt, "memory");
+    }
+    fields
+}
+
+/// A message's kind, number and PossDupFlag, its fields by their tags, and what is written.
+struct Case {
+    name: &'static str,
+    kind: u8,
+    number: u64,
+    duplicate: bool,
+    fields: &'static [(u32, Content)],
+    text: &'static [u8],
+}
+
+static MESSAGES: &[Case] = &[
+    Case {
+        name: "a Heartbeat",
+        kind: b'0',
+        number: 2,
+        duplicate: false,
+        fields: &[(112, Text(b"T"))],
+        text: HEARTBEAT,
+    },
+    Case {
+        name: "a gap fill",
+        kind: b'4',
+        number: 2,
+        duplicate: true,
+        fields: &[(36, Number(6)), (123, Text(b"Y"))],
+        text: GAP_FILL,
+    },
+    Case {
+        name: "a report",
+        kind: b'8',
+        number: 4,
+        duplicate: false,
+        fields: &[
+            (37, Number(3)),
+            (11, Text(b"b")),
+            (17, Pair(3, 2)),
+            (20, Number(0)),
+            (150, Number(2)),
+            (39, Number(2)),
+            (55, Text(b"H6")),
+            (54, Number(1)),
+            (38, Number(5)),
+            (32, Number(5)),
+            (31, Price(10000)),
+            (151, Number(0)),
+            (14, Number(5)),
+            (6, Number(0)),
+            (442, Number(1)),
+        ],
+        text: REPORT,
+    },
+];
+
+/// Each message is appended to those before it.
 #[test]
-fn writing_with_memory_refused(rt: HostRuntime) -> Result<(), Fail> {
-    let reply = [Field {
-        tag: 112,
-        value: Value::Text(id(b"T")),
-    }];
+fn written_messages(rt: HostRuntime) {
+    let mut out = Vec::new(rt.alloc());
+    let mut want = Vec::new(rt.alloc());
+    for case in MESSAGES {
+        let fields = fields_of(&rt, rt.alloc(), case.fields);
+        let head = head(case.kind, case.number, case.duplicate);
+        write_message(&mut out, &head, &fields).expect(&rt, "memory");
+        want.extend_from_slice(case.text).expect(&rt, "memory");
+        assert!(rt; out == want, "{}", case.name);
+    }
+}
+
+/// Writes a Heartbeat, and says whether a request was refused: NoMemory comes only then, the list is as it was, and the
+/// same call writes the message.
+fn is_refused_first<A: Allocator>(rt: &impl Abort, heap: &Refusing<A>) -> bool {
+    let reply = [field_of(112, &Text(b"T"))];
+    let mut out = Vec::new(heap);
+    let is_refused = write_message(&mut out, &head(b'0', 2, false), &reply).is_err();
+    assert!(rt; is_refused == heap.has_refused());
+    if is_refused {
+        assert!(rt; out.is_empty());
+        write_message(&mut out, &head(b'0', 2, false), &reply).expect(rt, "memory");
+    }
+    assert!(rt; out.as_slice() == HEARTBEAT);
+    is_refused
+}
+
+#[test]
+fn writing_with_memory_refused(rt: HostRuntime) {
     for number in 1..20u64 {
         let heap = Refusing::new(rt.alloc(), number);
-        let mut out = Vec::new(&heap);
-        let answer = write_message(&mut out, &head(b'0', 2, false), &reply);
-        assert!(rt; answer.is_err() == heap.has_refused());
-        if answer.is_ok() {
-            assert!(rt; number > 1 && out.as_slice() == HEARTBEAT);
-            return Ok(());
+        if !is_refused_first(&rt, &heap) {
+            assert!(rt; number > 1);
+            return;
         }
-        assert!(rt; out.is_empty());
-        write_message(&mut out, &head(b'0', 2, false), &reply)?;
-        assert!(rt; out.as_slice() == HEARTBEAT);
     }
     assert!(rt; false);
-    Ok(())
 }
 
-#[test]
-fn a_written_report(rt: HostRuntime) -> Result<(), Fail> {
-    let number = |tag: u32, number: u64| Field {
-        tag,
-        value: Value::Number(number),
-    };
-    let fields = [
-        number(37, 3),
-        Field {
-            tag: 11,
-            value: Value::Text(id(b"b")),
-        },
-        Field {
-            tag: 17,
-            value: Value::Pair(3, 2),
-        },
-        number(20, 0),
-        number(150, 2),
-        number(39, 2),
-        Field {
-            tag: 55,
-            value: Value::Text(id(b"H6")),
-        },
-        number(54, 1),
-        number(38, 5),
-        number(32, 5),
-        Field {
-            tag: 31,
-            value: Value::Price(10000),
-        },
-        number(151, 0),
-        number(14, 5),
-        number(6, 0),
-        number(442, 1),
-    ];
-    let mut out = Vec::new(rt.alloc());
-    write_message(&mut out, &head(b'8', 4, false), &fields)?;
-    assert!(rt; out.as_slice() == REPORT);
-    let message = Message::whole(&out).ok_or("no frame")?;
-    assert!(rt; message.get(17) == Some(b"3-2".as_slice()));
-    Ok(())
-}
+const NUMBERS: &[(u64, &[u8])] = &[
+    (0, b"38=0\x01"),
+    (9, b"38=9\x01"),
+    (10, b"38=10\x01"),
+    (99, b"38=99\x01"),
+    (100, b"38=100\x01"),
+    (999, b"38=999\x01"),
+    (1_000, b"38=1000\x01"),
+    (9_999, b"38=9999\x01"),
+    (10_007, b"38=10007\x01"),
+    (99_999_999, b"38=99999999\x01"),
+    (100_000_000, b"38=100000000\x01"),
+    (18_446_744_073_709_551_615, b"38=18446744073709551615\x01"),
+];
 
 #[test]
-fn written_numbers(rt: HostRuntime) -> Result<(), Fail> {
-    let rows: [(u64, &[u8]); 12] = [
-        (0, b"38=0\x01"),
-        (9, b"38=9\x01"),
-        (10, b"38=10\x01"),
-        (99, b"38=99\x01"),
-        (100, b"38=100\x01"),
-        (999, b"38=999\x01"),
-        (1_000, b"38=1000\x01"),
-        (9_999, b"38=9999\x01"),
-        (10_007, b"38=10007\x01"),
-        (99_999_999, b"38=99999999\x01"),
-        (100_000_000, b"38=100000000\x01"),
-        (18_446_744_073_709_551_615, b"38=18446744073709551615\x01"),
-    ];
-    for (number, text) in rows {
+fn written_numbers(rt: HostRuntime) {
+    for (number, text) in NUMBERS {
         let mut room = [7; 80];
         let field = Field {
             tag: 38,
-            value: Value::Number(number),
+            value: Value::Number(*number),
         };
-        assert!(rt; put_field(&mut room, 2, &field) == 2 + text.len());
+        let end = put_field(&mut room, 2, &field);
+        assert!(rt; end == 2 + text.len());
         assert!(rt; room[2..].starts_with(text));
     }
-    Ok(())
 }
 
+/// The number of fields and what the message begins with. The head has 45 bytes, each field 36.
+const LENGTHS: &[(usize, &[u8])] = &[
+    (0, b"8=FIX.4.2\x019=45\x0135=0\x01"),
+    (1, b"8=FIX.4.2\x019=81\x0135=0\x01"),
+    (2, b"8=FIX.4.2\x019=117\x0135=0\x01"),
+    (26, b"8=FIX.4.2\x019=981\x0135=0\x01"),
+    (27, b"8=FIX.4.2\x019=1017\x0135=0\x01"),
+];
+
 #[test]
-fn written_lengths(rt: HostRuntime) -> Result<(), Fail> {
-    let id = Id::new(b"ABCDEFGHIJKLMNOPQRSTUVWXYZ012345").ok_or("an id")?;
-    let field = Field {
-        tag: 11,
-        value: Value::Text(id),
-    };
-    let fields = [field; 30];
-    // The head has 45 bytes, each field 36.
-    let rows: [(usize, &[u8]); 5] = [
-        (0, b"8=FIX.4.2\x019=45\x0135=0\x01"),
-        (1, b"8=FIX.4.2\x019=81\x0135=0\x01"),
-        (2, b"8=FIX.4.2\x019=117\x0135=0\x01"),
-        (26, b"8=FIX.4.2\x019=981\x0135=0\x01"),
-        (27, b"8=FIX.4.2\x019=1017\x0135=0\x01"),
-    ];
+fn written_lengths(rt: HostRuntime) {
+    let fields = [field_of(11, &Text(b"ABCDEFGHIJKLMNOPQRSTUVWXYZ012345")); 30];
     let mut room = [7; 2000];
-    for (count, begin) in rows {
+    for (count, begin) in LENGTHS {
+        assert!(rt; *count <= 27);
         let list = FieldList {
-            fields: &fields[..count],
+            fields: &fields[..*count],
         };
         let mut out = Vec::new(rt.alloc());
-        write_body(&mut room, &mut out, &head(b'0', 2, false), &list)?;
+        write_body(&mut room, &mut out, &head(b'0', 2, false), &list).expect(&rt, "memory");
         assert!(rt; out.as_slice().starts_with(begin));
         assert!(rt; Message::whole(&out).is_some());
-        assert!(rt; list.count() == count);
-        assert!(rt; list.put(&mut room, 20) == 20 + 36 * count);
+        assert!(rt; list.count() == *count);
+        assert!(rt; list.put(&mut room, 20) == 20 + 36 * *count);
     }
-    Ok(())
 }
 
 #[test]
-fn padded_ids(rt: HostRuntime) -> Result<(), Fail> {
-    let id = Id::new(b"C1").ok_or("an id")?;
+fn padded_ids(rt: HostRuntime) {
+    let id = Id::new(b"C1").expect(&rt, "an id");
     let padded = id.padded();
     assert!(rt; padded.starts_with(b"C1\x00") && padded.ends_with(&[0; 30]));
-    Ok(())
 }
 
+const PRICES: &[(i64, &[u8])] = &[
+    (10000, b"100.00"),
+    (-5, b"-0.05"),
+    (0, b"0.00"),
+    (-1_000_000_000, b"-10000000.00"),
+    (99, b"0.99"),
+    (100, b"1.00"),
+];
+
 #[test]
-fn written_prices(rt: HostRuntime) -> Result<(), Fail> {
-    let rows: [(i64, &[u8]); 6] = [
-        (10000, b"100.00"),
-        (-5, b"-0.05"),
-        (0, b"0.00"),
-        (-1_000_000_000, b"-10000000.00"),
-        (99, b"0.99"),
-        (100, b"1.00"),
-    ];
-    for (price, text) in rows {
+fn written_prices(rt: HostRuntime) {
+    for (price, text) in PRICES {
         let mut out = Vec::new(rt.alloc());
-        write_message(
-            &mut out,
-            &head(b'8', 1, false),
-            &[Field {
-                tag: 31,
-                value: Value::Price(price),
-            }],
-        )?;
-        let message = Message::whole(&out).ok_or("no frame")?;
-        assert!(rt; message.get(31) == Some(text));
-        assert!(rt; read_price(text) == Ok(price));
+        let field = Field {
+            tag: 31,
+            value: Value::Price(*price),
+        };
+        write_message(&mut out, &head(b'8', 1, false), &[field]).expect(&rt, "memory");
+        let message = Message::whole(&out).expect(&rt, "a frame");
+        assert!(rt; message.get(31) == Some(*text));
+        assert!(rt; read_price(text) == Ok(*price));
     }
-    Ok(())
 }
