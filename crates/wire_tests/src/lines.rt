@@ -16,7 +16,8 @@ const SESSIONS: &[(&[u8], &[u8])] = &[
     (b"14: \n11:\r\n12:#|\n13:14:\n", b"\x0b\x0c\x0d\x0e"),
 ];
 
-/// The sessions that day lines name, in their order, are closed once each at the end of their bytes, and nothing enters before.
+/// The sessions that day lines name, in their order, are closed once each at the end of their bytes, and nothing enters
+/// before.
 #[test]
 fn sessions_of_lines(rt: HostRuntime) {
     day_journal();
