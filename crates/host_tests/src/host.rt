@@ -1,11 +1,11 @@
 //! Days: the calls of `spread_host`, and the rooms that they go through.
-ghost use Rattle.std.specs.Prelude.{IfOk};
 ghost use Rattle.spread_rules.specs.Journal.{IsLawful};
 
 use spread_journal::read_journal;
-use spread_rules::Entry;
+use spread_rules::{Entry, Rulebook};
 use std::alloc::Global;
-use std::test::Fail;
+use std::process::Abort;
+use test_support::THREE_MONTHS;
 
 mod applied;
 mod audit;
@@ -17,12 +17,15 @@ mod no_memory;
 mod replaces;
 mod replay;
 mod reported;
-mod writers;
+mod watch;
+
+fn three_months(rt: &impl Abort) -> Rulebook {
+    Rulebook::read(THREE_MONTHS).expect(rt, "a rulebook")
+}
 
 /// The journal of a text.
-fn read_again(alloc: Global, text: &[u8]) -> Result<Vec<Entry>, Fail>
-    ensures { IfOk result (λ journal. IsLawful journal.items) }
+fn read_again(rt: &impl Abort, alloc: Global, text: &[u8]) -> Vec<Entry>
+    ensures { IsLawful result.items }
 {
-    let journal = read_journal(alloc, text)?;
-    Ok(journal)
+    read_journal(alloc, text).expect(rt, "a journal")
 }

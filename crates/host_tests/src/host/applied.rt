@@ -1,61 +1,101 @@
-//! The orders that rest behind a journal.
+//! The entries of journals applied one by one, and the orders that rest behind them.
 ghost use Rattle.std.specs.Prelude.{All};
 ghost use Rattle.spread_rules.specs.Journal.{FitsEntry};
 
 use super::check::DIRECT_BEFORE_IMPLIED;
-use super::read_again;
+use super::reported::first_fills;
+use super::{read_again, three_months};
 use day_apply::{AppliedEntries, apply_journal, fills_of_journal};
 use spread_books::Book;
-use spread_rules::{Entry, Rulebook};
+use spread_rules::{Entry, Fill, Rulebook};
 use std::alloc::Global;
 use std::process::Abort;
-use std::test::Fail;
-use test_support::{THREE_MONTHS, stamp};
+use test_support::{FIRST_TRADE_JOURNAL, stamp};
 
-/// The book's orders have these places, and so much of each is left.
-fn expect_orders(rt: &impl Abort, book: &impl Book, want: &[(u64, u32)]) -> Result<(), Fail> {
-    assert!(rt; book.len() == want.len());
-    for n in 0..want.len() {
-        let order = book.walk(n).ok_or("an order")?;
-        assert!(rt; (order.place, order.leaves) == want[n]);
-    }
-    Ok(())
+/// A journal, and what comes of it.
+struct Applied {
+    journal: &'static [u8],
+    /// How many fills each entry makes.
+    made: &'static [usize],
+    fills: usize,
+    /// Each order that rests, in order of place: its place, and how much of it is left.
+    resting: &'static [(u64, u32)],
 }
 
-/// Each order that rests, in order of place: its place, and how much of it is left.
-fn expect_resting(
+static FIRST_TRADE: Applied = Applied {
+    journal: FIRST_TRADE_JOURNAL,
+    made: &[0, 0, 2, 0],
+    fills: 2,
+    resting: &[],
+};
+
+static DIRECT_FIRST: Applied = Applied {
+    journal: DIRECT_BEFORE_IMPLIED,
+    made: &[0, 0, 0, 0, 5],
+    fills: 5,
+    resting: &[(4, 1), (5, 1)],
+};
+
+/// The book's orders have these places, and so much of each is left.
+fn expect_orders(rt: &impl Abort, book: &impl Book, want: &[(u64, u32)]) {
+    assert!(rt; book.len() == want.len());
+    for n in 0..want.len() {
+        let order = book.walk(n).expect(rt, "an order");
+        assert!(rt; (order.place, order.leaves) == want[n]);
+    }
+}
+
+/// Applies the journal's entries. The fills.
+fn apply_all(
     rt: &impl Abort,
     alloc: Global,
     rules: &Rulebook,
     journal: &[Entry],
-    want: &[(u64, u32)],
-) -> Result<(), Fail>
+    want: &Applied,
+) -> Vec<Fill>
     requires { All FitsEntry journal.now }
 {
-    let mut applied = AppliedEntries::new(alloc, rules)?;
+    let mut applied = AppliedEntries::new(alloc, rules).expect(rt, "memory");
+    let mut seen = 0usize;
     for entry in journal {
-        applied.apply(entry)?;
+        applied.apply(entry).expect(rt, "memory");
+        let made = applied.last_fills().len();
+        assert!(rt; want.made.get(seen).copied() == Some(made));
+        seen = seen.wrapping_add(1);
     }
     assert!(rt; applied.count() == journal.len() as u64);
-    expect_orders(rt, applied.book(), want)
+    expect_orders(rt, applied.book(), want.resting);
+    applied.into_fills()
+}
+
+/// A whole journal has the same fills, and sixteen lists of bytes.
+fn expect_whole(rt: &impl Abort, alloc: Global, rules: &Rulebook, journal: &[Entry], fills: &[Fill])
+    requires { All FitsEntry journal.now }
+{
+    let whole = apply_journal(alloc, rules, stamp(), journal).expect(rt, "memory");
+    assert!(rt; whole.fills.as_slice() == fills);
+    assert!(rt; whole.out.len() == 16);
+    let alone = fills_of_journal(alloc, rules, journal).expect(rt, "memory");
+    assert!(rt; alone.as_slice() == fills);
+}
+
+/// The fills of the journal.
+fn expect_applied(rt: &impl Abort, alloc: Global, want: &Applied) -> Vec<Fill> {
+    let rules = three_months(rt);
+    let journal = read_again(rt, alloc, want.journal);
+    let fills = apply_all(rt, alloc, &rules, &journal, want);
+    assert!(rt; fills.len() == want.fills);
+    expect_whole(rt, alloc, &rules, &journal, &fills);
+    fills
 }
 
 #[test]
-fn resting(rt: HostRuntime) -> Result<(), Fail> {
-    let rules = Rulebook::read(THREE_MONTHS)?;
-    let journal = read_again(rt.alloc(), DIRECT_BEFORE_IMPLIED)?;
-    expect_resting(&rt, rt.alloc(), &rules, &journal, &[(4, 1), (5, 1)])
+fn first_trade_applied(rt: HostRuntime) {
+    let fills = expect_applied(&rt, rt.alloc(), &FIRST_TRADE);
+    assert!(rt; fills.as_slice() == first_fills().as_slice());
 }
 
 #[test]
-fn a_whole_journal(rt: HostRuntime) -> Result<(), Fail> {
-    let rules = Rulebook::read(THREE_MONTHS)?;
-    let journal = read_again(rt.alloc(), DIRECT_BEFORE_IMPLIED)?;
-    let applied = apply_journal(rt.alloc(), &rules, stamp(), &journal)?;
-    assert!(rt; applied.fills.len() == 5);
-    assert!(rt; applied.out.len() == 16);
-    assert!(rt;
-        fills_of_journal(rt.alloc(), &rules, &journal)?.as_slice() == applied.fills.as_slice()
-    );
-    Ok(())
+fn resting(rt: HostRuntime) {
+    expect_applied(&rt, rt.alloc(), &DIRECT_FIRST);
 }

@@ -1,56 +1,26 @@
 //! A day's text, and what goes into it.
 ghost use Rattle.std.specs.Prelude.{◌<◌, ◌≤◌, All, length};
 ghost use Rattle.fix_wire.specs.Frames.{IsFrameRow};
-ghost use Rattle.day_text.specs.DayText.{texts_of};
+ghost use Rattle.day_text.specs.DayText.{AreShown, texts_of};
 
-use super::read_again;
+use super::{read_again, three_months};
 use day_text::{Day, write_sessions};
 use host_base::TestSink;
 use spread_host::{day_of, write_day};
 use spread_rules::Rulebook;
 use std::alloc::Global;
-use std::test::Fail;
-use test_support::{FIRST_TRADE_JOURNAL, FIRST_TRADE_TEXT, THREE_MONTHS, stamp};
+use std::process::Abort;
+use test_support::{FIRST_TRADE_JOURNAL, FIRST_TRADE_TEXT, stamp};
 
-/// The lines of what each session is sent, written in pieces of so many bytes.
-fn sent_lines(alloc: Global, day: &Day<Global>, room: usize) -> Result<TestSink, Fail>
-    requires lists { length day.now.out.items ≤ 16 }
-    requires rows { All IsFrameRow (texts_of day.now.out.items) }
-    requires some { 0 < room }
-{
-    let mut sink = TestSink::new(alloc, 300_000, 0)?;
-    let mut piece = Vec::with_capacity(alloc, room)?;
-    write_sessions(&mut piece, &mut sink, &day.out)?;
-    Ok(sink)
-}
-
-// The journal, the fills, what each session is sent, and the months, in that order; or the journal alone.
-#[test]
-fn day_written(rt: HostRuntime) -> Result<(), Fail> {
-    let rules = Rulebook::read(THREE_MONTHS)?;
-    let journal = read_again(rt.alloc(), FIRST_TRADE_JOURNAL)?;
-    let day = day_of(rt.alloc(), &rules, stamp(), journal)?;
-    let mut alone = TestSink::new(rt.alloc(), 1000, 0)?;
-    write_day(rt.alloc(), &rules, &day, true, &mut alone)?;
-    assert!(rt; alone.bytes() == FIRST_TRADE_JOURNAL);
-    let mut whole = TestSink::new(rt.alloc(), 4096, 0)?;
-    write_day(rt.alloc(), &rules, &day, false, &mut whole)?;
-    assert!(rt; whole.bytes() == FIRST_TRADE_TEXT);
-    Ok(())
-}
-
-// The same lines in pieces of any size.
-#[test]
-fn lines_in_pieces(rt: HostRuntime) -> Result<(), Fail> {
-    let rules = Rulebook::read(THREE_MONTHS)?;
-    let journal = read_again(rt.alloc(), FIRST_TRADE_JOURNAL)?;
-    let day = day_of(rt.alloc(), &rules, stamp(), journal)?;
-    let sent = sent_lines(rt.alloc(), &day, 4096)?;
-    assert!(rt; sent.bytes().starts_with(b"O 0:8=FIX.4.2|9=57|35=A|"));
-    for room in [1, 100] {
-        assert!(rt; sent_lines(rt.alloc(), &day, room)?.bytes() == sent.bytes());
-    }
-    Ok(())
+/// A journal, and what is written of its day.
+struct Written {
+    journal: &'static [u8],
+    /// The journal alone.
+    alone: &'static [u8],
+    /// The journal, the fills, what each session is sent, and the months, in that order.
+    whole: &'static [u8],
+    /// The lines of what each session is sent.
+    sent: &'static [u8],
 }
 
 /// The Logons of sessions 0 and 12.
@@ -61,13 +31,81 @@ const TWO_LOGONS: &[u8] =
 const TWO_ANSWERS: &[u8] =
     b"JOURNAL 2\n0 logon 4331 484f5354 30\n12 logon 4332 484f5354 30\nEND 2\nO 0:8=FIX.4.2|9=57|35=A|34=1|49=HOST|52=20260105-14:30:00|56=C1|98=0|108=30|10=220|\nO 12:8=FIX.4.2|9=57|35=A|34=1|49=HOST|52=20260105-14:30:00|56=C2|98=0|108=30|10=221|\nM H6 0 0 0 0\nM M6 0 0 0 0\nM U6 0 0 0 0\n";
 
+static DAYS: [Written; 2] = [
+    Written {
+        journal: FIRST_TRADE_JOURNAL,
+        alone: FIRST_TRADE_JOURNAL,
+        whole: FIRST_TRADE_TEXT,
+        sent: b"O 0:8=FIX.4.2|9=57|35=A|34=1|49=HOST|52=20260105-14:30:00|56=C1|98=0|108=30|10=220|\nO 0:8=FIX.4.2|9=109|35=8|34=2|49=HOST|52=20260105-14:30:00|56=C1|37=2|11=a|17=2-1|20=0|150=0|39=0|55=H6|54=2|38=5|151=5|14=0|6=0|10=006|\nO 0:8=FIX.4.2|9=109|35=8|34=3|49=HOST|52=20260105-14:30:00|56=C1|37=3|11=b|17=3-1|20=0|150=0|39=0|55=H6|54=1|38=5|151=5|14=0|6=0|10=009|\nO 0:8=FIX.4.2|9=130|35=8|34=4|49=HOST|52=20260105-14:30:00|56=C1|37=3|11=b|17=3-2|20=0|150=2|39=2|55=H6|54=1|38=5|32=5|31=100.00|151=0|14=5|6=0|442=1|10=171|\nO 0:8=FIX.4.2|9=130|35=8|34=5|49=HOST|52=20260105-14:30:00|56=C1|37=2|11=a|17=3-3|20=0|150=2|39=2|55=H6|54=2|38=5|32=5|31=100.00|151=0|14=5|6=0|442=1|10=172|\nO 0:8=FIX.4.2|9=45|35=5|34=6|49=HOST|52=20260105-14:30:00|56=C1|10=185|\n",
+    },
+    Written {
+        journal: TWO_LOGONS,
+        alone: b"JOURNAL 2\n0 logon 4331 484f5354 30\n12 logon 4332 484f5354 30\nEND 2\n",
+        whole: TWO_ANSWERS,
+        sent: b"O 0:8=FIX.4.2|9=57|35=A|34=1|49=HOST|52=20260105-14:30:00|56=C1|98=0|108=30|10=220|\nO 12:8=FIX.4.2|9=57|35=A|34=1|49=HOST|52=20260105-14:30:00|56=C2|98=0|108=30|10=221|\n",
+    },
+];
+
+/// What is written of the day.
+fn expect_text(
+    rt: &impl Abort,
+    alloc: Global,
+    rules: &Rulebook,
+    day: &Day<Global>,
+    journal_only: bool,
+    want: &[u8],
+)
+    requires lists { length day.now.out.items ≤ 16 }
+    requires rows { All IsFrameRow (texts_of day.now.out.items) }
+    requires shown { AreShown rules.now day.now.fills.items }
+{
+    let mut sink = TestSink::new(alloc, 4096, 0).expect(rt, "memory");
+    write_day(alloc, rules, day, journal_only, &mut sink).expect(rt, "a sink that works");
+    assert!(rt; sink.bytes() == want);
+}
+
+/// The lines of what each session is sent, written in pieces of so many bytes.
+fn expect_sent(rt: &impl Abort, alloc: Global, day: &Day<Global>, room: usize, want: &[u8])
+    requires lists { length day.now.out.items ≤ 16 }
+    requires rows { All IsFrameRow (texts_of day.now.out.items) }
+    requires some { 0 < room }
+{
+    let mut sink = TestSink::new(alloc, 300_000, 0).expect(rt, "memory");
+    let mut piece = Vec::with_capacity(alloc, room).expect(rt, "memory");
+    write_sessions(&mut piece, &mut sink, &day.out).expect(rt, "a sink that works");
+    assert!(rt; sink.bytes() == want);
+}
+
+/// All that is written of the day. The lines are the same in pieces of any size.
+fn expect_written(
+    rt: &impl Abort,
+    alloc: Global,
+    rules: &Rulebook,
+    day: &Day<Global>,
+    want: &Written,
+)
+    requires lists { length day.now.out.items ≤ 16 }
+    requires rows { All IsFrameRow (texts_of day.now.out.items) }
+    requires shown { AreShown rules.now day.now.fills.items }
+{
+    expect_text(rt, alloc, rules, day, true, want.alone);
+    expect_text(rt, alloc, rules, day, false, want.whole);
+    expect_sent(rt, alloc, day, 4096, want.sent);
+    expect_sent(rt, alloc, day, 100, want.sent);
+    expect_sent(rt, alloc, day, 1, want.sent);
+}
+
+/// The day of the journal is written so.
+fn expect_day(rt: &impl Abort, alloc: Global, rules: &Rulebook, want: &Written) {
+    let journal = read_again(rt, alloc, want.journal);
+    let day = day_of(alloc, rules, stamp(), journal).expect(rt, "a day");
+    expect_written(rt, alloc, rules, &day, want);
+}
+
 #[test]
-fn outgoing_lines(rt: HostRuntime) -> Result<(), Fail> {
-    let rules = Rulebook::read(THREE_MONTHS)?;
-    let journal = read_again(rt.alloc(), TWO_LOGONS)?;
-    let day = day_of(rt.alloc(), &rules, stamp(), journal)?;
-    let mut sink = TestSink::new(rt.alloc(), 1000, 0)?;
-    write_day(rt.alloc(), &rules, &day, false, &mut sink)?;
-    assert!(rt; sink.bytes() == TWO_ANSWERS);
-    Ok(())
+fn days_written(rt: HostRuntime) {
+    let rules = three_months(&rt);
+    for want in &DAYS {
+        expect_day(&rt, rt.alloc(), &rules, want);
+    }
 }

@@ -2,6 +2,9 @@
 ghost use Rattle.std.specs.Prelude.{IfOk};
 ghost use Rattle.day_text.specs.DayText.{AreShown};
 
+use super::reported::{FIRST_TRADE_SENT, expect_first_sent};
+use super::three_months;
+use super::watch::{Meeting, Point, Watch};
 use crate::headline::day_of_streams;
 use day_text::{Day, put_months};
 use day_threads::{Caps, DayRules, Gate, run_sessions};
@@ -12,43 +15,18 @@ use spread_rules::{Entry, Event, Rulebook, Side, Ticket};
 use std::alloc::{AllocError, Allocator, Global};
 use std::process::Abort;
 use std::sync::Wait;
-use std::sync::atomic::{AtomicU32, Ordering};
-use std::test::Fail;
-use std::thread;
 use std::thread::Threads;
-use test_support::{FIRST_TRADE, THREE_MONTHS, id, stamp};
+use test_support::{FIRST_TRADE, id, stamp};
 
 pub const USUAL: Caps = Caps {
     ring: 256,
     journal: 100_000,
 };
 
-const LOGON: &[u8] =
-    b"8=FIX.4.2\x019=57\x0135=A\x0134=1\x0149=C1\x0152=20260105-14:30:00\x0156=HOST\x0198=0\x01108=30\x0110=220\x01";
+pub struct Open;
 
-fn order(text: &[u8], side: Side) -> Event {
-    Event::New(Ticket {
-        id: id(text),
-        symbol: id(b"H6"),
-        side,
-        quantity: 5,
-        price: 10_000,
-        immediate: false,
-    })
-}
-
-/// The events of the first trade's stream.
-fn first_trade() -> [Event; 4] {
-    [
-        Event::Logon {
-            client: id(b"C1"),
-            host: id(b"HOST"),
-            beat: 30,
-        },
-        order(b"a", Side::Sell),
-        order(b"b", Side::Buy),
-        Event::Close { reason: 1 },
-    ]
+impl Gate for Open {
+    fn before(&self, _session: u8, _message: u32) {}
 }
 
 /// So many streams of these bytes.
@@ -66,217 +44,61 @@ pub fn streams_of<A: Allocator + Copy>(
     Ok(all)
 }
 
+// ---- what is expected
+
+fn logon() -> Event {
+    Event::Logon {
+        client: id(b"C1"),
+        host: id(b"HOST"),
+        beat: 30,
+    }
+}
+
+fn order(text: &[u8], side: Side) -> Event {
+    Event::New(Ticket {
+        id: id(text),
+        symbol: id(b"H6"),
+        side,
+        quantity: 5,
+        price: 10_000,
+        immediate: false,
+    })
+}
+
+/// The events of the first trade's stream.
+fn first_trade() -> [Event; 4] {
+    [
+        logon(),
+        order(b"a", Side::Sell),
+        order(b"b", Side::Buy),
+        Event::Close { reason: 1 },
+    ]
+}
+
 /// The events of one session.
-fn part(alloc: Global, journal: &[Entry], session: u8) -> Result<Vec<Event>, AllocError> {
+fn part(rt: &impl Abort, alloc: Global, journal: &[Entry], session: u8) -> Vec<Event> {
     let mut events = Vec::new(alloc);
     for entry in journal {
         if entry.session == session {
-            events.push(entry.event)?;
+            events.push(entry.event).expect(rt, "memory");
         }
     }
-    Ok(events)
-}
-
-/// The month lines of a day.
-fn months_of(alloc: Global, rulebook: &Rulebook, day: &Day<Global>) -> Result<Vec<u8>, AllocError>
-    requires { AreShown rulebook.now day.now.fills.items }
-{
-    let mut text = Vec::new(alloc);
-    put_months(&mut text, rulebook, &day.fills)?;
-    Ok(text)
-}
-
-pub struct Open;
-
-impl Gate for Open {
-    fn before(&self, _session: u8, _message: u32) {}
-}
-
-/// Waits until the flag is set, and says whether it came within ten million turns.
-pub fn comes(flag: &AtomicU32) -> bool {
-    for _ in 0..10_000_000 {
-        if flag.load(Ordering::SeqCst) == 1 {
-            return true;
-        }
-        thread::yield_now();
-    }
-    false
-}
-
-/// Message 0 of each session waits until message 0 of the other has come too.
-#[derive(Drop)]
-struct Meet {
-    first: AtomicU32,
-    second: AtomicU32,
-    late: AtomicU32,
-}
-
-impl Gate for Meet {
-    fn before(&self, session: u8, message: u32) {
-        if message != 0 {
-            return;
-        }
-        let (mine, other) = if session == 0 {
-            (&self.first, &self.second)
-        } else {
-            (&self.second, &self.first)
-        };
-        mine.store(1, Ordering::SeqCst);
-        if !comes(other) {
-            self.late.store(1, Ordering::SeqCst);
-        }
-    }
-}
-
-/// Message 0 of the held session waits until message 3 of another one has come.
-#[derive(Drop)]
-struct Hold {
-    held: u8,
-    come: AtomicU32,
-    late: AtomicU32,
-}
-
-impl Gate for Hold {
-    fn before(&self, session: u8, message: u32) {
-        if session != self.held && message == 3 {
-            self.come.store(1, Ordering::SeqCst);
-        }
-        if session == self.held && message == 0 && !comes(&self.come) {
-            self.late.store(1, Ordering::SeqCst);
-        }
-    }
-}
-
-/// The last message of a session and the match of its first entry wait for each other.
-#[derive(Drop)]
-struct MatchedMeanwhile {
-    come: AtomicU32,
-    matched: AtomicU32,
-    late: AtomicU32,
-}
-
-impl Gate for MatchedMeanwhile {
-    fn before(&self, _session: u8, message: u32) {
-        if message == 3 {
-            self.come.store(1, Ordering::SeqCst);
-            if !comes(&self.matched) {
-                self.late.store(1, Ordering::SeqCst);
-            }
-        }
-    }
-
-    fn most(&self) -> u32 {
-        1
-    }
-
-    fn matched(&self, place: u64) {
-        if place == 1 {
-            self.matched.store(1, Ordering::SeqCst);
-            if !comes(&self.come) {
-                self.late.store(1, Ordering::SeqCst);
-            }
-        }
-    }
-}
-
-/// So many messages are stepped on together.
-#[derive(Drop)]
-struct Together {
-    most: u32,
-}
-
-impl Gate for Together {
-    fn before(&self, _session: u8, _message: u32) {}
-
-    fn most(&self) -> u32 {
-        self.most
-    }
-}
-
-/// Counts the messages of session 0, and notes any that comes out of turn, and how many had come when the first entry was
-/// matched. So many are stepped on together.
-#[derive(Drop)]
-struct InTurn {
-    most: u32,
-    next: AtomicU32,
-    wrong: AtomicU32,
-    at_first: AtomicU32,
-}
-
-impl InTurn {
-    fn of(most: u32) -> InTurn {
-        InTurn {
-            most,
-            next: AtomicU32::new(0),
-            wrong: AtomicU32::new(0),
-            at_first: AtomicU32::new(0),
-        }
-    }
-}
-
-impl Gate for InTurn {
-    fn before(&self, session: u8, message: u32) {
-        let due = self.next.fetch_add(1, Ordering::SeqCst);
-        if session != 0 || message != due {
-            self.wrong.store(1, Ordering::SeqCst);
-        }
-    }
-
-    fn most(&self) -> u32 {
-        self.most
-    }
-
-    fn matched(&self, place: u64) {
-        if place == 1 {
-            let come = self.next.load(Ordering::SeqCst);
-            self.at_first.store(come, Ordering::SeqCst);
-        }
-    }
-}
-
-/// So many streams of the first trade, in threads.
-fn day_of_trades<R: Threads + Wait + Sync, G: Gate>(
-    rt: &R,
-    alloc: Global,
-    rulebook: &Rulebook,
-    count: usize,
-    gate: &G,
-    caps: Caps,
-) -> Result<Day<Global>, Fail>
-    ensures shown { IfOk result (λ day. AreShown rulebook.now day.fills.items) }
-{
-    let streams = streams_of(alloc, count, FIRST_TRADE)?;
-    let day = run_day(rt, alloc, rulebook, stamp(), streams, gate, caps)?;
-    Ok(day)
+    events
 }
 
 /// The session's part of the journal is these events.
-fn expect_part(
-    rt: &impl Abort,
-    alloc: Global,
-    journal: &[Entry],
-    session: u8,
-    want: &[Event],
-) -> Result<(), AllocError> {
-    let events = part(alloc, journal, session)?;
+fn expect_part(rt: &impl Abort, alloc: Global, journal: &[Entry], session: u8, want: &[Event]) {
+    let events = part(rt, alloc, journal, session);
     assert!(rt; events.as_slice() == want, "{session}");
-    Ok(())
 }
 
-/// The journal has so many entries, and the first trade's events of each session.
-fn expect_trades(
-    rt: &impl Abort,
-    alloc: Global,
-    journal: &[Entry],
-    entries: usize,
-    sessions: u8,
-) -> Result<(), AllocError> {
-    assert!(rt; journal.len() == entries);
+/// The journal has the first trade's events of each session, and no other entry.
+fn expect_trades(rt: &impl Abort, alloc: Global, journal: &[Entry], sessions: u8) {
+    assert!(rt; journal.len() == usize::from(sessions) * 4);
     let want = first_trade();
     for session in 0..sessions {
-        expect_part(rt, alloc, journal, session, &want)?;
+        expect_part(rt, alloc, journal, session, &want);
     }
-    Ok(())
 }
 
 /// The month lines of the day are these.
@@ -286,97 +108,345 @@ fn expect_months(
     rulebook: &Rulebook,
     day: &Day<Global>,
     want: &[u8],
-) -> Result<(), AllocError>
+)
     requires { AreShown rulebook.now day.now.fills.items }
 {
-    let months = months_of(alloc, rulebook, day)?;
+    let mut months = Vec::new(alloc);
+    put_months(&mut months, rulebook, &day.fills).expect(rt, "memory");
     assert!(rt; months.as_slice() == want);
-    Ok(())
 }
+
+/// There are sixteen lists. So many of them begin with the answer to a Logon, and the others are empty.
+fn expect_logons_first(rt: &impl Abort, out: &[Vec<u8>], sessions: u8) {
+    assert!(rt; out.len() == 16);
+    for (list, session) in out.iter().zip(0..16u8) {
+        if session < sessions {
+            assert!(rt; list.starts_with(b"8=FIX.4.2\x019=57\x0135=A\x0134=1\x01"));
+        } else {
+            assert!(rt; list.is_empty());
+        }
+    }
+}
+
+// ---- streams of the first trade
+
+/// A day whose streams are all the first trade's.
+struct TradesDay {
+    streams: u8,
+    /// So many bytes that hold no frame stand before the first trade.
+    before: usize,
+    ring: usize,
+    journal: usize,
+    meeting: Meeting,
+    /// How many messages a session steps on together.
+    most: u32,
+    /// The fills: two of each stream.
+    fills: usize,
+    months: &'static [u8],
+}
+
+const ONE_TRADE: &[u8] = b"M H6 5 5 50000 50000\nM M6 0 0 0 0\nM U6 0 0 0 0\n";
+
+const TWO_TRADES: &[u8] = b"M H6 10 10 100000 100000\nM M6 0 0 0 0\nM U6 0 0 0 0\n";
+
+static TRADES_DAYS: [TradesDay; 12] = [
+    // Two sessions in threads of their own, each of which waits at its message 0 for the other.
+    TradesDay {
+        streams: 2,
+        before: 0,
+        ring: 256,
+        journal: 100_000,
+        meeting: Meeting::Both(Point::Message(0, 0), Point::Message(1, 0)),
+        most: 64,
+        fills: 4,
+        months: TWO_TRADES,
+    },
+    // One session is held at message 0 until message 3 of the other has come, over a ring of one event.
+    TradesDay {
+        streams: 2,
+        before: 0,
+        ring: 1,
+        journal: 100_000,
+        meeting: Meeting::Held(Point::Message(0, 0), Point::Message(1, 3)),
+        most: 64,
+        fills: 4,
+        months: TWO_TRADES,
+    },
+    TradesDay {
+        streams: 2,
+        before: 0,
+        ring: 1,
+        journal: 100_000,
+        meeting: Meeting::Held(Point::Message(1, 0), Point::Message(0, 3)),
+        most: 64,
+        fills: 4,
+        months: TWO_TRADES,
+    },
+    // The first entry is matched before the session has sent its last one: the two wait for each other, over a ring of
+    // one event, and over one of 256.
+    TradesDay {
+        streams: 1,
+        before: 0,
+        ring: 1,
+        journal: 100_000,
+        meeting: Meeting::Both(Point::Message(0, 3), Point::Matched(1)),
+        most: 1,
+        fills: 2,
+        months: ONE_TRADE,
+    },
+    TradesDay {
+        streams: 1,
+        before: 0,
+        ring: 256,
+        journal: 100_000,
+        meeting: Meeting::Both(Point::Message(0, 3), Point::Matched(1)),
+        most: 1,
+        fills: 2,
+        months: ONE_TRADE,
+    },
+    // Bytes are written while entries are matched, in a thread of their own: the first piece that the writer takes and
+    // the match of the second entry wait for each other.
+    TradesDay {
+        streams: 1,
+        before: 0,
+        ring: 256,
+        journal: 100_000,
+        meeting: Meeting::Both(Point::Written, Point::Matched(2)),
+        most: 64,
+        fills: 2,
+        months: ONE_TRADE,
+    },
+    // The gate is told how many bytes a writer has, piece by piece, also over rings of one item.
+    TradesDay {
+        streams: 1,
+        before: 0,
+        ring: 1,
+        journal: 100,
+        meeting: Meeting::Nowhere,
+        most: 64,
+        fills: 2,
+        months: ONE_TRADE,
+    },
+    TradesDay {
+        streams: 1,
+        before: 0,
+        ring: 256,
+        journal: 100,
+        meeting: Meeting::Nowhere,
+        most: 64,
+        fills: 2,
+        months: ONE_TRADE,
+    },
+    // Rings of one event are enough, and so is a journal of just so many entries as there are.
+    TradesDay {
+        streams: 2,
+        before: 0,
+        ring: 1,
+        journal: 100_000,
+        meeting: Meeting::Nowhere,
+        most: 64,
+        fills: 4,
+        months: TWO_TRADES,
+    },
+    TradesDay {
+        streams: 2,
+        before: 0,
+        ring: 1,
+        journal: 8,
+        meeting: Meeting::Nowhere,
+        most: 64,
+        fills: 4,
+        months: TWO_TRADES,
+    },
+    // Sixteen sessions and their writers over rings of one item, more threads than processors.
+    TradesDay {
+        streams: 16,
+        before: 0,
+        ring: 1,
+        journal: 64,
+        meeting: Meeting::Nowhere,
+        most: 64,
+        fills: 32,
+        months: b"M H6 80 80 800000 800000\nM M6 0 0 0 0\nM U6 0 0 0 0\n",
+    },
+    // Streams longer than a gateway's buffer.
+    TradesDay {
+        streams: 3,
+        before: 20_000,
+        ring: 1,
+        journal: 12,
+        meeting: Meeting::Nowhere,
+        most: 64,
+        fills: 6,
+        months: b"M H6 15 15 150000 150000\nM M6 0 0 0 0\nM U6 0 0 0 0\n",
+    },
+];
+
+/// The case's bytes that hold no frame, and the first trade behind them.
+fn trade_bytes(rt: &impl Abort, alloc: Global, before: usize) -> Vec<u8> {
+    let mut stream = Vec::new(alloc);
+    stream.resize(before, b'x').expect(rt, "memory");
+    stream.extend_from_slice(FIRST_TRADE).expect(rt, "memory");
+    stream
+}
+
+/// The journal's first entries are none of the session that was held.
+fn expect_held(rt: &impl Abort, meeting: Meeting, journal: &[Entry]) {
+    if let Meeting::Held(Point::Message(held, _), _) = meeting {
+        assert!(rt; journal.len() == 8);
+        for entry in journal.iter().take(2) {
+            assert!(rt; entry.session != held);
+        }
+    }
+}
+
+/// What a stream alone is sent, and what the gate is told of it: each message and each piece of bytes in turn.
+fn expect_alone(rt: &impl Abort, watch: &Watch, out: &[Vec<u8>]) {
+    expect_first_sent(rt, out);
+    assert!(rt; watch.in_turn());
+    assert!(rt; watch.messages() == 4);
+    assert!(rt; watch.bytes() == FIRST_TRADE_SENT.len() as u64);
+}
+
+/// The day is the case's.
+fn expect_trades_day(
+    rt: &impl Abort,
+    alloc: Global,
+    rulebook: &Rulebook,
+    case: &TradesDay,
+    watch: &Watch,
+    day: &Day<Global>,
+)
+    requires { AreShown rulebook.now day.now.fills.items }
+{
+    assert!(rt; watch.in_time());
+    expect_trades(rt, alloc, &day.journal, case.streams);
+    expect_held(rt, case.meeting, &day.journal);
+    expect_logons_first(rt, &day.out, case.streams);
+    if case.streams == 1 {
+        expect_alone(rt, watch, &day.out);
+    }
+    assert!(rt; day.fills.len() == case.fills);
+    expect_months(rt, alloc, rulebook, day, case.months);
+}
+
+fn run_trades_day<R: Threads + Wait + Sync + Abort>(
+    rt: &R,
+    alloc: Global,
+    rulebook: &Rulebook,
+    case: &TradesDay,
+) {
+    let caps = Caps {
+        ring: case.ring,
+        journal: case.journal,
+    };
+    let watch = Watch::new(case.most, case.meeting);
+    let bytes = trade_bytes(rt, alloc, case.before);
+    let streams = streams_of(alloc, usize::from(case.streams), &bytes).expect(rt, "memory");
+    let day = run_day(rt, alloc, rulebook, stamp(), streams, &watch, caps).expect(rt, "a day");
+    expect_trades_day(rt, alloc, rulebook, case, &watch, &day);
+}
+
+#[test]
+fn days_of_first_trades(rt: HostRuntime) {
+    let rulebook = three_months(&rt);
+    for case in &TRADES_DAYS {
+        run_trades_day(&rt, rt.alloc(), &rulebook, case);
+    }
+}
+
+// ---- days that are refused
+
+/// How many streams there are, the room of the rings and of the journal, and the fault.
+static REFUSED_DAYS: [(usize, Caps, HostFault); 5] = [
+    // Seventeen streams, or none.
+    (0, USUAL, HostFault::Link(LinkFault::Sessions)),
+    (17, USUAL, HostFault::Link(LinkFault::Sessions)),
+    // A journal of fewer entries than there are.
+    (
+        2,
+        Caps {
+            ring: 1,
+            journal: 7,
+        },
+        HostFault::JournalFull,
+    ),
+    (
+        2,
+        Caps {
+            ring: 1,
+            journal: 1,
+        },
+        HostFault::JournalFull,
+    ),
+    (
+        2,
+        Caps {
+            ring: 1,
+            journal: 0,
+        },
+        HostFault::JournalFull,
+    ),
+];
+
+#[test]
+fn refused_days(rt: HostRuntime) {
+    let rulebook = three_months(&rt);
+    for (count, caps, want) in &REFUSED_DAYS {
+        let streams = streams_of(rt.alloc(), *count, FIRST_TRADE).expect(&rt, "memory");
+        let fault = run_day(&rt, rt.alloc(), &rulebook, stamp(), streams, &Open, *caps).err();
+        assert!(rt; fault == Some(*want));
+    }
+}
+
+// ---- a stream of no bytes
 
 /// The journal is one close, nothing is filled, and nothing goes out.
 fn expect_close_alone(rt: &impl Abort, day: &Day<Global>) {
     assert!(rt; day.journal.len() == 1);
-    assert!(rt;
-        day.journal[0]
-            == Entry {
-                session: 0,
-                event: Event::Close { reason: 5 }
-            }
-    );
-    assert!(rt; day.fills.is_empty());
-    assert!(rt; day.out.len() == 16);
-    for list in &day.out {
-        assert!(rt; list.is_empty());
+    for entry in &day.journal {
+        assert!(rt; entry.session == 0);
+        assert!(rt; entry.event == Event::Close { reason: 5 });
     }
+    assert!(rt; day.fills.is_empty());
+    expect_logons_first(rt, &day.out, 0);
 }
 
 /// A stream of no bytes: its session is closed at its end, and nothing goes out.
 #[test]
-fn no_bytes(rt: HostRuntime) -> Result<(), Fail> {
-    let rulebook = Rulebook::read(THREE_MONTHS)?;
-    let streams = streams_of(rt.alloc(), 1, b"")?;
-    let day = day_of_streams(&rt, rt.alloc(), &rulebook, stamp(), streams, &Open, USUAL)?;
-    expect_close_alone(&rt, &day);
-    Ok(())
+fn no_bytes(rt: HostRuntime) {
+    let rulebook = three_months(&rt);
+    let streams = streams_of(rt.alloc(), 1, b"").expect(&rt, "memory");
+    let day = day_of_streams(&rt, rt.alloc(), &rulebook, stamp(), streams, &Open, USUAL);
+    expect_close_alone(&rt, &day.expect(&rt, "a day"));
 }
 
-/// Two sessions in threads of their own, each of which waits for the other.
-#[test]
-fn two_sessions_meet(rt: HostRuntime) -> Result<(), Fail> {
-    let gate = Meet {
-        first: AtomicU32::new(0),
-        second: AtomicU32::new(0),
-        late: AtomicU32::new(0),
-    };
-    let rulebook = Rulebook::read(THREE_MONTHS)?;
-    let day = day_of_trades(&rt, rt.alloc(), &rulebook, 2, &gate, USUAL)?;
-    assert!(rt; gate.late.load(Ordering::SeqCst) == 0);
-    expect_trades(&rt, rt.alloc(), &day.journal, 8, 2)?;
-    let months = b"M H6 10 10 100000 100000\nM M6 0 0 0 0\nM U6 0 0 0 0\n";
-    expect_months(&rt, rt.alloc(), &rulebook, &day, months)?;
-    Ok(())
-}
-
-/// Seventeen streams, or none.
-#[test]
-fn numbers_of_streams(rt: HostRuntime) -> Result<(), Fail> {
-    let rulebook = Rulebook::read(THREE_MONTHS)?;
-    for count in [0, 17] {
-        let streams = streams_of(rt.alloc(), count, FIRST_TRADE)?;
-        let fault = run_day(&rt, rt.alloc(), &rulebook, stamp(), streams, &Open, USUAL).err();
-        assert!(rt; fault == Some(HostFault::Link(LinkFault::Sessions)));
-    }
-    Ok(())
-}
-
-/// Four messages have come, each once, in order, and all of them before the first entry was matched.
-fn expect_all_at_first(rt: &impl Abort, gate: &InTurn) {
-    assert!(rt; gate.next.load(Ordering::SeqCst) == 4);
-    assert!(rt; gate.at_first.load(Ordering::SeqCst) == 4);
-    assert!(rt; gate.wrong.load(Ordering::SeqCst) == 0);
-}
+// ---- messages in turn
 
 /// The gate sees each message once, in order, and all that are stepped on together before the first of them is.
 #[test]
-fn each_message_once(rt: HostRuntime) -> Result<(), Fail> {
-    let gate = InTurn::of(64);
-    let rulebook = Rulebook::read(THREE_MONTHS)?;
+fn each_message_once(rt: HostRuntime) {
+    let watch = Watch::new(64, Meeting::Nowhere);
+    let rulebook = three_months(&rt);
     let rules = DayRules {
         rulebook: &rulebook,
         stamp: stamp(),
     };
-    let streams = streams_of(rt.alloc(), 1, FIRST_TRADE)?;
-    let day = run_sessions(&rt, rt.alloc(), &rules, streams, &gate, USUAL)?;
-    expect_all_at_first(&rt, &gate);
+    let streams = streams_of(rt.alloc(), 1, FIRST_TRADE).expect(&rt, "memory");
+    let day = run_sessions(&rt, rt.alloc(), &rules, streams, &watch, USUAL).expect(&rt, "a day");
+    assert!(rt; watch.messages() == 4);
+    assert!(rt; watch.messages_at_first() == 4);
+    assert!(rt; watch.in_turn());
     assert!(rt; day.applied.fills.len() == 2);
-    expect_part(&rt, rt.alloc(), &day.journal, 0, &first_trade())?;
-    Ok(())
+    expect_part(&rt, rt.alloc(), &day.journal, 0, &first_trade());
 }
 
+const LOGON: &[u8] =
+    b"8=FIX.4.2\x019=57\x0135=A\x0134=1\x0149=C1\x0152=20260105-14:30:00\x0156=HOST\x0198=0\x01108=30\x0110=220\x01";
+
 /// A Logon, then as many TestRequests, as one session's bytes.
-fn test_requests(alloc: Global, count: u32) -> Result<Vec<u8>, Fail> {
-    let mut stream = Vec::from_slice(alloc, LOGON)?;
+fn test_requests(rt: &impl Abort, alloc: Global, count: u32) -> Vec<u8> {
+    let mut stream = Vec::from_slice(alloc, LOGON).expect(rt, "memory");
     let fields = [Field {
         tag: tags::TEST_REQ_ID,
         value: Value::Text(id(b"T")),
@@ -390,10 +460,20 @@ fn test_requests(alloc: Global, count: u32) -> Result<Vec<u8>, Fail> {
             target: id(b"HOST"),
             stamp: stamp(),
         };
-        write_message(&mut stream, &head, &fields)?;
+        write_message(&mut stream, &head, &fields).expect(rt, "memory");
     }
-    Ok(stream)
+    stream
 }
+
+/// The sizes of a ring, and how many messages are stepped on together.
+static FULL_RINGS: [(usize, u32); 6] = [
+    (1, 64),
+    (4, 3),
+    (4, 64),
+    (64, 1),
+    (256, 0),
+    (256, u32::MAX),
+];
 
 /// A Logon and three hundred TestRequests over a ring of this size, of which so many are stepped on together.
 fn requests_in_turn<R: Threads + Wait + Sync + Abort>(
@@ -402,53 +482,50 @@ fn requests_in_turn<R: Threads + Wait + Sync + Abort>(
     rulebook: &Rulebook,
     ring: usize,
     most: u32,
-) -> Result<(), Fail> {
+) {
     let caps = Caps {
         ring,
         journal: 1_000,
     };
-    let gate = InTurn::of(most);
-    let stream = test_requests(alloc, 300)?;
-    let streams = streams_of(alloc, 1, &stream)?;
-    let day = run_day(rt, alloc, rulebook, stamp(), streams, &gate, caps)?;
+    let watch = Watch::new(most, Meeting::Nowhere);
+    let stream = test_requests(rt, alloc, 300);
+    let streams = streams_of(alloc, 1, &stream).expect(rt, "memory");
+    let day = run_day(rt, alloc, rulebook, stamp(), streams, &watch, caps).expect(rt, "a day");
     assert!(rt; day.journal.len() == 302);
-    assert!(rt; gate.next.load(Ordering::SeqCst) == 301);
-    assert!(rt; gate.wrong.load(Ordering::SeqCst) == 0);
-    Ok(())
+    assert!(rt; watch.messages() == 301);
+    assert!(rt; watch.in_turn());
 }
 
 /// The gate sees each message once also where the ring is full and messages have to be stepped on again, however many are
 /// stepped on together.
 #[test]
-fn each_message_once_over_a_full_ring(rt: HostRuntime) -> Result<(), Fail> {
-    let rulebook = Rulebook::read(THREE_MONTHS)?;
-    for (ring, most) in [(1, 64), (4, 3), (4, 64), (64, 1), (256, 0), (256, u32::MAX)] {
-        requests_in_turn(&rt, rt.alloc(), &rulebook, ring, most)?;
+fn each_message_once_over_a_full_ring(rt: HostRuntime) {
+    let rulebook = three_months(&rt);
+    for (ring, most) in &FULL_RINGS {
+        requests_in_turn(&rt, rt.alloc(), &rulebook, *ring, *most);
     }
-    Ok(())
 }
 
 /// The events of a Logon and so many TestRequests.
-fn said_by_requests(alloc: Global, count: u32) -> Result<Vec<Event>, AllocError> {
+fn said_by_requests(rt: &impl Abort, alloc: Global, count: u32) -> Vec<Event> {
     let mut events = Vec::new(alloc);
-    events.push(Event::Logon {
-        client: id(b"C1"),
-        host: id(b"HOST"),
-        beat: 30,
-    })?;
+    events.push(logon()).expect(rt, "memory");
     for _ in 0..count {
-        events.push(Event::TestReply { text: id(b"T") })?;
+        let event = Event::TestReply { text: id(b"T") };
+        events.push(event).expect(rt, "memory");
     }
-    events.push(Event::Close { reason: 5 })?;
-    Ok(events)
+    events.push(Event::Close { reason: 5 }).expect(rt, "memory");
+    events
 }
 
 /// A stream of a Logon and seventy TestRequests, and one of the first trade.
-fn two_streams(alloc: Global) -> Result<Vec<Vec<u8>>, Fail> {
-    let mut streams = streams_of(alloc, 1, FIRST_TRADE)?;
-    let requests = test_requests(alloc, 70)?;
-    streams.insert(0, requests)?;
-    Ok(streams)
+fn two_streams(rt: &impl Abort, alloc: Global) -> Vec<Vec<u8>> {
+    let mut streams = Vec::new(alloc);
+    streams
+        .push(test_requests(rt, alloc, 70))
+        .expect(rt, "memory");
+    streams.push(trade_bytes(rt, alloc, 0)).expect(rt, "memory");
+    streams
 }
 
 /// Both streams over a ring of this size, of whose messages so many are stepped on together.
@@ -459,168 +536,23 @@ fn expect_both_said<R: Threads + Wait + Sync + Abort>(
     ring: usize,
     most: u32,
     first_said: &[Event],
-) -> Result<(), Fail> {
+) {
     let caps = Caps { ring, journal: 100 };
-    let streams = two_streams(alloc)?;
-    let gate = Together { most };
-    let day = run_day(rt, alloc, rulebook, stamp(), streams, &gate, caps)?;
-    expect_part(rt, alloc, &day.journal, 0, first_said)?;
-    expect_part(rt, alloc, &day.journal, 1, &first_trade())?;
-    Ok(())
+    let streams = two_streams(rt, alloc);
+    let watch = Watch::new(most, Meeting::Nowhere);
+    let day = run_day(rt, alloc, rulebook, stamp(), streams, &watch, caps).expect(rt, "a day");
+    expect_part(rt, alloc, &day.journal, 0, first_said);
+    expect_part(rt, alloc, &day.journal, 1, &first_trade());
 }
 
 /// However many messages are stepped on together, over a ring of any size, a session's part is what its stream says.
 #[test]
-fn slices_of_every_size(rt: HostRuntime) -> Result<(), Fail> {
-    let rulebook = Rulebook::read(THREE_MONTHS)?;
-    let first_said = said_by_requests(rt.alloc(), 70)?;
+fn slices_of_every_size(rt: HostRuntime) {
+    let rulebook = three_months(&rt);
+    let first_said = said_by_requests(&rt, rt.alloc(), 70);
     for ring in [1, 2, 5, 64, 4_096] {
         for most in 1..=64u32 {
-            expect_both_said(&rt, rt.alloc(), &rulebook, ring, most, &first_said)?;
+            expect_both_said(&rt, rt.alloc(), &rulebook, ring, most, &first_said);
         }
     }
-    Ok(())
-}
-
-/// The session is held while the other goes on over a ring of one event.
-fn hold_session<R: Threads + Wait + Sync + Abort>(
-    rt: &R,
-    alloc: Global,
-    rulebook: &Rulebook,
-    held: u8,
-) -> Result<(), Fail> {
-    let caps = Caps {
-        ring: 1,
-        journal: 100_000,
-    };
-    let gate = Hold {
-        held,
-        come: AtomicU32::new(0),
-        late: AtomicU32::new(0),
-    };
-    let day = day_of_trades(rt, alloc, rulebook, 2, &gate, caps)?;
-    assert!(rt; gate.late.load(Ordering::SeqCst) == 0);
-    assert!(rt; day.journal.len() == 8);
-    assert!(rt; day.journal[0].session != held);
-    assert!(rt; day.journal[1].session != held);
-    Ok(())
-}
-
-/// One session is held while the other goes on over a ring of one event: its first entries come first.
-#[test]
-fn one_session_held(rt: HostRuntime) -> Result<(), Fail> {
-    let rulebook = Rulebook::read(THREE_MONTHS)?;
-    for held in [0u8, 1] {
-        hold_session(&rt, rt.alloc(), &rulebook, held)?;
-    }
-    Ok(())
-}
-
-/// The last message and the match of the first entry wait for each other over a ring of this size.
-fn match_meanwhile<R: Threads + Wait + Sync + Abort>(
-    rt: &R,
-    alloc: Global,
-    rulebook: &Rulebook,
-    ring: usize,
-) -> Result<(), Fail> {
-    let caps = Caps {
-        ring,
-        journal: 100_000,
-    };
-    let gate = MatchedMeanwhile {
-        come: AtomicU32::new(0),
-        matched: AtomicU32::new(0),
-        late: AtomicU32::new(0),
-    };
-    let day = day_of_trades(rt, alloc, rulebook, 1, &gate, caps)?;
-    assert!(rt; gate.late.load(Ordering::SeqCst) == 0);
-    assert!(rt; day.journal.len() == 4);
-    assert!(rt; day.fills.len() == 2);
-    Ok(())
-}
-
-/// The first entry is matched before the session has sent its last one, also over a ring of one event.
-#[test]
-fn matched_while_the_session_runs(rt: HostRuntime) -> Result<(), Fail> {
-    let rulebook = Rulebook::read(THREE_MONTHS)?;
-    for ring in [1, 256] {
-        match_meanwhile(&rt, rt.alloc(), &rulebook, ring)?;
-    }
-    Ok(())
-}
-
-/// How many entries the journal has of two sessions over rings of one event, or the fault.
-fn entries_with_room<R: Threads + Wait + Sync>(
-    rt: &R,
-    alloc: Global,
-    rulebook: &Rulebook,
-    journal: usize,
-) -> Result<Result<usize, HostFault>, Fail> {
-    let streams = streams_of(alloc, 2, FIRST_TRADE)?;
-    let caps = Caps { ring: 1, journal };
-    match run_day(rt, alloc, rulebook, stamp(), streams, &Open, caps) {
-        Ok(day) => Ok(Ok(day.journal.len())),
-        Err(fault) => Ok(Err(fault)),
-    }
-}
-
-/// Rings of one event are enough, and so is a journal of just so many entries as there are; one fewer is not.
-#[test]
-fn journal_of_just_enough(rt: HostRuntime) -> Result<(), Fail> {
-    let rulebook = Rulebook::read(THREE_MONTHS)?;
-    for journal in [100_000, 8, 7, 1, 0] {
-        match entries_with_room(&rt, rt.alloc(), &rulebook, journal)? {
-            Ok(entries) => assert!(rt; journal >= 8 && entries == 8),
-            Err(fault) => assert!(rt; journal < 8 && fault == HostFault::JournalFull),
-        }
-    }
-    Ok(())
-}
-
-/// There are sixteen lists, and each begins with the answer to a Logon.
-fn expect_logons_first(rt: &impl Abort, out: &[Vec<u8>]) {
-    assert!(rt; out.len() == 16);
-    for list in out {
-        assert!(rt; list.starts_with(b"8=FIX.4.2\x019=57\x0135=A\x0134=1\x01"));
-    }
-}
-
-/// Sixteen sessions and their writers over rings of one item, more threads than processors: each session is answered,
-/// its Logon first.
-#[test]
-fn sixteen_sessions(rt: HostRuntime) -> Result<(), Fail> {
-    let rulebook = Rulebook::read(THREE_MONTHS)?;
-    let caps = Caps {
-        ring: 1,
-        journal: 64,
-    };
-    let day = day_of_trades(&rt, rt.alloc(), &rulebook, 16, &Open, caps)?;
-    expect_logons_first(&rt, &day.out);
-    expect_trades(&rt, rt.alloc(), &day.journal, 64, 16)?;
-    let months = b"M H6 80 80 800000 800000\nM M6 0 0 0 0\nM U6 0 0 0 0\n";
-    expect_months(&rt, rt.alloc(), &rulebook, &day, months)?;
-    Ok(())
-}
-
-/// Twenty thousand bytes that hold no frame, and the first trade behind them.
-fn long_bytes(alloc: Global) -> Result<Vec<u8>, AllocError> {
-    let mut stream = Vec::new(alloc);
-    stream.resize(20_000, b'x')?;
-    stream.extend_from_slice(FIRST_TRADE)?;
-    Ok(stream)
-}
-
-/// A stream longer than a gateway's buffer.
-#[test]
-fn long_stream(rt: HostRuntime) -> Result<(), Fail> {
-    let stream = long_bytes(rt.alloc())?;
-    let streams = streams_of(rt.alloc(), 3, &stream)?;
-    let caps = Caps {
-        ring: 1,
-        journal: 12,
-    };
-    let rulebook = Rulebook::read(THREE_MONTHS)?;
-    let day = run_day(&rt, rt.alloc(), &rulebook, stamp(), streams, &Open, caps)?;
-    expect_trades(&rt, rt.alloc(), &day.journal, 12, 3)?;
-    Ok(())
 }

@@ -1,17 +1,17 @@
-//! Each request for memory refused in turn, until a run without a refusal.
+//! Each request for memory refused in turn.
 use super::check::{DIRECT_BEFORE_IMPLIED, DIRECT_BEFORE_IMPLIED_TEXT};
 use super::live::{Open, USUAL, streams_of};
+use super::three_months;
 use day_text::Day;
 use gate_link::LinkFault;
-use host_base::{NoMemory, TestSink, TestSource};
+use host_base::{TestSink, TestSource};
 use spread_host::{HostFault, check, replay, run_day};
 use spread_rules::Rulebook;
 use std::alloc::{Allocator, Global};
 use std::process::Abort;
 use std::sync::Wait;
-use std::test::Fail;
 use std::thread::Threads;
-use test_support::{FIRST_TRADE, Refusing, THREE_MONTHS, stamp};
+use test_support::{FIRST_TRADE, Refusing, stamp};
 
 const THREE_LOGONS: &[u8] =
     b"0:8=FIX.4.2|9=57|35=A|34=1|49=C1|52=20260105-14:30:00|56=HOST|98=0|108=30|10=220|\n\
@@ -56,35 +56,13 @@ fn replay_over<A: Allocator + Copy>(
     alloc: Global,
     heap: A,
     rules: &Rulebook,
-) -> Result<Option<HostFault>, NoMemory> {
-    let mut sink = TestSink::new(alloc, 4096, 0)?;
-    let mut source = TestSource::new(Vec::from_slice(alloc, THREE_LOGONS)?, 0);
+) -> Option<HostFault> {
+    let mut sink = TestSink::new(alloc, 4096, 0).expect(rt, "memory");
+    let lines = Vec::from_slice(alloc, THREE_LOGONS).expect(rt, "memory");
+    let mut source = TestSource::new(lines, 0);
     let fault = replay(heap, rules, stamp(), &mut source, &mut sink, false).err();
     assert!(rt; fault.is_none() || sink.bytes().is_empty());
-    Ok(fault)
-}
-
-/// The entries are three Logons, each answered in a list of its own, and three ends of streams, which send nothing.
-#[test]
-fn replay_refused_memory(rt: HostRuntime) -> Result<(), Fail> {
-    let rules = Rulebook::read(THREE_MONTHS)?;
-    let mut places = Places::new();
-    for number in 1..500u64 {
-        let heap = Refusing::new(rt.alloc(), number);
-        match replay_over(&rt, rt.alloc(), &heap, &rules)? {
-            None => {
-                assert!(rt; !heap.has_refused());
-                assert!(rt; places.are(&[0, 1, 2, 3, 7]));
-                return Ok(());
-            }
-            Some(HostFault::NoMemory(place)) => {
-                assert!(rt; heap.has_refused() && places.note(place));
-            }
-            Some(_) => assert!(rt; false),
-        }
-    }
-    assert!(rt; false);
-    Ok(())
+    fault
 }
 
 /// A check of a journal in which all memory is the heap's: nothing is written where it has no answer.
@@ -93,39 +71,64 @@ fn check_over<A: Allocator + Copy>(
     alloc: Global,
     heap: A,
     rules: &Rulebook,
-) -> Result<Option<HostFault>, NoMemory> {
-    let mut sink = TestSink::new(alloc, 1000, 0)?;
+) -> Option<HostFault> {
+    let mut sink = TestSink::new(alloc, 1000, 0).expect(rt, "memory");
     let fault = check(heap, rules, DIRECT_BEFORE_IMPLIED, &mut sink).err();
-    match fault {
-        None => assert!(rt; sink.bytes() == DIRECT_BEFORE_IMPLIED_TEXT),
-        Some(_) => assert!(rt; sink.bytes().is_empty()),
-    }
-    Ok(fault)
+    let written = if fault.is_none() {
+        DIRECT_BEFORE_IMPLIED_TEXT
+    } else {
+        b""
+    };
+    assert!(rt; sink.bytes() == written);
+    fault
 }
 
-/// Of the entries the first order is the second; the last, the fifth, makes the first fills.
-#[test]
-fn check_refused_memory(rt: HostRuntime) -> Result<(), Fail> {
-    let rules = Rulebook::read(THREE_MONTHS)?;
-    let mut places = Places::new();
-    for number in 1..500u64 {
-        let heap = Refusing::new(rt.alloc(), number);
-        match check_over(&rt, rt.alloc(), &heap, &rules)? {
-            // A guess of a row that finds no memory is left out, and the answer is the same.
-            None if heap.has_refused() => {}
-            None => {
-                assert!(rt; !places.seen[1] && places.seen[0] && places.seen[2]);
-                assert!(rt; places.seen[5] && places.seen[6] && places.last == 6);
-                return Ok(());
-            }
-            Some(HostFault::NoMemory(place)) => {
-                assert!(rt; heap.has_refused() && places.note(place));
-            }
-            Some(_) => assert!(rt; false),
+/// Notes the place where a request was refused. Without a refusal there is an answer.
+fn note_fault(rt: &impl Abort, places: &mut Places, has_refused: bool, fault: Option<HostFault>) {
+    match fault {
+        None => {}
+        Some(HostFault::NoMemory(place)) => {
+            assert!(rt; has_refused && places.note(place));
         }
+        Some(_) => rt.panic("another fault"),
     }
-    assert!(rt; false);
-    Ok(())
+}
+
+/// The entries are three Logons, each answered in a list of its own, and three ends of streams, which send nothing. The
+/// last of the numbers names no request.
+#[test]
+fn replay_refused_memory(rt: HostRuntime) {
+    let rules = three_months(&rt);
+    let mut places = Places::new();
+    let mut last_refused = true;
+    for number in 1..250u64 {
+        let heap = Refusing::new(rt.alloc(), number);
+        let fault = replay_over(&rt, rt.alloc(), &heap, &rules);
+        last_refused = heap.has_refused();
+        assert!(rt; fault.is_some() == last_refused);
+        note_fault(&rt, &mut places, last_refused, fault);
+    }
+    assert!(rt; !last_refused);
+    assert!(rt; places.are(&[0, 1, 2, 3, 7]));
+}
+
+/// Of the entries the first order is the second; the last, the fifth, makes the first fills. The last of the numbers names
+/// no request.
+#[test]
+fn check_refused_memory(rt: HostRuntime) {
+    let rules = three_months(&rt);
+    let mut places = Places::new();
+    let mut last_refused = true;
+    for number in 1..250u64 {
+        let heap = Refusing::new(rt.alloc(), number);
+        // A guess of a row that finds no memory is left out, and the answer is the same.
+        let fault = check_over(&rt, rt.alloc(), &heap, &rules);
+        last_refused = heap.has_refused();
+        note_fault(&rt, &mut places, last_refused, fault);
+    }
+    assert!(rt; !last_refused);
+    assert!(rt; !places.seen[1] && places.seen[0] && places.seen[2]);
+    assert!(rt; places.seen[5] && places.seen[6] && places.last == 6);
 }
 
 /// A day of one stream, whose order is the same in each run, in which all memory is the heap's.
@@ -134,41 +137,53 @@ fn day_over<R: Threads + Wait + Sync, A: Allocator + Copy + Send>(
     heap: A,
     rulebook: &Rulebook,
 ) -> Result<Day<A>, HostFault> {
-    let Ok(streams) = streams_of(heap, 1, FIRST_TRADE) else {
-        return Err(HostFault::NoMemory(0));
-    };
-    run_day(rt, heap, rulebook, stamp(), streams, &Open, USUAL)
+    match streams_of(heap, 1, FIRST_TRADE) {
+        Ok(streams) => run_day(rt, heap, rulebook, stamp(), streams, &Open, USUAL),
+        Err(_) => Err(HostFault::NoMemory(0)),
+    }
+}
+
+/// The fault of that day; where it has none it has all entries and fills.
+fn day_fault<R: Threads + Wait + Sync + Abort, A: Allocator + Copy + Send>(
+    rt: &R,
+    heap: A,
+    rulebook: &Rulebook,
+) -> Option<HostFault> {
+    match day_over(rt, heap, rulebook) {
+        Ok(day) => {
+            assert!(rt; day.journal.len() == 4 && day.fills.len() == 2);
+            None
+        }
+        Err(fault) => Some(fault),
+    }
 }
 
 /// Of a stream of four events the places are 0 to 5: a writer's want of memory has the place behind the entries that were
-/// worked through. The threads' requests come in any order.
+/// worked through. The threads' requests come in any order. The last of the numbers names no request.
 #[test]
-fn run_day_refused_memory(rt: HostRuntime) -> Result<(), Fail> {
-    let rulebook = Rulebook::read(THREE_MONTHS)?;
+fn run_day_refused_memory(rt: HostRuntime) {
+    let rulebook = three_months(&rt);
     let mut seen = [false; 6];
-    for number in 1..500u64 {
+    let mut last_refused = true;
+    for number in 1..250u64 {
         let heap = Refusing::new(rt.alloc(), number);
-        match day_over(&rt, &heap, &rulebook) {
-            Ok(day) => {
-                assert!(rt; day.journal.len() == 4 && day.fills.len() == 2);
-                // A guess of a row that finds no memory is left out.
-                if !heap.has_refused() {
-                    assert!(rt; seen[0] && seen[1]);
-                    return Ok(());
-                }
-            }
-            Err(HostFault::NoMemory(place)) => {
-                assert!(rt; heap.has_refused() && place < 6);
+        let fault = day_fault(&rt, &heap, &rulebook);
+        last_refused = heap.has_refused();
+        match fault {
+            // A guess of a row that finds no memory is left out.
+            None => {}
+            Some(HostFault::NoMemory(place)) => {
+                assert!(rt; last_refused && place < 6);
                 if place < 6 {
                     seen[place as usize] = true;
                 }
             }
-            Err(fault) => {
-                assert!(rt; heap.has_refused() && !seen[1]);
+            Some(fault) => {
+                assert!(rt; last_refused && !seen[1]);
                 assert!(rt; fault == HostFault::Link(LinkFault::NoMemory));
             }
         }
     }
-    assert!(rt; false);
-    Ok(())
+    assert!(rt; !last_refused);
+    assert!(rt; seen[0] && seen[1]);
 }

@@ -1,7 +1,5 @@
 //! Orders that are replaced, as messages and as a journal text: what trades, and what is answered.
-use super::check::checked_text;
-use super::replay::text_of;
-use std::test::Fail;
+use super::replay::{Piece, Replay, Written, expect_replays};
 
 /// Two orders to sell, a and b; a replaced by c, which keeps its place; b replaced by d, which loses it; an order to buy.
 const ORDERS: &[u8] =
@@ -12,7 +10,7 @@ const ORDERS: &[u8] =
 0:8=FIX.4.2|9=109|35=G|34=5|49=C1|52=20260105-14:30:00|56=HOST|41=b|11=d|21=1|55=H6|54=2|60=20260105-14:30:00|38=6|40=2|44=100|10=188|\n\
 0:8=FIX.4.2|9=104|35=D|34=6|49=C1|52=20260105-14:30:00|56=HOST|11=e|21=1|55=H6|54=1|60=20260105-14:30:00|38=4|40=2|44=100|10=174|\n";
 
-const ORDERS_JOURNAL: &[u8] = b"JOURNAL 2\n\
+pub const ORDERS_JOURNAL: &[u8] = b"JOURNAL 2\n\
 0 logon 4331 484f5354 30\n\
 0 new 61 4836 2 5 10000 day\n\
 0 new 62 4836 2 5 10000 day\n\
@@ -22,7 +20,7 @@ const ORDERS_JOURNAL: &[u8] = b"JOURNAL 2\n\
 END 6\n";
 
 /// c trades before d.
-const ORDERS_FILLS: &[u8] = b"F 6 6 0 H6 1 3 10000\n\
+pub const ORDERS_FILLS: &[u8] = b"F 6 6 0 H6 1 3 10000\n\
 F 6 2 0 H6 2 3 10000\n\
 F 6 6 0 H6 1 1 10000\n\
 F 6 5 0 H6 2 1 10000\n\
@@ -100,18 +98,27 @@ M H6 4 4 40000 40000\n\
 M M6 0 0 0 0\n\
 M U6 0 0 0 0\n";
 
-#[test]
-fn replaced_orders(rt: HostRuntime) -> Result<(), Fail> {
-    assert!(rt; text_of(rt.alloc(), ORDERS, false)?.bytes() == ORDERS_TEXT);
-    assert!(rt; checked_text(rt.alloc(), ORDERS_JOURNAL)?.bytes() == ORDERS_FILLS);
-    Ok(())
-}
+static REPLACES: [Replay; 2] = [
+    Replay {
+        lines: &[Piece::Bytes(ORDERS)],
+        fails: (0, 0),
+        room: 4096,
+        journal_only: false,
+        fault: None,
+        written: Written::Whole(ORDERS_TEXT),
+    },
+    // Reason 0 for what is filled, 2 for an id that was used; a was replaced (status 5), c is filled (status 2).
+    Replay {
+        lines: &[Piece::Bytes(ORDERS), Piece::Bytes(REFUSED)],
+        fails: (0, 0),
+        room: 4096,
+        journal_only: false,
+        fault: None,
+        written: Written::Whole(REFUSED_TEXT),
+    },
+];
 
-// Reason 0 for what is filled, 2 for an id that was used; a was replaced (status 5), c is filled (status 2).
 #[test]
-fn refused_requests(rt: HostRuntime) -> Result<(), Fail> {
-    let mut lines = Vec::from_slice(rt.alloc(), ORDERS)?;
-    lines.extend_from_slice(REFUSED)?;
-    assert!(rt; text_of(rt.alloc(), &lines, false)?.bytes() == REFUSED_TEXT);
-    Ok(())
+fn replaced_orders(rt: HostRuntime) {
+    expect_replays(&rt, rt.alloc(), &REPLACES);
 }

@@ -1,194 +1,323 @@
 //! Day lines cut anywhere, and the faults of `replay`.
+use super::three_months;
 use crate::headline::day_of_lines;
 use host_base::{TestSink, TestSource};
-use spread_host::{HostFault, replay};
+use spread_host::HostFault;
 use spread_rules::Rulebook;
-use std::alloc::{AllocError, Global};
+use std::alloc::Global;
 use std::process::Abort;
-use std::test::Fail;
-use test_support::{FIRST_TRADE_LINES, FIRST_TRADE_TEXT, THREE_MONTHS, stamp};
+use test_support::{FIRST_TRADE_LINES, FIRST_TRADE_TEXT, stamp};
 
-/// What a day without entries writes.
-const EMPTY_TEXT: &[u8] = b"JOURNAL 2\nEND 0\nM H6 0 0 0 0\nM M6 0 0 0 0\nM U6 0 0 0 0\n";
-
-/// The whole text that is written on day lines.
-pub fn text_of(alloc: Global, lines: &[u8], journal_only: bool) -> Result<TestSink, Fail> {
-    let rules = Rulebook::read(THREE_MONTHS)?;
-    let mut sink = TestSink::new(alloc, 4096, 0)?;
-    let mut source = TestSource::new(Vec::from_slice(alloc, lines)?, 0);
-    day_of_lines(alloc, &rules, stamp(), &mut source, &mut sink, journal_only)?;
-    Ok(sink)
+/// A piece of day lines.
+pub enum Piece {
+    Bytes(&'static [u8]),
+    /// So many times this byte.
+    Fill(u8, usize),
+    /// The first trade's day lines, and its messages with no line around them.
+    FirstTrade,
+    Messages,
+    /// Its messages, a day line of session 0 for each byte.
+    CutMessages,
 }
 
-/// Appends a day line of session 0 for each byte of the message.
-fn cut_into_lines(message: &[u8], lines: &mut Vec<u8>) -> Result<(), Fail> {
-    for byte in message {
-        lines.extend_from_slice(&[b'0', b':', *byte, b'\n'])?;
-    }
-    Ok(())
+/// What is written.
+pub enum Written {
+    /// This text.
+    Whole(&'static [u8]),
+    /// What a replay of the first trade writes, and so many bytes of its beginning.
+    FirstTrade,
+    FirstTradeStart(usize),
+}
+
+/// A replay of these day lines.
+pub struct Replay {
+    pub lines: &'static [Piece],
+    /// The read at which the source fails, and the write at which the sink does; 0 is none.
+    pub fails: (u32, u32),
+    /// The room of the sink.
+    pub room: usize,
+    pub journal_only: bool,
+    pub fault: Option<HostFault>,
+    pub written: Written,
 }
 
 const MESSAGES: &[u8] =
     b"8=FIX.4.2|9=57|35=A|34=1|49=C1|52=20260105-14:30:00|56=HOST|98=0|108=30|10=220|8=FIX.4.2|9=104|35=D|34=2|49=C1|52=20260105-14:30:00|56=HOST|11=a|21=1|55=H6|54=2|60=20260105-14:30:00|38=5|40=2|44=100|10=168|8=FIX.4.2|9=104|35=D|34=3|49=C1|52=20260105-14:30:00|56=HOST|11=b|21=1|55=H6|54=1|60=20260105-14:30:00|38=5|40=2|44=100|10=169|8=FIX.4.2|9=45|35=5|34=4|49=C1|52=20260105-14:30:00|56=HOST|10=183|";
 
-/// These bytes, so many fillers, these bytes again, and the messages.
-fn before_messages(
-    alloc: Global,
-    start: &[u8],
-    fillers: usize,
-    end: &[u8],
-) -> Result<Vec<u8>, AllocError> {
-    let mut lines = Vec::from_slice(alloc, start)?;
-    for _ in 0..fillers {
-        lines.push(b'x')?;
-    }
-    lines.extend_from_slice(end)?;
-    lines.extend_from_slice(MESSAGES)?;
-    Ok(lines)
-}
+/// What a day without entries writes.
+const EMPTY_TEXT: &[u8] = b"JOURNAL 2\nEND 0\nM H6 0 0 0 0\nM M6 0 0 0 0\nM U6 0 0 0 0\n";
 
-/// What is written on these day lines.
-fn expect_text(
-    rt: &impl Abort,
-    alloc: Global,
-    lines: &[u8],
-    journal_only: bool,
-    want: &[u8],
-) -> Result<(), Fail> {
-    let sink = text_of(alloc, lines, journal_only)?;
-    assert!(rt; sink.bytes() == want);
-    Ok(())
-}
-
-#[test]
-fn cut_frames(rt: HostRuntime) -> Result<(), Fail> {
-    let mut cut = Vec::new(rt.alloc());
-    cut_into_lines(MESSAGES, &mut cut)?;
-    expect_text(&rt, rt.alloc(), &cut, false, FIRST_TRADE_TEXT)
-}
-
-#[test]
-fn nested_frames(rt: HostRuntime) -> Result<(), Fail> {
-    let waiting = b"JOURNAL 2\n0 close 5\nEND 1\n".as_slice();
-    let rows: [(&[u8], usize, &[u8], bool, &[u8]); 3] = [
-        (
-            b"0:8=FIX.4.2|9=4000|35=0|58=",
-            3991,
-            b"|10=000|",
-            false,
-            FIRST_TRADE_TEXT,
-        ),
-        (b"0:8=FIX.4.2|9=200|", 0, b"", false, FIRST_TRADE_TEXT),
-        (b"0:8=FIX.4.2|9=4000|", 0, b"", true, waiting),
-    ];
-    for (start, fillers, end, journal_only, want) in rows {
-        let lines = before_messages(rt.alloc(), start, fillers, end)?;
-        expect_text(&rt, rt.alloc(), &lines, journal_only, want)?;
-    }
-    Ok(())
-}
-
-// ---- faults
-
-/// What is answered, and how many bytes are out, where the source fails at a read and the sink at a write (0: never).
-fn fault_of(
-    alloc: Global,
-    lines: Vec<u8>,
-    fails: (u32, u32),
-    room: usize,
-) -> Result<(Option<HostFault>, TestSink), Fail> {
-    let rules = Rulebook::read(THREE_MONTHS)?;
-    let mut sink = TestSink::new(alloc, room, fails.1)?;
-    let mut source = TestSource::new(lines, fails.0);
-    match replay(alloc, &rules, stamp(), &mut source, &mut sink, false) {
-        Ok(_) => Ok((None, sink)),
-        Err(fault) => Ok((Some(fault), sink)),
-    }
-}
-
-#[test]
-fn bad_lines(rt: HostRuntime) -> Result<(), Fail> {
-    let rows: [(&[u8], u64); 6] = [
-        (b"x", 1),
-        (b"# one\n\n0:a\n16:b\nx\n", 4),
-        (b"0:\n\n# three\n\n01:8=FIX.4.2|\n", 5),
-        (b"0", 1),
-        (b"0:a\n ", 2),
-        (b"\n\n\n0;a\n", 4),
-    ];
-    for (lines, line) in rows {
-        let (fault, sink) = fault_of(
-            rt.alloc(),
-            Vec::from_slice(rt.alloc(), lines)?,
-            (0, 0),
-            4096,
-        )?;
-        assert!(rt; fault == Some(HostFault::DayLine(line)));
-        assert!(rt; sink.bytes() == b"".as_slice());
-    }
-    Ok(())
-}
-
-#[test]
-fn failing_reads(rt: HostRuntime) -> Result<(), Fail> {
+static REPLAYS: [Replay; 21] = [
+    // Messages cut after each byte.
+    Replay {
+        lines: &[Piece::CutMessages],
+        fails: (0, 0),
+        room: 4096,
+        journal_only: false,
+        fault: None,
+        written: Written::FirstTrade,
+    },
+    // Messages behind a frame that is long, behind one that is not whole, and behind one that is waited for.
+    Replay {
+        lines: &[
+            Piece::Bytes(b"0:8=FIX.4.2|9=4000|35=0|58="),
+            Piece::Fill(b'x', 3991),
+            Piece::Bytes(b"|10=000|"),
+            Piece::Messages,
+        ],
+        fails: (0, 0),
+        room: 4096,
+        journal_only: false,
+        fault: None,
+        written: Written::FirstTrade,
+    },
+    Replay {
+        lines: &[Piece::Bytes(b"0:8=FIX.4.2|9=200|"), Piece::Messages],
+        fails: (0, 0),
+        room: 4096,
+        journal_only: false,
+        fault: None,
+        written: Written::FirstTrade,
+    },
+    Replay {
+        lines: &[Piece::Bytes(b"0:8=FIX.4.2|9=4000|"), Piece::Messages],
+        fails: (0, 0),
+        room: 4096,
+        journal_only: true,
+        fault: None,
+        written: Written::Whole(b"JOURNAL 2\n0 close 5\nEND 1\n"),
+    },
+    // Lines that are no day lines.
+    Replay {
+        lines: &[Piece::Bytes(b"x")],
+        fails: (0, 0),
+        room: 4096,
+        journal_only: false,
+        fault: Some(HostFault::DayLine(1)),
+        written: Written::Whole(b""),
+    },
+    Replay {
+        lines: &[Piece::Bytes(b"# one\n\n0:a\n16:b\nx\n")],
+        fails: (0, 0),
+        room: 4096,
+        journal_only: false,
+        fault: Some(HostFault::DayLine(4)),
+        written: Written::Whole(b""),
+    },
+    Replay {
+        lines: &[Piece::Bytes(b"0:\n\n# three\n\n01:8=FIX.4.2|\n")],
+        fails: (0, 0),
+        room: 4096,
+        journal_only: false,
+        fault: Some(HostFault::DayLine(5)),
+        written: Written::Whole(b""),
+    },
+    Replay {
+        lines: &[Piece::Bytes(b"0")],
+        fails: (0, 0),
+        room: 4096,
+        journal_only: false,
+        fault: Some(HostFault::DayLine(1)),
+        written: Written::Whole(b""),
+    },
+    Replay {
+        lines: &[Piece::Bytes(b"0:a\n ")],
+        fails: (0, 0),
+        room: 4096,
+        journal_only: false,
+        fault: Some(HostFault::DayLine(2)),
+        written: Written::Whole(b""),
+    },
+    Replay {
+        lines: &[Piece::Bytes(b"\n\n\n0;a\n")],
+        fails: (0, 0),
+        room: 4096,
+        journal_only: false,
+        fault: Some(HostFault::DayLine(4)),
+        written: Written::Whole(b""),
+    },
     // Three reads of bytes and one of none: a comment of 9,000 bytes.
-    for number in 1..6u32 {
-        let mut lines = Vec::from_slice(rt.alloc(), b"#")?;
-        lines.resize(9000, b' ')?;
-        let (fault, sink) = fault_of(rt.alloc(), lines, (number, 0), 4096)?;
-        if number < 5 {
-            assert!(rt; fault == Some(HostFault::Read));
-            assert!(rt; sink.bytes() == b"".as_slice());
-        } else {
-            assert!(rt; fault == None);
-            assert!(rt; sink.bytes() == EMPTY_TEXT);
+    Replay {
+        lines: &[Piece::Bytes(b"#"), Piece::Fill(b' ', 8999)],
+        fails: (1, 0),
+        room: 4096,
+        journal_only: false,
+        fault: Some(HostFault::Read),
+        written: Written::Whole(b""),
+    },
+    Replay {
+        lines: &[Piece::Bytes(b"#"), Piece::Fill(b' ', 8999)],
+        fails: (2, 0),
+        room: 4096,
+        journal_only: false,
+        fault: Some(HostFault::Read),
+        written: Written::Whole(b""),
+    },
+    Replay {
+        lines: &[Piece::Bytes(b"#"), Piece::Fill(b' ', 8999)],
+        fails: (3, 0),
+        room: 4096,
+        journal_only: false,
+        fault: Some(HostFault::Read),
+        written: Written::Whole(b""),
+    },
+    Replay {
+        lines: &[Piece::Bytes(b"#"), Piece::Fill(b' ', 8999)],
+        fails: (4, 0),
+        room: 4096,
+        journal_only: false,
+        fault: Some(HostFault::Read),
+        written: Written::Whole(b""),
+    },
+    Replay {
+        lines: &[Piece::Bytes(b"#"), Piece::Fill(b' ', 8999)],
+        fails: (5, 0),
+        room: 4096,
+        journal_only: false,
+        fault: None,
+        written: Written::Whole(EMPTY_TEXT),
+    },
+    // Just enough room, and writes that fail.
+    Replay {
+        lines: &[Piece::FirstTrade],
+        fails: (0, 0),
+        room: FIRST_TRADE_TEXT.len(),
+        journal_only: false,
+        fault: None,
+        written: Written::FirstTrade,
+    },
+    Replay {
+        lines: &[Piece::FirstTrade],
+        fails: (0, 1),
+        room: 4096,
+        journal_only: false,
+        fault: Some(HostFault::Write),
+        written: Written::FirstTradeStart(0),
+    },
+    Replay {
+        lines: &[Piece::FirstTrade],
+        fails: (0, 0),
+        room: 0,
+        journal_only: false,
+        fault: Some(HostFault::Write),
+        written: Written::FirstTradeStart(0),
+    },
+    Replay {
+        lines: &[Piece::FirstTrade],
+        fails: (0, 0),
+        room: 100,
+        journal_only: false,
+        fault: Some(HostFault::Write),
+        written: Written::FirstTradeStart(100),
+    },
+    Replay {
+        lines: &[Piece::FirstTrade],
+        fails: (0, 2),
+        room: 100,
+        journal_only: false,
+        fault: Some(HostFault::Write),
+        written: Written::FirstTradeStart(100),
+    },
+    Replay {
+        lines: &[Piece::FirstTrade],
+        fails: (0, 0),
+        room: FIRST_TRADE_TEXT.len() - 1,
+        journal_only: false,
+        fault: Some(HostFault::Write),
+        written: Written::FirstTradeStart(FIRST_TRADE_TEXT.len() - 1),
+    },
+];
+
+/// 16,777,216 bytes are read, and no more.
+static TOO_MANY_BYTES: [Replay; 3] = [
+    Replay {
+        lines: &[Piece::Bytes(b"#"), Piece::Fill(b' ', 16_777_215)],
+        fails: (0, 0),
+        room: 4096,
+        journal_only: false,
+        fault: None,
+        written: Written::Whole(EMPTY_TEXT),
+    },
+    Replay {
+        lines: &[Piece::Bytes(b"#"), Piece::Fill(b' ', 16_777_216)],
+        fails: (0, 0),
+        room: 4096,
+        journal_only: false,
+        fault: Some(HostFault::Read),
+        written: Written::Whole(b""),
+    },
+    Replay {
+        lines: &[Piece::Bytes(b"x\n"), Piece::Fill(b' ', 16_777_215)],
+        fails: (0, 0),
+        room: 4096,
+        journal_only: false,
+        fault: Some(HostFault::Read),
+        written: Written::Whole(b""),
+    },
+];
+
+/// Appends a day line of session 0 for each byte of the message.
+fn put_cut(rt: &impl Abort, lines: &mut Vec<u8>, message: &[u8]) {
+    for byte in message {
+        let line = [b'0', b':', *byte, b'\n'];
+        lines.extend_from_slice(&line).expect(rt, "memory");
+    }
+}
+
+/// The bytes of the pieces.
+fn lines_of(rt: &impl Abort, alloc: Global, pieces: &[Piece]) -> Vec<u8> {
+    let mut lines = Vec::new(alloc);
+    for piece in pieces {
+        match *piece {
+            Piece::Bytes(bytes) => lines.extend_from_slice(bytes).expect(rt, "memory"),
+            Piece::Fill(byte, count) => {
+                let length = lines.len().saturating_add(count);
+                lines.resize(length, byte).expect(rt, "memory");
+            }
+            Piece::FirstTrade => lines
+                .extend_from_slice(FIRST_TRADE_LINES)
+                .expect(rt, "memory"),
+            Piece::Messages => lines.extend_from_slice(MESSAGES).expect(rt, "memory"),
+            Piece::CutMessages => put_cut(rt, &mut lines, MESSAGES),
         }
     }
-    Ok(())
+    lines
+}
+
+fn expect_written(rt: &impl Abort, bytes: &[u8], written: &Written) {
+    let first_trade = FIRST_TRADE_TEXT;
+    let (text, length) = match *written {
+        Written::Whole(text) => (text, text.len()),
+        Written::FirstTrade => (first_trade, first_trade.len()),
+        Written::FirstTradeStart(length) => (first_trade, length),
+    };
+    assert!(rt; bytes.len() == length && text.starts_with(bytes));
+}
+
+/// What is answered to these lines, and what is written, are the case's.
+fn expect_replay(rt: &impl Abort, alloc: Global, rules: &Rulebook, lines: Vec<u8>, case: &Replay) {
+    let mut source = TestSource::new(lines, case.fails.0);
+    let mut sink = TestSink::new(alloc, case.room, case.fails.1).expect(rt, "memory");
+    let only = case.journal_only;
+    let fault = day_of_lines(alloc, rules, stamp(), &mut source, &mut sink, only).err();
+    assert!(rt; fault == case.fault);
+    expect_written(rt, sink.bytes(), &case.written);
+}
+
+pub fn expect_replays(rt: &impl Abort, alloc: Global, cases: &[Replay]) {
+    let rules = three_months(rt);
+    for case in cases {
+        let lines = lines_of(rt, alloc, case.lines);
+        expect_replay(rt, alloc, &rules, lines, case);
+    }
 }
 
 #[test]
-fn too_many_bytes(rt: HostRuntime) -> Result<(), Fail> {
-    let rows: [(&[u8], usize, Option<HostFault>); 3] = [
-        (b"#", 16_777_216, None),
-        (b"#", 16_777_217, Some(HostFault::Read)),
-        (b"x\n", 16_777_217, Some(HostFault::Read)),
-    ];
-    for (start, count, want) in rows {
-        let mut lines = Vec::from_slice(rt.alloc(), start)?;
-        lines.resize(count, b' ')?;
-        let (fault, sink) = fault_of(rt.alloc(), lines, (0, 0), 4096)?;
-        assert!(rt; fault == want);
-        if want.is_some() {
-            assert!(rt; sink.bytes() == b"".as_slice());
-        } else {
-            assert!(rt; sink.bytes() == EMPTY_TEXT);
-        }
-    }
-    Ok(())
+fn replays(rt: HostRuntime) {
+    expect_replays(&rt, rt.alloc(), &REPLAYS);
 }
 
 #[test]
-fn failing_writes(rt: HostRuntime) -> Result<(), Fail> {
-    let whole = FIRST_TRADE_TEXT.len();
-    let rows = [
-        (whole, 0, whole),
-        (4096, 1, 0),
-        (0, 0, 0),
-        (100, 0, 100),
-        (100, 2, 100),
-        (whole - 1, 0, whole - 1),
-    ];
-    for (room, fail, written) in rows {
-        let lines = Vec::from_slice(rt.alloc(), FIRST_TRADE_LINES)?;
-        let (fault, sink) = fault_of(rt.alloc(), lines, (0, fail), room)?;
-        if written == whole {
-            assert!(rt; fault == None);
-        } else {
-            assert!(rt; fault == Some(HostFault::Write));
-        }
-        assert!(rt; sink.bytes().len() == written);
-        assert!(rt; FIRST_TRADE_TEXT.starts_with(sink.bytes()));
-    }
-    Ok(())
+fn too_many_bytes(rt: HostRuntime) {
+    expect_replays(&rt, rt.alloc(), &TOO_MANY_BYTES);
 }

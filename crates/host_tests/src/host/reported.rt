@@ -1,14 +1,13 @@
-//! The first trade's entries applied one by one, with what each session is sent and without.
+//! The first trade's entries applied one by one, with what each session is sent.
 ghost use Rattle.std.specs.Prelude.{All};
 ghost use Rattle.spread_rules.specs.Journal.{FitsEntry};
 
-use super::read_again;
-use day_apply::{AppliedEntries, FillsAndMessages, ReportedEntries};
+use super::{read_again, three_months};
+use day_apply::{FillsAndMessages, ReportedEntries};
 use spread_rules::{Entry, Fill, Instrument, Rulebook, Side};
 use std::alloc::Global;
 use std::process::Abort;
-use std::test::Fail;
-use test_support::{FIRST_TRADE_JOURNAL, THREE_MONTHS, id, stamp};
+use test_support::{FIRST_TRADE_JOURNAL, id, stamp};
 
 /// What the first trade's session is sent.
 pub const FIRST_TRADE_SENT: &[u8] =
@@ -38,27 +37,17 @@ fn fill_of(order: u64, text: &[u8], side: Side) -> Fill {
 }
 
 /// The fills of the first trade.
-fn first_fills() -> [Fill; 2] {
+pub fn first_fills() -> [Fill; 2] {
     [fill_of(3, b"b", Side::Buy), fill_of(2, b"a", Side::Sell)]
 }
 
-/// Whether the first list is what the first trade's session is sent.
-pub fn first_is_sent(lists: &[Vec<u8>]) -> bool {
-    match lists.first() {
-        Some(list) => list.as_slice() == FIRST_TRADE_SENT,
-        None => false,
+/// The first of sixteen lists is what the first trade's session is sent, and the others are empty.
+pub fn expect_first_sent(rt: &impl Abort, out: &[Vec<u8>]) {
+    assert!(rt; out.len() == 16);
+    for (list, session) in out.iter().zip(0..16u8) {
+        let want = if session == 0 { FIRST_TRADE_SENT } else { b"" };
+        assert!(rt; list.as_slice() == want);
     }
-}
-
-/// How many lists are not empty.
-pub fn lists_with_bytes(lists: &[Vec<u8>]) -> usize {
-    let mut count = 0usize;
-    for list in lists {
-        if !list.is_empty() {
-            count = count.wrapping_add(1);
-        }
-    }
-    count
 }
 
 /// Applies the journal's entries and reports them.
@@ -67,55 +56,22 @@ fn report_all(
     alloc: Global,
     rules: &Rulebook,
     journal: &[Entry],
-) -> Result<FillsAndMessages<Global>, Fail>
+) -> FillsAndMessages<Global>
     requires { All FitsEntry journal.now }
 {
-    let mut reported = ReportedEntries::new(alloc, rules, stamp())?;
+    let mut reported = ReportedEntries::new(alloc, rules, stamp()).expect(rt, "memory");
     for entry in journal {
-        reported.apply(entry)?;
+        reported.apply(entry).expect(rt, "memory");
     }
     assert!(rt; reported.count() == journal.len() as u64);
-    Ok(reported.into_parts())
+    reported.into_parts()
 }
 
 #[test]
-fn first_trade_reported(rt: HostRuntime) -> Result<(), Fail> {
-    let rules = Rulebook::read(THREE_MONTHS)?;
-    let journal = read_again(rt.alloc(), FIRST_TRADE_JOURNAL)?;
-    let parts = report_all(&rt, rt.alloc(), &rules, &journal)?;
+fn first_trade_reported(rt: HostRuntime) {
+    let rules = three_months(&rt);
+    let journal = read_again(&rt, rt.alloc(), FIRST_TRADE_JOURNAL);
+    let parts = report_all(&rt, rt.alloc(), &rules, &journal);
     assert!(rt; parts.fills.as_slice() == first_fills().as_slice());
-    assert!(rt; parts.out.len() == 16);
-    assert!(rt; first_is_sent(&parts.out));
-    assert!(rt; lists_with_bytes(&parts.out) == 1);
-    Ok(())
-}
-
-/// Applies the journal's entries: how many fills each of them makes, and all fills.
-fn apply_all(
-    rt: &impl Abort,
-    alloc: Global,
-    rules: &Rulebook,
-    journal: &[Entry],
-    counts: &[usize],
-) -> Result<Vec<Fill>, Fail>
-    requires { All FitsEntry journal.now }
-{
-    let mut applied = AppliedEntries::new(alloc, rules)?;
-    let mut seen = 0usize;
-    for entry in journal {
-        applied.apply(entry)?;
-        let made = applied.last_fills().len();
-        assert!(rt; counts.get(seen).copied() == Some(made));
-        seen = seen.wrapping_add(1);
-    }
-    Ok(applied.into_fills())
-}
-
-#[test]
-fn first_trade_applied(rt: HostRuntime) -> Result<(), Fail> {
-    let rules = Rulebook::read(THREE_MONTHS)?;
-    let journal = read_again(rt.alloc(), FIRST_TRADE_JOURNAL)?;
-    let fills = apply_all(&rt, rt.alloc(), &rules, &journal, &[0, 0, 2, 0])?;
-    assert!(rt; fills.as_slice() == first_fills().as_slice());
-    Ok(())
+    expect_first_sent(&rt, &parts.out);
 }
