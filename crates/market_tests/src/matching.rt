@@ -1,17 +1,16 @@
 //! Tests by subject, and what they share.
 ghost use Rattle.std.specs.Prelude.{◌≡◌, true};
 ghost use Rattle.spread_match.specs.State.{empty_state};
-ghost use Rattle.spread_match.specs.Trade.{ArePriced, IsPriced};
+ghost use Rattle.spread_match.specs.Trade.{IsPriced};
 
-use host_base::{Id, NoMemory};
-use spread_books::{Book, ListBook};
+use spread_books::Book;
 use spread_match::Market;
-use spread_rules::{Entry, Event, Fill, Instrument, Outcome, Rulebook, Side, Ticket};
+use spread_rules::{Entry, Event, Fill, Instrument, Order, Side, Ticket};
 use std::alloc::Global;
 use std::process::Abort;
-use std::test::Fail;
-use test_support::{THREE_MONTHS, id};
+use test_support::id;
 
+mod cases;
 mod every_book;
 mod market;
 mod memory_refused;
@@ -32,18 +31,23 @@ const H6_M6: Instrument = Instrument::Spread(0, 1);
 
 const H6_U6: Instrument = Instrument::Spread(0, 2);
 
+/// A day order.
+fn ticket(name: &[u8], symbol: &[u8], side: Side, quantity: u32, price: i64) -> Ticket {
+    Ticket {
+        id: id(name),
+        symbol: id(symbol),
+        side,
+        quantity,
+        price,
+        immediate: false,
+    }
+}
+
 /// A day order of session 0.
 fn day(name: &[u8], symbol: &[u8], side: Side, quantity: u32, price: i64) -> Entry {
     Entry {
         session: 0,
-        event: Event::New(Ticket {
-            id: id(name),
-            symbol: id(symbol),
-            side,
-            quantity,
-            price,
-            immediate: false,
-        }),
+        event: Event::New(ticket(name, symbol, side, quantity, price)),
     }
 }
 
@@ -74,16 +78,12 @@ fn replace(
     quantity: u32,
     price: i64,
 ) -> Entry {
-    let wanted = day(name, symbol, side, quantity, price);
-    match wanted.event {
-        Event::New(ticket) => Entry {
-            session: 0,
-            event: Event::Replace {
-                original: id(original),
-                ticket,
-            },
+    Entry {
+        session: 0,
+        event: Event::Replace {
+            original: id(original),
+            ticket: ticket(name, symbol, side, quantity, price),
         },
-        _ => wanted,
     }
 }
 
@@ -111,135 +111,29 @@ fn is_priced(entry: &Entry) -> bool
     }
 }
 
-fn are_priced(entries: &[Entry]) -> bool
-    ensures { result ≡ true → ArePriced entries.now }
-{
-    for entry in entries {
-        if !is_priced(entry) {
-            return false;
-        }
-    }
-    true
-}
-
-/// A fill as a fill line has it.
-#[derive(Clone, Copy, Debug, PartialEq, Eq)]
-struct Line {
-    at: u64,
-    order: u64,
-    instrument: Instrument,
-    side: Side,
-    quantity: u32,
-    price: i64,
-    near: i64,
-    far: i64,
-}
-
-fn line_of(fill: &Fill) -> Line {
-    Line {
-        at: fill.at,
-        order: fill.order,
-        instrument: fill.instrument,
-        side: fill.side,
-        quantity: fill.quantity,
-        price: fill.price,
-        near: fill.near,
-        far: fill.far,
-    }
-}
-
-fn outright(
-    at: u64,
-    order: u64,
-    instrument: Instrument,
-    side: Side,
-    quantity: u32,
-    price: i64,
-) -> Line {
-    Line {
-        at,
-        order,
-        instrument,
-        side,
-        quantity,
-        price,
-        near: price,
-        far: price,
-    }
-}
-
-impl Line {
-    /// The same of a spread, with these legs.
-    fn with_legs(self, near: i64, far: i64) -> Line {
-        Line { near, far, ..self }
-    }
-}
-
-fn expect_fills(rt: &impl Abort, fills: &[Fill], wanted: &[Line]) {
-    assert!(rt; fills.len() == wanted.len());
-    for i in 0..wanted.len() {
-        assert!(rt; line_of(&fills[i]) == wanted[i]);
-    }
-}
-
-/// What came of the entries of a journal: all fills, and each entry's outcome.
-#[derive(Drop)]
-struct Applied {
-    fills: Vec<Fill>,
-    outcomes: Vec<Outcome>,
-}
-
-/// The entries of a journal in a market before its first entry, places counting from 1.
+/// The fills of the entries of a journal in a market before its first entry, places counting from 1.
 fn apply_all<B: Book>(
+    rt: &impl Abort,
     alloc: Global,
     market: &mut Market<'_, B, Global>,
     journal: &[Entry],
-) -> Result<Applied, NoMemory>
-    requires first { market.old.state ≡ empty_state }
-    requires prices { ArePriced journal.now }
+) -> Vec<Fill>
+    requires { market.old.state ≡ empty_state }
 {
     let mut fills = Vec::new(alloc);
-    let mut outcomes = Vec::new(alloc);
     for n in 0..journal.len() {
-        let outcome = market.apply(n as u64 + 1, &journal[n], &mut fills)?;
-        outcomes.push(outcome)?;
+        assert!(rt; is_priced(&journal[n]));
+        let _ = market
+            .apply(n as u64 + 1, &journal[n], &mut fills)
+            .expect(rt, "memory");
     }
-    Ok(Applied { fills, outcomes })
+    fills
 }
 
-/// What came of a journal in a market over the rulebook with this text.
-fn run_journal(
-    rt: &impl Abort,
-    alloc: Global,
-    months: &[u8],
-    journal: &[Entry],
-) -> Result<Applied, Fail> {
-    let rules = Rulebook::read(months)?;
-    let mut market = Market::new(alloc, &rules, ListBook::new(alloc));
-    assert!(rt; are_priced(journal));
-    let done = apply_all(alloc, &mut market, journal)?;
-    Ok(done)
-}
-
-fn expect_row(
-    rt: &impl Abort,
-    alloc: Global,
-    journal: &[Entry],
-    wanted: &[Line],
-) -> Result<(), Fail> {
-    let done = run_journal(rt, alloc, THREE_MONTHS, journal)?;
-    expect_fills(rt, &done.fills, wanted);
-    Ok(())
-}
-
-fn refused(reason: u8, place: u64, status: u8) -> Outcome {
-    Outcome::CancelRefused {
-        reason,
-        place,
-        status,
+/// The resting orders of a book, behind these.
+fn append_resting<B: Book>(rt: &impl Abort, orders: &mut Vec<Order>, book: &B) {
+    for n in 0..book.len() {
+        let order = book.walk(n).expect(rt, "a resting order");
+        orders.push(order).expect(rt, "memory");
     }
-}
-
-fn too_late(place: u64, status: u8) -> Outcome {
-    refused(0, place, status)
 }

@@ -1,15 +1,13 @@
 //! Runs of orders, cancels and replaces, which come to the same over every kind of book.
 ghost use Rattle.std.specs.Prelude.{◌≡◌, []};
 ghost use Rattle.spread_match.specs.State.{empty_state};
-ghost use Rattle.spread_match.specs.Trade.{ArePriced};
 
-use super::{are_priced, cancel, day, replace};
+use super::{append_resting, cancel, day, is_priced, replace};
 use spread_books::{Book, FrontBook, IndexBook, ListBook, TreeBook};
 use spread_match::Market;
 use spread_rules::{Entry, Event, Fill, Order, Outcome, Rulebook, Side, Ticket};
 use std::alloc::Global;
 use std::process::Abort;
-use std::test::Fail;
 use test_support::{Chance, THREE_MONTHS};
 
 /// What each entry of a run came to, and the orders that rested behind each.
@@ -33,59 +31,56 @@ impl Run {
     }
 
     /// One entry more came to this, and left that book.
-    fn note<B: Book>(&mut self, outcome: Outcome, book: &B) -> Result<(), Fail> {
-        self.outcomes.push(outcome)?;
-        append_resting(&mut self.resting, book)?;
-        self.ends.push((self.fills.len(), self.resting.len()))?;
-        Ok(())
+    fn note<B: Book>(&mut self, rt: &impl Abort, outcome: Outcome, book: &B) {
+        self.outcomes.push(outcome).expect(rt, "memory");
+        append_resting(rt, &mut self.resting, book);
+        let end = (self.fills.len(), self.resting.len());
+        self.ends.push(end).expect(rt, "memory");
     }
 }
 
 /// A run of entries over that book.
 fn run_over<B: Book + Drop>(
+    rt: &impl Abort,
     alloc: Global,
     rules: &Rulebook,
     book: B,
     journal: &[Entry],
-) -> Result<Run, Fail>
-    requires empty { B.orders book ≡ [] }
-    requires prices { ArePriced journal.now }
+) -> Run
+    requires { B.orders book ≡ [] }
 {
     let mut market = Market::new(alloc, rules, book);
     let mut run = Run::new(alloc);
-    note_all(&mut market, &mut run, journal)?;
-    Ok(run)
+    note_all(rt, &mut market, &mut run, journal);
+    run
 }
 
 fn note_all<B: Book>(
+    rt: &impl Abort,
     market: &mut Market<'_, B, Global>,
     run: &mut Run,
     journal: &[Entry],
-) -> Result<(), Fail>
-    requires first { market.old.state ≡ empty_state }
-    requires prices { ArePriced journal.now }
+)
+    requires { market.old.state ≡ empty_state }
 {
     for n in 0..journal.len() {
-        let outcome = market.apply(n as u64 + 1, &journal[n], &mut run.fills)?;
-        run.note(outcome, market.book())?;
+        assert!(rt; is_priced(&journal[n]));
+        let outcome = market
+            .apply(n as u64 + 1, &journal[n], &mut run.fills)
+            .expect(rt, "memory");
+        run.note(rt, outcome, market.book());
     }
-    Ok(())
 }
 
-fn append_resting<B: Book>(resting: &mut Vec<Order>, book: &B) -> Result<(), Fail> {
-    for n in 0..book.len() {
-        if let Some(order) = book.walk(n) {
-            resting.push(order)?;
-        }
-    }
-    Ok(())
+fn expect_equal<T: PartialEq>(rt: &impl Abort, found: &[T], wanted: &[T]) {
+    assert!(rt; found == wanted);
 }
 
 fn expect_same(rt: &impl Abort, run: &Run, wanted: &Run) {
-    assert!(rt; run.outcomes.as_slice() == wanted.outcomes.as_slice());
-    assert!(rt; run.ends.as_slice() == wanted.ends.as_slice());
-    assert!(rt; run.fills.as_slice() == wanted.fills.as_slice());
-    assert!(rt; run.resting.as_slice() == wanted.resting.as_slice());
+    expect_equal(rt, &run.outcomes, &wanted.outcomes);
+    expect_equal(rt, &run.ends, &wanted.ends);
+    expect_equal(rt, &run.fills, &wanted.fills);
+    expect_equal(rt, &run.resting, &wanted.resting);
 }
 
 /// An id of its own for each place, and one in ten times that of an earlier place.
@@ -187,14 +182,14 @@ fn next_entry(chance: &mut Chance, earlier: &[Entry]) -> Entry {
 }
 
 /// A journal of orders, cancels and replaces, chosen at random.
-fn chosen_entries(alloc: Global, seed: u64) -> Result<Vec<Entry>, Fail> {
+fn chosen_entries(rt: &impl Abort, alloc: Global, seed: u64) -> Vec<Entry> {
     let mut chance = Chance::new(seed);
     let mut journal = Vec::new(alloc);
     for _ in 0..150 {
         let entry = next_entry(&mut chance, &journal);
-        journal.push(entry)?;
+        journal.push(entry).expect(rt, "memory");
     }
-    Ok(journal)
+    journal
 }
 
 /// How often a request left an order at an earlier place, and how often at its own.
@@ -214,18 +209,11 @@ fn replaced(run: &Run) -> (usize, usize) {
 }
 
 /// A run over the list book, in which orders trade, keep their places and lose them.
-fn wanted_run(
-    rt: &impl Abort,
-    alloc: Global,
-    rules: &Rulebook,
-    journal: &[Entry],
-) -> Result<Run, Fail>
-    requires { ArePriced journal.now }
-{
-    let wanted = run_over(alloc, rules, ListBook::new(alloc), journal)?;
+fn wanted_run(rt: &impl Abort, alloc: Global, rules: &Rulebook, journal: &[Entry]) -> Run {
+    let wanted = run_over(rt, alloc, rules, ListBook::new(alloc), journal);
     let (kept, lost) = replaced(&wanted);
     assert!(rt; kept > 2 && lost > 5 && wanted.fills.len() > 20);
-    Ok(wanted)
+    wanted
 }
 
 /// A run over that book comes to the same.
@@ -236,28 +224,29 @@ fn expect_run<B: Book + Drop>(
     book: B,
     journal: &[Entry],
     wanted: &Run,
-) -> Result<(), Fail>
-    requires empty { B.orders book ≡ [] }
-    requires prices { ArePriced journal.now }
+)
+    requires { B.orders book ≡ [] }
 {
-    let run = run_over(alloc, rules, book, journal)?;
+    let run = run_over(rt, alloc, rules, book, journal);
     expect_same(rt, &run, wanted);
-    Ok(())
+}
+
+/// A run over every other book comes to the same.
+fn expect_runs(rt: &impl Abort, alloc: Global, rules: &Rulebook, journal: &[Entry], wanted: &Run) {
+    let tree = TreeBook::new(alloc);
+    expect_run(rt, alloc, rules, tree, journal, wanted);
+    let front = FrontBook::new(alloc);
+    expect_run(rt, alloc, rules, front, journal, wanted);
+    let index = IndexBook::new(alloc, rules).expect(rt, "memory");
+    expect_run(rt, alloc, rules, index, journal, wanted);
 }
 
 #[test]
-fn every_book_answers_alike(rt: HostRuntime) -> Result<(), Fail> {
-    let rules = Rulebook::read(THREE_MONTHS)?;
+fn every_book_answers_alike(rt: HostRuntime) {
+    let rules = Rulebook::read(THREE_MONTHS).expect(&rt, "a rulebook");
     for seed in 0..12 {
-        let journal = chosen_entries(rt.alloc(), seed)?;
-        assert!(rt; are_priced(&journal));
-        let wanted = wanted_run(&rt, rt.alloc(), &rules, &journal)?;
-        let tree = TreeBook::new(rt.alloc());
-        expect_run(&rt, rt.alloc(), &rules, tree, &journal, &wanted)?;
-        let front = FrontBook::new(rt.alloc());
-        expect_run(&rt, rt.alloc(), &rules, front, &journal, &wanted)?;
-        let index = IndexBook::new(rt.alloc(), &rules)?;
-        expect_run(&rt, rt.alloc(), &rules, index, &journal, &wanted)?;
+        let journal = chosen_entries(&rt, rt.alloc(), seed);
+        let wanted = wanted_run(&rt, rt.alloc(), &rules, &journal);
+        expect_runs(&rt, rt.alloc(), &rules, &journal, &wanted);
     }
-    Ok(())
 }

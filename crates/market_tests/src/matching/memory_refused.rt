@@ -1,28 +1,20 @@
 //! Each request for memory that a market makes, refused in turn.
-ghost use Rattle.std.specs.Prelude.{◌<◌, ◌≡◌, [], IfOk, OnOk};
+ghost use Rattle.std.specs.Prelude.{◌<◌, ◌≡◌, []};
 ghost use Rattle.spread_match.specs.State.{empty_state};
-ghost use Rattle.spread_match.specs.Trade.{ArePriced, IsPriced};
+ghost use Rattle.spread_match.specs.Trade.{IsPriced};
 
-use super::{Applied, are_priced, buy, cancel, replace, run_journal, sell};
+use super::cases::Came::{Replaced, RequestRefused, Rested};
+use super::cases::Line::{Of, OfSpread};
+use super::cases::Sent::{Buy, Cancel, ReplaceBuy, ReplaceSell, Sell};
+use super::cases::{Case, Kept, Step, entry_of, expect_over_list, outcome_of};
+use super::{H6, H6_M6, M6, append_resting, is_priced};
 use host_base::NoMemory;
 use spread_books::{Book, IndexBook, ListBook};
 use spread_match::Market;
 use spread_rules::{Entry, Fill, Order, Outcome, Rulebook, Side};
 use std::alloc::{Allocator, Global};
 use std::process::Abort;
-use std::test::Fail;
 use test_support::{Refusing, THREE_MONTHS};
-
-/// The resting orders.
-fn resting<B: Book>(alloc: Global, book: &B) -> Result<Vec<Order>, NoMemory> {
-    let mut orders = Vec::new(alloc);
-    for n in 0..book.len() {
-        if let Some(order) = book.walk(n) {
-            orders.push(order)?;
-        }
-    }
-    Ok(orders)
-}
 
 /// The heap of a market, which refuses one request, and one that gives what it can.
 #[derive(Clone, Copy)]
@@ -31,11 +23,41 @@ struct Heaps<'h> {
     ample: Global,
 }
 
-fn heaps_of<'h>(refusing: &'h Refusing<Global>, ample: Global) -> Heaps<'h> {
-    Heaps { refusing, ample }
+/// The book has these resting orders.
+fn expect_resting<B: Book>(rt: &impl Abort, alloc: Global, book: &B, wanted: &[Order]) {
+    let mut orders = Vec::new(alloc);
+    append_resting(rt, &mut orders, book);
+    assert!(rt; orders.as_slice() == wanted);
 }
 
-/// Applies the entry, and again where a request was refused in it: then nothing has changed.
+/// Applies the entry, and again where a request was refused in it: then nothing has changed, and these orders rest.
+fn apply_or_again<B: Book, A: Allocator + Copy>(
+    rt: &impl Abort,
+    heaps: &Heaps<'_>,
+    market: &mut Market<'_, B, A>,
+    place: u64,
+    entry: &Entry,
+    fills: &mut Vec<Fill, A>,
+    orders: &[Order],
+) -> Outcome
+    requires entry { IsPriced entry.now.event }
+    requires place { market.old.state.last < place }
+    ensures last { market.new.state.last ≡ place }
+{
+    let refused_before = heaps.refusing.has_refused();
+    let before = fills.len();
+    match market.apply(place, entry, fills) {
+        Ok(outcome) => outcome,
+        Err(NoMemory) => {
+            assert!(rt; !refused_before && heaps.refusing.has_refused());
+            expect_resting(rt, heaps.ample, market.book(), orders);
+            assert!(rt; fills.len() == before);
+            market.apply(place, entry, fills).expect(rt, "memory")
+        }
+    }
+}
+
+/// The same with the orders that rest before.
 fn apply_again<B: Book, A: Allocator + Copy>(
     rt: &impl Abort,
     heaps: &Heaps<'_>,
@@ -43,58 +65,34 @@ fn apply_again<B: Book, A: Allocator + Copy>(
     place: u64,
     entry: &Entry,
     fills: &mut Vec<Fill, A>,
-) -> Result<Outcome, Fail>
+) -> Outcome
     requires entry { IsPriced entry.now.event }
     requires place { market.old.state.last < place }
-    ensures last { OnOk result (market.new.state.last ≡ place) }
+    ensures last { market.new.state.last ≡ place }
 {
-    let refused_before = heaps.refusing.has_refused();
-    let orders = resting(heaps.ample, market.book())?;
-    let before = fills.len();
-    match market.apply(place, entry, fills) {
-        Ok(outcome) => Ok(outcome),
-        Err(NoMemory) => {
-            assert!(rt; !refused_before && heaps.refusing.has_refused());
-            let now = resting(heaps.ample, market.book())?;
-            assert!(rt; now.as_slice() == orders.as_slice());
-            assert!(rt; fills.len() == before);
-            let outcome = market.apply(place, entry, fills)?;
-            Ok(outcome)
-        }
-    }
+    let mut orders = Vec::new(heaps.ample);
+    append_resting(rt, &mut orders, market.book());
+    apply_or_again(rt, heaps, market, place, entry, fills, &orders)
 }
 
-/// An empty book, made again where a request was refused.
-fn empty_book<'r, A: Allocator + Copy>(
-    heap: A,
-    rules: &'r Rulebook,
-) -> Result<IndexBook<'r, A>, NoMemory>
-    ensures { IfOk result (λ b. b.orders ≡ []) }
-{
-    match IndexBook::new(heap, rules) {
-        Ok(book) => Ok(book),
-        Err(NoMemory) => IndexBook::new(heap, rules),
-    }
-}
-
-/// The entries of a journal over this heap come to what they came to with memory.
+/// The entries of a journal over this heap come to what they must, and to the fills that they came to with memory.
 fn expect_outcomes<B: Book, A: Allocator + Copy>(
     rt: &impl Abort,
     heaps: &Heaps<'_>,
     market: &mut Market<'_, B, A>,
-    journal: &[Entry],
+    journal: &[(Entry, Outcome)],
     fills: &mut Vec<Fill, A>,
-    wanted: &Applied,
-) -> Result<(), Fail>
-    requires first { market.old.state ≡ empty_state }
-    requires prices { ArePriced journal.now }
+    wanted: &[Fill],
+)
+    requires { market.old.state ≡ empty_state }
 {
     for n in 0..journal.len() {
-        let outcome = apply_again(rt, heaps, market, n as u64 + 1, &journal[n], fills)?;
-        assert!(rt; wanted.outcomes.get(n) == Some(&outcome));
+        let (entry, wanted) = &journal[n];
+        assert!(rt; is_priced(entry));
+        let outcome = apply_again(rt, heaps, market, n as u64 + 1, entry, fills);
+        assert!(rt; outcome == *wanted);
     }
-    assert!(rt; fills.as_slice() == wanted.fills.as_slice());
-    Ok(())
+    assert!(rt; fills.as_slice() == wanted);
 }
 
 /// The same in a market over that book.
@@ -103,76 +101,228 @@ fn expect_applied<B: Book + Drop>(
     heaps: &Heaps<'_>,
     rules: &Rulebook,
     book: B,
-    journal: &[Entry],
-    wanted: &Applied,
-) -> Result<(), Fail>
-    requires empty { B.orders book ≡ [] }
-    requires prices { ArePriced journal.now }
+    journal: &[(Entry, Outcome)],
+    wanted: &[Fill],
+)
+    requires { B.orders book ≡ [] }
 {
     let mut market = Market::new(heaps.refusing, rules, book);
     let mut fills = Vec::new(heaps.refusing);
     expect_outcomes(rt, heaps, &mut market, journal, &mut fills, wanted)
 }
 
+/// The same over the index book, made again where a request was refused.
+fn expect_over_index<'r>(
+    rt: &impl Abort,
+    heaps: &Heaps<'r>,
+    rules: &'r Rulebook,
+    journal: &[(Entry, Outcome)],
+    wanted: &[Fill],
+) {
+    match IndexBook::new(heaps.refusing, rules) {
+        Ok(book) => expect_applied(rt, heaps, rules, book, journal, wanted),
+        Err(NoMemory) => {
+            let book = IndexBook::new(heaps.refusing, rules).expect(rt, "memory");
+            expect_applied(rt, heaps, rules, book, journal, wanted)
+        }
+    }
+}
+
+/// Whether the request of that number came over the index book. The journal comes to what it must.
+fn is_refused_over_index(
+    rt: &impl Abort,
+    alloc: Global,
+    rules: &Rulebook,
+    number: u64,
+    journal: &[(Entry, Outcome)],
+    wanted: &[Fill],
+) -> bool {
+    let refusing = Refusing::new(alloc, number);
+    let heaps = Heaps {
+        refusing: &refusing,
+        ample: alloc,
+    };
+    expect_over_index(rt, &heaps, rules, journal, wanted);
+    refusing.has_refused()
+}
+
+/// Whether the request of that number came over the list book. The journal comes to what it must.
+fn is_refused_over_list(
+    rt: &impl Abort,
+    alloc: Global,
+    rules: &Rulebook,
+    number: u64,
+    journal: &[(Entry, Outcome)],
+    wanted: &[Fill],
+) -> bool {
+    let refusing = Refusing::new(alloc, number);
+    let heaps = Heaps {
+        refusing: &refusing,
+        ample: alloc,
+    };
+    let book = ListBook::new(&refusing);
+    expect_applied(rt, &heaps, rules, book, journal, wanted);
+    refusing.has_refused()
+}
+
 /// Each request for memory of that journal is refused in turn, in a book of each kind that makes any by itself.
-fn refuse_each(rt: &impl Abort, alloc: Global, journal: &[Entry]) -> Result<(), Fail> {
-    let rules = Rulebook::read(THREE_MONTHS)?;
-    let wanted = run_journal(rt, alloc, THREE_MONTHS, journal)?;
-    assert!(rt; are_priced(journal));
+fn refuse_each(
+    rt: &impl Abort,
+    alloc: Global,
+    rules: &Rulebook,
+    journal: &[(Entry, Outcome)],
+    wanted: &[Fill],
+) {
     for number in 1..500u64 {
-        let refusing = Refusing::new(alloc, number);
-        let book = empty_book(&refusing, &rules)?;
-        expect_applied(
-            rt,
-            &heaps_of(&refusing, alloc),
-            &rules,
-            book,
-            journal,
-            &wanted,
-        )?;
-        let other = Refusing::new(alloc, number);
-        let book = ListBook::new(&other);
-        expect_applied(rt, &heaps_of(&other, alloc), &rules, book, journal, &wanted)?;
-        if !refusing.has_refused() && !other.has_refused() {
-            return Ok(());
+        let index = is_refused_over_index(rt, alloc, rules, number, journal, wanted);
+        let list = is_refused_over_list(rt, alloc, rules, number, journal, wanted);
+        if !index && !list {
+            return;
         }
     }
     assert!(rt; false);
-    Ok(())
 }
 
-/// An order, a spread and an order of the other month rest; the last order meets the first, then the two together.
-#[test]
-fn each_request_refused_in_turn(rt: HostRuntime) -> Result<(), Fail> {
-    let journal = [
-        sell(b"a", b"H6", 2, 10000),
-        sell(b"b", b"H6-M6", 3, 200),
-        sell(b"c", b"M6", 4, 9800),
-        buy(b"d", b"H6", 6, 10000),
-    ];
-    refuse_each(&rt, rt.alloc(), &journal)
+/// The entries of a journal, and what each must come to.
+fn entries_of(rt: &impl Abort, alloc: Global, journal: &[Step]) -> Vec<(Entry, Outcome)> {
+    let mut entries = Vec::new(alloc);
+    for step in journal {
+        entries
+            .push((entry_of(step), outcome_of(step)))
+            .expect(rt, "memory");
+    }
+    entries
 }
 
-/// Requests that are refused, that keep a place, that lose it and rest, and that lose it and trade. With so many orders
-/// each of them comes upon a table that is full.
+static CASES: &[Case] = &[
+    // An order, a spread and an order of the other month rest; the last order meets the first, then the two together.
+    Case {
+        name: "each request refused in turn",
+        rulebook: THREE_MONTHS,
+        journal: &[
+            (0, Sell(b"a", b"H6", 2, 10000), Rested),
+            (0, Sell(b"b", b"H6-M6", 3, 200), Rested),
+            (0, Sell(b"c", b"M6", 4, 9800), Rested),
+            (0, Buy(b"d", b"H6", 6, 10000), Rested),
+        ],
+        fills: &[
+            Of(4, 4, H6, Side::Buy, 2, 10000),
+            Of(4, 1, H6, Side::Sell, 2, 10000),
+            Of(4, 4, H6, Side::Buy, 3, 10000),
+            OfSpread(4, 2, H6_M6, Side::Sell, 3, 200, 10000, 9800),
+            Of(4, 3, M6, Side::Sell, 3, 9800),
+        ],
+        resting: &[(3, 1), (4, 1)],
+    },
+    // Requests that are refused, that keep a place, that lose it and rest, and that lose it and trade. With so many
+    // orders each of them comes upon a table that is full.
+    Case {
+        name: "each request of a replace refused in turn",
+        rulebook: THREE_MONTHS,
+        journal: &[
+            (0, Sell(b"s\x02", b"H6", 5, 10000), Rested),
+            (0, Sell(b"k\x02", b"H6-M6", 3, 210), Rested),
+            (0, Sell(b"m\x02", b"M6", 4, 9800), Rested),
+            (0, Sell(b"s\x03", b"H6", 5, 10000), Rested),
+            (0, Sell(b"k\x03", b"H6-M6", 3, 210), Rested),
+            (0, Sell(b"m\x03", b"M6", 4, 9800), Rested),
+            (0, Sell(b"s\x04", b"H6", 5, 10000), Rested),
+            (0, Sell(b"k\x04", b"H6-M6", 3, 210), Rested),
+            (0, Sell(b"m\x04", b"M6", 4, 9800), Rested),
+            (
+                0,
+                ReplaceSell(b"s\x02", b"K\x02", b"H6", 4, 10000),
+                Replaced(Kept(1, b"K\x02", H6, Side::Sell, 10000, 4, 4)),
+            ),
+            (
+                0,
+                ReplaceSell(b"K\x02", b"L\x02", b"H6", 6, 10000),
+                Replaced(Kept(11, b"L\x02", H6, Side::Sell, 10000, 6, 6)),
+            ),
+            (
+                0,
+                ReplaceSell(b"L\x02", b"K\x02", b"H6", 6, 10000),
+                RequestRefused(2, 11, 0),
+            ),
+            (
+                0,
+                ReplaceSell(b"none", b"N\x02", b"H6", 6, 10000),
+                RequestRefused(1, 0, 8),
+            ),
+            (
+                0,
+                ReplaceSell(b"s\x03", b"K\x03", b"H6", 4, 10000),
+                Replaced(Kept(4, b"K\x03", H6, Side::Sell, 10000, 4, 4)),
+            ),
+            (
+                0,
+                ReplaceSell(b"K\x03", b"L\x03", b"H6", 6, 10000),
+                Replaced(Kept(15, b"L\x03", H6, Side::Sell, 10000, 6, 6)),
+            ),
+            (
+                0,
+                ReplaceSell(b"L\x03", b"K\x03", b"H6", 6, 10000),
+                RequestRefused(2, 15, 0),
+            ),
+            (
+                0,
+                ReplaceSell(b"none", b"N\x03", b"H6", 6, 10000),
+                RequestRefused(1, 0, 8),
+            ),
+            (
+                0,
+                ReplaceSell(b"s\x04", b"K\x04", b"H6", 4, 10000),
+                Replaced(Kept(7, b"K\x04", H6, Side::Sell, 10000, 4, 4)),
+            ),
+            (
+                0,
+                ReplaceSell(b"K\x04", b"L\x04", b"H6", 6, 10000),
+                Replaced(Kept(19, b"L\x04", H6, Side::Sell, 10000, 6, 6)),
+            ),
+            (
+                0,
+                ReplaceSell(b"L\x04", b"K\x04", b"H6", 6, 10000),
+                RequestRefused(2, 19, 0),
+            ),
+            (
+                0,
+                ReplaceSell(b"none", b"N\x04", b"H6", 6, 10000),
+                RequestRefused(1, 0, 8),
+            ),
+            (0, Buy(b"b", b"H6", 9, 9900), Rested),
+            (
+                0,
+                ReplaceBuy(b"b", b"c", b"H6", 8, 10010),
+                Replaced(Kept(23, b"c", H6, Side::Buy, 10010, 8, 8)),
+            ),
+            (0, Cancel(b"d", b"b"), RequestRefused(0, 22, 5)),
+        ],
+        fills: &[
+            Of(23, 23, H6, Side::Buy, 6, 10000),
+            Of(23, 11, H6, Side::Sell, 6, 10000),
+            Of(23, 23, H6, Side::Buy, 2, 10000),
+            Of(23, 15, H6, Side::Sell, 2, 10000),
+        ],
+        resting: &[
+            (2, 3),
+            (3, 4),
+            (5, 3),
+            (6, 4),
+            (8, 3),
+            (9, 4),
+            (15, 4),
+            (19, 6),
+        ],
+    },
+];
+
 #[test]
-fn each_request_of_a_replace_refused_in_turn(rt: HostRuntime) -> Result<(), Fail> {
-    let mut journal = Vec::new(rt.alloc());
-    for n in 0..3u8 {
-        journal.push(sell(&[b's', n + 2], b"H6", 5, 10000))?;
-        journal.push(sell(&[b'k', n + 2], b"H6-M6", 3, 210))?;
-        journal.push(sell(&[b'm', n + 2], b"M6", 4, 9800))?;
+fn each_request_refused_in_turn(rt: HostRuntime) {
+    let rules = Rulebook::read(THREE_MONTHS).expect(&rt, "a rulebook");
+    for case in CASES {
+        let mut wanted = Vec::new(rt.alloc());
+        expect_over_list(&rt, rt.alloc(), case, &mut wanted);
+        let journal = entries_of(&rt, rt.alloc(), case.journal);
+        refuse_each(&rt, rt.alloc(), &rules, &journal, &wanted);
     }
-    for n in 0..3u8 {
-        let kept = [b'K', n + 2];
-        let lost = [b'L', n + 2];
-        journal.push(replace(&[b's', n + 2], &kept, b"H6", Side::Sell, 4, 10000))?;
-        journal.push(replace(&kept, &lost, b"H6", Side::Sell, 6, 10000))?;
-        journal.push(replace(&lost, &kept, b"H6", Side::Sell, 6, 10000))?;
-        journal.push(replace(b"none", &[b'N', n + 2], b"H6", Side::Sell, 6, 10000))?;
-    }
-    journal.push(buy(b"b", b"H6", 9, 9900))?;
-    journal.push(replace(b"b", b"c", b"H6", Side::Buy, 8, 10010))?;
-    journal.push(cancel(b"d", b"b"))?;
-    refuse_each(&rt, rt.alloc(), &journal)
 }

@@ -1,18 +1,25 @@
 //! Implied quotes of a market's book.
-ghost use Rattle.std.specs.Prelude.{◌≡◌, IfOk};
+ghost use Rattle.std.specs.Prelude.{◌≡◌};
 ghost use Rattle.spread_match.specs.State.{empty_state};
-ghost use Rattle.spread_match.specs.Trade.{ArePriced};
 
+use super::cases::Came::{Cancelled, Rested, Session};
+use super::cases::Sent::{Buy, Cancel, Logon, Sell};
+use super::cases::{Case, Kept, expect_case, expect_over_list};
 use super::every_book::instrument;
-use super::{H6_M6, U6, apply_all, are_priced, buy, cancel, day, is_priced, logon, sell};
-use host_base::NoMemory;
-use spread_books::{Book, IndexBook};
+use super::{H6, H6_M6, U6, append_resting, cancel, day, is_priced};
+use spread_books::IndexBook;
 use spread_match::Market;
-use spread_rules::{Choice, Entry, Instrument, Members, Order, Rulebook, Side};
+use spread_rules::{Choice, Entry, Fill, Instrument, Members, Order, Rulebook, Side};
 use std::alloc::Global;
 use std::process::Abort;
-use std::test::Fail;
 use test_support::{Chance, THREE_MONTHS};
+
+/// A case, and what a buyer would get at its end by an implied quote: of each instrument the price, the place of the
+/// first order and that of the second one. Each quote is of one lot.
+pub(super) struct QuoteCase {
+    pub(super) case: Case,
+    pub(super) quotes: &'static [(Instrument, Option<(i64, u64, u64)>)],
+}
 
 fn quote_of(
     market: &Market<'_, IndexBook<'_, Global>, Global>,
@@ -23,122 +30,138 @@ fn quote_of(
     book.quote(instrument, side)
 }
 
-/// Applies the entries of a journal in which nothing trades to a market before its first entry.
-fn apply_quietly(
+fn choice_of(wanted: Option<(i64, u64, u64)>) -> Option<Choice> {
+    match wanted {
+        None => None,
+        Some((price, first, second)) => Some(Choice {
+            price,
+            quantity: 1,
+            members: Members::Implied(first, second),
+        }),
+    }
+}
+
+fn expect_quotes_of(
     rt: &impl Abort,
-    alloc: Global,
+    market: &Market<'_, IndexBook<'_, Global>, Global>,
+    quotes: &[(Instrument, Option<(i64, u64, u64)>)],
+) {
+    for (instrument, wanted) in quotes {
+        assert!(rt; quote_of(market, *instrument, Side::Buy) == choice_of(*wanted));
+    }
+}
+
+/// What must come of the case comes of it in a market before its first entry, and its book has the quotes at the end.
+fn expect_quote_case(
+    rt: &impl Abort,
     market: &mut Market<'_, IndexBook<'_, Global>, Global>,
-    journal: &[Entry],
-) -> Result<(), NoMemory>
-    requires first { market.old.state ≡ empty_state }
-    requires prices { ArePriced journal.now }
+    quoted: &QuoteCase,
+    fills: &mut Vec<Fill>,
+)
+    requires { market.old.state ≡ empty_state }
 {
-    let done = apply_all(alloc, market, journal)?;
-    assert!(rt; done.fills.len() == 0);
-    Ok(())
+    expect_case(rt, market, &quoted.case, fills);
+    expect_quotes_of(rt, market, quoted.quotes);
 }
 
-/// The quote behind the entries of such a journal.
-fn quote_behind(
+/// The same in a market over the index book.
+fn expect_over_index(
     rt: &impl Abort,
     alloc: Global,
-    market: &mut Market<'_, IndexBook<'_, Global>, Global>,
-    journal: &[Entry],
-    instrument: Instrument,
-    side: Side,
-) -> Result<Option<Choice>, Fail>
-    requires first { market.old.state ≡ empty_state }
-    requires prices { ArePriced journal.now }
-{
-    apply_quietly(rt, alloc, market, journal)?;
-    Ok(quote_of(market, instrument, side))
+    rules: &Rulebook,
+    quoted: &QuoteCase,
+    fills: &mut Vec<Fill>,
+) {
+    let book = IndexBook::new(alloc, rules).expect(rt, "memory");
+    let mut market = Market::new(alloc, rules, book);
+    expect_quote_case(rt, &mut market, quoted, fills)
 }
 
-/// A market before its first entry.
-fn market_of<'r>(
-    alloc: Global,
-    rules: &'r Rulebook,
-) -> Result<Market<'r, IndexBook<'r, Global>, Global>, NoMemory>
-    ensures { IfOk result (λ market. market.state ≡ empty_state) }
-{
-    Ok(Market::new(alloc, rules, IndexBook::new(alloc, rules)?))
+/// The cases over the list book, and with their quotes over the index book.
+pub(super) fn expect_quotes(rt: &impl Abort, alloc: Global, cases: &[QuoteCase]) {
+    for quoted in cases {
+        let rules = Rulebook::read(quoted.case.rulebook).expect(rt, quoted.case.name);
+        expect_over_list(rt, alloc, &quoted.case, &mut Vec::new(alloc));
+        expect_over_index(rt, alloc, &rules, quoted, &mut Vec::new(alloc));
+    }
 }
 
-/// The quote behind the entries of a journal in which nothing trades, over the rulebook with this text.
-pub(super) fn quote_after(
-    rt: &impl Abort,
-    alloc: Global,
-    months: &[u8],
-    journal: &[Entry],
-    instrument: Instrument,
-    side: Side,
-) -> Result<Option<Choice>, Fail> {
-    assert!(rt; are_priced(journal));
-    let rules = Rulebook::read(months)?;
-    let mut market = market_of(alloc, &rules)?;
-    quote_behind(rt, alloc, &mut market, journal, instrument, side)
-}
-
-/// A quote of one lot by two orders of those places.
-pub(super) fn choice(price: i64, first: u64, second: u64) -> Option<Choice> {
-    Some(Choice {
-        price,
-        quantity: 1,
-        members: Members::Implied(first, second),
-    })
-}
+static QUOTES: &[QuoteCase] = &[
+    QuoteCase {
+        case: Case {
+            name: "a quote of a spread",
+            rulebook: THREE_MONTHS,
+            journal: &[
+                (0, Logon, Session),
+                (0, Sell(b"a", b"H6", 1, 10000), Rested),
+                (0, Buy(b"b", b"M6", 1, 9800), Rested),
+            ],
+            fills: &[],
+            resting: &[(2, 1), (3, 1)],
+        },
+        quotes: &[(H6_M6, Some((200, 2, 3)))],
+    },
+    QuoteCase {
+        case: Case {
+            name: "no quote of a spread that lost an order",
+            rulebook: THREE_MONTHS,
+            journal: &[
+                (0, Logon, Session),
+                (0, Sell(b"a", b"H6", 1, 10000), Rested),
+                (0, Buy(b"b", b"M6", 1, 9800), Rested),
+                (
+                    0,
+                    Cancel(b"c", b"a"),
+                    Cancelled(Kept(2, b"a", H6, Side::Sell, 10000, 1, 1)),
+                ),
+            ],
+            fills: &[],
+            resting: &[(3, 1)],
+        },
+        quotes: &[(H6_M6, None)],
+    },
+    QuoteCase {
+        case: Case {
+            name: "a quote of the earlier month, where both other months imply the same price",
+            rulebook: THREE_MONTHS,
+            journal: &[
+                (0, Logon, Session),
+                (0, Sell(b"a", b"H6", 1, 10000), Rested),
+                (0, Buy(b"b", b"H6-U6", 1, 500), Rested),
+                (0, Sell(b"c", b"M6", 1, 9800), Rested),
+                (0, Buy(b"d", b"M6-U6", 1, 300), Rested),
+            ],
+            fills: &[],
+            resting: &[(2, 1), (3, 1), (4, 1), (5, 1)],
+        },
+        quotes: &[(U6, Some((9500, 3, 2)))],
+    },
+    QuoteCase {
+        case: Case {
+            name: "a quote of the month that is left",
+            rulebook: THREE_MONTHS,
+            journal: &[
+                (0, Logon, Session),
+                (0, Sell(b"a", b"H6", 1, 10000), Rested),
+                (0, Buy(b"b", b"H6-U6", 1, 500), Rested),
+                (0, Sell(b"c", b"M6", 1, 9800), Rested),
+                (0, Buy(b"d", b"M6-U6", 1, 300), Rested),
+                (
+                    0,
+                    Cancel(b"e", b"a"),
+                    Cancelled(Kept(2, b"a", H6, Side::Sell, 10000, 1, 1)),
+                ),
+            ],
+            fills: &[],
+            resting: &[(3, 1), (4, 1), (5, 1)],
+        },
+        quotes: &[(U6, Some((9500, 5, 4)))],
+    },
+];
 
 #[test]
-fn of_a_spread(rt: HostRuntime) -> Result<(), Fail> {
-    let journal = [
-        logon(),
-        sell(b"a", b"H6", 1, 10000),
-        buy(b"b", b"M6", 1, 9800),
-    ];
-    let quote = quote_after(&rt, rt.alloc(), THREE_MONTHS, &journal, H6_M6, Side::Buy)?;
-    assert!(rt; quote == choice(200, 2, 3));
-    Ok(())
-}
-
-#[test]
-fn of_a_spread_that_lost_an_order(rt: HostRuntime) -> Result<(), Fail> {
-    let journal = [
-        logon(),
-        sell(b"a", b"H6", 1, 10000),
-        buy(b"b", b"M6", 1, 9800),
-        cancel(b"c", b"a"),
-    ];
-    let quote = quote_after(&rt, rt.alloc(), THREE_MONTHS, &journal, H6_M6, Side::Buy)?;
-    assert!(rt; quote == None);
-    Ok(())
-}
-
-/// Both other months imply the same price.
-fn two_months() -> [Entry; 5] {
-    [
-        logon(),
-        sell(b"a", b"H6", 1, 10000),
-        buy(b"b", b"H6-U6", 1, 500),
-        sell(b"c", b"M6", 1, 9800),
-        buy(b"d", b"M6-U6", 1, 300),
-    ]
-}
-
-#[test]
-fn of_the_earlier_month(rt: HostRuntime) -> Result<(), Fail> {
-    let journal = two_months();
-    let quote = quote_after(&rt, rt.alloc(), THREE_MONTHS, &journal, U6, Side::Buy)?;
-    assert!(rt; quote == choice(9500, 3, 2));
-    Ok(())
-}
-
-#[test]
-fn of_the_month_that_is_left(rt: HostRuntime) -> Result<(), Fail> {
-    let [logon, first, second, third, fourth] = two_months();
-    let journal = [logon, first, second, third, fourth, cancel(b"e", b"a")];
-    let quote = quote_after(&rt, rt.alloc(), THREE_MONTHS, &journal, U6, Side::Buy)?;
-    assert!(rt; quote == choice(9500, 5, 4));
-    Ok(())
+fn of_a_buyer(rt: HostRuntime) {
+    expect_quotes(&rt, rt.alloc(), QUOTES)
 }
 
 /// What two orders together cost an order of that instrument and side, a case for each line of the rule.
@@ -178,11 +201,11 @@ fn standing(side: Side, price: i64, a: &Order, b: &Order) -> Standing {
 }
 
 /// The quote by a search over all pairs of resting orders.
-fn searched<B: Book>(book: &B, instrument: Instrument, side: Side) -> Option<Choice> {
+fn searched(orders: &[Order], instrument: Instrument, side: Side) -> Option<Choice> {
     let mut best: Option<(Standing, Choice)> = None;
-    for i in 0..book.len() {
-        for j in 0..book.len() {
-            best = with_pair(best, book.walk(i), book.walk(j), instrument, side);
+    for a in orders {
+        for b in orders {
+            best = with_pair(best, a, b, instrument, side);
         }
     }
     match best {
@@ -194,18 +217,15 @@ fn searched<B: Book>(book: &B, instrument: Instrument, side: Side) -> Option<Cho
 /// The better one of what was found and these two orders.
 fn with_pair(
     best: Option<(Standing, Choice)>,
-    a: Option<Order>,
-    b: Option<Order>,
+    a: &Order,
+    b: &Order,
     instrument: Instrument,
     side: Side,
 ) -> Option<(Standing, Choice)> {
-    let (Some(a), Some(b)) = (a, b) else {
+    let Some(price) = implied_price(instrument, side, a, b) else {
         return best;
     };
-    let Some(price) = implied_price(instrument, side, &a, &b) else {
-        return best;
-    };
-    let found = standing(side, price, &a, &b);
+    let found = standing(side, price, a, b);
     if let Some((held, _)) = best {
         if held <= found {
             return best;
@@ -229,7 +249,7 @@ fn price_away(reference: i64, side: Side, away: i64) -> i64 {
 
 /// A letter of eight.
 fn letter(chance: &mut Chance) -> u8 {
-    b'a' + chance.below(8) as u8
+    b"abcdefgh"[chance.below(8)]
 }
 
 /// An order that seldom trades, or a cancel.
@@ -255,7 +275,7 @@ fn chosen_entry(chance: &mut Chance) -> Entry {
     )
 }
 
-const INSTRUMENTS: [Instrument; 6] = [
+const INSTRUMENTS: &[Instrument] = &[
     Instrument::Outright(0),
     Instrument::Outright(1),
     Instrument::Outright(2),
@@ -264,21 +284,43 @@ const INSTRUMENTS: [Instrument; 6] = [
     Instrument::Spread(1, 2),
 ];
 
-/// How many quotes there are, each of them as the search finds it.
+/// 1 where there is a quote, 0 where there is none. It is as the search finds it.
+fn compare_one(
+    rt: &impl Abort,
+    market: &Market<'_, IndexBook<'_, Global>, Global>,
+    orders: &[Order],
+    instrument: Instrument,
+    side: Side,
+) -> usize {
+    let quote = quote_of(market, instrument, side);
+    assert!(rt; quote == searched(orders, instrument, side));
+    usize::from(quote.is_some())
+}
+
+/// How many quotes there are over these resting orders, each of them as the search finds it.
 fn compare(
     rt: &impl Abort,
     market: &Market<'_, IndexBook<'_, Global>, Global>,
-) -> Result<usize, Fail> {
-    let book = market.book();
+    orders: &[Order],
+) -> usize {
     let mut quotes = 0usize;
     for instrument in INSTRUMENTS {
-        for side in [Side::Buy, Side::Sell] {
-            let quote = book.quote(instrument, side);
-            assert!(rt; quote == searched(book, instrument, side));
-            quotes = quotes.wrapping_add(usize::from(quote.is_some()));
-        }
+        let bought = compare_one(rt, market, orders, *instrument, Side::Buy);
+        let sold = compare_one(rt, market, orders, *instrument, Side::Sell);
+        quotes = quotes.wrapping_add(bought).wrapping_add(sold);
     }
-    Ok(quotes)
+    quotes
+}
+
+/// The same over the market's own resting orders.
+fn compare_all(
+    rt: &impl Abort,
+    alloc: Global,
+    market: &Market<'_, IndexBook<'_, Global>, Global>,
+) -> usize {
+    let mut orders = Vec::new(alloc);
+    append_resting(rt, &mut orders, market.book());
+    compare(rt, market, &orders)
 }
 
 /// How many quotes there are behind the entries of a run in that market, each of them as the search finds it.
@@ -286,37 +328,40 @@ fn quotes_behind(
     rt: &impl Abort,
     alloc: Global,
     market: &mut Market<'_, IndexBook<'_, Global>, Global>,
-    seed: u64,
-) -> Result<usize, Fail>
+    chance: &mut Chance,
+    fills: &mut Vec<Fill>,
+) -> usize
     requires { market.old.state ≡ empty_state }
 {
-    let mut chance = Chance::new(seed);
-    let mut fills = Vec::new(alloc);
     let mut quotes = 0usize;
     for place in 1..100u64 {
-        let entry = chosen_entry(&mut chance);
+        let entry = chosen_entry(chance);
         assert!(rt; is_priced(&entry));
-        market.apply(place, &entry, &mut fills)?;
-        quotes = quotes.wrapping_add(compare(rt, market)?);
+        let _ = market.apply(place, &entry, fills).expect(rt, "memory");
+        quotes = quotes.wrapping_add(compare_all(rt, alloc, market));
     }
-    Ok(quotes)
+    quotes
 }
 
 fn quotes_of_a_run(
     rt: &impl Abort,
     alloc: Global,
     rules: &Rulebook,
-    seed: u64,
-) -> Result<usize, Fail> {
-    let mut market = market_of(alloc, rules)?;
-    quotes_behind(rt, alloc, &mut market, seed)
+    chance: &mut Chance,
+    fills: &mut Vec<Fill>,
+) -> usize {
+    let book = IndexBook::new(alloc, rules).expect(rt, "memory");
+    let mut market = Market::new(alloc, rules, book);
+    quotes_behind(rt, alloc, &mut market, chance, fills)
 }
 
 #[test]
-fn as_a_search_finds_them(rt: HostRuntime) -> Result<(), Fail> {
-    let rules = Rulebook::read(THREE_MONTHS)?;
+fn as_a_search_finds_them(rt: HostRuntime) {
+    let rules = Rulebook::read(THREE_MONTHS).expect(&rt, "a rulebook");
     for seed in 0..8 {
-        assert!(rt; quotes_of_a_run(&rt, rt.alloc(), &rules, seed)? > 200);
+        let mut chance = Chance::new(seed);
+        let mut fills = Vec::new(rt.alloc());
+        let quotes = quotes_of_a_run(&rt, rt.alloc(), &rules, &mut chance, &mut fills);
+        assert!(rt; quotes > 200);
     }
-    Ok(())
 }

@@ -4,6 +4,19 @@ use spread_rules::laws::{codes, least_in_rank, one_rulebook, quiet, twelve_month
 use spread_rules::{Instrument, RuleFault, Rulebook};
 use std::test::Fail;
 
+/// Each symbol, and the instrument that has it, where one has.
+static SYMBOLS: &[(&[u8], Option<Instrument>)] = &[
+    (b"H6", Some(Instrument::Outright(0))),
+    (b"U6", Some(Instrument::Outright(2))),
+    (b"H6-M6", Some(Instrument::Spread(0, 1))),
+    (b"H6-U6", Some(Instrument::Spread(0, 2))),
+    (b"M6-H6", None),
+    (b"H6-H6", None),
+    (b"H6-", None),
+    (b"h6", None),
+    (b"", None),
+];
+
 #[test]
 fn rulebook_read(rt: HostRuntime) -> Result<(), Fail> {
     let rules = match Rulebook::read(THREE_MONTHS) {
@@ -21,19 +34,8 @@ fn rulebook_read(rt: HostRuntime) -> Result<(), Fail> {
         assert!(rt; rules.name_id(month).bytes() == name);
         assert!(rt; rules.reference(month) == [10000, 9800, 9500][month as usize % 3]);
     }
-    let symbols: [(&[u8], Option<Instrument>); 9] = [
-        (b"H6", Some(Instrument::Outright(0))),
-        (b"U6", Some(Instrument::Outright(2))),
-        (b"H6-M6", Some(Instrument::Spread(0, 1))),
-        (b"H6-U6", Some(Instrument::Spread(0, 2))),
-        (b"M6-H6", None),
-        (b"H6-H6", None),
-        (b"H6-", None),
-        (b"h6", None),
-        (b"", None),
-    ];
-    for (symbol, instrument) in symbols {
-        assert!(rt; rules.find(symbol) == instrument);
+    for (symbol, instrument) in SYMBOLS {
+        assert!(rt; rules.find(symbol) == *instrument);
     }
     one_rulebook();
     quiet();
@@ -43,76 +45,78 @@ fn rulebook_read(rt: HostRuntime) -> Result<(), Fail> {
     Ok(())
 }
 
+/// Each text that is no rulebook, its fault and the number of that.
+static FAULTS: &[(&[u8], RuleFault, u8)] = &[
+    (b"", RuleFault::NoMonth, 2),
+    (b"tick 1\n", RuleFault::NoMonth, 2),
+    (b"tick 0", RuleFault::BadLine(1), 1),
+    (b"tick 01", RuleFault::BadLine(1), 1),
+    (b"month H6 1\n", RuleFault::BadLine(1), 1),
+    (b"tick 5\nmonth H6 10001\n", RuleFault::BadLine(2), 1),
+    (b"#\n\ntick 5\n\nmonth H6  5\n", RuleFault::BadLine(5), 1),
+    (b"tick 5\nmonth H-6 5", RuleFault::BadLine(2), 1),
+    (
+        b"tick 5\nmonth ABCDEFGHIJKLMNOP 5",
+        RuleFault::BadLine(2),
+        1,
+    ),
+    (
+        b"tick 1\nmonth H6 1\nmonth H6 -2\n",
+        RuleFault::NamedTwice,
+        4,
+    ),
+    (
+        b"tick 1\nmonth a 1\nmonth b 1\nmonth c 1\nmonth d 1\nmonth e 1\nmonth f 1\nmonth g 1\nmonth h 1\nmonth i 1\nmonth j 1\nmonth k 1\nmonth l 1\nmonth m 1\nmonth n 1\nmonth o 1\nmonth p 1\nmonth q 1\nmonth r 1\nmonth s 1\nmonth t 1\nmonth u 1\nmonth v 1\nmonth w 1\nmonth x 1\nmonth a 1\n",
+        RuleFault::TooManyMonths,
+        3,
+    ),
+    (
+        b"tick 1\nmonth H6 10000\nmonth M6 9800\nmonth U6 9500\npair M6 H6 on\n",
+        RuleFault::BadLine(5),
+        1,
+    ),
+    (
+        b"tick 1\nmonth H6 10000\nmonth M6 9800\nmonth U6 9500\npair H6 X on\n",
+        RuleFault::BadLine(5),
+        1,
+    ),
+    (
+        b"tick 1\nmonth H6 10000\nmonth M6 9800\nmonth U6 9500\npair H6 M6 On\n",
+        RuleFault::BadLine(5),
+        1,
+    ),
+    (
+        b"tick 1\nmonth H6 10000\nmonth M6 9800\nmonth U6 9500\npair H6 M6 on\npair H6 M6 off\n",
+        RuleFault::NamedTwice,
+        4,
+    ),
+    (
+        b"tick 1\nmonth H6 10000\npair H6 M6 on\nmonth M6 9800\n",
+        RuleFault::BadLine(3),
+        1,
+    ),
+    (
+        b"tick 1\nmonth H6 10000\nmonth M6 9800\npair H6  M6 on\n",
+        RuleFault::BadLine(4),
+        1,
+    ),
+    (
+        b"tick 1\nmonth H6 10000\nmonth M6 9800\npair H6 H6 on\n",
+        RuleFault::BadLine(4),
+        1,
+    ),
+    (b"pair H6 M6 on\ntick 1\n", RuleFault::BadLine(1), 1),
+    (b"tick 1\nmonth H6 1000000001\n", RuleFault::BadLine(2), 1),
+];
+
 #[test]
 fn rulebook_faults(rt: HostRuntime) {
-    let rows: [(&[u8], RuleFault, u8); 20] = [
-        (b"", RuleFault::NoMonth, 2),
-        (b"tick 1\n", RuleFault::NoMonth, 2),
-        (b"tick 0", RuleFault::BadLine(1), 1),
-        (b"tick 01", RuleFault::BadLine(1), 1),
-        (b"month H6 1\n", RuleFault::BadLine(1), 1),
-        (b"tick 5\nmonth H6 10001\n", RuleFault::BadLine(2), 1),
-        (b"#\n\ntick 5\n\nmonth H6  5\n", RuleFault::BadLine(5), 1),
-        (b"tick 5\nmonth H-6 5", RuleFault::BadLine(2), 1),
-        (
-            b"tick 5\nmonth ABCDEFGHIJKLMNOP 5",
-            RuleFault::BadLine(2),
-            1,
-        ),
-        (
-            b"tick 1\nmonth H6 1\nmonth H6 -2\n",
-            RuleFault::NamedTwice,
-            4,
-        ),
-        (
-            b"tick 1\nmonth a 1\nmonth b 1\nmonth c 1\nmonth d 1\nmonth e 1\nmonth f 1\nmonth g 1\nmonth h 1\nmonth i 1\nmonth j 1\nmonth k 1\nmonth l 1\nmonth m 1\nmonth n 1\nmonth o 1\nmonth p 1\nmonth q 1\nmonth r 1\nmonth s 1\nmonth t 1\nmonth u 1\nmonth v 1\nmonth w 1\nmonth x 1\nmonth a 1\n",
-            RuleFault::TooManyMonths,
-            3,
-        ),
-        (
-            b"tick 1\nmonth H6 10000\nmonth M6 9800\nmonth U6 9500\npair M6 H6 on\n",
-            RuleFault::BadLine(5),
-            1,
-        ),
-        (
-            b"tick 1\nmonth H6 10000\nmonth M6 9800\nmonth U6 9500\npair H6 X on\n",
-            RuleFault::BadLine(5),
-            1,
-        ),
-        (
-            b"tick 1\nmonth H6 10000\nmonth M6 9800\nmonth U6 9500\npair H6 M6 On\n",
-            RuleFault::BadLine(5),
-            1,
-        ),
-        (
-            b"tick 1\nmonth H6 10000\nmonth M6 9800\nmonth U6 9500\npair H6 M6 on\npair H6 M6 off\n",
-            RuleFault::NamedTwice,
-            4,
-        ),
-        (
-            b"tick 1\nmonth H6 10000\npair H6 M6 on\nmonth M6 9800\n",
-            RuleFault::BadLine(3),
-            1,
-        ),
-        (
-            b"tick 1\nmonth H6 10000\nmonth M6 9800\npair H6  M6 on\n",
-            RuleFault::BadLine(4),
-            1,
-        ),
-        (
-            b"tick 1\nmonth H6 10000\nmonth M6 9800\npair H6 H6 on\n",
-            RuleFault::BadLine(4),
-            1,
-        ),
-        (b"pair H6 M6 on\ntick 1\n", RuleFault::BadLine(1), 1),
-        (b"tick 1\nmonth H6 1000000001\n", RuleFault::BadLine(2), 1),
-    ];
-    for (text, fault, number) in rows {
+    for (text, fault, number) in FAULTS {
         match Rulebook::read(text) {
             Ok(_) => assert!(rt; false, "no {fault}"),
             Err(found) => {
-                assert!(rt; found == fault);
-                assert!(rt; found.number() == number);
+                assert!(rt; found == *fault);
+                assert!(rt; found.number() == *number);
             }
         }
     }
