@@ -1,7 +1,9 @@
 //! Worked rows: gateways, rings of one event and the sequencer, in one thread and in several.
-use spread_rules::{Event, Side, Ticket};
+use spread_rules::{Entry, Event, Side, Ticket};
+use std::process::Abort;
 use test_support::id;
 
+mod days;
 mod gateways;
 mod laws;
 mod links;
@@ -11,6 +13,17 @@ mod threads;
 
 const LOGON: &[u8] =
     b"8=FIX.4.2\x019=57\x0135=A\x0134=1\x0149=C1\x0152=20260105-14:30:00\x0156=HOST\x0198=0\x01108=30\x0110=220\x01";
+
+/// What a message of the first trade says, or another close.
+enum Says {
+    Logon,
+    Sell,
+    Buy,
+    Close(u8),
+}
+
+/// What the four messages of the first trade say.
+static FIRST_TRADE_SAYS: [Says; 4] = [Says::Logon, Says::Sell, Says::Buy, Says::Close(1)];
 
 fn order(text: &[u8], side: Side) -> Event {
     Event::New(Ticket {
@@ -23,16 +36,28 @@ fn order(text: &[u8], side: Side) -> Event {
     })
 }
 
-/// The n-th event of the day, from 0.
-fn of_day(n: usize) -> Event {
-    match n {
-        0 => Event::Logon {
+fn event_of(says: &Says) -> Event {
+    match says {
+        Says::Logon => Event::Logon {
             client: id(b"C1"),
             host: id(b"HOST"),
             beat: 30,
         },
-        1 => order(b"a", Side::Sell),
-        2 => order(b"b", Side::Buy),
-        _ => Event::Close { reason: 1 },
+        Says::Sell => order(b"a", Side::Sell),
+        Says::Buy => order(b"b", Side::Buy),
+        Says::Close(reason) => Event::Close { reason: *reason },
+    }
+}
+
+fn is_said(event: &Event, says: &Says) -> bool {
+    *event == event_of(says)
+}
+
+/// The journal has these events of session 0 and no others, in this order.
+fn expect_journal(rt: &impl Abort, journal: &[Entry], want: &[Says]) {
+    assert!(rt; journal.len() == want.len());
+    for (entry, says) in journal.iter().zip(want) {
+        assert!(rt; entry.session == 0);
+        assert!(rt; is_said(&entry.event, says));
     }
 }

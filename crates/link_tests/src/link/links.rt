@@ -1,26 +1,23 @@
 //! Links that are refused, and memory refused.
 use gate_link::{LinkFault, link};
-use std::test::Fail;
 use test_support::Refusing;
 
+/// The number of sessions, the sizes of a ring and of the journal, and the fault's number.
+const REFUSED: &[(usize, usize, usize, u8)] = &[
+    (0, 1, 1, 1),
+    (17, 0, 1, 1),
+    (2, 0, 2_000_000, 2),
+    (2, 4097, 1, 2),
+    (2, 1, 1_000_001, 4),
+];
+
 #[test]
-fn refused_links(rt: HostRuntime) -> Result<(), Fail> {
-    let rows = [
-        (0, 1, 1, 1),
-        (17, 0, 1, 1),
-        (2, 0, 2_000_000, 2),
-        (2, 4097, 1, 2),
-        (2, 1, 1_000_001, 4),
-    ];
-    for (sessions, ring, journal, want) in rows {
-        let got = match link(rt.alloc(), sessions, ring, journal) {
-            Ok(_) => 0,
-            Err(fault) => fault.number(),
-        };
-        assert!(rt; got == want);
+fn refused_links(rt: HostRuntime) {
+    for (sessions, ring, journal, number) in REFUSED {
+        let fault = link(rt.alloc(), *sessions, *ring, *journal).err();
+        assert!(rt; fault.expect(&rt, "a fault").number() == *number);
     }
     assert!(rt; LinkFault::NoMemory.number() == 3);
-    Ok(())
 }
 
 /// NoMemory comes where a request was refused, and only there.

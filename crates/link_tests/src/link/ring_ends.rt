@@ -1,45 +1,61 @@
 //! The rings behind the sequencer: to the thread that matches, and to a session's writer.
-use gate_link::{Give, LinkFault, Post, Taken, Wrote, agree, feed_ring, finished, post_ring};
+use gate_link::{
+    Give, LinkFault, Post, Poster, Taken, Writer, Wrote, agree, feed_ring, finished, post_ring,
+};
 use host_base::NoMemory;
 use spread_rules::{Entry, Event};
-use std::test::Fail;
+use std::alloc::Allocator;
+use std::process::Abort;
 use test_support::Refusing;
 
 /// An entry that differs from those of other numbers.
-fn entry(first: u32) -> Entry {
+fn entry(number: u32) -> Entry {
     Entry {
         session: 0,
-        event: Event::Gap { first },
+        event: Event::Gap { first: number },
     }
 }
 
+/// The entries with the numbers from 1 to that one.
+fn entries_to<A: Allocator>(rt: &impl Abort, alloc: A, last: u32) -> Vec<Entry, A> {
+    let mut entries = Vec::new(alloc);
+    for number in 1..=last {
+        entries.push(entry(number)).expect(rt, "memory");
+    }
+    entries
+}
+
+/// The entry with this number is what is taken.
+fn expect_entry(rt: &impl Abort, taken: Taken, number: u32) {
+    assert!(rt; taken == Taken::Entry(entry(number)));
+}
+
 #[test]
-fn entries_are_given_in_slices(rt: HostRuntime) -> Result<(), Fail> {
+fn entries_are_given_in_slices(rt: HostRuntime) {
+    let journal = entries_to(&rt, rt.alloc(), 3);
     let Ok((mut feeder, mut matcher)) = feed_ring(rt.alloc(), 2) else {
-        return Err(Fail::from("memory"));
+        panic!(rt; "no ring");
     };
-    let journal = [entry(1), entry(2), entry(3)];
     assert!(rt; feeder.give(&journal) == Give::Gave(2));
     assert!(rt; feeder.give(&journal) == Give::Full);
-    assert!(rt; matcher.take() == Taken::Entry(entry(1)));
+    expect_entry(&rt, matcher.take(), 1);
     assert!(rt; feeder.give(&journal) == Give::Gave(1));
     assert!(rt; feeder.give(&journal) == Give::Level);
-    assert!(rt; matcher.take() == Taken::Entry(entry(2)));
-    assert!(rt; matcher.take() == Taken::Entry(entry(3)));
+    expect_entry(&rt, matcher.take(), 2);
+    expect_entry(&rt, matcher.take(), 3);
     assert!(rt; matcher.take() == Taken::Empty);
-    Ok(())
 }
 
 /// What was taken is what was given where the end mark was taken, and only there.
 #[test]
-fn entries_end_with_a_mark(rt: HostRuntime) -> Result<(), Fail> {
+fn entries_end_with_a_mark(rt: HostRuntime) {
+    let journal = entries_to(&rt, rt.alloc(), 1);
     let Ok((mut feeder, mut matcher)) = feed_ring(rt.alloc(), 1) else {
-        return Err(Fail::from("memory"));
+        panic!(rt; "no ring");
     };
-    let journal = [entry(1)];
     assert!(rt; feeder.give(&journal) == Give::Gave(1));
     assert!(rt; feeder.end() == Give::Full);
-    assert!(rt; matcher.take() == Taken::Entry(entry(1)));
+    expect_entry(&rt, matcher.take(), 1);
     assert!(rt; feeder.end() == Give::Gave(0));
     assert!(rt; feeder.end() == Give::Ended);
     assert!(rt; feeder.give(&journal) == Give::Ended);
@@ -47,15 +63,10 @@ fn entries_end_with_a_mark(rt: HostRuntime) -> Result<(), Fail> {
     assert!(rt; matcher.take() == Taken::Ended);
     assert!(rt; matcher.take() == Taken::Ended);
     assert!(rt; agree(&mut feeder, &mut matcher));
-    Ok(())
 }
 
-/// A piece has at most 63 bytes.
-#[test]
-fn bytes_are_posted_in_pieces(rt: HostRuntime) -> Result<(), Fail> {
-    let Ok((mut poster, mut writer)) = post_ring(rt.alloc(), 1) else {
-        return Err(Fail::from("memory"));
-    };
+/// A piece has at most 63 bytes. The ring has room for one.
+fn expect_pieces<A: Allocator>(rt: &impl Abort, poster: &mut Poster<A>, writer: &mut Writer<A>) {
     let bytes = [b'x'; 100];
     assert!(rt; poster.post(&[]) == Post::Posted(0));
     assert!(rt; poster.post(&bytes) == Post::Posted(63));
@@ -66,15 +77,18 @@ fn bytes_are_posted_in_pieces(rt: HostRuntime) -> Result<(), Fail> {
     assert!(rt; writer.take() == Ok(Wrote::Bytes(37)));
     assert!(rt; writer.take() == Ok(Wrote::Empty));
     assert!(rt; writer.bytes() == bytes.as_slice());
-    Ok(())
+}
+
+#[test]
+fn bytes_are_posted_in_pieces(rt: HostRuntime) {
+    let (mut poster, mut writer) = post_ring(rt.alloc(), 1).expect(&rt, "a ring");
+    expect_pieces(&rt, &mut poster, &mut writer);
 }
 
 /// What is written is what was posted where the end mark was taken, and only there.
 #[test]
-fn bytes_end_with_a_mark(rt: HostRuntime) -> Result<(), Fail> {
-    let Ok((mut poster, mut writer)) = post_ring(rt.alloc(), 2) else {
-        return Err(Fail::from("memory"));
-    };
+fn bytes_end_with_a_mark(rt: HostRuntime) {
+    let (mut poster, mut writer) = post_ring(rt.alloc(), 2).expect(&rt, "a ring");
     assert!(rt; poster.post(b"8=FIX") == Post::Posted(5));
     assert!(rt; poster.end() == Post::Posted(0));
     assert!(rt; poster.end() == Post::Ended);
@@ -85,35 +99,57 @@ fn bytes_end_with_a_mark(rt: HostRuntime) -> Result<(), Fail> {
     assert!(rt; writer.take() == Ok(Wrote::Ended));
     assert!(rt; finished(&mut poster, &mut writer));
     assert!(rt; writer.into_bytes().as_slice() == b"8=FIX".as_slice());
-    Ok(())
 }
 
-/// A writer that finds no memory has taken nothing, and takes the same piece afterwards.
+/// The writer finds no memory, has taken nothing, and takes the same piece afterwards.
+fn expect_taken_again<A: Allocator>(
+    rt: &impl Abort,
+    poster: &mut Poster<A>,
+    writer: &mut Writer<A>,
+) {
+    assert!(rt; poster.post(b"8=FIX") == Post::Posted(5));
+    assert!(rt; writer.take() == Err(NoMemory));
+    assert!(rt; writer.bytes().is_empty());
+    assert!(rt; writer.take() == Ok(Wrote::Bytes(5)));
+}
+
+/// Says whether a ring was had, and the first request behind it is refused.
+fn is_refused_behind<A: Allocator>(rt: &impl Abort, heap: &Refusing<A>) -> bool {
+    let Ok((mut poster, mut writer)) = post_ring(heap, 2) else {
+        return false;
+    };
+    expect_taken_again(rt, &mut poster, &mut writer);
+    true
+}
+
+/// The rings come first, then the writer's bytes.
 #[test]
-fn writer_with_memory_refused(rt: HostRuntime) -> Result<(), Fail> {
+fn writer_with_memory_refused(rt: HostRuntime) {
     for number in 1..10u64 {
         let heap = Refusing::new(rt.alloc(), number);
-        // The rings come first.
-        let Ok((mut poster, mut writer)) = post_ring(&heap, 2) else {
-            continue;
-        };
-        assert!(rt; poster.post(b"8=FIX") == Post::Posted(5));
-        assert!(rt; writer.take() == Err(NoMemory));
-        assert!(rt; writer.bytes().is_empty());
-        assert!(rt; writer.take() == Ok(Wrote::Bytes(5)));
-        return Ok(());
+        if is_refused_behind(&rt, &heap) {
+            return;
+        }
     }
-    Err(Fail::from("no request was refused"))
+    assert!(rt; false, "no request was refused");
+}
+
+fn expect_no_feed<A: Allocator + Copy>(rt: &impl Abort, alloc: A, ring: usize, want: LinkFault) {
+    assert!(rt; feed_ring(alloc, ring).err() == Some(want));
+}
+
+fn expect_no_post<A: Allocator + Copy>(rt: &impl Abort, alloc: A, ring: usize, want: LinkFault) {
+    assert!(rt; post_ring(alloc, ring).err() == Some(want));
 }
 
 #[test]
 fn refused_rings(rt: HostRuntime) {
-    assert!(rt; feed_ring(rt.alloc(), 0).err() == Some(LinkFault::Ring));
-    assert!(rt; feed_ring(rt.alloc(), 4_097).err() == Some(LinkFault::Ring));
-    assert!(rt; post_ring(rt.alloc(), 0).err() == Some(LinkFault::Ring));
-    assert!(rt; post_ring(rt.alloc(), 4_097).err() == Some(LinkFault::Ring));
+    expect_no_feed(&rt, rt.alloc(), 0, LinkFault::Ring);
+    expect_no_feed(&rt, rt.alloc(), 4_097, LinkFault::Ring);
+    expect_no_post(&rt, rt.alloc(), 0, LinkFault::Ring);
+    expect_no_post(&rt, rt.alloc(), 4_097, LinkFault::Ring);
     let heap = Refusing::new(rt.alloc(), 1);
-    assert!(rt; feed_ring(&heap, 8).err() == Some(LinkFault::NoMemory));
+    expect_no_feed(&rt, &heap, 8, LinkFault::NoMemory);
     let heap = Refusing::new(rt.alloc(), 1);
-    assert!(rt; post_ring(&heap, 8).err() == Some(LinkFault::NoMemory));
+    expect_no_post(&rt, &heap, 8, LinkFault::NoMemory);
 }

@@ -1,130 +1,110 @@
 //! Several messages are stepped over, and several events taken, at once.
-use super::{LOGON, of_day};
-use fix_wire::{Head, msg_types, write_message};
-use gate_link::{Burst, Step, Takes, link};
-use host_base::NoMemory;
-use spread_rules::Event;
-use std::alloc::Allocator;
-use std::test::Fail;
-use test_support::{FIRST_TRADE, id, stamp};
+use super::days::Act::{IsClosed, Put, Standing, Steps, StepsOver, TurnsFor};
+use super::days::{Day, expect_day};
+use super::{LOGON, Says};
+use gate_link::{Burst, Step, Takes};
+use test_support::FIRST_TRADE;
 
-/// A message of this kind and number from the client, without fields of its own.
-fn put_message<A: Allocator>(out: &mut Vec<u8, A>, kind: u8, number: u64) -> Result<(), NoMemory> {
-    let head = Head {
-        kind,
-        number,
-        duplicate: false,
-        sender: id(b"C1"),
-        target: id(b"HOST"),
-        stamp: stamp(),
-    };
-    write_message(out, &head, &[])
-}
+/// The first trade's Logon, a Logout, and the rest of the first trade.
+const A_LOGOUT_IN_THE_MIDDLE: &[u8] =
+    b"8=FIX.4.2\x019=57\x0135=A\x0134=1\x0149=C1\x0152=20260105-14:30:00\x0156=HOST\x0198=0\x01108=30\x0110=220\x01\
+8=FIX.4.2\x019=45\x0135=5\x0134=2\x0149=C1\x0152=20260105-14:30:00\x0156=HOST\x0110=181\x01\
+8=FIX.4.2\x019=104\x0135=D\x0134=2\x0149=C1\x0152=20260105-14:30:00\x0156=HOST\x0111=a\x0121=1\x0155=H6\x0154=2\x0160=20260105-14:30:00\x0138=5\x0140=2\x0144=100\x0110=168\x01\
+8=FIX.4.2\x019=104\x0135=D\x0134=3\x0149=C1\x0152=20260105-14:30:00\x0156=HOST\x0111=b\x0121=1\x0155=H6\x0154=1\x0160=20260105-14:30:00\x0138=5\x0140=2\x0144=100\x0110=169\x01\
+8=FIX.4.2\x019=45\x0135=5\x0134=4\x0149=C1\x0152=20260105-14:30:00\x0156=HOST\x0110=183\x01";
 
-/// All four messages go as one slice, and are taken in two.
+/// The client's messages 2 and 3.
+const TWO_HEARTBEATS: &[u8] =
+    b"8=FIX.4.2\x019=45\x0135=0\x0134=2\x0149=C1\x0152=20260105-14:30:00\x0156=HOST\x0110=176\x01\
+8=FIX.4.2\x019=45\x0135=0\x0134=3\x0149=C1\x0152=20260105-14:30:00\x0156=HOST\x0110=177\x01";
+
+static DAYS: &[Day] = &[
+    Day {
+        name: "all four messages go as one slice, and are taken in two",
+        ring: 4,
+        journal: 10,
+        acts: &[
+            Put(FIRST_TRADE, 400),
+            Standing(64, 4),
+            Standing(3, 3),
+            StepsOver(4, Burst::Sent(4)),
+            IsClosed(true),
+            Standing(64, 0),
+            StepsOver(4, Burst::Closed),
+            TurnsFor(3, Takes::Took(3)),
+            TurnsFor(3, Takes::Took(1)),
+            TurnsFor(3, Takes::Done),
+        ],
+        says: &[Says::Logon, Says::Sell, Says::Buy, Says::Close(1)],
+    },
+    Day {
+        name: "a ring of two has no room for four events: none is sent, and then two are",
+        ring: 2,
+        journal: 10,
+        acts: &[
+            Put(FIRST_TRADE, 400),
+            StepsOver(4, Burst::Full),
+            TurnsFor(64, Takes::Empty),
+            Standing(64, 4),
+            StepsOver(2, Burst::Sent(2)),
+            StepsOver(1, Burst::Full),
+            TurnsFor(64, Takes::Took(2)),
+            Steps(Step::Sent),
+            StepsOver(64, Burst::Sent(1)),
+            TurnsFor(64, Takes::Took(2)),
+        ],
+        says: &[Says::Logon, Says::Sell, Says::Buy, Says::Close(1)],
+    },
+    Day {
+        name: "a Logout stands in the middle: no message behind it is judged",
+        ring: 64,
+        journal: 10,
+        acts: &[
+            Put(A_LOGOUT_IN_THE_MIDDLE, 467),
+            Standing(64, 5),
+            StepsOver(64, Burst::Sent(2)),
+            IsClosed(true),
+            StepsOver(64, Burst::Closed),
+            TurnsFor(64, Takes::Took(2)),
+            TurnsFor(64, Takes::Done),
+        ],
+        says: &[Says::Logon, Says::Close(1)],
+    },
+    Day {
+        name: "Heartbeats have no event: they are passed, and nothing is sent",
+        ring: 1,
+        journal: 10,
+        acts: &[
+            StepsOver(64, Burst::Need),
+            Put(LOGON, 79),
+            StepsOver(64, Burst::Sent(1)),
+            Put(TWO_HEARTBEATS, 134),
+            Standing(64, 2),
+            StepsOver(64, Burst::Skipped),
+            Standing(64, 0),
+            StepsOver(64, Burst::Need),
+            TurnsFor(64, Takes::Took(1)),
+            TurnsFor(64, Takes::Empty),
+        ],
+        says: &[Says::Logon],
+    },
+    Day {
+        name: "a journal with room for two takes two",
+        ring: 4,
+        journal: 2,
+        acts: &[
+            Put(FIRST_TRADE, 400),
+            StepsOver(64, Burst::Sent(4)),
+            TurnsFor(64, Takes::Took(2)),
+            TurnsFor(64, Takes::JournalFull),
+        ],
+        says: &[Says::Logon, Says::Sell],
+    },
+];
+
 #[test]
-fn four_at_once(rt: HostRuntime) -> Result<(), Fail> {
-    let Ok((mut gateways, mut sequencer)) = link(rt.alloc(), 1, 4, 10) else {
-        return Err(Fail::from("memory"));
-    };
-    let gateway = &mut gateways[0];
-    assert!(rt; gateway.put(FIRST_TRADE) == 400);
-    assert!(rt; gateway.standing(64) == 4);
-    assert!(rt; gateway.standing(3) == 3);
-    assert!(rt; gateway.step_many(4) == Burst::Sent(4));
-    assert!(rt; gateway.is_closed());
-    assert!(rt; gateway.standing(64) == 0);
-    assert!(rt; gateway.step_many(4) == Burst::Closed);
-    assert!(rt; sequencer.turn_many(0, 3) == Takes::Took(3));
-    assert!(rt; sequencer.turn_many(0, 3) == Takes::Took(1));
-    assert!(rt; sequencer.turn_many(0, 3) == Takes::Done);
-    assert!(rt; sequencer.journal().len() == 4);
-    for (n, entry) in sequencer.journal().iter().enumerate() {
-        assert!(rt; (entry.session, entry.event) == (0, of_day(n)));
+fn days_in_slices(rt: HostRuntime) {
+    for day in DAYS {
+        expect_day(&rt, rt.alloc(), day);
     }
-    Ok(())
-}
-
-/// A ring of two has no room for four events: none is sent, and then two are.
-#[test]
-fn all_or_none(rt: HostRuntime) -> Result<(), Fail> {
-    let Ok((mut gateways, mut sequencer)) = link(rt.alloc(), 1, 2, 10) else {
-        return Err(Fail::from("memory"));
-    };
-    let gateway = &mut gateways[0];
-    assert!(rt; gateway.put(FIRST_TRADE) == 400);
-    assert!(rt; gateway.step_many(4) == Burst::Full);
-    assert!(rt; sequencer.turn_many(0, 64) == Takes::Empty);
-    assert!(rt; gateway.standing(64) == 4);
-    assert!(rt; gateway.step_many(2) == Burst::Sent(2));
-    assert!(rt; gateway.step_many(1) == Burst::Full);
-    assert!(rt; sequencer.turn_many(0, 64) == Takes::Took(2));
-    assert!(rt; gateway.step() == Step::Sent);
-    assert!(rt; gateway.step_many(64) == Burst::Sent(1));
-    assert!(rt; sequencer.turn_many(0, 64) == Takes::Took(2));
-    for (n, entry) in sequencer.journal().iter().enumerate() {
-        assert!(rt; entry.event == of_day(n));
-    }
-    Ok(())
-}
-
-/// A Logout stands in the middle: no message behind it is judged.
-#[test]
-fn none_past_a_close(rt: HostRuntime) -> Result<(), Fail> {
-    let Ok((mut gateways, mut sequencer)) = link(rt.alloc(), 1, 64, 10) else {
-        return Err(Fail::from("memory"));
-    };
-    let mut bytes = Vec::new(rt.alloc());
-    bytes.extend_from_slice(LOGON)?;
-    put_message(&mut bytes, msg_types::LOGOUT, 2)?;
-    bytes.extend_from_slice(&FIRST_TRADE[79..])?;
-    let gateway = &mut gateways[0];
-    assert!(rt; gateway.put(&bytes) == bytes.len());
-    assert!(rt; gateway.standing(64) == 5);
-    assert!(rt; gateway.step_many(64) == Burst::Sent(2));
-    assert!(rt; gateway.is_closed());
-    assert!(rt; gateway.step_many(64) == Burst::Closed);
-    assert!(rt; sequencer.turn_many(0, 64) == Takes::Took(2));
-    assert!(rt; sequencer.turn_many(0, 64) == Takes::Done);
-    assert!(rt; sequencer.journal()[0].event == of_day(0));
-    assert!(rt; sequencer.journal()[1].event == Event::Close { reason: 1 });
-    Ok(())
-}
-
-/// Heartbeats have no event: they are passed, and nothing is sent.
-#[test]
-fn without_events(rt: HostRuntime) -> Result<(), Fail> {
-    let Ok((mut gateways, mut sequencer)) = link(rt.alloc(), 1, 1, 10) else {
-        return Err(Fail::from("memory"));
-    };
-    let mut bytes = Vec::new(rt.alloc());
-    put_message(&mut bytes, msg_types::HEARTBEAT, 2)?;
-    put_message(&mut bytes, msg_types::HEARTBEAT, 3)?;
-    let gateway = &mut gateways[0];
-    assert!(rt; gateway.step_many(64) == Burst::Need);
-    assert!(rt; gateway.put(LOGON) == LOGON.len());
-    assert!(rt; gateway.step_many(64) == Burst::Sent(1));
-    assert!(rt; gateway.put(&bytes) == bytes.len());
-    assert!(rt; gateway.standing(64) == 2);
-    assert!(rt; gateway.step_many(64) == Burst::Skipped);
-    assert!(rt; gateway.standing(64) == 0);
-    assert!(rt; gateway.step_many(64) == Burst::Need);
-    assert!(rt; sequencer.turn_many(0, 64) == Takes::Took(1));
-    assert!(rt; sequencer.turn_many(0, 64) == Takes::Empty);
-    Ok(())
-}
-
-/// A journal with room for two takes two.
-#[test]
-fn as_many_as_fit(rt: HostRuntime) -> Result<(), Fail> {
-    let Ok((mut gateways, mut sequencer)) = link(rt.alloc(), 1, 4, 2) else {
-        return Err(Fail::from("memory"));
-    };
-    let gateway = &mut gateways[0];
-    assert!(rt; gateway.put(FIRST_TRADE) == 400);
-    assert!(rt; gateway.step_many(64) == Burst::Sent(4));
-    assert!(rt; sequencer.turn_many(0, 64) == Takes::Took(2));
-    assert!(rt; sequencer.turn_many(0, 64) == Takes::JournalFull);
-    assert!(rt; sequencer.journal().len() == 2);
-    Ok(())
 }

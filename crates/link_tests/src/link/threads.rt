@@ -6,10 +6,13 @@ ghost use Rattle.gate_link.specs.declared.gateway.Gateway.{Gateway};
 ghost use Rattle.std.specs.declared.alloc.Global.{Global};
 ghost use denote.Param.Send.{IsSync};
 
-use super::of_day;
+use super::days::Act::{Ends, IsClosed, Steps, Turns};
+use super::days::{Act, expect_of_two};
+use super::{FIRST_TRADE_SAYS, expect_journal, is_said};
 use gate_link::{Gateway, Sequencer, Settle, Step, Turn, link};
+use spread_rules::Entry;
 use std::alloc::{Allocator, Global};
-use std::test::Fail;
+use std::process::Abort;
 use std::thread;
 use std::thread::{Threads, join_mut};
 use test_support::FIRST_TRADE;
@@ -86,25 +89,27 @@ fn run<R: Threads + Sync>(
     );
 }
 
+/// The journal has the whole day of this session, once.
+fn expect_session(rt: &impl Abort, journal: &[Entry], session: u8) {
+    let mut count = 0;
+    for entry in journal {
+        if entry.session == session {
+            let says = FIRST_TRADE_SAYS.get(count).expect(rt, "four events");
+            assert!(rt; is_said(&entry.event, says));
+            count += 1;
+        }
+    }
+    assert!(rt; count == 4);
+}
+
 /// Two sessions over rings of one event: the journal has the whole day of each.
 #[test]
-fn two_threads(rt: HostRuntime) -> Result<(), Fail> {
-    let Ok((mut gateways, mut sequencer)) = link(rt.alloc(), 2, 1, 8) else {
-        return Err(Fail::from("memory"));
-    };
+fn two_threads(rt: HostRuntime) {
+    let (mut gateways, mut sequencer) = link(rt.alloc(), 2, 1, 8).expect(&rt, "a link");
     run(&rt, gateways.as_mut_slice(), &mut sequencer);
     assert!(rt; sequencer.settle(gateways.as_mut_slice()) == Settle::Settled);
-    for session in 0..2u8 {
-        let mut n = 0;
-        for entry in sequencer.journal() {
-            if entry.session == session && n < 5 {
-                assert!(rt; entry.event == of_day(n));
-                n += 1;
-            }
-        }
-        assert!(rt; n == 4);
-    }
-    Ok(())
+    expect_session(&rt, sequencer.journal(), 0);
+    expect_session(&rt, sequencer.journal(), 1);
 }
 
 /// Half of the day is put and sent in another thread, the rest here.
@@ -117,28 +122,37 @@ fn first_half<A: Allocator>(gateway: Gateway<A>) -> Gateway<A> {
     gateway
 }
 
-#[test]
-fn a_gateway_that_moves(rt: HostRuntime) -> Result<(), Fail> {
-    let Ok((mut gateways, mut sequencer)) = link(rt.alloc(), 1, 2, 10) else {
-        return Err(Fail::from("memory"));
-    };
-    let Some(first) = gateways.pop() else {
-        return Err(Fail::from("no gateway"));
-    };
-    let (mut gateway, _) = thread::join(&rt, move || first_half(first), || 0u8);
+/// What follows where the rest of the day is put: the ring has room for two events.
+static SECOND_HALF: &[Act] = &[
+    Steps(Step::Full),
+    Turns(Turn::Took),
+    Ends(Step::Sent),
+    Turns(Turn::Took),
+    Ends(Step::Sent),
+    Turns(Turn::Took),
+    Ends(Step::Closed),
+    Turns(Turn::Took),
+    IsClosed(true),
+    Turns(Turn::Done),
+];
+
+/// The rest of the day is put and sent, and the journal has the whole of it.
+fn second_half<A: Allocator>(
+    rt: &impl Abort,
+    gateway: &mut Gateway<A>,
+    sequencer: &mut Sequencer<A>,
+) {
     assert!(rt; gateway.put(&FIRST_TRADE[250..]) == 150);
-    assert!(rt; gateway.step() == Step::Full);
-    assert!(rt; sequencer.turn(0) == Turn::Took);
-    assert!(rt; gateway.end() == Step::Sent);
-    assert!(rt; sequencer.turn(0) == Turn::Took);
-    assert!(rt; gateway.end() == Step::Sent);
-    assert!(rt; sequencer.turn(0) == Turn::Took);
-    assert!(rt; gateway.end() == Step::Closed);
-    assert!(rt; sequencer.turn(0) == Turn::Took);
-    assert!(rt; gateway.is_closed());
-    assert!(rt; sequencer.turn(0) == Turn::Done);
-    for (n, entry) in sequencer.journal().iter().enumerate() {
-        assert!(rt; entry.event == of_day(n));
+    for act in SECOND_HALF {
+        expect_of_two(rt, gateway, sequencer, act);
     }
-    Ok(())
+    expect_journal(rt, sequencer.journal(), FIRST_TRADE_SAYS.as_slice());
+}
+
+#[test]
+fn a_gateway_that_moves(rt: HostRuntime) {
+    let (mut gateways, mut sequencer) = link(rt.alloc(), 1, 2, 10).expect(&rt, "a link");
+    let first = gateways.pop().expect(&rt, "a gateway");
+    let (mut gateway, _) = thread::join(&rt, move || first_half(first), || 0u8);
+    second_half(&rt, &mut gateway, &mut sequencer);
 }
