@@ -1,13 +1,9 @@
 //! The lines of fills and of months.
-ghost use Rattle.std.specs.Prelude.{◌≡◌, All};
-ghost use Rattle.spread_rules.specs.Rulebook.{IsListed};
-ghost use Rattle.day_text.specs.Totals.{IsSummable};
+ghost use Rattle.std.specs.Prelude.{◌≡◌};
 
 use day_text::{MonthTotals, TextFault, month_totals, text_of_fills, write_fills};
 use host_base::TestSink;
 use spread_rules::{Fill, Instrument, Rulebook, Side};
-use std::alloc::Global;
-use std::process::Abort;
 use test_support::THREE_MONTHS;
 
 /// A fill of one lot, as far as its lines show it.
@@ -29,37 +25,6 @@ fn one_lot(at: u64, order: u64, instrument: Instrument, side: Side, prices: (i64
         far: prices.2,
         ..Fill::default()
     }
-}
-
-/// The fills and the months are written as this text.
-fn expect_text(rt: &impl Abort, alloc: Global, rules: &Rulebook, fills: &[Fill], text: &[u8])
-    requires listed { All (λ f. IsListed rules.now f.instrument) fills.now }
-    requires summable { All IsSummable fills.now }
-{
-    let mut sink = TestSink::new(alloc, 1000, 0).expect(rt, "memory");
-    write_fills(alloc, rules, fills, &mut sink).expect(rt, "a sink that works");
-    assert!(rt; sink.bytes() == text);
-    let whole = text_of_fills(alloc, rules, fills).expect(rt, "memory");
-    assert!(rt; whole.as_slice() == text);
-}
-
-/// A sink with this room that fails at this write (0: none) has these bytes then.
-fn expect_failing_sink(
-    rt: &impl Abort,
-    alloc: Global,
-    rules: &Rulebook,
-    fills: &[Fill],
-    room: usize,
-    fail: u32,
-    bytes: &[u8],
-)
-    requires listed { All (λ f. IsListed rules.now f.instrument) fills.now }
-    requires summable { All IsSummable fills.now }
-{
-    let mut sink = TestSink::new(alloc, room, fail).expect(rt, "memory");
-    let answer = write_fills(alloc, rules, fills, &mut sink);
-    assert!(rt; answer == Err(TextFault::Write));
-    assert!(rt; sink.bytes() == bytes);
 }
 
 #[test]
@@ -95,8 +60,15 @@ fn spread_lifts_two_months(rt: HostRuntime) {
     }
     let rules = Rulebook::read(THREE_MONTHS).expect(&rt, "a rulebook");
     assert!(rt; rules.months() == 3);
-    expect_text(&rt, rt.alloc(), &rules, &fills, text);
+    let mut sink = TestSink::new(rt.alloc(), 1000, 0).expect(&rt, "memory");
+    write_fills(rt.alloc(), &rules, &fills, &mut sink).expect(&rt, "a sink that works");
+    assert!(rt; sink.bytes() == text.as_slice());
+    let whole = text_of_fills(rt.alloc(), &rules, &fills).expect(&rt, "memory");
+    assert!(rt; whole.as_slice() == text.as_slice());
 }
+
+/// The room of a sink, the write at which it fails (0: none), and how many bytes are in it then, of the 120.
+static SINKS: [(usize, u32, usize); 3] = [(1000, 0, 120), (30, 0, 30), (1000, 1, 0)];
 
 #[test]
 fn negative_prices(rt: HostRuntime) {
@@ -115,7 +87,12 @@ fn negative_prices(rt: HostRuntime) {
         b"F 4 4 0 H6 1 1 -100\nF 4 2 0 H6-M6 2 1 -300 -100 200\nF 4 3 0 M6 2 1 200\nM H6 1 1 -100 -100\nM M6 1 1 200 200\nM U6 0 0 0 0\n";
     let rules = Rulebook::read(THREE_MONTHS).expect(&rt, "a rulebook");
     assert!(rt; rules.months() == 3);
-    expect_text(&rt, rt.alloc(), &rules, &fills, text);
-    expect_failing_sink(&rt, rt.alloc(), &rules, &fills, 30, 0, &text[..30]);
-    expect_failing_sink(&rt, rt.alloc(), &rules, &fills, 1000, 1, b"");
+    assert!(rt; text.len() == 120);
+    for (room, fail, written) in &SINKS {
+        let mut sink = TestSink::new(rt.alloc(), *room, *fail).expect(&rt, "memory");
+        let fault = write_fills(rt.alloc(), &rules, &fills, &mut sink).err();
+        assert!(rt; fault == (*written != 120).then_some(TextFault::Write));
+        assert!(rt; sink.bytes().len() == *written);
+        assert!(rt; text.starts_with(sink.bytes()));
+    }
 }
