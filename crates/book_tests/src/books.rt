@@ -1,6 +1,6 @@
-//! Tests by subject: what every kind of book answers, each kind in turn, and runs of changes.
+//! Tests by subject: what every kind of book answers, and runs of changes.
 
 mod amends;
 mod checked;
-mod kinds;
-pub mod queues;
+mod queues;
+pub mod rows;

@@ -6,7 +6,6 @@ use host_base::{IdKey, NoMemory};
 use row_index::{Hints, IdRows, IdTable, Noted};
 use std::alloc::Allocator;
 use std::process::Abort;
-use std::test::Fail;
 use test_support::{Refusing, id};
 
 /// Rows that are no more than their session and id.
@@ -53,6 +52,19 @@ fn note_next<A: Allocator + Copy>(
     Ok(used)
 }
 
+/// One row of that number more. Answers whether one before it has its session and id.
+fn note_number<A: Allocator + Copy>(
+    rt: &impl Abort,
+    table: &mut IdTable<A>,
+    keys: &mut Vec<IdKey, A>,
+    n: usize,
+) -> bool
+    requires { IsTableOf table.old keys.old.items }
+    ensures { IsTableOf table.new keys.new.items }
+{
+    note_next(table, keys, numbered(n)).expect(rt, "memory")
+}
+
 /// Notes a key, whose row then doesn't come. Answers how it was noted.
 fn note_and_take_back<A: Allocator + Copy>(
     table: &mut IdTable<A>,
@@ -95,14 +107,14 @@ fn rows_stand<A: Allocator + Copy>(
     }
 }
 
-/// Rows of the numbers up to there, which stand at those rows then. A request for memory that is refused leaves all as it
-/// was.
+/// Rows of the numbers up to there, which stand at those rows then. A request for memory that is refused leaves all as
+/// it was.
 fn note_numbers<A: Allocator + Copy>(
     rt: &impl Abort,
     table: &mut IdTable<A>,
     keys: &mut Vec<IdKey, A>,
     count: usize,
-) -> Result<(), Fail>
+)
     requires { IsTableOf table.old keys.old.items }
     ensures { IsTableOf table.new keys.new.items }
 {
@@ -112,13 +124,12 @@ fn note_numbers<A: Allocator + Copy>(
             Err(NoMemory) => {
                 assert!(rt; row_of(table, keys, n).is_none());
                 assert!(rt; row_before_stands(table, keys, n));
-                note_next(table, keys, numbered(n))?
+                note_number(rt, table, keys, n)
             }
         };
         assert!(rt; !used);
     }
     rows_stand(rt, table, keys, count);
-    Ok(())
 }
 
 /// Behind 8,190 rows a number of one of them is known and keeps its first row, and another session's is new.
@@ -126,24 +137,23 @@ fn rows_behind<A: Allocator + Copy>(
     rt: &impl Abort,
     table: &mut IdTable<A>,
     keys: &mut Vec<IdKey, A>,
-) -> Result<(), Fail>
+)
     requires { IsTableOf table.old keys.old.items }
 {
     assert!(rt; row_of(table, keys, 8_190).is_none());
     assert!(rt; row_of(table, keys, 65_536).is_none());
-    assert!(rt; note_next(table, keys, numbered(17))?);
+    assert!(rt; note_number(rt, table, keys, 17));
     assert!(rt; row_of(table, keys, 17) == Some(17));
-    assert!(rt; !note_next(table, keys, numbered(65_553))?);
+    assert!(rt; !note_number(rt, table, keys, 65_553));
     assert!(rt; row_of(table, keys, 65_553) == Some(8_191));
-    Ok(())
 }
 
 #[test]
-fn ids_are_found(rt: HostRuntime) -> Result<(), Fail> {
+fn ids_are_found(rt: HostRuntime) {
     let mut table = IdTable::new(rt.alloc());
     let mut keys = Vec::new(rt.alloc());
-    note_numbers(&rt, &mut table, &mut keys, 8_190)?;
-    rows_behind(&rt, &mut table, &mut keys)
+    note_numbers(&rt, &mut table, &mut keys, 8_190);
+    rows_behind(&rt, &mut table, &mut keys);
 }
 
 /// Notes the key of the next row, and again once it is known.
@@ -152,15 +162,18 @@ fn note_known<A: Allocator + Copy>(
     table: &mut IdTable<A>,
     keys: &mut Vec<IdKey, A>,
     n: usize,
-) -> Result<(), Fail>
+)
     requires { IsTableOf table.old keys.old.items }
     ensures { IsTableOf table.new keys.new.items }
 {
-    assert!(rt; !note_next(table, keys, numbered(n))?);
+    assert!(rt; !note_number(rt, table, keys, n));
     assert!(rt; row_of(table, keys, n) == Some(n));
-    assert!(rt; note_and_take_back(table, keys, numbered(n))?.is_known());
+    assert!(rt;
+        note_and_take_back(table, keys, numbered(n))
+            .expect(rt, "memory")
+            .is_known()
+    );
     assert!(rt; row_of(table, keys, n) == Some(n));
-    Ok(())
 }
 
 /// Notes the key of the next row, takes it back, and notes it again. Answers how it was noted first.
@@ -169,26 +182,26 @@ fn note_again<A: Allocator + Copy>(
     table: &mut IdTable<A>,
     keys: &mut Vec<IdKey, A>,
     n: usize,
-) -> Result<Noted, Fail>
+) -> Noted
     requires { IsTableOf table.old keys.old.items }
     ensures { IsTableOf table.new keys.new.items }
 {
-    let noted = note_and_take_back(table, keys, numbered(n))?;
+    let noted = note_and_take_back(table, keys, numbered(n)).expect(rt, "memory");
     assert!(rt; row_of(table, keys, n).is_none());
     assert!(rt; row_before_stands(table, keys, n));
-    note_known(rt, table, keys, n)?;
-    Ok(noted)
+    note_known(rt, table, keys, n);
+    noted
 }
 
 /// Each key is taken back once, those in lines and those behind them.
 #[test]
-fn ids_are_taken_back(rt: HostRuntime) -> Result<(), Fail> {
+fn ids_are_taken_back(rt: HostRuntime) {
     let mut table = IdTable::new(rt.alloc());
     let mut keys = Vec::new(rt.alloc());
     let mut in_lines = 0usize;
     let mut behind = 0usize;
     for n in 0..8_190 {
-        match note_again(&rt, &mut table, &mut keys, n)? {
+        match note_again(&rt, &mut table, &mut keys, n) {
             Noted::Known => assert!(rt; false),
             Noted::InLine { line: _, at: _ } => in_lines = in_lines.wrapping_add(1),
             Noted::Behind => behind = behind.wrapping_add(1),
@@ -197,29 +210,26 @@ fn ids_are_taken_back(rt: HostRuntime) -> Result<(), Fail> {
     assert!(rt; in_lines > 8_000);
     assert!(rt; behind > 0);
     rows_stand(&rt, &table, &keys, 8_190);
-    Ok(())
 }
 
 #[test]
-fn words_of_a_key(rt: HostRuntime) -> Result<(), Fail> {
+fn words_of_a_key(rt: HostRuntime) {
     let words = IdKey::new(3, &id(b"ABCDEFGH\x02")).words();
     assert!(rt; words == [3, 0x4142_4344_4546_4748, 0x0200_0000_0000_0000, 0, 0]);
-    Ok(())
 }
 
 #[test]
-fn memory_is_refused(rt: HostRuntime) -> Result<(), Fail> {
+fn memory_is_refused(rt: HostRuntime) {
     for number in 1..16 {
         let heap = Refusing::new(rt.alloc(), number);
         let mut table = IdTable::new(&heap);
         let mut keys = Vec::new(&heap);
-        note_numbers(&rt, &mut table, &mut keys, 200)?;
+        note_numbers(&rt, &mut table, &mut keys, 200);
     }
-    Ok(())
 }
 
 #[test]
-fn hints_are_guesses(rt: HostRuntime) -> Result<(), Fail> {
+fn hints_are_guesses(rt: HostRuntime) {
     let mut hints = Hints::new(rt.alloc());
     assert!(rt; hints.guess(5).is_none());
     hints.note(5, 0);
@@ -231,5 +241,4 @@ fn hints_are_guesses(rt: HostRuntime) -> Result<(), Fail> {
     hints.note(1_000_000_000_000, 2);
     assert!(rt; hints.guess(1_000_000_000_000) == Some(2));
     assert!(rt; hints.guess(9).is_none());
-    Ok(())
 }

@@ -1,11 +1,10 @@
 //! The tables that books stand on, each called alone.
 ghost use Rattle.std.specs.Prelude.{◌≡◌};
 
-use crate::books::queues::is;
+use crate::books::rows::is;
 use order_tables::{BestPrice, FrontTable, OwnKey, PlaceRows, QueueKey, first_from, with_quantity};
 use spread_rules::{Instrument, Order, Side};
 use std::collections::BTreeSet;
-use std::test::Fail;
 use test_support::id;
 
 /// Two of its five lots are filled.
@@ -26,7 +25,7 @@ fn seller() -> Order
 }
 
 #[test]
-fn filled_lots_are_kept(rt: HostRuntime) -> Result<(), Fail> {
+fn filled_lots_are_kept(rt: HostRuntime) {
     let amended = with_quantity(&seller(), id(b"b"), 9);
     assert!(rt;
         amended
@@ -37,14 +36,13 @@ fn filled_lots_are_kept(rt: HostRuntime) -> Result<(), Fail> {
                 ..seller()
             }
     );
-    Ok(())
 }
 
 #[test]
-fn rows_are_found(rt: HostRuntime) -> Result<(), Fail> {
+fn rows_are_found(rt: HostRuntime) {
     let mut rows = PlaceRows::new(rt.alloc());
     let first = seller();
-    rows.push(first)?;
+    rows.push(first).expect(&rt, "memory");
     assert!(rt; rows.count() == 1);
     assert!(rt; is(rows.get(7), &first));
     assert!(rt; rows.get(8) == None);
@@ -62,11 +60,10 @@ fn rows_are_found(rt: HostRuntime) -> Result<(), Fail> {
     assert!(rt; is(rows.remove(7), &amended));
     assert!(rt; rows.nth(0) == None);
     assert!(rt; rows.count() == 0);
-    Ok(())
 }
 
 #[test]
-fn keys_of_a_queue(rt: HostRuntime) -> Result<(), Fail> {
+fn keys_of_a_queue(rt: HostRuntime) {
     let better = seller();
     let worse = Order {
         price: 10000,
@@ -74,8 +71,8 @@ fn keys_of_a_queue(rt: HostRuntime) -> Result<(), Fail> {
         ..better
     };
     let mut keys = BTreeSet::new(rt.alloc());
-    keys.insert(QueueKey::new(&worse))?;
-    keys.insert(QueueKey::new(&better))?;
+    keys.insert(QueueKey::new(&worse)).expect(&rt, "memory");
+    keys.insert(QueueKey::new(&better)).expect(&rt, "memory");
     let start = QueueKey::start(better.instrument, better.side);
     match first_from(&keys, start) {
         Some(key) => assert!(rt; key.is_in_queue_of(&start) && key.place() == 7),
@@ -83,32 +80,30 @@ fn keys_of_a_queue(rt: HostRuntime) -> Result<(), Fail> {
     }
     let other = QueueKey::start(better.instrument, Side::Buy);
     assert!(rt; !start.is_in_queue_of(&other));
-    Ok(())
 }
 
 #[test]
-fn keys_of_an_id(rt: HostRuntime) -> Result<(), Fail> {
+fn keys_of_an_id(rt: HostRuntime) {
     let later = seller();
     let earlier = Order { place: 3, ..later };
     let mut keys = BTreeSet::new(rt.alloc());
-    keys.insert(OwnKey::new(&later))?;
-    keys.insert(OwnKey::new(&earlier))?;
+    keys.insert(OwnKey::new(&later)).expect(&rt, "memory");
+    keys.insert(OwnKey::new(&earlier)).expect(&rt, "memory");
     let start = OwnKey::start(1, &id(b"a"));
     match first_from(&keys, start) {
         Some(key) => assert!(rt; key.has_id_of(&start) && key.place() == 3),
         None => assert!(rt; false),
     }
     assert!(rt; !start.has_id_of(&OwnKey::start(0, &id(b"a"))));
-    Ok(())
 }
 
 #[test]
-fn best_prices(rt: HostRuntime) -> Result<(), Fail> {
+fn best_prices(rt: HostRuntime) {
     let front = seller();
     let mut prices = FrontTable::new(rt.alloc());
     assert!(rt; prices.is_empty());
     assert!(rt; prices.known_price(front.instrument, front.side).is_none());
-    prices.make_room()?;
+    prices.make_room().expect(&rt, "memory");
     prices.put(front.instrument, front.side, Some(BestPrice::new(&front)));
     match prices.known_price(front.instrument, front.side) {
         Some(Some(best)) => {
@@ -123,5 +118,4 @@ fn best_prices(rt: HostRuntime) -> Result<(), Fail> {
             .known_price(Instrument::Outright(24), Side::Buy)
             .is_none()
     );
-    Ok(())
 }

@@ -1,112 +1,60 @@
 //! Orders that keep their place under another id and with another quantity, in each kind of book.
-ghost use Rattle.std.specs.Prelude.{◌<◌};
-
 use super::checked::{add, amend, reduce, remove};
-use super::queues::{is, is_at, is_found, is_front, none_has};
+use super::rows::Step::{Add, Amend, At, Count, Found, Front, NotAmend, NotFound, Reduce};
+use super::rows::{Lot, Row, expect_over_each, is};
 use host_base::{Id, NoMemory};
 use spread_books::{Book, FrontBook, IndexBook, ListBook, TreeBook};
+use spread_rules::Side::Sell;
 use spread_rules::{Instrument, Order, Rulebook, Side};
-use std::alloc::Allocator;
+use std::alloc::Global;
 use std::process::Abort;
-use std::test::Fail;
 use test_support::{Chance, Refusing, THREE_MONTHS, id};
 
-fn sell(place: u64, name: &[u8]) -> Order {
-    Order {
-        place,
-        session: 0,
-        id: id(name),
-        instrument: Instrument::Outright(0),
-        side: Side::Sell,
-        price: 10000,
-        quantity: 5,
-        leaves: 5,
-    }
-}
+const FIRST_MONTH: Instrument = Instrument::Outright(0);
 
-/// Two sellers, as at places 2 and 3 of the worked journal with two replace requests. The first takes an id and a smaller
-/// quantity, and stays the front; two of its lots are filled, and it is amended again; then the second one is.
-fn amended_in_place<B: Book>(rt: &impl Abort, book: &mut B) -> Result<(), Fail> {
-    let first = sell(2, b"a");
-    let second = sell(3, b"b");
-    assert!(rt; add(book, first)?);
-    assert!(rt; add(book, second)?);
-    first_amended(rt, book, &first, &second)?;
-    filled_and_amended(rt, book, &first, &second)
-}
+/// Two sellers, as at places 2 and 3 of the worked journal with two replace requests.
+static AMENDED: &[Row] = &[
+    // The first takes an id and a smaller quantity, and stays the front. Two of its lots are filled, so that it cannot
+    // take a quantity of two; it is amended again. Then the second one takes the id that the first one had.
+    Row {
+        name: "orders are amended in place",
+        steps: &[
+            Add(Lot(2, 0, b"a", FIRST_MONTH, Sell, 10000, 5, 5)),
+            Add(Lot(3, 0, b"b", FIRST_MONTH, Sell, 10000, 5, 5)),
+            Amend(0, b"c", 3),
+            Count(2),
+            At(0, Lot(2, 0, b"c", FIRST_MONTH, Sell, 10000, 3, 3)),
+            At(1, Lot(3, 0, b"b", FIRST_MONTH, Sell, 10000, 5, 5)),
+            Found(Lot(2, 0, b"c", FIRST_MONTH, Sell, 10000, 3, 3)),
+            Found(Lot(3, 0, b"b", FIRST_MONTH, Sell, 10000, 5, 5)),
+            NotFound(0, b"a"),
+            Front(Lot(2, 0, b"c", FIRST_MONTH, Sell, 10000, 3, 3)),
+            Reduce(0, 2),
+            NotAmend(0, b"d", 2),
+            NotAmend(0, b"b", 3),
+            Amend(0, b"d", 7),
+            Count(2),
+            At(0, Lot(2, 0, b"d", FIRST_MONTH, Sell, 10000, 7, 5)),
+            At(1, Lot(3, 0, b"b", FIRST_MONTH, Sell, 10000, 5, 5)),
+            Found(Lot(2, 0, b"d", FIRST_MONTH, Sell, 10000, 7, 5)),
+            Found(Lot(3, 0, b"b", FIRST_MONTH, Sell, 10000, 5, 5)),
+            NotFound(0, b"c"),
+            Front(Lot(2, 0, b"d", FIRST_MONTH, Sell, 10000, 7, 5)),
+            Amend(1, b"a", 4),
+            Count(2),
+            At(0, Lot(2, 0, b"d", FIRST_MONTH, Sell, 10000, 7, 5)),
+            At(1, Lot(3, 0, b"a", FIRST_MONTH, Sell, 10000, 4, 4)),
+            Found(Lot(2, 0, b"d", FIRST_MONTH, Sell, 10000, 7, 5)),
+            Found(Lot(3, 0, b"a", FIRST_MONTH, Sell, 10000, 4, 4)),
+            NotFound(0, b"b"),
+            Front(Lot(2, 0, b"d", FIRST_MONTH, Sell, 10000, 7, 5)),
+        ],
+    },
+];
 
-/// The first one takes another id and three lots, and stays the front.
-fn first_amended<B: Book>(
-    rt: &impl Abort,
-    book: &mut B,
-    first: &Order,
-    second: &Order,
-) -> Result<(), Fail> {
-    assert!(rt; amend(book, 0, id(b"c"), 3)?);
-    let smaller = Order {
-        id: id(b"c"),
-        quantity: 3,
-        leaves: 3,
-        ..*first
-    };
-    stand(rt, book, &smaller, second, b"a")
-}
-
-/// Two lots of the first one are filled, so that it cannot take a quantity of two.
-fn filled_and_amended<B: Book>(
-    rt: &impl Abort,
-    book: &mut B,
-    first: &Order,
-    second: &Order,
-) -> Result<(), Fail> {
-    assert!(rt; reduce(book, 0, 2));
-    assert!(rt; !amend(book, 0, id(b"d"), 2)?);
-    assert!(rt; !amend(book, 0, id(b"b"), 3)?);
-    assert!(rt; amend(book, 0, id(b"d"), 7)?);
-    let larger = Order {
-        id: id(b"d"),
-        quantity: 7,
-        leaves: 5,
-        ..*first
-    };
-    stand(rt, book, &larger, second, b"c")?;
-    second_amended(rt, book, &larger, second)
-}
-
-/// The second one takes the id that the first one had.
-fn second_amended<B: Book>(
-    rt: &impl Abort,
-    book: &mut B,
-    first: &Order,
-    second: &Order,
-) -> Result<(), Fail> {
-    assert!(rt; amend(book, 1, id(b"a"), 4)?);
-    let last = Order {
-        id: id(b"a"),
-        quantity: 4,
-        leaves: 4,
-        ..*second
-    };
-    stand(rt, book, first, &last, b"b")
-}
-
-/// The first and the second rest alone, the first as the front, and no order with that id does.
-fn stand<B: Book>(
-    rt: &impl Abort,
-    book: &B,
-    first: &Order,
-    second: &Order,
-    gone: &[u8],
-) -> Result<(), Fail> {
-    assert!(rt; book.len() == 2);
-    assert!(rt; is_at(book, 0, first));
-    assert!(rt; is_at(book, 1, second));
-    assert!(rt; is_found(book, first));
-    assert!(rt; is_found(book, second));
-    assert!(rt; none_has(book, 0, gone));
-    assert!(rt; is_front(book, first));
-    assert!(rt; book.front_level(first.instrument, first.side) == Some(first.level()));
-    Ok(())
+#[test]
+fn every_kind_of_book_by_hand(rt: HostRuntime) {
+    expect_over_each(&rt, rt.alloc(), AMENDED)
 }
 
 /// One of so many orders.
@@ -135,7 +83,7 @@ fn instrument(chance: &mut Chance) -> Instrument {
 }
 
 fn name(chance: &mut Chance) -> Id {
-    id(&[b'a' + chance.below(12) as u8])
+    id(&[b"abcdefghijkl"[chance.below(12)]])
 }
 
 fn order(chance: &mut Chance, place: u64) -> Order {
@@ -168,150 +116,120 @@ fn next_change(chance: &mut Chance, place: u64, resting: usize) -> Change {
 }
 
 /// Whether it was made.
-fn make<B: Book>(book: &mut B, change: Change) -> Result<bool, NoMemory> {
+fn make<B: Book>(book: &mut B, change: &Change) -> Result<bool, NoMemory> {
     match change {
-        Change::Add(order) => add(book, order),
-        Change::Reduce(n, by) => Ok(reduce(book, n, by)),
-        Change::Amend(n, id, quantity) => amend(book, n, id, quantity),
-        Change::Remove(n) => Ok(remove(book, n)),
+        Change::Add(order) => add(book, *order),
+        Change::Reduce(n, by) => Ok(reduce(book, *n, *by)),
+        Change::Amend(n, id, quantity) => amend(book, *n, *id, *quantity),
+        Change::Remove(n) => Ok(remove(book, *n)),
     }
 }
 
+/// Both books answer alike of that order.
+fn compare_of<B: Book, C: Book>(rt: &impl Abort, book: &B, other: &C, order: &Order) {
+    let Order {
+        session,
+        id,
+        instrument,
+        side,
+        ..
+    } = order;
+    assert!(rt; book.find(*session, id) == other.find(*session, id));
+    assert!(rt; book.front(*instrument, *side) == other.front(*instrument, *side));
+    assert!(rt; book.front_level(*instrument, *side) == other.front_level(*instrument, *side));
+}
+
 /// Both books answer alike.
-fn compare<B: Book, C: Book>(rt: &impl Abort, book: &B, other: &C) -> Result<(), Fail> {
+fn compare<B: Book, C: Book>(rt: &impl Abort, book: &B, other: &C) {
     assert!(rt; book.len() == other.len());
     for n in 0..other.len() {
         if let Some(order) = other.walk(n) {
             assert!(rt; is(book.walk(n), &order));
-            assert!(rt;
-                book.find(order.session, &order.id) == other.find(order.session, &order.id)
-            );
-            assert!(rt;
-                book.front(order.instrument, order.side)
-                    == other.front(order.instrument, order.side)
-            );
-            assert!(rt;
-                book.front_level(order.instrument, order.side)
-                    == other.front_level(order.instrument, order.side)
-            );
+            compare_of(rt, book, other, &order);
         }
     }
-    Ok(())
 }
 
-/// Makes that change in both books, and says whether it was made. A change that finds no memory leaves the book as it was,
-/// and is made again.
+/// Makes that change in both books, and says whether it was made. A change that finds no memory leaves the book as it
+/// was, and is made again.
 fn make_in_both<B: Book, C: Book>(
     rt: &impl Abort,
     book: &mut B,
     other: &mut C,
-    next: Change,
-) -> Result<bool, Fail> {
+    next: &Change,
+) -> bool {
     let done = match make(book, next) {
         Ok(done) => done,
         Err(NoMemory) => {
-            compare(rt, book, other)?;
-            make(book, next)?
+            compare(rt, book, other);
+            make(book, next).expect(rt, "memory")
         }
     };
-    assert!(rt; make(other, next)? == done);
-    compare(rt, book, other)?;
-    Ok(done)
+    assert!(rt; make(other, next).expect(rt, "memory") == done);
+    compare(rt, book, other);
+    done
 }
 
-/// Changes chosen at random, made in that book and in the list book.
-fn run<B: Book, A: Allocator + Copy>(
+/// Changes chosen at random, made in both books. Answers how many amended an order.
+fn run_in_both<B: Book, C: Book>(
     rt: &impl Abort,
     book: &mut B,
-    alloc: A,
-    seed: u64,
-) -> Result<usize, Fail> {
-    let mut list = ListBook::new(alloc);
-    let mut chance = Chance::new(seed);
+    other: &mut C,
+    chance: &mut Chance,
+) -> usize {
     let mut amended: usize = 0;
     for place in 1..80 {
-        let next = next_change(&mut chance, place, list.len());
+        let next = next_change(chance, place, other.len());
         let amends = matches!(next, Change::Amend(_, _, _));
-        let done = make_in_both(rt, book, &mut list, next)?;
-        let gone = name(&mut chance);
-        assert!(rt; book.find(0, &gone) == list.find(0, &gone));
+        let done = make_in_both(rt, book, other, &next);
+        let gone = name(chance);
+        assert!(rt; book.find(0, &gone) == other.find(0, &gone));
         if amends && done {
             amended = amended.saturating_add(1);
         }
     }
-    Ok(amended)
+    amended
+}
+
+/// The same in that book and in the list book.
+fn run<B: Book + Drop>(rt: &impl Abort, book: B, alloc: Global, seed: u64) -> usize {
+    let mut book = book;
+    let mut list = ListBook::new(alloc);
+    let mut chance = Chance::new(seed);
+    run_in_both(rt, &mut book, &mut list, &mut chance)
 }
 
 #[test]
-fn list_book_by_hand(rt: HostRuntime) -> Result<(), Fail> {
-    amended_in_place(&rt, &mut ListBook::new(rt.alloc()))
-}
-
-#[test]
-fn tree_book_by_hand(rt: HostRuntime) -> Result<(), Fail> {
-    amended_in_place(&rt, &mut TreeBook::new(rt.alloc()))
-}
-
-#[test]
-fn front_book_by_hand(rt: HostRuntime) -> Result<(), Fail> {
-    amended_in_place(&rt, &mut FrontBook::new(rt.alloc()))
-}
-
-#[test]
-fn index_book_by_hand(rt: HostRuntime) -> Result<(), Fail> {
-    let rules = Rulebook::read(THREE_MONTHS)?;
-    let mut book = IndexBook::new(rt.alloc(), &rules)?;
-    amended_in_place(&rt, &mut book)
-}
-
-#[test]
-fn tree_book_at_random(rt: HostRuntime) -> Result<(), Fail> {
+fn every_kind_of_book_at_random(rt: HostRuntime) {
+    let rules = Rulebook::read(THREE_MONTHS).expect(&rt, "a rulebook");
     for seed in 0..6 {
-        let mut book = TreeBook::new(rt.alloc());
-        assert!(rt; run(&rt, &mut book, rt.alloc(), seed)? > 5);
+        let tree = TreeBook::new(rt.alloc());
+        assert!(rt; run(&rt, tree, rt.alloc(), seed) > 5);
+        let front = FrontBook::new(rt.alloc());
+        assert!(rt; run(&rt, front, rt.alloc(), seed) > 5);
+        let index = IndexBook::new(rt.alloc(), &rules).expect(&rt, "memory");
+        assert!(rt; run(&rt, index, rt.alloc(), seed) > 5);
     }
-    Ok(())
 }
 
 #[test]
-fn front_book_at_random(rt: HostRuntime) -> Result<(), Fail> {
-    for seed in 0..6 {
-        let mut book = FrontBook::new(rt.alloc());
-        assert!(rt; run(&rt, &mut book, rt.alloc(), seed)? > 5);
-    }
-    Ok(())
-}
-
-#[test]
-fn index_book_at_random(rt: HostRuntime) -> Result<(), Fail> {
-    let rules = Rulebook::read(THREE_MONTHS)?;
-    for seed in 0..6 {
-        let mut book = IndexBook::new(rt.alloc(), &rules)?;
-        assert!(rt; run(&rt, &mut book, rt.alloc(), seed)? > 5);
-    }
-    Ok(())
-}
-
-#[test]
-fn tree_book_without_memory(rt: HostRuntime) -> Result<(), Fail> {
+fn tree_book_without_memory(rt: HostRuntime) {
     for number in 1..20 {
         let heap = Refusing::new(rt.alloc(), number);
-        let mut book = TreeBook::new(&heap);
-        run(&rt, &mut book, rt.alloc(), number)?;
+        let _ = run(&rt, TreeBook::new(&heap), rt.alloc(), number);
     }
-    Ok(())
 }
 
 #[test]
-fn index_book_without_memory(rt: HostRuntime) -> Result<(), Fail> {
-    let rules = Rulebook::read(THREE_MONTHS)?;
+fn index_book_without_memory(rt: HostRuntime) {
+    let rules = Rulebook::read(THREE_MONTHS).expect(&rt, "a rulebook");
     for number in 1..20 {
         let heap = Refusing::new(rt.alloc(), number);
-        if let Ok(mut book) = IndexBook::new(&heap, &rules) {
-            run(&rt, &mut book, rt.alloc(), number)?;
-        } else {
-            assert!(rt; heap.has_refused());
+        match IndexBook::new(&heap, &rules) {
+            Ok(book) => {
+                let _ = run(&rt, book, rt.alloc(), number);
+            }
+            Err(NoMemory) => assert!(rt; heap.has_refused()),
         }
     }
-    Ok(())
 }

@@ -1,0 +1,140 @@
+//! Rows: steps of one book after another, and what the book must answer.
+use super::checked::{add, amend, clear, reduce, remove};
+use spread_books::{Book, FrontBook, IndexBook, ListBook, TreeBook};
+use spread_rules::{Instrument, Order, Rulebook, Side};
+use std::alloc::Global;
+use std::process::Abort;
+use test_support::{THREE_MONTHS, id};
+
+/// An order: its place, its session, its id, its instrument, its side, its price, its quantity, and what is left of it.
+pub(super) struct Lot(
+    pub(super) u64,
+    pub(super) u8,
+    pub(super) &'static [u8],
+    pub(super) Instrument,
+    pub(super) Side,
+    pub(super) i64,
+    pub(super) u32,
+    pub(super) u32,
+);
+
+/// A change that must be made or refused, or an answer that the book must give.
+pub(super) enum Step {
+    /// The order is added.
+    Add(Lot),
+    /// The n-th order is lessened by so many lots.
+    Reduce(usize, u32),
+    /// The n-th order takes that id and that quantity.
+    Amend(usize, &'static [u8], u32),
+    /// The n-th order does not take that id and that quantity.
+    NotAmend(usize, &'static [u8], u32),
+    /// The n-th order leaves.
+    Remove(usize),
+    /// So many orders rest.
+    Count(usize),
+    /// This order is the n-th.
+    At(usize, Lot),
+    /// There is no n-th order.
+    NoneAt(usize),
+    /// This order is the front of its queue.
+    Front(Lot),
+    /// No order stands in that queue.
+    NoFront(Instrument, Side),
+    /// This order is found by its session and its id.
+    Found(Lot),
+    /// No order of that session has that id.
+    NotFound(u8, &'static [u8]),
+}
+
+/// Steps of a book that is empty at first. All orders leave it at the end.
+pub(super) struct Row {
+    pub(super) name: &'static str,
+    pub(super) steps: &'static [Step],
+}
+
+fn order_of(lot: &Lot) -> Order {
+    Order {
+        place: lot.0,
+        session: lot.1,
+        id: id(lot.2),
+        instrument: lot.3,
+        side: lot.4,
+        price: lot.5,
+        quantity: lot.6,
+        leaves: lot.7,
+    }
+}
+
+/// Whether that order was found.
+pub fn is(found: Option<Order>, want: &Order) -> bool {
+    match found {
+        Some(order) => order == *want,
+        None => false,
+    }
+}
+
+/// Whether that order is the front of its queue.
+fn is_front<B: Book>(book: &B, want: &Order) -> bool {
+    is(book.front(want.instrument, want.side), want)
+        && book.front_level(want.instrument, want.side) == Some(want.level())
+}
+
+/// Whether no order stands in that queue.
+fn none_stands<B: Book>(book: &B, instrument: Instrument, side: Side) -> bool {
+    book.front(instrument, side).is_none() && book.front_level(instrument, side).is_none()
+}
+
+/// Whether that order is found by its session and id.
+fn is_found<B: Book>(book: &B, want: &Order) -> bool {
+    is(book.find(want.session, &want.id), want)
+}
+
+/// Whether the change was made or refused, or the answer was given, as the step says.
+fn holds<B: Book>(rt: &impl Abort, book: &mut B, step: &Step) -> bool {
+    match step {
+        Step::Add(lot) => add(book, order_of(lot)).expect(rt, "memory"),
+        Step::Reduce(n, by) => reduce(book, *n, *by),
+        Step::Amend(n, name, quantity) => {
+            amend(book, *n, id(name), *quantity).expect(rt, "memory")
+        }
+        Step::NotAmend(n, name, quantity) => {
+            !amend(book, *n, id(name), *quantity).expect(rt, "memory")
+        }
+        Step::Remove(n) => remove(book, *n),
+        Step::Count(count) => book.len() == *count,
+        Step::At(n, lot) => is(book.walk(*n), &order_of(lot)),
+        Step::NoneAt(n) => book.walk(*n).is_none(),
+        Step::Front(lot) => is_front(book, &order_of(lot)),
+        Step::NoFront(instrument, side) => none_stands(book, *instrument, *side),
+        Step::Found(lot) => is_found(book, &order_of(lot)),
+        Step::NotFound(session, name) => book.find(*session, &id(name)).is_none(),
+    }
+}
+
+fn expect_row<B: Book>(rt: &impl Abort, book: &mut B, row: &Row) {
+    for n in 0..row.steps.len() {
+        assert!(rt; holds(rt, book, &row.steps[n]), "{}, step {n}", row.name);
+    }
+    clear(rt, book);
+}
+
+/// Every row, each in the book once all orders have left it.
+fn expect_rows<B: Book>(rt: &impl Abort, book: &mut B, rows: &[Row]) {
+    for row in rows {
+        expect_row(rt, book, row);
+    }
+}
+
+fn expect_over_index(rt: &impl Abort, alloc: Global, rules: &Rulebook, rows: &[Row]) {
+    let mut book = IndexBook::new(alloc, rules).expect(rt, "memory");
+    expect_rows(rt, &mut book, rows)
+}
+
+/// The rows in each kind of book in turn.
+pub(super) fn expect_over_each(rt: &impl Abort, alloc: Global, rows: &[Row]) {
+    expect_rows(rt, &mut ListBook::new(alloc), rows);
+    expect_rows(rt, &mut TreeBook::new(alloc), rows);
+    expect_rows(rt, &mut FrontBook::new(alloc), rows);
+    let rules = Rulebook::read(THREE_MONTHS).expect(rt, "a rulebook");
+    expect_over_index(rt, alloc, &rules, rows)
+}
