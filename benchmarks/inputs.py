@@ -1,5 +1,12 @@
-"""The inputs that the benchmark makes for itself: raw streams of sessions, and a journal under its rulebook."""
+#!/usr/bin/env python3
+"""The inputs that the benchmark makes for itself: raw streams of sessions, and a journal under its rulebook.
+
+    benchmarks/inputs.py FOLDER
+
+writes them into a new folder. It is a program of its own since a process inherits its parent's peak memory.
+"""
 import pathlib
+import sys
 
 RULES = "tick 1\nmonth H6 10000\nmonth M6 9800\nmonth U6 9500\n"
 STAMP = b"20260105-14:30:00"
@@ -61,4 +68,7 @@ def write_all(folder):
     (folder / "long_bodies").write_bytes(long_bodies(2_000))
     (folder / "rules").write_text(RULES, encoding="ascii")
     (folder / "journal").write_text(journal(1_000, 9_000), encoding="ascii")
-    return folder
+
+
+if __name__ == "__main__":
+    write_all(sys.argv[1])
