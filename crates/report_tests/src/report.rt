@@ -307,15 +307,13 @@ fn answer_session(
 /// The answer to a request of an order.
 fn answer_request(
     rt: &impl Abort,
-    alloc: Global,
     run: &mut Run<Global>,
     session: u8,
     said: &Said,
     came: &Came,
-    parts: &[Part],
+    fills: &[Fill],
 ) -> Result<(), DeskFault> {
-    let fills = fills_of(rt, alloc, parts);
-    run.answer(rt, &entry_of(session, said), &outcome_of(came), &fills)
+    run.answer(rt, &entry_of(session, said), &outcome_of(came), fills)
 }
 
 const SPENT: Result<(), DeskFault> = Err(DeskFault::NumbersSpent);
@@ -324,11 +322,13 @@ fn take_step(rt: &impl Abort, alloc: Global, run: &mut Run<Global>, step: &Step)
     match *step {
         Step::Session(session, said) => answer_session(rt, run, session, &said).is_ok(),
         Step::Request(session, said, came, parts) => {
-            answer_request(rt, alloc, run, session, &said, &came, parts).is_ok()
+            let fills = fills_of(rt, alloc, parts);
+            answer_request(rt, run, session, &said, &came, &fills).is_ok()
         }
         Step::SessionSpent(session, said) => answer_session(rt, run, session, &said) == SPENT,
         Step::RequestSpent(session, said, came, parts) => {
-            answer_request(rt, alloc, run, session, &said, &came, parts) == SPENT
+            let fills = fills_of(rt, alloc, parts);
+            answer_request(rt, run, session, &said, &came, &fills) == SPENT
         }
         Step::Place(place) => {
             run.place = place;

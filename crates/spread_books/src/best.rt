@@ -10,7 +10,7 @@ ghost use Rattle.spread_books.specs.Listed.{IsInMonths, IsNearFirst};
 ghost use Rattle.spread_books.specs.code.Best.{IsFair, IsBeyond, Offers, CoversOne, CoversTwo, CoversBelow};
 ghost use Rattle.spread_books.specs.code.Cheapest.{spread_of, spread_side, CostsOfFront, CostsOfFronts, cheaper_of, IsCheapest};
 
-use crate::cheapest::{Queue, cheapest_pair, spreads_with};
+use crate::cheapest::{MonthPairs, Queue, cheapest_pair, spreads_with};
 use order_books::Book;
 use spread_rules::{
     Candidate, Counterparty, Instrument, Order, Rulebook, Side, better, candidate_for, is_within,
@@ -158,7 +158,8 @@ fn with_months<B: Book>(
         (CoversBelow (implied rules.now) new.now (B.orders book.now) (month_count rules.now)) }
 {
     let months = rules.months();
-    if let Some(pair) = cheapest_pair(book, rules, months, new.side, month) {
+    let pairs = MonthPairs { rules, months };
+    if let Some(pair) = cheapest_pair(book, &pairs, new.side, month) {
         if is_within(new, price_for(new.side, pair.cost)) {
             let other_month = pair.other_month as u8;
             let spreads = spreads_with(new.side, month, other_month);

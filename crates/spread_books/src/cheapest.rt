@@ -17,6 +17,13 @@ pub struct Queue {
     pub side: Side,
 }
 
+/// The pairs of so many months, of which those take part in implied trading that the rulebook says.
+#[derive(Clone, Copy)]
+pub struct MonthPairs<'r> {
+    pub rules: &'r Rulebook,
+    pub months: u8,
+}
+
 /// What a pair of that other month costs who meets it.
 #[derive(Clone, Copy)]
 pub struct PairCost {
@@ -144,17 +151,17 @@ pub fn cheaper(least: Option<PairCost>, cost: Option<i64>, other_month: u64) -> 
 /// month where several cost the same.
 pub fn cheapest_pair<B: Book>(
     book: &B,
-    rules: &Rulebook,
-    months: u8,
+    pairs: &MonthPairs<'_>,
     side: Side,
     month: u8,
 ) -> Option<PairCost>
     requires { All HasOrderPrice (B.orders book.now) }
-    ensures { IsCheapest (implied rules.now) (B.orders book.now) side month months result }
+    ensures { IsCheapest (implied pairs.now.rules.now) (B.orders book.now) side month pairs.now.months
+        result }
 {
     let mut least = None;
-    for other_month in 0..months {
-        let cost = pair_cost(book, rules, side, month, other_month);
+    for other_month in 0..pairs.months {
+        let cost = pair_cost(book, pairs.rules, side, month, other_month);
         least = cheaper(least, cost, u64::from(other_month));
     }
     least
@@ -193,8 +200,7 @@ fn sooner(held: PairCost, cost: Option<i64>, via: u64) -> PairCost
 /// What costs the least, where that is known from before the fronts of one other month changed.
 pub fn renewed_pair<B: Book>(
     book: &B,
-    rules: &Rulebook,
-    months: u8,
+    pairs: &MonthPairs<'_>,
     side: Side,
     month: u8,
     via: u8,
@@ -203,18 +209,19 @@ pub fn renewed_pair<B: Book>(
     requires { All HasOrderPrice (B.orders book.now) }
     ensures { (xs : List Order)
         → KeepsOthers xs (B.orders book.now) side month via
-        → IsCheapest (implied rules.now) xs side month months held
-        → IsCheapest (implied rules.now) (B.orders book.now) side month months result }
+        → IsCheapest (implied pairs.now.rules.now) xs side month pairs.now.months held
+        → IsCheapest (implied pairs.now.rules.now) (B.orders book.now) side month pairs.now.months
+        result }
 {
-    if via >= months {
+    if via >= pairs.months {
         return held;
     }
-    let cost = pair_cost(book, rules, side, month, via);
+    let cost = pair_cost(book, pairs.rules, side, month, via);
     let Some(pair) = held else {
         return cheaper(None, cost, u64::from(via));
     };
     if must_search(&pair, cost, u64::from(via)) {
-        return cheapest_pair(book, rules, months, side, month);
+        return cheapest_pair(book, pairs, side, month);
     }
     Some(sooner(pair, cost, u64::from(via)))
 }

@@ -7,10 +7,10 @@ ghost use Rattle.spread_rules.specs.declared.order.Order.{Order};
 ghost use Rattle.spread_books.specs.code.Cheapest.{KeepsOthers};
 ghost use Rattle.spread_books.specs.code.QuoteTable.{cell_of, known_pair, HasCheapest, AreCheapest, ChangesOneQueue, HasCome, HasLeft, is_as_good};
 
-use crate::cheapest::{PairCost, renewed_pair};
+use crate::cheapest::{MonthPairs, PairCost, renewed_pair};
 use host_base::NoMemory;
 use order_books::Book;
-use spread_rules::{Instrument, Level, Order, Rulebook, Side};
+use spread_rules::{Instrument, Level, Order, Side};
 use std::alloc::Allocator;
 use std::marker::Model;
 
@@ -83,8 +83,7 @@ impl<A: Allocator + Copy> QuoteTable<A> {
     fn renew_cell<B: Book>(
         &mut self,
         book: &B,
-        rules: &Rulebook,
-        months: u8,
+        pairs: &MonthPairs<'_>,
         side: Side,
         month: u8,
         via: u8,
@@ -95,29 +94,29 @@ impl<A: Allocator + Copy> QuoteTable<A> {
             → known_pair self.new t m ≡ known_pair self.old t m }
         ensures own { (xs : List Order)
             → KeepsOthers xs (B.orders book.now) side month via
-            → HasCheapest (implied rules.now) months xs self.old side month
-            → HasCheapest (implied rules.now) months (B.orders book.now) self.new side month }
+            → HasCheapest (implied pairs.now.rules.now) pairs.now.months xs self.old side month
+            → HasCheapest (implied pairs.now.rules.now) pairs.now.months (B.orders book.now) self.new side month }
     {
         if let Some(held) = self.known_pair(side, month) {
-            let pair = renewed_pair(book, rules, months, side, month, via, held);
+            let pair = renewed_pair(book, pairs, side, month, via, held);
             self.put(side, month, pair);
         }
     }
 
     /// Renews that side's cell of each month, after the fronts of that other month changed.
-    fn renew_months<B: Book>(&mut self, book: &B, rules: &Rulebook, months: u8, side: Side, via: u8)
+    fn renew_months<B: Book>(&mut self, book: &B, pairs: &MonthPairs<'_>, side: Side, via: u8)
         requires { All HasOrderPrice (B.orders book.now) }
         ensures rest { (t : Side) (m : ℕ)
             → (t ≡ side → ⊥)
             → known_pair self.new t m ≡ known_pair self.old t m }
         ensures own { (xs : List Order) (m : ℕ)
-            → m < months
+            → m < pairs.now.months
             → KeepsOthers xs (B.orders book.now) side m via
-            → HasCheapest (implied rules.now) months xs self.old side m
-            → HasCheapest (implied rules.now) months (B.orders book.now) self.new side m }
+            → HasCheapest (implied pairs.now.rules.now) pairs.now.months xs self.old side m
+            → HasCheapest (implied pairs.now.rules.now) pairs.now.months (B.orders book.now) self.new side m }
     {
-        for month in 0..months {
-            self.renew_cell(book, rules, months, side, month, via);
+        for month in 0..pairs.months {
+            self.renew_cell(book, pairs, side, month, via);
         }
     }
 
@@ -125,28 +124,21 @@ impl<A: Allocator + Copy> QuoteTable<A> {
     fn renew<B: Book>(
         &mut self,
         book: &B,
-        rules: &Rulebook,
-        months: u8,
+        pairs: &MonthPairs<'_>,
         instrument: Instrument,
         side: Side,
     )
         requires { All HasOrderPrice (B.orders book.now) }
         ensures { (xs : List Order)
             → ChangesOneQueue xs (B.orders book.now) instrument side
-            → AreCheapest (implied rules.now) months xs self.old
-            → AreCheapest (implied rules.now) months (B.orders book.now) self.new }
+            → AreCheapest (implied pairs.now.rules.now) pairs.now.months xs self.old
+            → AreCheapest (implied pairs.now.rules.now) pairs.now.months (B.orders book.now) self.new }
     {
         match instrument {
-            Instrument::Outright(month) => self.renew_months(
-                book,
-                rules,
-                months,
-                side.opposite(),
-                month,
-            ),
+            Instrument::Outright(month) => self.renew_months(book, pairs, side.opposite(), month),
             Instrument::Spread(near, far) => {
-                self.renew_cell(book, rules, months, side.opposite(), near, far);
-                self.renew_cell(book, rules, months, side, far, near);
+                self.renew_cell(book, pairs, side.opposite(), near, far);
+                self.renew_cell(book, pairs, side, far, near);
             }
         }
     }
@@ -156,23 +148,22 @@ impl<A: Allocator + Copy> QuoteTable<A> {
     pub fn renew_for<B: Book>(
         &mut self,
         book: &B,
-        rules: &Rulebook,
-        months: u8,
+        pairs: &MonthPairs<'_>,
         order: &Order,
         others: Option<Level>,
     )
         requires { All HasOrderPrice (B.orders book.now) }
         ensures came { (xs : List Order)
             → HasCome xs (B.orders book.now) order.now others
-            → AreCheapest (implied rules.now) months xs self.old
-            → AreCheapest (implied rules.now) months (B.orders book.now) self.new }
+            → AreCheapest (implied pairs.now.rules.now) pairs.now.months xs self.old
+            → AreCheapest (implied pairs.now.rules.now) pairs.now.months (B.orders book.now) self.new }
         ensures left { (xs : List Order)
             → HasLeft xs (B.orders book.now) order.now others
-            → AreCheapest (implied rules.now) months xs self.old
-            → AreCheapest (implied rules.now) months (B.orders book.now) self.new }
+            → AreCheapest (implied pairs.now.rules.now) pairs.now.months xs self.old
+            → AreCheapest (implied pairs.now.rules.now) pairs.now.months (B.orders book.now) self.new }
     {
         if !is_as_good(others, order) {
-            self.renew(book, rules, months, order.instrument, order.side);
+            self.renew(book, pairs, order.instrument, order.side);
         }
     }
 }

@@ -7,7 +7,7 @@ ghost use Rattle.spread_books.specs.Listed.{IsInMonths};
 ghost use Rattle.spread_books.specs.code.Cheapest.{IsCheapest};
 ghost use Rattle.spread_books.specs.code.QuoteTable.{IsListed};
 
-use crate::cheapest::PairCost;
+use crate::cheapest::{MonthPairs, PairCost};
 use crate::quote_table::QuoteTable;
 use host_base::limits::MAX_PRICE;
 use host_base::{Id, NoMemory};
@@ -22,9 +22,8 @@ use std::marker::Model;
 pub struct QuotedBook<'r, A: Allocator + Copy> {
     book: FrontBook<A>,
     quotes: QuoteTable<A>,
-    rules: &'r Rulebook,
-    /// How many months the rulebook has: asked with every order.
-    months: u8,
+    /// The rulebook, and how many months it has, which is asked with every order.
+    pairs: MonthPairs<'r>,
     listed: bool,
 }
 
@@ -35,9 +34,9 @@ impl<'r, A: Allocator + Copy> Model for QuotedBook<'r, A> {
 
     ghost Value = { BookView };
 
-    ghost view = { λ b. record { rules = b.rules.now; orders = b.book } };
+    ghost view = { λ b. record { rules = b.pairs.rules.now; orders = b.book } };
 
-    ghost invariant = { λ b. KeepsTable b.listed (implied b.rules.now) b.months b.book b.quotes };
+    ghost invariant = { λ b. KeepsTable b.listed (implied b.pairs.rules.now) b.pairs.months b.book b.quotes };
 }
 
 /// Whether the order is of so many months, at a price of orders.
@@ -62,8 +61,7 @@ impl<'r, A: Allocator + Copy> QuotedBook<'r, A> {
         Ok(QuotedBook {
             book: FrontBook::new(alloc),
             quotes,
-            rules,
-            months,
+            pairs: MonthPairs { rules, months },
             listed: true,
         })
     }
@@ -72,7 +70,7 @@ impl<'r, A: Allocator + Copy> QuotedBook<'r, A> {
     pub fn rules(&self) -> &'r Rulebook
         ensures { result.now ≡ self.now.rules }
     {
-        self.rules
+        self.pairs.rules
     }
 
     /// As `len`. There is no memory for as many as a `usize` counts.
@@ -88,7 +86,7 @@ impl<'r, A: Allocator + Copy> QuotedBook<'r, A> {
         ensures { IfSome result
             (IsCheapest (implied self.now.rules) self.now.orders side month MAX_MONTHS) }
     {
-        if self.listed && month < self.months {
+        if self.listed && month < self.pairs.months {
             self.quotes.known_pair(side, month)
         } else {
             None
@@ -115,10 +113,10 @@ impl<'r, A: Allocator + Copy> Book for QuotedBook<'r, A> {
     fn add(&mut self, order: Order) -> Result<(), NoMemory> {
         let others = self.book.front_level(order.instrument, order.side);
         self.book.add(order)?;
-        self.listed = self.listed && is_listed(&order, self.months);
+        self.listed = self.listed && is_listed(&order, self.pairs.months);
         if self.listed {
             self.quotes
-                .renew_for(&self.book, self.rules, self.months, &order, others);
+                .renew_for(&self.book, &self.pairs, &order, others);
         }
         Ok(())
     }
@@ -136,7 +134,7 @@ impl<'r, A: Allocator + Copy> Book for QuotedBook<'r, A> {
             if self.listed {
                 let others = self.book.front_level(order.instrument, order.side);
                 self.quotes
-                    .renew_for(&self.book, self.rules, self.months, &order, others);
+                    .renew_for(&self.book, &self.pairs, &order, others);
             }
         }
     }

@@ -47,6 +47,15 @@ impl<B: Book, A: Allocator + Copy> Model for MarketState<B, A> {
     ghost view = { λ m. record { orders = B.orders m.book; statuses = m.statuses; last = m.last } };
 }
 
+/// A New entry's ticket, whose instrument the rulebook has.
+#[derive(Clone, Copy)]
+struct ListedTicket<'a> {
+    place: u64,
+    session: u8,
+    ticket: &'a Ticket,
+    instrument: Instrument,
+}
+
 /// A refusal. That its id was used comes before any other reason.
 fn refusal(used: bool, reason: u8) -> Outcome
     ensures { result ≡ Refused (cond used DUPLICATE_ORDER reason) }
@@ -211,42 +220,43 @@ impl<B: Book, A: Allocator + Copy> MarketState<B, A> {
         left.leaves
     }
 
-    /// Clears a ticket of that instrument, which is refused only where its id was used. All growth comes first.
+    /// Clears a ticket of a listed instrument, which is refused only where its id was used. All growth comes first.
     fn match_new(
         &mut self,
         rules: &Rulebook,
-        place: u64,
-        session: u8,
-        ticket: &Ticket,
-        instrument: Instrument,
+        new: &ListedTicket<'_>,
         fills: &mut Vec<Fill, A>,
     ) -> Result<Outcome, NoMemory>
         requires ready { IsReady (month_count rules.now) self.old }
-        requires price { IsOrderPrice ticket.now.price }
-        requires some { 0 < ticket.now.quantity }
-        requires listed { IsNearBeforeFar instrument }
-        requires within { IsInMonths (month_count rules.now) instrument }
-        requires place { self.old.last < place }
-        ensures outcome { IfOk result (λ outcome.
-            outcome ≡ (matched_in rules.now self.old place session ticket.now instrument).outcome) }
+        requires price { IsOrderPrice new.now.ticket.now.price }
+        requires some { 0 < new.now.ticket.now.quantity }
+        requires listed { IsNearBeforeFar new.now.instrument }
+        requires within { IsInMonths (month_count rules.now) new.now.instrument }
+        requires place { self.old.last < new.now.place }
+        ensures outcome { IfOk result (λ outcome. outcome
+            ≡ (matched_in rules.now self.old new.now.place new.now.session new.now.ticket.now
+            new.now.instrument).outcome) }
         ensures fills { OnOk result (fills.new.items
             ≡ fills.old.items
-            ++ (matched_in rules.now self.old place session ticket.now instrument).fills) }
+            ++ (matched_in rules.now self.old new.now.place new.now.session new.now.ticket.now
+            new.now.instrument).fills) }
         ensures after { OnOk result (self.new
-            ≡ state_with self.old place session (New ticket.now)
-            (matched_in rules.now self.old place session ticket.now instrument)) }
+            ≡ state_with self.old new.now.place new.now.session (New new.now.ticket.now)
+            (matched_in rules.now self.old new.now.place new.now.session new.now.ticket.now
+            new.now.instrument)) }
         ensures err { OnErr result (self.new ≡ self.old) }
         ensures no_fills { OnErr result (fills.new.items ≡ fills.old.items) }
     {
+        let ticket = new.ticket;
         fills.reserve(3 * self.book.len().min(ticket.quantity as usize))?;
-        let order = new_order(place, session, ticket, instrument);
+        let order = new_order(new.place, new.session, ticket, new.instrument);
         let used = self.add_to_book(&order)?;
         if used {
-            self.last = place;
+            self.last = new.place;
             return Ok(Outcome::Refused(ord_rej_reason::DUPLICATE_ORDER));
         }
         let left = self.trade_newest(rules, &order, ticket.immediate, fills);
-        self.last = place;
+        self.last = new.place;
         Ok(outcome_with(ticket.immediate, left))
     }
 
@@ -274,7 +284,15 @@ impl<B: Book, A: Allocator + Copy> MarketState<B, A> {
     {
         match judge(rules, ticket) {
             Err(reason) => self.refuse(place, session, ticket, reason),
-            Ok(instrument) => self.match_new(rules, place, session, ticket, instrument, fills),
+            Ok(instrument) => {
+                let new = ListedTicket {
+                    place,
+                    session,
+                    ticket,
+                    instrument,
+                };
+                self.match_new(rules, &new, fills)
+            }
         }
     }
 

@@ -30,34 +30,8 @@ fn expect_resting<B: Book>(rt: &impl Abort, alloc: Global, book: &B, wanted: &[O
     assert!(rt; orders.as_slice() == wanted);
 }
 
-/// Applies the entry, and again where a request was refused in it: then nothing has changed, and these orders rest.
-fn apply_or_again<B: Book, A: Allocator + Copy>(
-    rt: &impl Abort,
-    heaps: &Heaps<'_>,
-    market: &mut Market<'_, B, A>,
-    place: u64,
-    entry: &Entry,
-    fills: &mut Vec<Fill, A>,
-    orders: &[Order],
-) -> Outcome
-    requires entry { IsPriced entry.now.event }
-    requires place { market.old.state.last < place }
-    ensures last { market.new.state.last ≡ place }
-{
-    let refused_before = heaps.refusing.has_refused();
-    let before = fills.len();
-    match market.apply(place, entry, fills) {
-        Ok(outcome) => outcome,
-        Err(NoMemory) => {
-            assert!(rt; !refused_before && heaps.refusing.has_refused());
-            expect_resting(rt, heaps.ample, market.book(), orders);
-            assert!(rt; fills.len() == before);
-            market.apply(place, entry, fills).expect(rt, "memory")
-        }
-    }
-}
-
-/// The same with the orders that rest before.
+/// Applies the entry, and again where a request was refused in it: then nothing has changed, neither the fills nor the
+/// orders that rest.
 fn apply_again<B: Book, A: Allocator + Copy>(
     rt: &impl Abort,
     heaps: &Heaps<'_>,
@@ -72,7 +46,17 @@ fn apply_again<B: Book, A: Allocator + Copy>(
 {
     let mut orders = Vec::new(heaps.ample);
     append_resting(rt, &mut orders, market.book());
-    apply_or_again(rt, heaps, market, place, entry, fills, &orders)
+    let refused_before = heaps.refusing.has_refused();
+    let before = fills.len();
+    match market.apply(place, entry, fills) {
+        Ok(outcome) => outcome,
+        Err(NoMemory) => {
+            assert!(rt; !refused_before && heaps.refusing.has_refused());
+            expect_resting(rt, heaps.ample, market.book(), &orders);
+            assert!(rt; fills.len() == before);
+            market.apply(place, entry, fills).expect(rt, "memory")
+        }
+    }
 }
 
 /// The entries of a journal over this heap come to what they must, and to the fills that they came to with memory.

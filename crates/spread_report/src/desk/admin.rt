@@ -9,7 +9,7 @@ ghost use Rattle.spread_report.specs.EntryMessages.{cancel_reject_fields};
 ghost use Rattle.spread_report.specs.Outgoing as outgoing;
 
 use super::Desk;
-use super::entry::CancelRequest;
+use super::entry::{CancelRefusal, CancelRequest};
 use crate::codes::ENCRYPT_METHOD_NONE;
 use crate::fault::DeskFault;
 use crate::symbol::known_id;
@@ -161,28 +161,24 @@ impl Desk {
         }
     }
 
-    /// Sends an OrderCancelReject, of a cancel or a replace: `response_to` is its CxlRejResponseTo
-    /// (tag 434), and `place` that of the order that the request names, 0 where there is none.
+    /// Sends an OrderCancelReject, of a cancel or a replace.
     pub(super) fn cancel_reject<A: Allocator + Copy>(
         &mut self,
         lists: &mut [Vec<u8, A>],
         request: &CancelRequest,
-        response_to: u64,
-        reason: u8,
-        place: u64,
-        status: u8,
+        refusal: CancelRefusal,
     ) -> Result<(), DeskFault>
         requires lists { length lists.old ≡ SESSIONS }
         requires session { request.now.session < SESSIONS }
         ensures { Sends self.old self.new lists.old lists.new
             (numbered_message request.now.session ORDER_CANCEL_REJECT
-            (cancel_reject_fields response_to request.now.id request.now.original reason place
-            status) ∷ []) result }
+            (cancel_reject_fields refusal.response_to request.now.id request.now.original
+            refusal.reason refusal.place refusal.status) ∷ []) result }
     {
-        let named = if place == 0 {
+        let named = if refusal.place == 0 {
             Value::Text(known_id(b"NONE"))
         } else {
-            Value::Number(place)
+            Value::Number(refusal.place)
         };
         let fields = [
             Field {
@@ -191,9 +187,9 @@ impl Desk {
             },
             text_field!(tags::CL_ORD_ID, request.id),
             text_field!(tags::ORIG_CL_ORD_ID, request.original),
-            number_field!(tags::ORD_STATUS, status as u64),
-            number_field!(tags::CXL_REJ_RESPONSE_TO, response_to),
-            number_field!(tags::CXL_REJ_REASON, reason as u64),
+            number_field!(tags::ORD_STATUS, refusal.status as u64),
+            number_field!(tags::CXL_REJ_RESPONSE_TO, refusal.response_to),
+            number_field!(tags::CXL_REJ_REASON, refusal.reason as u64),
         ];
         self.send(
             lists,

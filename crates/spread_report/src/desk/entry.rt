@@ -46,6 +46,19 @@ pub struct CancelRequest {
     pub original: Id,
 }
 
+/// Why such a request is refused, and what it says of the order that the request names.
+#[derive(Clone, Copy)]
+pub struct CancelRefusal {
+    /// CxlRejResponseTo (tag 434).
+    pub response_to: u64,
+    /// CxlRejReason (tag 102).
+    pub reason: u8,
+    /// The place of the order, 0 where there is none.
+    pub place: u64,
+    /// Its OrdStatus (tag 39).
+    pub status: u8,
+}
+
 impl Desk {
     /// Notes the CompIDs that a Logon brings.
     pub(super) fn note_comp_ids(&mut self, entry: &Entry)
@@ -184,8 +197,13 @@ impl Desk {
                 place,
                 status,
             } => {
-                let response_to = CXL_REJ_RESPONSE_TO_CANCEL;
-                self.cancel_reject(lists, request, response_to, reason, place, status)
+                let refusal = CancelRefusal {
+                    response_to: CXL_REJ_RESPONSE_TO_CANCEL,
+                    reason,
+                    place,
+                    status,
+                };
+                self.cancel_reject(lists, request, refusal)
             }
             _ => Ok(()),
         }
@@ -227,8 +245,13 @@ impl Desk {
                 place,
                 status,
             } => {
-                let response_to = CXL_REJ_RESPONSE_TO_REPLACE;
-                self.cancel_reject(lists, &request, response_to, reason, place, status)
+                let refusal = CancelRefusal {
+                    response_to: CXL_REJ_RESPONSE_TO_REPLACE,
+                    reason,
+                    place,
+                    status,
+                };
+                self.cancel_reject(lists, &request, refusal)
             }
             _ => Ok(()),
         }

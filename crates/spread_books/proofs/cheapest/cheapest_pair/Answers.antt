@@ -7,7 +7,7 @@ use Rattle.spread_books.proofs.cheapest.cheapest_pair.Goals as goal
 pub loop-other_month-preserved : goal.loop-other_month-preserved
 loop-other_month-preserved g c =
     let xs = g.B.Book.orders c.args.book.now in
-    let on = implied c.args.rules.now in
+    let on = implied c.args.pairs.now.rules.now in
     let month = c.loop-other_month.other_month in
     let least = c.loop-other_month.least in
     let is : c.cheaper-least.result ≡ cheaper_of least c.pair_cost-cost.result month = c.cheaper-least.ensures ∙ ap (cheaper_of least c.pair_cost-cost.result) c.from.ensures in

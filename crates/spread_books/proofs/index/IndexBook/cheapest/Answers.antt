@@ -36,8 +36,11 @@ returns-in-Some-other_month_of g c =
     let o = c.in-Some-newest.newest in
     let via = c.in-Some-other_month_of.via in
     let one = with_newest xs zs c.self.inside.newest o c.in-Some-newest.is (ap (λ (v : BookView). v.orders) c.self.view_is) in
-    let rules = c.rules-in-Some-other_month_of.ensures in
-    subst (λ (r : Rules). IsCheapest (implied r) zs c.args.side c.args.month MAX_MONTHS c.renewed_pair.result) (rules ∙ ap (λ (v : BookView). v.rules) c.self.view_is)
+    let pairs = c.pairs-in-Some-other_month_of in
+    let own = ap (λ (v : BookView). v.rules) c.self.view_is in
+    subst (λ (n : ℕ). IsCheapest (implied c.args.self.now.rules) zs c.args.side c.args.month n c.renewed_pair.result) pairs.ensures.months
+    (subst (λ (r : Rules). IsCheapest (implied r) zs c.args.side c.args.month pairs.result.months c.renewed_pair.result) pairs.ensures.rules
     (c.renewed_pair.ensures xs
     (λ k other. column_kept xs zs o.instrument o.side c.args.side c.args.month k one (λ at. other (one_month via k (sym c.in-Some-other_month_of.is ∙ c.other_month_of.ensures k at))))
-    (subst (λ (r : Rules). IsCheapest (implied r) xs c.args.side c.args.month MAX_MONTHS c.in-Some.held) (sym rules) c.in-Some.ensures))
+    (subst (λ (n : ℕ). IsCheapest (implied pairs.result.rules.now) xs c.args.side c.args.month n c.in-Some.held) (sym pairs.ensures.months)
+    (subst (λ (r : Rules). IsCheapest (implied r) xs c.args.side c.args.month MAX_MONTHS c.in-Some.held) (own ∙ sym pairs.ensures.rules) c.in-Some.ensures))))

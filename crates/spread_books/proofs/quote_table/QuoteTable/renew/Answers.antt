@@ -10,10 +10,10 @@ use Rattle.spread_books.proofs.quote_table.QuoteTable.renew.Goals as goal
 pub returns-in-Outright : goal.returns-in-Outright
 returns-in-Outright g c = λ xs one h.
     let ys = g.B.Book.orders c.args.book.now in
-    let on = implied c.args.rules.now in
+    let on = implied c.args.pairs.now.rules.now in
     let old = c.args.self.now in
     let new = c.renew_months.new.self in
-    let months = c.args.months in
+    let months = c.args.pairs.now.months in
     let j = c.in-Outright.month in
     outright_renewed on months xs ys old new j c.args.side
     (subst (λ (u : Side). (t : Side) (m : ℕ) → (t ≡ u → ⊥) → known_pair new t m ≡ known_pair old t m) c.opposite.ensures c.renew_months.ensures.rest)
@@ -23,11 +23,11 @@ returns-in-Outright g c = λ xs one h.
 pub returns-in-Spread : goal.returns-in-Spread
 returns-in-Spread g c = λ xs one h.
     let ys = g.B.Book.orders c.args.book.now in
-    let on = implied c.args.rules.now in
+    let on = implied c.args.pairs.now.rules.now in
     let old = c.args.self.now in
     let mid = c.renew_cell.new.self in
     let new = c.renew_cell-in-Spread.new.self in
-    let months = c.args.months in
+    let months = c.args.pairs.now.months in
     let near = c.in-Spread.near in
     let far = c.in-Spread.far in
     spread_renewed on months xs ys old mid new near far c.args.side

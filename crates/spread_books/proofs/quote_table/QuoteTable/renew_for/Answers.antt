@@ -14,9 +14,9 @@ returns-then-not-is_as_good-clause-left g c = λ xs left h.
 pub returns-else-not-is_as_good-clause-came : goal.returns-else-not-is_as_good-clause-came
 returns-else-not-is_as_good-clause-came g c = λ xs come h.
     let ys = g.B.Book.orders c.args.book.now in
-    all_kept (implied c.args.rules.now) c.args.months xs ys c.args.self.now (come_kept xs ys c.args.order.now c.args.others come (sym c.is_as_good.ensures ∙ c.if-not-is_as_good.false)) h
+    all_kept (implied c.args.pairs.now.rules.now) c.args.pairs.now.months xs ys c.args.self.now (come_kept xs ys c.args.order.now c.args.others come (sym c.is_as_good.ensures ∙ c.if-not-is_as_good.false)) h
 
 pub returns-else-not-is_as_good-clause-left : goal.returns-else-not-is_as_good-clause-left
 returns-else-not-is_as_good-clause-left g c = λ xs left h.
     let ys = g.B.Book.orders c.args.book.now in
-    all_kept (implied c.args.rules.now) c.args.months xs ys c.args.self.now (left_kept xs ys c.args.order.now c.args.others left (sym c.is_as_good.ensures ∙ c.if-not-is_as_good.false)) h
+    all_kept (implied c.args.pairs.now.rules.now) c.args.pairs.now.months xs ys c.args.self.now (left_kept xs ys c.args.order.now c.args.others left (sym c.is_as_good.ensures ∙ c.if-not-is_as_good.false)) h

@@ -16,7 +16,7 @@ loop-month-init g c = record {
 pub loop-month-preserved : goal.loop-month-preserved
 loop-month-preserved g c =
     let ys = g.B.Book.orders c.args.book.now in
-    let on = implied c.args.rules.now in
+    let on = implied c.args.pairs.now.rules.now in
     let s = c.args.side in
     let k = c.loop-month.month in
     let was = c.loop-month.invariant in
@@ -26,10 +26,10 @@ loop-month-preserved g c =
       later = λ m lt. one.rest s m (λ q. let e = q.1 in omega (arith, lt, e)) ∙ was.later m (omega (arith, lt));
       own = λ xs m lt keep h.
           elim (less_or_same on m k lt) [
-            | inl before ↦ cell_as on c.args.months ys c.loop-month.self c.renew_cell.new.self s m (one.rest s m (λ q. let e = q.1 in omega (arith, before, e))) (was.own xs m before keep h)
+            | inl before ↦ cell_as on c.args.pairs.now.months ys c.loop-month.self c.renew_cell.new.self s m (one.rest s m (λ q. let e = q.1 in omega (arith, before, e))) (was.own xs m before keep h)
             | inr e ↦
-                let mine : HasCheapest on c.args.months xs c.loop-month.self s k = cell_as on c.args.months xs c.args.self.now c.loop-month.self s k (was.later k (omega arith)) (subst (λ (j : ℕ). HasCheapest on c.args.months xs c.args.self.now s j) e h) in
-                subst (λ (j : ℕ). HasCheapest on c.args.months ys c.renew_cell.new.self s j) (sym e) (one.own xs (subst (λ (j : ℕ). KeepsOthers xs ys s j c.args.via) e keep) mine)
+                let mine : HasCheapest on c.args.pairs.now.months xs c.loop-month.self s k = cell_as on c.args.pairs.now.months xs c.args.self.now c.loop-month.self s k (was.later k (omega arith)) (subst (λ (j : ℕ). HasCheapest on c.args.pairs.now.months xs c.args.self.now s j) e h) in
+                subst (λ (j : ℕ). HasCheapest on c.args.pairs.now.months ys c.renew_cell.new.self s j) (sym e) (one.own xs (subst (λ (j : ℕ). KeepsOthers xs ys s j c.args.via) e keep) mine)
           ];
     }
 

@@ -12,5 +12,5 @@ invariant-loop-month g l = record {
   later : (m : ℕ) → l.month ≤ m → known_pair l.self l.side m ≡ known_pair l.fn.self l.side m;
   own :
       (xs : List Order) (m : ℕ) → m < l.month → KeepsOthers xs (g.B.Book.orders l.book) l.side m l.via
-      → HasCheapest (implied l.rules) l.months xs l.fn.self l.side m → HasCheapest (implied l.rules) l.months (g.B.Book.orders l.book) l.self l.side m;
+      → HasCheapest (implied l.pairs.rules.now) l.pairs.months xs l.fn.self l.side m → HasCheapest (implied l.pairs.rules.now) l.pairs.months (g.B.Book.orders l.book) l.self l.side m;
 }

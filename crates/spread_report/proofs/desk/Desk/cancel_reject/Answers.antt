@@ -4,7 +4,7 @@ use Rattle.fix_wire.specs.declared.writer.Value.{Value}
 use Rattle.spread_report.specs.EntryMessages.{numbered_message, text_field, number_field, place_field}
 use Rattle.spread_report.proofs.messages.MoreMessages.{sends_same}
 use Rattle.spread_report.proofs.messages.OneMessage.{named_none, named_place}
-use Rattle.spread_report.proofs.desk.Desk.cancel_reject.Goals.{then-place-eq0, else-place-eq0}
+use Rattle.spread_report.proofs.desk.Desk.cancel_reject.Goals.{then-refusal-eq0, else-refusal-eq0}
 use Rattle.spread_report.proofs.desk.Desk.cancel_reject.Goals as goal
 
 abbrev with_37 : Value → Field
@@ -12,12 +12,12 @@ with_37 v = record { tag = 37; value = v }
 
 pub returns : goal.returns
 returns g c =
-    let named : with_37 c.if-place-eq0.named ≡ place_field c.args.place =
-    elim c.if-place-eq0.branch [
-      | then-place-eq0 w ↦ ap with_37 w.named-is ∙ (ap (λ (t : List ℕ). text_field 37 t) w.known_id.ensures ∙ sym (named_none c.args.place w.if-place-eq0.true))
-      | else-place-eq0 w ↦ ap with_37 w.named-is ∙ sym (named_place c.args.place w.if-place-eq0.false)
+    let named : with_37 c.if-refusal-eq0.named ≡ place_field c.args.refusal.place =
+    elim c.if-refusal-eq0.branch [
+      | then-refusal-eq0 w ↦ ap with_37 w.named-is ∙ (ap (λ (t : List ℕ). text_field 37 t) w.known_id.ensures ∙ sym (named_none c.args.refusal.place w.if-refusal-eq0.true))
+      | else-refusal-eq0 w ↦ ap with_37 w.named-is ∙ sym (named_place c.args.refusal.place w.if-refusal-eq0.false)
     ] in
     let q = c.args.request.now in
-    let message = λ (f : Field). numbered_message q.session 57 (f ∷ text_field 11 q.id ∷ text_field 41 q.original ∷ number_field 39 c.args.status ∷ number_field 434 c.args.response_to ∷ number_field 102 c.args.reason ∷ []) ∷ [] in
+    let message = λ (f : Field). numbered_message q.session 57 (f ∷ text_field 11 q.id ∷ text_field 41 q.original ∷ number_field 39 c.args.refusal.status ∷ number_field 434 c.args.refusal.response_to ∷ number_field 102 c.args.refusal.reason ∷ []) ∷ [] in
     sends_same c.args.self.now c.send.new.self c.args.lists.now c.send.new.lists
-    (message (with_37 c.if-place-eq0.named)) (message (place_field c.args.place)) c.send.result (ap message named) c.send.ensures
+    (message (with_37 c.if-refusal-eq0.named)) (message (place_field c.args.refusal.place)) c.send.result (ap message named) c.send.ensures
