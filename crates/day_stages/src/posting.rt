@@ -38,7 +38,7 @@ fn post_all<R: Wait, A: Allocator>(
         if stop.load(Ordering::SeqCst) {
             return false;
         }
-        match poster.post(&bytes[done..]) {
+        match poster.post_many(&bytes[done..]) {
             Post::Posted(n) => done += n,
             Post::Full => thread::yield_now(),
             Post::Ended => return false,

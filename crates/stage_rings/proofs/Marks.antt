@@ -19,6 +19,13 @@ module _ {T : Type 0} (is_mark : T → Bool) where
       let here = more_here y ys (is_mark y) h in
       rw here.0 (ends_more ys x here.1 plain)
 
+  -- items after others, none of them a mark
+  pub ends_both : (xs ys : List T) → ends is_mark xs false ≡ true → ends is_mark ys false ≡ true → ends is_mark (xs ++ ys) false ≡ true
+  ends_both [] ys h k = k
+  ends_both (x ∷ xs) ys h k =
+      let here = more_here x xs (is_mark x) h in
+      rw here.0 (ends_both xs ys here.1 k)
+
   -- the mark after them
   pub ends_mark : (xs : List T) (x : T) → ends is_mark xs false ≡ true → is_mark x ≡ true → ends is_mark (xs ++ x ∷ []) true ≡ true
   ends_mark [] x h mark = rw mark refl

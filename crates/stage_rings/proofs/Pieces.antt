@@ -1,5 +1,5 @@
 -- The bytes of pieces.
-use Rattle.std.proofs.Common.{◌≡◌, ◌∙◌, sym, ap, refl, Bool, true, false, ℕ, List, [], ◌∷◌, ◌++◌, append-nil, append_assoc, subst, take, arith, ◌<◌, ◌≤◌, nat_lt, ◌+◌, Result, Ok, Err, OnOk, IfErr}
+use Rattle.std.proofs.Common.{◌≡◌, ◌∙◌, sym, ap, refl, Bool, true, false, ℕ, List, [], ◌∷◌, ◌++◌, append-nil, append_assoc, subst, take, arith, ◌<◌, ◌≤◌, nat_lt, ◌+◌, ◌*◌, Result, Ok, Err, OnOk, IfErr}
 use Rattle.rtrb.specs.declared.errors.PushError.{PushError}
 use Rattle.rtrb.specs.declared.errors.PushError.TheVariants.{Full}
 use Rattle.std.proofs.lemmas.Bool.Decides.{nat_tests}
@@ -8,7 +8,7 @@ use Rattle.stage_rings.specs.declared.post.TheConstants.{PIECE_BYTES}
 use Rattle.stage_rings.specs.Marks.{ends}
 use Rattle.stage_rings.specs.Pieces.{is_mark, bytes_of_piece, bytes_in}
 use Rattle.stage_rings.specs.Posting.{Finishes}
-use Rattle.stage_rings.proofs.Marks.{ends_more, ends_mark, all_taken}
+use Rattle.stage_rings.proofs.Marks.{ends_more, ends_both, ends_mark, all_taken}
 
 pub bytes-append : (xs ys : List Piece) → bytes_in (xs ++ ys) ≡ bytes_in xs ++ bytes_in ys
 bytes-append [] ys = refl
@@ -22,6 +22,12 @@ pub piece_more : (xs ys : List Piece) (p : Piece) (bytes : List ℕ) (b : Bool) 
     → (ends is_mark ys b ≡ true) × (bytes_in ys ≡ bytes_in xs ++ bytes)
 piece_more xs ys p bytes true was not all plain is = absurd (cc not)
 piece_more xs ys p bytes false was not all plain is = rw all (ends_more is_mark xs p was plain, bytes_one xs p ∙ ap (λ t. bytes_in xs ++ t) is)
+
+-- several pieces more
+pub pieces_more : (xs ys more : List Piece) (bytes : List ℕ) (b : Bool) → ends is_mark xs b ≡ true → b ≡ false → ys ≡ xs ++ more → ends is_mark more false ≡ true → bytes_in more ≡ bytes
+    → (ends is_mark ys b ≡ true) × (bytes_in ys ≡ bytes_in xs ++ bytes)
+pieces_more xs ys more bytes true was not all plain is = absurd (cc not)
+pieces_more xs ys more bytes false was not all plain is = rw all (ends_both is_mark xs more was plain, bytes-append xs more ∙ ap (λ t. bytes_in xs ++ t) is)
 
 mark_has_none : (p : Piece) → is_mark p ≡ true → bytes_of_piece p ≡ []
 mark_has_none p h = rw h refl
@@ -54,3 +60,22 @@ pub pushed_or_not : (r : Result (Unit {0}) (PushError Piece)) (xs ys : List Piec
     → OnOk r ((ys ≡ xs ++ p ∷ []) × (k ≤ m + 1)) → IfErr r (λ e. (e ≡ Full p) × (ys ≡ xs) × (n ≡ 0)) → ends is_mark ys b ≡ true
 pushed_or_not (Ok u) xs ys p b k m n was not plain ok err = (piece_more xs ys p (bytes_of_piece p) b was not ok.0 plain refl).0
 pushed_or_not (Err e) xs ys p b k m n was not plain ok err = rw err.1 was
+
+room_by_test : (b : Bool) (free count n : ℕ) → nat_lt (free * 63) n ≡ b → (n ≤ free * 63 → count ≤ free) → free < count → free * 63 < n
+room_by_test true free count n e room lt = grind (arith, nat_tests, e)
+room_by_test false free count n e room lt =
+    let within : n ≤ free * 63 = grind (arith, nat_tests, e) in
+    let few = room within in
+    absurd (omega (arith, few, lt))
+
+-- fewer free slots than pieces have less room than the bytes take
+pub too_little_room : (free count m n len : ℕ) → free < m → m ≤ count → n ≤ len → (n ≤ free * 63 → count ≤ free) → free * 63 < len
+too_little_room free count m n len lt le within room =
+    let less = room_by_test (nat_lt (free * 63) n) free count n refl room (omega (arith, lt, le)) in
+    omega (arith, less, within)
+
+-- after a push of several, whatever came of it
+pub pieces_or_not : {E : Type 0} (r : Result (Unit {0}) E) (F : E → Type 0) (K : Type 0) (xs ys more : List Piece) (b : Bool) → ends is_mark xs b ≡ true → b ≡ false → ends is_mark more false ≡ true
+    → OnOk r ((ys ≡ xs ++ more) × K) → IfErr r F → ((e : E) → F e → ys ≡ xs) → ends is_mark ys b ≡ true
+pieces_or_not (Ok u) F K xs ys more b was not plain ok err same = (pieces_more xs ys more (bytes_in more) b was not ok.0 plain refl).0
+pieces_or_not (Err e) F K xs ys more b was not plain ok err same = rw (same e err) was

@@ -1,9 +1,9 @@
 -- What is said of the two ends of a session's ring to its writer.
-use Rattle.std.specs.Prelude.{◌≡◌, ℕ, ◌<◌, Bool, true, false, min, List, [], ◌++◌, length, take}
+use Rattle.std.specs.Prelude.{◌≡◌, ℕ, ◌<◌, ◌*◌, Bool, true, false, min, List, [], ◌++◌, length, take}
 use mathlib.Core.List.{IsPrefix}
 use Rattle.rtrb.specs.Ring.{sent, received, known_free, producer_capacity, IsPair, SameProducer, SameConsumer}
 use Rattle.stage_rings.specs.Pieces.{bytes_in}
-use Rattle.stage_rings.specs.declared.post.TheConstants.{PIECE_BYTES}
+use Rattle.stage_rings.specs.declared.post.TheConstants.{PIECE_BYTES, MANY_PIECES}
 use Rattle.stage_rings.specs.declared.post.Poster.{Poster}
 use Rattle.stage_rings.specs.declared.post.Writer.{Writer}
 use Rattle.stage_rings.specs.declared.post.Post.{Post}
@@ -47,6 +47,18 @@ Posts (Posted n) bytes a b =
     (post_ended a ≡ false) × (n ≡ min (length bytes) PIECE_BYTES) × (posted b ≡ posted a ++ take n bytes) × (post_ended b ≡ false)
 Posts Full bytes a b = (post_ended a ≡ false) × (0 < length bytes) × (post_room b ≡ 0) × PostRests a b
 Posts Ended bytes a b = (post_ended a ≡ true) × (b ≡ a)
+
+-- how many of these bytes are given at once: as many as so many pieces take, and the ring
+abbrev pub given_at_once : {A : Type 0} → Poster A → List ℕ → ℕ
+given_at_once p bytes =
+    min (length bytes) (min MANY_PIECES (producer_capacity p.producer) * PIECE_BYTES)
+
+-- what `post_many` does, by its answer
+abbrev pub PostsMany : {A : Type 0} → Post → List ℕ → Poster A → Poster A → Type 0
+PostsMany (Posted n) bytes a b =
+    (post_ended a ≡ false) × (n ≡ given_at_once a bytes) × (posted b ≡ posted a ++ take n bytes) × (post_ended b ≡ false)
+PostsMany Full bytes a b = (post_ended a ≡ false) × (post_room b * PIECE_BYTES < length bytes) × PostRests a b
+PostsMany Ended bytes a b = (post_ended a ≡ true) × (b ≡ a)
 
 -- what `end` does, by its answer
 abbrev pub EndPosts : {A : Type 0} → Post → Poster A → Poster A → Type 0

@@ -1,5 +1,5 @@
 //! A session's ring to the thread that writes its bytes: its items are pieces of bytes, and one mark that ends them.
-ghost use Rattle.std.specs.Prelude.{◌≡◌, [], true, false, length, ◌≤◌};
+ghost use Rattle.std.specs.Prelude.{◌≡◌, ℕ, [], true, false, length, ◌≤◌, ◌*◌, take};
 ghost use Rattle.rtrb.specs.Ring.{sent, received};
 ghost use Rattle.stage_rings.specs.Marks.{ends};
 ghost use Rattle.stage_rings.specs.Pieces.{bytes_in, bytes_of_piece, is_mark};
@@ -15,12 +15,21 @@ pub const PIECE_BYTES: usize = 63;
 /// The length of the end mark, which no piece has.
 const MARK: u8 = 64;
 
+/// How many pieces are given at once at most.
+pub const MANY_PIECES: usize = 8;
+
 /// An item of the ring: so many of its first bytes, or the end mark.
 #[derive(Clone, Copy)]
 pub(crate) struct Piece {
     length: u8,
     bytes: [u8; PIECE_BYTES],
 }
+
+/// A piece of no bytes.
+const NO_PIECE: Piece = Piece {
+    length: 0,
+    bytes: [0; PIECE_BYTES],
+};
 
 /// The end that gives bytes. It may move to another thread.
 #[derive(Drop)]
@@ -79,8 +88,28 @@ fn piece_of(bytes: &[u8]) -> Piece
     piece
 }
 
+/// As many pieces as these bytes take, and how many these are.
+fn pieces_of(bytes: &[u8]) -> ([Piece; MANY_PIECES], usize)
+    requires { length bytes.now ≤ MANY_PIECES * PIECE_BYTES }
+    ensures count { result.1 ≤ MANY_PIECES }
+    ensures room { (k : ℕ) → length bytes.now ≤ k * PIECE_BYTES → result.1 ≤ k }
+    ensures bytes { bytes_in (take result.1 result.0) ≡ bytes.now }
+    ensures plain { ends is_mark (take result.1 result.0) false ≡ true }
+{
+    let mut items = [NO_PIECE; MANY_PIECES];
+    let mut count = 0;
+    let mut done = 0;
+    while done < bytes.len() {
+        let n = (bytes.len() - done).min(PIECE_BYTES);
+        items[count] = piece_of(&bytes[done..done + n]);
+        count += 1;
+        done += n;
+    }
+    (items, count)
+}
+
 impl<A: Allocator> Poster<A> {
-    ghost use Rattle.stage_rings.specs.Posting.{SamePoster, Posts, EndPosts};
+    ghost use Rattle.stage_rings.specs.Posting.{SamePoster, Posts, PostsMany, EndPosts};
 
     pub(crate) fn new(producer: Producer<Piece, A>) -> Poster<A>
         requires { sent producer ≡ [] }
@@ -106,6 +135,24 @@ impl<A: Allocator> Poster<A> {
         let n = bytes.len().min(PIECE_BYTES);
         let piece = piece_of(&bytes[..n]);
         let Ok(()) = self.producer.push(piece) else {
+            return Post::Full;
+        };
+        Post::Posted(n)
+    }
+
+    /// Gives the first bytes in several pieces at once, 8 at most and no more than the ring holds, and says how many: all
+    /// of them, or none where the ring has no room for all.
+    pub fn post_many(&mut self, bytes: &[u8]) -> Post
+        ensures ring { SamePoster self.old self.new }
+        ensures post { PostsMany result bytes.now self.old self.new }
+    {
+        if self.ended {
+            return Post::Ended;
+        }
+        let pieces = MANY_PIECES.min(self.producer.capacity());
+        let n = bytes.len().min(pieces * PIECE_BYTES);
+        let (items, count) = pieces_of(&bytes[..n]);
+        let Ok(()) = self.producer.push_entire_slice(&items[..count]) else {
             return Post::Full;
         };
         Post::Posted(n)

@@ -85,6 +85,32 @@ fn bytes_are_posted_in_pieces(rt: HostRuntime) {
     expect_pieces(&rt, &mut poster, &mut writer);
 }
 
+/// Several pieces are posted at once or none: 8 at most, and no more than a ring of 2 and then one of 16 holds.
+fn expect_many<A: Allocator>(rt: &impl Abort, poster: &mut Poster<A>, writer: &mut Writer<A>) {
+    let bytes = [b'x'; 130];
+    assert!(rt; poster.post_many(&[]) == Post::Posted(0));
+    assert!(rt; poster.post_many(&bytes) == Post::Posted(126));
+    assert!(rt; writer.take() == Ok(Wrote::Bytes(63)));
+    assert!(rt; poster.post_many(&bytes) == Post::Full);
+    assert!(rt; poster.post_many(&bytes[126..]) == Post::Posted(4));
+    assert!(rt; poster.end() == Post::Full);
+    assert!(rt; writer.take() == Ok(Wrote::Bytes(63)));
+    assert!(rt; poster.end() == Post::Posted(0));
+    assert!(rt; poster.post_many(&bytes) == Post::Ended);
+    assert!(rt; writer.take() == Ok(Wrote::Bytes(4)));
+    assert!(rt; writer.bytes() == bytes.as_slice());
+}
+
+#[test]
+fn bytes_are_posted_in_several_pieces(rt: HostRuntime) {
+    let (mut poster, mut writer) = post_ring(rt.alloc(), 2).expect(&rt, "a ring");
+    expect_many(&rt, &mut poster, &mut writer);
+    let (mut poster, mut writer) = post_ring(rt.alloc(), 16).expect(&rt, "a ring");
+    assert!(rt; poster.post_many(&[b'y'; 600]) == Post::Posted(504));
+    assert!(rt; writer.take() == Ok(Wrote::Bytes(63)));
+    assert!(rt; writer.bytes() == [b'y'; 63].as_slice());
+}
+
 /// What is written is what was posted where the end mark was taken, and only there.
 #[test]
 fn bytes_end_with_a_mark(rt: HostRuntime) {
