@@ -69,10 +69,9 @@ room_by_test false free count n e room lt =
     absurd (omega (arith, few, lt))
 
 -- fewer free slots than pieces have less room than the bytes take
-pub too_little_room : (free count m n len : ℕ) → free < m → m ≤ count → n ≤ len → (n ≤ free * 63 → count ≤ free) → free * 63 < len
-too_little_room free count m n len lt le within room =
-    let less = room_by_test (nat_lt (free * 63) n) free count n refl room (omega (arith, lt, le)) in
-    omega (arith, less, within)
+pub too_little_room : (free count m n : ℕ) → free < m → m ≤ count → (n ≤ free * 63 → count ≤ free) → free * 63 < n
+too_little_room free count m n lt le room =
+    room_by_test (nat_lt (free * 63) n) free count n refl room (omega (arith, lt, le))
 
 -- after a push of several, whatever came of it
 pub pieces_or_not : {E : Type 0} (r : Result (Unit {0}) E) (F : E → Type 0) (K : Type 0) (xs ys more : List Piece) (b : Bool) → ends is_mark xs b ≡ true → b ≡ false → ends is_mark more false ≡ true

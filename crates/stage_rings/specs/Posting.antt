@@ -56,8 +56,10 @@ given_at_once p bytes =
 -- what `post_many` does, by its answer
 abbrev pub PostsMany : {A : Type 0} → Post → List ℕ → Poster A → Poster A → Type 0
 PostsMany (Posted n) bytes a b =
-    (post_ended a ≡ false) × (n ≡ given_at_once a bytes) × (posted b ≡ posted a ++ take n bytes) × (post_ended b ≡ false)
-PostsMany Full bytes a b = (post_ended a ≡ false) × (post_room b * PIECE_BYTES < length bytes) × PostRests a b
+    (post_ended a ≡ false) × (n ≡ given_at_once a bytes) × (posted b ≡ posted a ++ take n bytes)
+    × (post_ended b ≡ false)
+PostsMany Full bytes a b =
+    (post_ended a ≡ false) × (post_room b * PIECE_BYTES < given_at_once a bytes) × PostRests a b
 PostsMany Ended bytes a b = (post_ended a ≡ true) × (b ≡ a)
 
 -- what `end` does, by its answer

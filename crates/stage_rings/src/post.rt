@@ -140,8 +140,8 @@ impl<A: Allocator> Poster<A> {
         Post::Posted(n)
     }
 
-    /// Gives the first bytes in several pieces at once, 8 at most and no more than the ring holds, and says how many: all
-    /// of them, or none where the ring has no room for all.
+    /// Gives the first bytes at once, as many as 8 pieces take and the ring can hold, and says how many. Full, and
+    /// none given, where the ring has no room for all of these.
     pub fn post_many(&mut self, bytes: &[u8]) -> Post
         ensures ring { SamePoster self.old self.new }
         ensures post { PostsMany result bytes.now self.old self.new }

@@ -107,6 +107,8 @@ fn bytes_are_posted_in_several_pieces(rt: HostRuntime) {
     expect_many(&rt, &mut poster, &mut writer);
     let (mut poster, mut writer) = post_ring(rt.alloc(), 16).expect(&rt, "a ring");
     assert!(rt; poster.post_many(&[b'y'; 600]) == Post::Posted(504));
+    assert!(rt; poster.post_many(&[b'y'; 600]) == Post::Posted(504));
+    assert!(rt; poster.post_many(&[b'y'; 600]) == Post::Full);
     assert!(rt; writer.take() == Ok(Wrote::Bytes(63)));
     assert!(rt; writer.bytes() == [b'y'; 63].as_slice());
 }

@@ -1,7 +1,7 @@
-use Rattle.std.proofs.Common.{◌≡◌, ◌≤◌, ◌<◌, ◌+◌, ◌*◌, ◌∙◌, ap, sym, refl, arith, min, length, take}
+use Rattle.std.proofs.Common.{◌≡◌, ℕ, ◌<◌, ◌*◌, ◌∙◌, ap, subst, refl, arith, min, length, take}
 use Rattle.std.proofs.lemmas.List.{length-take}
 use Rattle.stage_rings.specs.Pieces.{bytes_in}
-use Rattle.rtrb.specs.Ring.{sent}
+use Rattle.rtrb.specs.Ring.{sent, known_free}
 use Rattle.stage_rings.proofs.Pieces.{pieces_more, pieces_or_not, too_little_room}
 use Rattle.stage_rings.proofs.post.Poster.post_many.Goals as goal
 
@@ -18,18 +18,18 @@ pub returns-clause-post : goal.returns-clause-post
 returns-clause-post g c =
     let p = c.args.self.now in
     let made = c.pieces_of-count in
-    let step = pieces_more (sent p.producer) (sent c.push_entire_slice.new.self) (take made.result.1 made.result.0) (take c.min-n.result c.args.bytes.now) p.ended p.shape c.if-self.false c.in-Ok.ensures.ok.0 made.ensures.plain made.ensures.bytes in
-    let most = c.min-pieces.ensures ∙ ap (min 8) c.capacity.ensures in
-    (c.if-self.false, c.min-n.ensures ∙ ap (λ k. min (length c.args.bytes.now) (k * 63)) most, step.1, c.if-self.false)
+    let step = pieces_more (sent p.producer) (sent c.push_entire_slice.new.self) (take made.result.1 made.result.0) (take c.min-n.result c.args.bytes.now)
+    p.ended p.shape c.if-self.false c.in-Ok.ensures.ok.0 made.ensures.plain made.ensures.bytes in
+    (c.if-self.false, (c.min-n.ensures ∙ ap (λ k. min (length c.args.bytes.now) (k * 63)) (c.min-pieces.ensures ∙ ap (min 8) c.capacity.ensures)), step.1, c.if-self.false)
 
 pub returns-in_default-clause-post : goal.returns-in_default-clause-post
 returns-in_default-clause-post g c =
     let full = c.in_default.ensures.full in
     let made = c.pieces_of-count in
-    let bytes = c.args.bytes.now in
     let n = c.min-n.result in
     let pushed = length-take made.result.1 made.result.0 in
-    let given = length-take n bytes in
-    let room = too_little_room _ made.result.1 (length (take made.result.1 made.result.0)) (length (take n bytes)) (length bytes) full.2
-    (omega (arith, pushed)) (omega (arith, given)) (made.ensures.room _) in
-    (c.if-self.false, room, (ap bytes_in full.0.1, refl))
+    let given = length-take n c.args.bytes.now in
+    let whole : length (take n c.args.bytes.now) ≡ n = let at = c.min-n.ensures in omega (arith, given, at) in
+    let room = too_little_room (known_free c.push_entire_slice.new.self) made.result.1 (length (take made.result.1 made.result.0)) n full.2 (omega (arith, pushed))
+    (λ fits. made.ensures.room _ (omega (arith, whole, fits))) in
+    (c.if-self.false, subst (λ (k : ℕ). known_free c.push_entire_slice.new.self * 63 < k) (c.min-n.ensures ∙ ap (λ k. min (length c.args.bytes.now) (k * 63)) (c.min-pieces.ensures ∙ ap (min 8) c.capacity.ensures)) room, (ap bytes_in full.0.1, refl))
