@@ -1,12 +1,12 @@
 -- The first line of a text, and the whole lines that two texts begin with.
-use Rattle.std.proofs.Common.{◌≡◌, ◌≢◌, ℕ, ◌+◌, ◌≤◌, ◌==◌, true, false, Bool, List, [], ◌∷◌, ◌++◌, All, length, length-append, take, subst, suc, if◌then◌else◌, refl, sym, ap, ◌∙◌, arith, append_assoc}
+use Rattle.std.proofs.Common.{◌≡◌, ◌≢◌, ℕ, ◌+◌, ◌≤◌, ◌==◌, true, false, Bool, List, [], ◌∷◌, ◌++◌, length, length-append, take, subst, suc, if◌then◌else◌, refl, sym, ap, ◌∙◌, arith, append_assoc}
 use Rattle.std.specs.List.{concat}
 use Rattle.std.proofs.lemmas.List.{append-nil}
 use Rattle.std.proofs.lemmas.List.Elements.{All-append, All-cons, All-nil}
 use Rattle.std.proofs.lemmas.List.Folds.{concat-append}
 use Rattle.std.proofs.lemmas.Bool.Decides.{nat_tests}
 use Rattle.host_base.specs.Cut.{Lacks}
-use Rattle.host_base.proofs.Cuts.{cut_once, not_lacking}
+use Rattle.host_base.proofs.Cuts.{cut_once}
 use Rattle.day_text.specs.Differences.{first_line, IsWholeLine, HasPassed}
 
 not_ten : (b : ℕ) → b ≢ 10 → (b == 10) ≡ false

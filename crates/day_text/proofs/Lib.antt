@@ -2,3 +2,4 @@ pub mod MonthLines
 pub mod PiecesInTurn
 pub mod SessionLines
 pub mod FirstLines
+pub mod FillLines

@@ -7,6 +7,7 @@ mod fault;
 mod fills;
 mod messages;
 mod months;
+mod pieces;
 
 pub use day_text::{Day, text_of_fills, write_day, write_fills};
 pub use difference::{Difference, first_difference};

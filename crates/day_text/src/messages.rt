@@ -7,48 +7,11 @@ ghost use Rattle.day_text.specs.DayText.{texts_of};
 ghost use Rattle.day_text.specs.Messages.{shown_byte, line_lead, outgoing_line, outgoing_lines, outgoing_lines_from};
 ghost use Rattle.day_text.specs.code.Pieces.{IsPut};
 
+use crate::pieces::{make_room, write_out};
 use fix_wire::first_of_row;
 use host_base::limits::SESSIONS;
-use host_base::{Failed, Sink, write_all};
+use host_base::{Failed, Sink};
 use std::alloc::Allocator;
-
-/// How many bytes a piece has room for.
-pub const PIECE_BYTES: usize = 65_536;
-
-/// Writes what stands in the piece.
-fn write_out<K: Sink, A: Allocator>(piece: &mut Vec<u8, A>, sink: &mut K) -> Result<(), Failed>
-    requires works { K.has_failed sink.old ≡ false }
-    ensures ok { OnOk result (Appends (K.written sink.old) (K.written sink.new) piece.old.items) }
-    ensures items { OnOk result (piece.new.items ≡ []) }
-    ensures len { OnOk result (vec_len piece.new ≡ 0) }
-    ensures room { vec_capacity piece.new ≡ vec_capacity piece.old }
-    ensures sound { OnOk result (K.has_failed sink.new ≡ false) }
-    ensures failed { OnErr result (K.has_failed sink.new ≡ true) }
-    ensures front { OnErr result
-        (AppendsPrefix (K.written sink.old) (K.written sink.new) piece.old.items) }
-{
-    write_all(sink, piece)?;
-    piece.clear();
-    Ok(())
-}
-
-/// Writes what stands in the piece if it is full.
-fn make_room<K: Sink, A: Allocator>(piece: &mut Vec<u8, A>, sink: &mut K) -> Result<(), Failed>
-    requires works { K.has_failed sink.old ≡ false }
-    requires some { 0 < vec_capacity piece.old }
-    ensures put { OnOk result
-        (IsPut (K.written sink.old) (K.written sink.new) piece.new.items piece.old.items) }
-    ensures room { OnOk result (vec_len piece.new < vec_capacity piece.new) }
-    ensures sound { OnOk result (K.has_failed sink.new ≡ false) }
-    ensures failed { OnErr result (K.has_failed sink.new ≡ true) }
-    ensures front { OnErr result
-        (AppendsPrefix (K.written sink.old) (K.written sink.new) piece.old.items) }
-{
-    if piece.len() == piece.capacity() {
-        return write_out(piece, sink);
-    }
-    Ok(())
-}
 
 /// Shows each byte 1 as `|`.
 fn show_field_ends(text: &mut [u8])
@@ -98,7 +61,7 @@ fn put_shown<K: Sink, A: Allocator>(
 {
     let mut rest = bytes;
     while !rest.is_empty() {
-        make_room(piece, sink)?;
+        make_room(piece, sink, 1)?;
         let (now, later) = rest.split_at(rest.len().min(piece.capacity() - piece.len()));
         append_shown(piece, now);
         rest = later;

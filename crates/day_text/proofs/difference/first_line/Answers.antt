@@ -1,4 +1,4 @@
-use Rattle.std.proofs.Common.{◌≡◌, ◌∙◌, ap, sym, ℕ, suc, ◌+◌, List, length, take, arith}
+use Rattle.std.proofs.Common.{◌≡◌, ◌∙◌, ap, sym, ℕ, suc, ◌+◌, length, take, arith}
 use Rattle.day_text.specs.Differences.{first_line}
 use Rattle.day_text.proofs.FirstLines.{line_ends, line_is_all, taken}
 use Rattle.day_text.proofs.difference.first_line.Goals as goal

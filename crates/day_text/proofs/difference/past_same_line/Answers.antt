@@ -1,6 +1,5 @@
 use Rattle.std.proofs.Common.{◌∙◌, ap, sym, ℕ, [], ◌∷◌, ◌++◌, List, refl, append_assoc}
 use Rattle.std.specs.Cmp.Lexicographic.{same_text, other_text}
-use Rattle.day_text.specs.Differences.{IsWholeLine}
 use Rattle.day_text.proofs.FirstLines.{other_lines, same_line_same}
 use Rattle.day_text.proofs.difference.past_same_line.Goals as goal
 

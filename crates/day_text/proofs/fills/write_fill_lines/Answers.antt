@@ -1,0 +1,16 @@
+use Rattle.std.proofs.Common.{◌≡◌, ◌++◌, List, ℕ, sym, subst, ◌∙◌, ap}
+use Rattle.host_base.specs.Ends.{AppendsPrefix}
+use Rattle.day_text.specs.Fills.{fill_lines}
+use Rattle.day_text.proofs.PiecesInTurn.{front_after, on_err}
+use Rattle.day_text.proofs.fills.write_fill_lines.Goals as goal
+
+pub returns-clause-front : goal.returns-clause-front
+returns-clause-front g c =
+    let told = λ (k : _). g.K.Sink.written k in
+    let put = c.in_ok-put_all.ensures.put in
+    let lines = fill_lines c.args.rulebook.now c.args.fills.now in
+    let all : lines ≡ put.out ++ c.put_all.new.piece.items = sym (ap (λ (t : List ℕ). t ++ lines) c.requires.empty) ∙ put.all in
+    on_err c.write_out.result
+    (λ last. subst (λ (t : List ℕ). AppendsPrefix (told c.args.sink.now) (told c.write_out.new.sink) t) (sym all)
+    (front_after (told c.args.sink.now) (told c.put_all.new.sink) (told c.write_out.new.sink) put.out c.put_all.new.piece.items put.written last))
+    c.write_out.ensures.front
