@@ -23,8 +23,11 @@ pub fn read_day_lines<A: Allocator + Copy>(
 {
     day_journal();
     put_field_ends(text);
-    let lines = read_lines(alloc, text)?;
+    let mut lines = read_lines(alloc, text)?;
     let journal = journal_of_lines(alloc, &lines)?;
+    // Cut down before it is freed: glibc copies lists that grow once a large block was freed.
+    lines.truncate(1);
+    lines.shrink_to_fit();
     if journal.len() > MAX_JOURNAL_ENTRIES {
         return Err(LinesFault::JournalFull);
     }
