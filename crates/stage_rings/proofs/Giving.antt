@@ -1,5 +1,5 @@
 -- A slice of a journal, of which a beginning was given.
-use Rattle.std.proofs.Common.{arith, ◌≡◌, ◌∙◌, sym, ap, ℕ, ◌+◌, ◌-◌, ◌≤◌, List, ◌++◌, length, take, drop, min, subst}
+use Rattle.std.proofs.Common.{arith, ◌≡◌, ◌∙◌, sym, ap, ℕ, ◌+◌, ◌-◌, ◌≤◌, List, ◌++◌, length, take, drop, subst}
 use Rattle.std.proofs.Math.Seq.{take-append-add, drop-append_seam, take-length}
 use Rattle.std.proofs.lemmas.List.{length-append, take-append-drop, length-take, length-drop}
 use mathlib.Core.List.{IsPrefix}

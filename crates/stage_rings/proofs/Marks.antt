@@ -1,7 +1,7 @@
 -- Lists whose last item may be a mark, and no other.
 use Rattle.std.proofs.Common.{◌≡◌, ◌∙◌, sym, ap, refl, Bool, true, false, List, [], ◌∷◌, ◌++◌, length, drop, get_or, cond, subst}
 use mathlib.Core.List.{IsPrefix}
-use Rattle.stage_rings.specs.Marks.{ends, ended_here, opposite}
+use Rattle.stage_rings.specs.Marks.{ends, ended_here}
 
 module _ {T : Type 0} (is_mark : T → Bool) where
   only_end : (xs : List T) (b : Bool) → ended_here xs b ≡ true → (xs ≡ []) × (b ≡ true)

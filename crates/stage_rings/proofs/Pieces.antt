@@ -1,5 +1,5 @@
 -- The bytes of pieces.
-use Rattle.std.proofs.Common.{◌≡◌, ◌∙◌, sym, ap, refl, Bool, true, false, ℕ, List, [], ◌∷◌, ◌++◌, append-nil, append_assoc, subst, take, arith, ◌<◌, ◌≤◌, nat_lt, ◌+◌, ◌*◌, Result, Ok, Err, OnOk, IfErr}
+use Rattle.std.proofs.Common.{◌≡◌, ◌∙◌, sym, ap, refl, Bool, true, false, ℕ, List, [], ◌∷◌, ◌++◌, append-nil, append_assoc, take, arith, ◌<◌, ◌≤◌, nat_lt, ◌+◌, ◌*◌, Result, Ok, Err, OnOk, IfErr}
 use Rattle.rtrb.specs.declared.errors.PushError.{PushError}
 use Rattle.rtrb.specs.declared.errors.PushError.TheVariants.{Full}
 use Rattle.std.proofs.lemmas.Bool.Decides.{nat_tests}

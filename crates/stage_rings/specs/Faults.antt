@@ -1,5 +1,5 @@
 -- Why no ring is made.
-use Rattle.std.specs.Prelude.{◌≡◌, ℕ, ◌<◌, ◌≤◌, ◌⊎◌}
+use Rattle.std.specs.Prelude.{ℕ, ◌<◌, ◌≤◌, ◌⊎◌}
 use Rattle.host_base.specs.declared.limits.TheConstants.{MAX_RING}
 use Rattle.stage_rings.specs.declared.fault.LinkFault.{LinkFault}
 use Rattle.stage_rings.specs.declared.fault.LinkFault.TheVariants.{Sessions, Ring, NoMemory, Journal}

@@ -1,5 +1,5 @@
 -- Pieces of bytes, the items of a session's ring to its writer.
-use Rattle.std.specs.Prelude.{ℕ, Bool, if◌then◌else◌, List, [], ◌∷◌, ◌++◌, take, nat_lt}
+use Rattle.std.specs.Prelude.{ℕ, Bool, if◌then◌else◌, List, [], take, nat_lt}
 use Rattle.std.specs.List.{flat_map}
 use Rattle.stage_rings.specs.declared.post.TheConstants.{PIECE_BYTES}
 use Rattle.stage_rings.specs.declared.post.Piece.{Piece}

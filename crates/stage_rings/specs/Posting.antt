@@ -1,7 +1,7 @@
 -- What is said of the two ends of a session's ring to its writer.
 use Rattle.std.specs.Prelude.{◌≡◌, ℕ, ◌<◌, ◌*◌, Bool, true, false, min, List, [], ◌++◌, length, take}
 use mathlib.Core.List.{IsPrefix}
-use Rattle.rtrb.specs.Ring.{sent, received, known_free, producer_capacity, IsPair, SameProducer, SameConsumer}
+use Rattle.rtrb.specs.Ring.{sent, known_free, producer_capacity, IsPair, SameProducer, SameConsumer}
 use Rattle.stage_rings.specs.Pieces.{bytes_in}
 use Rattle.stage_rings.specs.declared.post.TheConstants.{PIECE_BYTES, MANY_PIECES}
 use Rattle.stage_rings.specs.declared.post.Poster.{Poster}

@@ -36,6 +36,8 @@ const NO_PIECE: Piece = Piece {
 pub struct Poster<A: Allocator> {
     pub(crate) producer: Producer<Piece, A>,
     pub(crate) ended: bool,
+    /// Where pieces are laid out before they are pushed. What is left in them of earlier bytes is not read.
+    pieces: [Piece; MANY_PIECES],
     // The mark comes last, and only where it is ended.
     ghost shape: { ends is_mark (sent producer) ended ≡ true },
 }
@@ -72,40 +74,33 @@ pub enum Wrote {
     Ended,
 }
 
-/// A piece of these bytes.
-fn piece_of(bytes: &[u8]) -> Piece
+/// Lays these bytes out in a piece.
+fn put_piece(piece: &mut Piece, bytes: &[u8])
     requires { length bytes.now ≤ PIECE_BYTES }
-    ensures bytes { bytes_of_piece result ≡ bytes.now }
-    ensures plain { is_mark result ≡ false }
+    ensures bytes { bytes_of_piece piece.new ≡ bytes.now }
+    ensures plain { is_mark piece.new ≡ false }
 {
-    let mut piece = Piece {
-        length: bytes.len() as u8,
-        bytes: [0; PIECE_BYTES],
-    };
-    for i in 0..bytes.len() {
-        piece.bytes[i] = bytes[i];
-    }
-    piece
+    piece.length = bytes.len() as u8;
+    piece.bytes[..bytes.len()].copy_from_slice(bytes);
 }
 
-/// As many pieces as these bytes take, and how many these are.
-fn pieces_of(bytes: &[u8]) -> ([Piece; MANY_PIECES], usize)
+/// Lays these bytes out in the first of these pieces, and says in how many.
+fn put_pieces(pieces: &mut [Piece; MANY_PIECES], bytes: &[u8]) -> usize
     requires { length bytes.now ≤ MANY_PIECES * PIECE_BYTES }
-    ensures count { result.1 ≤ MANY_PIECES }
-    ensures room { (k : ℕ) → length bytes.now ≤ k * PIECE_BYTES → result.1 ≤ k }
-    ensures bytes { bytes_in (take result.1 result.0) ≡ bytes.now }
-    ensures plain { ends is_mark (take result.1 result.0) false ≡ true }
+    ensures count { result ≤ MANY_PIECES }
+    ensures room { (k : ℕ) → length bytes.now ≤ k * PIECE_BYTES → result ≤ k }
+    ensures bytes { bytes_in (take result pieces.new) ≡ bytes.now }
+    ensures plain { ends is_mark (take result pieces.new) false ≡ true }
 {
-    let mut items = [NO_PIECE; MANY_PIECES];
     let mut count = 0;
     let mut done = 0;
     while done < bytes.len() {
         let n = (bytes.len() - done).min(PIECE_BYTES);
-        items[count] = piece_of(&bytes[done..done + n]);
+        put_piece(&mut pieces[count], &bytes[done..done + n]);
         count += 1;
         done += n;
     }
-    (items, count)
+    count
 }
 
 impl<A: Allocator> Poster<A> {
@@ -118,6 +113,7 @@ impl<A: Allocator> Poster<A> {
         Poster {
             producer,
             ended: false,
+            pieces: [NO_PIECE; MANY_PIECES],
         }
     }
 
@@ -133,7 +129,8 @@ impl<A: Allocator> Poster<A> {
             return Post::Posted(0);
         }
         let n = bytes.len().min(PIECE_BYTES);
-        let piece = piece_of(&bytes[..n]);
+        let mut piece = NO_PIECE;
+        put_piece(&mut piece, &bytes[..n]);
         let Ok(()) = self.producer.push(piece) else {
             return Post::Full;
         };
@@ -151,8 +148,8 @@ impl<A: Allocator> Poster<A> {
         }
         let pieces = MANY_PIECES.min(self.producer.capacity());
         let n = bytes.len().min(pieces * PIECE_BYTES);
-        let (items, count) = pieces_of(&bytes[..n]);
-        let Ok(()) = self.producer.push_entire_slice(&items[..count]) else {
+        let count = put_pieces(&mut self.pieces, &bytes[..n]);
+        let Ok(()) = self.producer.push_entire_slice(&self.pieces[..count]) else {
             return Post::Full;
         };
         Post::Posted(n)
@@ -206,7 +203,7 @@ impl<A: Allocator> Writer<A> {
         if self.consumer.is_empty() {
             return Ok(Wrote::Empty);
         }
-        let piece = *self.consumer.peek_known();
+        let piece = self.consumer.peek_known();
         let n = usize::from(piece.length);
         if n > PIECE_BYTES {
             self.consumer.pop_known();

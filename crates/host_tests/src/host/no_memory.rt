@@ -102,13 +102,13 @@ fn replay_refused_memory(rt: HostRuntime) {
     let rules = three_months(&rt);
     let mut places = Places::new();
     let mut last_refused = true;
-    let mut without_fault = 0;
+    let mut without_fault = 0u64;
     for number in 1..250u64 {
         let heap = Refusing::new(rt.alloc(), number);
         let fault = replay_over(&rt, rt.alloc(), &heap, &rules);
         last_refused = heap.has_refused();
         if last_refused && fault.is_none() {
-            without_fault += 1;
+            without_fault = without_fault.saturating_add(1);
         }
         note_fault(&rt, &mut places, last_refused, fault);
     }

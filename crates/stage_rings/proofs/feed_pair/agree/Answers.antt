@@ -1,5 +1,5 @@
 use Rattle.rtrb.specs.Ring.{sent, received, known_items}
-use Rattle.std.proofs.Common.{◌≡◌, ◌∙◌, ◌++◌, sym, ap}
+use Rattle.std.proofs.Common.{◌∙◌, ◌++◌, sym, ap}
 use Rattle.stage_rings.proofs.Feeds.{agreed}
 use Rattle.stage_rings.proofs.feed_pair.agree.Goals as goal
 

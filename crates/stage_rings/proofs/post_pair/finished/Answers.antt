@@ -1,5 +1,5 @@
 use Rattle.rtrb.specs.Ring.{sent, received, known_items}
-use Rattle.std.proofs.Common.{◌≡◌, ◌∙◌, ◌++◌, sym, ap}
+use Rattle.std.proofs.Common.{◌∙◌, ◌++◌, sym, ap}
 use Rattle.stage_rings.proofs.Pieces.{finishes}
 use Rattle.stage_rings.proofs.post_pair.finished.Goals as goal
 

@@ -1,4 +1,4 @@
-use Rattle.std.proofs.Common.{◌≡◌, ◌∙◌, sym, refl, ap, length}
+use Rattle.std.proofs.Common.{◌∙◌, sym, refl, ap, length}
 use Rattle.rtrb.specs.Ring.{sent}
 use Rattle.stage_rings.proofs.Feeds.{end_more}
 use Rattle.stage_rings.proofs.feed.Feeder.end.Goals as goal

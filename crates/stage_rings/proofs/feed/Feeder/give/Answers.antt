@@ -1,4 +1,4 @@
-use Rattle.std.proofs.Common.{true, arith, List, ◌≡◌, ◌∙◌, sym, ap, length, ◌≤◌, ◌++◌, take, subst}
+use Rattle.std.proofs.Common.{true, arith, List, ◌≡◌, ◌∙◌, ap, length, ◌≤◌, ◌++◌, take, subst}
 use Rattle.rtrb.specs.Ring.{sent}
 use Rattle.stage_rings.specs.Feeds.{entries, is_end}
 use Rattle.stage_rings.specs.declared.feed.Fed.{Fed}

@@ -1,4 +1,4 @@
-use Rattle.std.proofs.Common.{◌≡◌, refl}
+use Rattle.std.proofs.Common.{refl}
 use Rattle.rtrb.specs.Ring.{received}
 use Rattle.stage_rings.proofs.Feeds.{entry_more, end_more}
 use Rattle.stage_rings.proofs.feed.Matcher.take.Goals as goal

@@ -1,4 +1,4 @@
-use Rattle.std.proofs.Common.{◌≡◌, refl}
+use Rattle.std.proofs.Common.{refl}
 use Rattle.rtrb.specs.Ring.{sent}
 use Rattle.stage_rings.proofs.Pieces.{mark_more}
 use Rattle.stage_rings.proofs.post.Poster.end.Goals as goal

@@ -1,15 +1,14 @@
-use Rattle.std.proofs.Common.{◌≡◌, ◌∙◌, ◌≤◌, ◌<◌, ◌*◌, ◌+◌, ◌-◌, ◌++◌, ◌∷◌, [], false, true, ap, sym, refl, arith, subst, take, drop, length, take-add}
+use Rattle.std.proofs.Common.{◌≡◌, ◌∙◌, ◌≤◌, ◌<◌, ◌*◌, ◌+◌, ◌-◌, ◌++◌, false, true, ap, sym, refl, arith, subst, take, drop, length, take-add}
 use Rattle.std.proofs.lemmas.List.{take_more_set, take_all, length-set}
-use Rattle.stage_rings.specs.declared.post.Piece.{Piece}
 use Rattle.stage_rings.specs.Pieces.{bytes_in, bytes_of_piece, is_mark}
 use Rattle.stage_rings.specs.Marks.{ends}
 use Rattle.stage_rings.proofs.Marks.{ends_more}
 use Rattle.stage_rings.proofs.Pieces.{bytes_one}
-use Rattle.stage_rings.proofs.post.pieces_of.Goals as goal
+use Rattle.stage_rings.proofs.post.put_pieces.Goals as goal
 
 pub loop-done-init : goal.loop-done-init
 loop-done-init c = record {
-  long = refl;
+  long = c.told-pieces;
   within = omega arith;
   level = λ lt. refl;
   few = λ k h. omega arith;
@@ -20,11 +19,11 @@ loop-done-init c = record {
 pub loop-done-preserved : goal.loop-done-preserved
 loop-done-preserved c =
     let was = c.loop-done.invariant in
-    let items = c.loop-done.items in
+    let items = c.loop-done.pieces in
     let count = c.loop-done.count in
     let done = c.loop-done.done in
     let bytes = c.args.bytes.now in
-    let p = c.piece_of.result in
+    let p = c.put_piece.new.piece in
     let n = c.min-n.result in
     let lt : done < length bytes = c.loop-done-test.true in
     let level : done ≡ count * 63 = was.level lt in
@@ -33,14 +32,14 @@ loop-done-preserved c =
     let more = take_more_set items count p free in
     let size : done + n - done ≡ n = omega arith in
     let joined : bytes_in (take count items) ++ bytes_of_piece p ≡ take (done + n) bytes =
-    ap (λ t. t ++ bytes_of_piece p) was.gave ∙ (ap (λ t. take done bytes ++ t) (c.piece_of.ensures.bytes ∙ ap (λ k. take k (drop done bytes)) size) ∙ sym (take-add done n bytes)) in
+    ap (λ t. t ++ bytes_of_piece p) was.gave ∙ (ap (λ t. take done bytes ++ t) (c.put_piece.ensures.bytes ∙ ap (λ k. take k (drop done bytes)) size) ∙ sym (take-add done n bytes)) in
     record {
       long = length-set items count p ∙ was.long;
       within = omega (arith, c.min-n.ensures, lt);
       level = λ rest. omega (arith, c.min-n.ensures, level, rest);
       few = λ k h. omega (arith, lt, level, h);
       gave = ap bytes_in more ∙ (bytes_one (take count items) p ∙ joined);
-      plain = subst (λ (xs : _). ends is_mark xs false ≡ true) (sym more) (ends_more is_mark (take count items) p was.plain c.piece_of.ensures.plain);
+      plain = subst (λ (xs : _). ends is_mark xs false ≡ true) (sym more) (ends_more is_mark (take count items) p was.plain c.put_piece.ensures.plain);
     }
 
 pub returns-clause-count : goal.returns-clause-count

@@ -1,16 +1,16 @@
 use Rattle.std.proofs.Common.{◌≡◌, ℕ, ◌-◌, ◌≤◌, ◌<◌, ◌*◌, true, false, take, length}
 use Rattle.stage_rings.specs.Marks.{ends}
 use Rattle.stage_rings.specs.Pieces.{bytes_in, is_mark}
-use Rattle.stage_rings.proofs.post.pieces_of.Given as goal
+use Rattle.stage_rings.proofs.post.put_pieces.Given as goal
 
 abbrev pub invariant-loop-done : goal.invariant-loop-done
 invariant-loop-done l = record {
-  long : length l.items ≡ 8;
+  long : length l.pieces ≡ 8;
   within : l.done ≤ length l.bytes;
   level : l.done < length l.bytes → l.done ≡ l.count * 63;
   few : (k : ℕ) → length l.bytes ≤ k * 63 → l.count ≤ k;
-  gave : bytes_in (take l.count l.items) ≡ take l.done l.bytes;
-  plain : ends is_mark (take l.count l.items) false ≡ true;
+  gave : bytes_in (take l.count l.pieces) ≡ take l.done l.bytes;
+  plain : ends is_mark (take l.count l.pieces) false ≡ true;
 }
 
 abbrev pub decreases-loop-done : goal.decreases-loop-done
