@@ -7,6 +7,7 @@ use crate::lanes::journal_of_lines;
 use crate::laws::day_journal;
 use crate::lines::{LinesFault, put_field_ends, read_lines};
 use host_base::limits::MAX_JOURNAL_ENTRIES;
+use host_base::release;
 use spread_rules::Entry;
 use std::alloc::Allocator;
 
@@ -23,11 +24,9 @@ pub fn read_day_lines<A: Allocator + Copy>(
 {
     day_journal();
     put_field_ends(text);
-    let mut lines = read_lines(alloc, text)?;
+    let lines = read_lines(alloc, text)?;
     let journal = journal_of_lines(alloc, &lines)?;
-    // Cut down before it is freed: glibc copies lists that grow once a large block was freed.
-    lines.truncate(1);
-    lines.shrink_to_fit();
+    release(lines);
     if journal.len() > MAX_JOURNAL_ENTRIES {
         return Err(LinesFault::JournalFull);
     }

@@ -11,7 +11,7 @@ ghost use Rattle.session_threads.specs.code.Writing.{AreJoinedPairs, written_at}
 use day_apply::FillsAndMessages;
 use day_stages::{MatchEnd, Matched, ThreadsFault, of_apply};
 use gate_link::{Poster, agree, finished};
-use session_threads::{SequenceEnd, Sequenced, Written};
+use session_threads::{GivenStreams, SequenceEnd, Sequenced, Written};
 use spread_rules::Entry;
 use std::alloc::Allocator;
 
@@ -75,17 +75,18 @@ fn fault_of<A: Allocator + Copy>(
     sequenced: &mut Sequenced<A>,
     matched: &mut Matched<'_, A>,
     written: &mut [Written<A>],
-    streams: &[Vec<u8, A>],
+    streams: &GivenStreams<A>,
     room: usize,
 ) -> Option<ThreadsFault>
-    requires { AreJoined room streams.now sequenced.old matched.old written.old }
+    requires { AreJoined room streams.now.value.items sequenced.old matched.old written.old }
     ensures journal { sequenced.new.journal ≡ sequenced.old.journal }
     ensures reported { matched.new.posted.reported ≡ matched.old.posted.reported }
     ensures count { length written.new ≡ length written.old }
     ensures fault { IfSome result (λ f. (ring : ℕ)
-        → IsThreadsFault (sending_rules matched.old.posted.reported) streams.now ring room f) }
+        → IsThreadsFault (sending_rules matched.old.posted.reported) streams.now.value.items ring
+        room f) }
     ensures whole { IfNone result
-        (IsWhole streams.now sequenced.old.journal.items matched.old.posted written.new) }
+        (IsWhole streams.now.value.items sequenced.old.journal.items matched.old.posted written.new) }
 {
     if let SequenceEnd::JournalFull = sequenced.end {
         return Some(ThreadsFault::JournalFull);
@@ -117,16 +118,16 @@ pub(crate) fn conclude<A: Allocator + Copy>(
     sequenced: Sequenced<A>,
     matched: Matched<'_, A>,
     written: Vec<Written<A>, A>,
-    streams: &[Vec<u8, A>],
+    streams: &GivenStreams<A>,
     room: usize,
 ) -> Result<SessionsDay<A>, ThreadsFault>
-    requires { AreJoined room streams.now sequenced matched written.items }
+    requires { AreJoined room streams.now.value.items sequenced matched written.items }
     ensures size { IfOk result (λ day. length day.journal.items ≤ room) }
     ensures day { IfOk result (IsDayOfSessions (sending_rules matched.entry.posted.reported)
-        (stamp_of matched.entry.posted.reported) streams.entry.now) }
+        (stamp_of matched.entry.posted.reported) streams.now.value.items) }
     ensures fault { IfErr result (λ f. (ring : ℕ)
         → IsThreadsFault (sending_rules matched.entry.posted.reported)
-        streams.entry.now ring room f) }
+        streams.now.value.items ring room f) }
 {
     let mut sequenced = sequenced;
     let mut matched = matched;

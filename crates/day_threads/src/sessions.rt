@@ -16,6 +16,7 @@ use session_threads::{
     join_writers, sequence, start_all, start_writers,
 };
 use std::alloc::{AllocError, Allocator};
+use std::snapshot::Snapshot;
 use std::sync::Wait;
 use std::sync::atomic::{AtomicBool, Ordering};
 use std::thread;
@@ -39,7 +40,7 @@ fn no_room<T: Drop>(_unused: T) -> ThreadsFault
 /// thread took goes.
 fn stop_workers<R: Threads, G, A: Allocator, T: Drop>(
     shared: &Shared<'_, '_, R, G>,
-    workers: Workers<'_, A>,
+    workers: Workers<A>,
     number: u8,
     _unused: T,
 ) -> ThreadsFault
@@ -52,10 +53,10 @@ fn stop_workers<R: Threads, G, A: Allocator, T: Drop>(
 }
 
 /// Room for the handles of the sessions' threads and of the writers', and for what they hand back.
-fn rooms_of<'s, A: Allocator + Copy>(
+fn rooms_of<A: Allocator + Copy>(
     alloc: A,
     sessions: usize,
-) -> Result<(Workers<'s, A>, Writing<A>), AllocError>
+) -> Result<(Workers<A>, Writing<A>), AllocError>
     ensures workers { IfOk result (λ r.
         IsRoom sessions (vec_len r.0.handles) (vec_capacity r.0.handles)
         × IsRoom sessions (vec_len r.0.room) (vec_capacity r.0.room)) }
@@ -80,20 +81,21 @@ fn sessions_in<'r: 's, 's, E, R: Wait + Threads + Sync, G: Gate, A: Allocator + 
     scope: &Scope<'s, E>,
     shared: &Shared<'r, 's, R, G>,
     stages: Stages<'s, A>,
-    streams: &'s [Vec<u8, A>],
+    streams: Vec<Vec<u8, A>, A>,
     alloc: A,
 ) -> Result<SessionsDay<A>, ThreadsFault>
-    requires { AreReady streams.now stages }
+    requires { AreReady streams.items stages }
     ensures day { IfOk result (IsDayOfSessions (sending_rules stages.entry.posted.reported)
-        (stamp_of stages.entry.posted.reported) streams.entry.now) }
+        (stamp_of stages.entry.posted.reported) streams.items) }
     ensures size { IfOk result (λ day. length day.journal.items ≤ stages.entry.room) }
     ensures fault { IfErr result (λ f. (ring : ℕ)
         → IsThreadsFault (sending_rules stages.entry.posted.reported)
-        streams.entry.now ring stages.entry.room f) }
+        streams.items ring stages.entry.room f) }
 {
+    let given = Snapshot::of(&streams);
     let sessions = stages.gateways.len();
     let Ok((workers, writing)) = rooms_of(alloc, sessions) else {
-        return Err(no_room(stages));
+        return Err(no_room((stages, streams)));
     };
     let Stages {
         gateways,
@@ -128,13 +130,13 @@ fn sessions_in<'r: 's, 's, E, R: Wait + Threads + Sync, G: Gate, A: Allocator + 
         drop(join_writers(rt, writing.handles, writing.room));
         return Err(fault);
     }
-    let sequenced = sequence(rt, stop, sequencer, feeder, workers, streams);
+    let sequenced = sequence(rt, stop, sequencer, feeder, workers, &given);
     if sequenced.end != SequenceEnd::Whole {
         stop.store(true, Ordering::SeqCst);
     }
     let matched = matching.join(rt);
     let written = join_writers(rt, writing.handles, writing.room);
-    conclude(sequenced, matched, written, streams, size)
+    conclude(sequenced, matched, written, &given, size)
 }
 
 /// Runs a thread for each of 1 to 16 streams, session 0 first, one that matches, one for each session's writer, and
@@ -171,18 +173,17 @@ pub fn run_sessions<'r, R: Threads + Wait + Sync, G: Gate, A: Allocator + Copy +
         stop: &flag,
         ring: caps.ring,
     };
-    let all = streams.as_slice();
     thread::scope(
         thread::scope_env(),
         rt,
         |scope| -> Result<SessionsDay<A>, ThreadsFault>
-            requires { AreReady all.now stages }
+            requires { AreReady streams.items stages }
             ensures day { IfOk result (IsDayOfSessions (sending_rules stages.entry.posted.reported)
-                (stamp_of stages.entry.posted.reported) all.entry.now) }
+                (stamp_of stages.entry.posted.reported) streams.items) }
             ensures size { IfOk result (λ day. length day.journal.items ≤ stages.entry.room) }
             ensures fault { IfErr result (λ f. (ring : ℕ)
                 → IsThreadsFault (sending_rules stages.entry.posted.reported)
-                all.entry.now ring stages.entry.room f) }
-        { sessions_in(scope, &shared, stages, all, alloc) },
+                streams.items ring stages.entry.room f) }
+        { sessions_in(scope, &shared, stages, streams, alloc) },
     )
 }

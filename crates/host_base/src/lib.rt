@@ -15,7 +15,7 @@ mod whole;
 
 pub use id::Id;
 pub use id_key::IdKey;
-pub use memory::NoMemory;
+pub use memory::{NoMemory, release};
 pub use sink::{Sink, ToWriter};
 pub use source::{Failed, FromReader, Source};
 pub use test_ends::{TestSink, TestSource};

@@ -5,6 +5,7 @@ ghost use Rattle.std.specs.Fmt.{signed_decimal};
 ghost use Rattle.host_base.specs.Cut.{Lacks};
 
 use itoa::Buffer;
+use memchr::memchr;
 
 /// What stands before the first such byte, and what stands after it.
 pub fn cut_at(bytes: &[u8], at: u8) -> Option<(&[u8], &[u8])>
@@ -12,12 +13,8 @@ pub fn cut_at(bytes: &[u8], at: u8) -> Option<(&[u8], &[u8])>
     ensures first { IfSome result (λ r. Lacks at r.0.now) }
     ensures none { IfNone result (Lacks at bytes.now) }
 {
-    for (i, b) in bytes.iter().enumerate() {
-        if *b == at {
-            return Some((&bytes[..i], &bytes[i + 1..]));
-        }
-    }
-    None
+    let place = memchr(at, bytes)?;
+    Some((&bytes[..place], &bytes[place + 1..]))
 }
 
 /// What stands after that front.

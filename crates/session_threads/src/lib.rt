@@ -12,7 +12,7 @@ mod writing;
 pub use idle::{found, rest};
 pub use sequencing::{SequenceEnd, Sequenced, sequence};
 pub use worker::{Gate, WorkerPromise};
-pub use workers::{Shared, Started, WorkerHandle, Workers, join_all, start_all};
+pub use workers::{GivenStreams, Shared, Started, WorkerHandle, Workers, join_all, start_all};
 pub use writing::{
     StartedWriters, WritePromise, WritingHandle, Written, join_writers, start_writers,
 };

@@ -9,6 +9,7 @@ ghost use Rattle.session_threads.specs.code.Workers.{IsUnused, HasSent, SameEven
 use crate::idle::{found, rest};
 use crate::workers::{Shared, WorkerHandle};
 use gate_link::{Burst, Gateway, MAX_SLICE, Step};
+use host_base::release;
 use std::alloc::Allocator;
 use std::snapshot::Snapshot;
 use std::sync::Wait;
@@ -39,13 +40,13 @@ pub trait Gate: Sync {
 
 /// What a worker's thread gives back: its own gateway, with what it sent of its own stream.
 #[derive(Drop)]
-pub struct WorkerPromise<'a, A: Allocator> {
+pub struct WorkerPromise<A: Allocator> {
     pub gateway: Snapshot<Gateway<A>>,
-    pub stream: &'a [u8],
+    pub stream: Snapshot<Vec<u8, A>>,
 }
 
-impl<'a, A: Allocator> Promise<Gateway<A>> for WorkerPromise<'a, A> {
-    ghost kept_by = { λ p g. HasSent p.stream.now p.gateway.value g };
+impl<A: Allocator> Promise<Gateway<A>> for WorkerPromise<A> {
+    ghost kept_by = { λ p g. HasSent p.stream.value.items p.gateway.value g };
 }
 
 /// Puts the stream into the gateway and sends its events, so many messages at once, until the gateway is closed or the
@@ -153,20 +154,20 @@ fn slice_of(asked: u32, ring: usize) -> u32
     ring.min(MAX_SLICE).min(asked as usize).max(1) as u32
 }
 
-/// A thread of the scope for one session.
+/// A thread of the scope for one session. The stream goes where its events were sent.
 pub fn start<'r: 's, 's, E, R: Wait + Threads + Sync, G: Gate, A: Allocator + Send + 's>(
     scope: &Scope<'s, E>,
     shared: &Shared<'r, 's, R, G>,
     gateway: Gateway<A>,
-    stream: &'s [u8],
-) -> Option<WorkerHandle<'s, A>>
+    stream: Vec<u8, A>,
+) -> Option<WorkerHandle<A>>
     requires { IsUnused gateway }
     ensures { IfSome result
-        (λ h. (h.promise.gateway.value ≡ gateway) × (h.promise.stream.now ≡ stream.entry.now)) }
+        (λ h. (h.promise.gateway.value ≡ gateway) × (h.promise.stream.value ≡ stream)) }
 {
     let promise = WorkerPromise {
         gateway: Snapshot::of(&gateway),
-        stream,
+        stream: Snapshot::of(&stream),
     };
     let Shared {
         rt,
@@ -180,8 +181,12 @@ pub fn start<'r: 's, 's, E, R: Wait + Threads + Sync, G: Gate, A: Allocator + Se
         move || -> Gateway<A>
             requires unused { IsUnused gateway }
             requires most { most ≤ MAX_SLICE }
-            ensures { HasSent stream.entry.now gateway result }
-        { run_gateway(rt, gate, stop, most, gateway, stream) },
+            ensures { HasSent stream.items gateway result }
+        {
+            let gateway = run_gateway(rt, gate, stop, most, gateway, &stream);
+            release(stream);
+            gateway
+        },
     );
     started.ok()
 }

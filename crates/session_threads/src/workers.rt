@@ -1,5 +1,5 @@
 //! A thread for each session's stream: all are started, and all are joined.
-ghost use Rattle.std.specs.Prelude.{◌≡◌, ◌<◌, ◌≤◌, ℕ, length, IfNone, IfSome, vec_len, vec_capacity};
+ghost use Rattle.std.specs.Prelude.{◌≡◌, ◌<◌, ◌≤◌, ℕ, IfNone, IfSome, vec_len, vec_capacity};
 ghost use Rattle.host_base.specs.declared.limits.TheConstants.{SESSIONS};
 ghost use Rattle.gate_link.specs.declared.gateway.Gateway.{Gateway};
 ghost use Rattle.gate_link.specs.Opening.{AreFresh};
@@ -8,12 +8,16 @@ ghost use Rattle.session_threads.specs.code.Handing.{AreStarted, AreKept};
 use crate::worker::{Gate, WorkerPromise, start};
 use gate_link::Gateway;
 use std::alloc::Allocator;
+use std::snapshot::Snapshot;
 use std::sync::Wait;
 use std::sync::atomic::AtomicBool;
 use std::thread::{PromisedHandle, Scope, Threads};
 
 /// The handle of a session's thread.
-pub type WorkerHandle<'s, A> = PromisedHandle<Gateway<A>, WorkerPromise<'s, A>>;
+pub type WorkerHandle<A> = PromisedHandle<Gateway<A>, WorkerPromise<A>>;
+
+/// The streams of all sessions as clauses see them. It has no bytes: each thread has its own stream.
+pub type GivenStreams<A> = Snapshot<Vec<Vec<u8, A>, A>>;
 
 /// What the threads of all sessions share.
 #[derive(Drop)]
@@ -27,47 +31,44 @@ pub struct Shared<'r, 's, R, G> {
 
 /// The handles of the threads that were started, and the session of the one that was refused.
 #[derive(Drop)]
-pub struct Started<'s, A: Allocator> {
-    pub handles: Vec<WorkerHandle<'s, A>, A>,
+pub struct Started<A: Allocator> {
+    pub handles: Vec<WorkerHandle<A>, A>,
     pub refused: Option<u8>,
 }
 
 /// The handles of all threads of sessions, and room for the gateways that they hand back.
 #[derive(Drop)]
-pub struct Workers<'s, A: Allocator> {
-    pub handles: Vec<WorkerHandle<'s, A>, A>,
+pub struct Workers<A: Allocator> {
+    pub handles: Vec<WorkerHandle<A>, A>,
     pub room: Vec<Gateway<A>, A>,
 }
 
-/// Starts a thread for each gateway, up to the first that is refused.
+/// Starts a thread for each gateway, with its stream, up to the first that is refused.
 pub fn start_all<'r: 's, 's, E, R: Wait + Threads + Sync, G: Gate, A: Allocator + Send + 's>(
     scope: &Scope<'s, E>,
     shared: &Shared<'r, 's, R, G>,
     gateways: Vec<Gateway<A>, A>,
-    streams: &'s [Vec<u8, A>],
-    handles: Vec<WorkerHandle<'s, A>, A>,
-) -> Started<'s, A>
+    streams: Vec<Vec<u8, A>, A>,
+    handles: Vec<WorkerHandle<A>, A>,
+) -> Started<A>
     requires fresh { (ring : ℕ) × AreFresh ring gateways.items }
-    requires streams { vec_len gateways ≡ length streams.now }
+    requires streams { vec_len gateways ≡ vec_len streams }
     requires few { vec_len gateways ≤ SESSIONS }
     requires room { (vec_len handles ≡ 0) × (vec_len gateways ≤ vec_capacity handles) }
     ensures most { vec_len result.handles ≤ vec_len gateways }
     ensures all { IfNone result.refused (vec_len result.handles ≡ vec_len gateways) }
     ensures refused { IfSome result.refused
-        (λ session. (session ≡ vec_len result.handles) × (session < length streams.entry.now)) }
-    ensures started { AreStarted streams.entry.now gateways.items result.handles.items }
+        (λ session. (session ≡ vec_len result.handles) × (session < vec_len streams)) }
+    ensures started { AreStarted streams.items gateways.items result.handles.items }
 {
     let mut handles = handles;
+    let mut streams = streams;
     for gateway in gateways {
-        let s = handles.len();
-        let stream = streams[s].as_slice();
-        match start(scope, shared, gateway, stream) {
+        match start(scope, shared, gateway, streams.remove(0)) {
             Some(handle) => handles.push_reserved(handle),
             None => {
-                return Started {
-                    handles,
-                    refused: Some(s as u8),
-                };
+                let refused = Some(handles.len() as u8);
+                return Started { handles, refused };
             }
         }
     }
@@ -78,14 +79,14 @@ pub fn start_all<'r: 's, 's, E, R: Wait + Threads + Sync, G: Gate, A: Allocator 
 }
 
 /// Joins each thread.
-pub fn join_all<'s, R: Threads, A: Allocator>(
+pub fn join_all<R: Threads, A: Allocator>(
     rt: &R,
-    handles: Vec<WorkerHandle<'s, A>, A>,
+    handles: Vec<WorkerHandle<A>, A>,
     joined: Vec<Gateway<A>, A>,
 ) -> Vec<Gateway<A>, A>
     requires { (vec_len joined ≡ 0) × (vec_len handles ≤ vec_capacity joined) }
-    ensures len { vec_len result ≡ vec_len handles.entry }
-    ensures kept { AreKept handles.entry.items result.items }
+    ensures len { vec_len result ≡ vec_len handles }
+    ensures kept { AreKept handles.items result.items }
 {
     let mut joined = joined;
     for handle in handles {

@@ -72,10 +72,8 @@ pub fn replay<S: Source, K: Sink, A: Allocator + Copy>(
     read_back();
     let mut text = read_all(alloc, source)?;
     let journal = read_day_lines(alloc, &mut text)?;
-    // The day takes more room than the text, which is not needed any more. Its block is cut down and not freed: once a
-    // large block was freed, glibc takes large ones from a heap in which a list that grows is copied.
-    text.truncate(1);
-    text.shrink_to_fit();
+    // The day takes more room than the text, which is not needed any more.
+    release(text);
     let day = day_of(alloc, rulebook, stamp, journal)?;
     write_day(alloc, rulebook, &day, journal_only, sink)?;
     Ok(day)

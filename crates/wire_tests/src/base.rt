@@ -2,4 +2,5 @@
 
 mod byte_ends;
 mod ids;
+mod memory;
 mod texts;

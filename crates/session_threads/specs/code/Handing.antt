@@ -13,14 +13,14 @@ AreStarted streams gateways handles =
     (s : ℕ) (v : Vec ℕ _) (g : Gateway _) (h : PromisedHandle (Gateway _) (WorkerPromise _))
     → s < length handles
     → ((slice_index_or handles s h).promise.gateway.value ≡ slice_index_or gateways s g)
-    × ((slice_index_or handles s h).promise.stream.now ≡ (slice_index_or streams s v).items)
+    × ((slice_index_or handles s h).promise.stream.value.items ≡ (slice_index_or streams s v).items)
 
 -- what each joined worker gave back keeps what its handle promised
 abbrev pub AreKept : {A : Type 0} → List (PromisedHandle (Gateway A) (WorkerPromise A))
     → List (Gateway A) → Type 0
 AreKept handles joined =
     (s : ℕ) (h : PromisedHandle (Gateway _) (WorkerPromise _)) (r : Gateway _) → s < length joined
-    → HasSent (slice_index_or handles s h).promise.stream.now
+    → HasSent (slice_index_or handles s h).promise.stream.value.items
     (slice_index_or handles s h).promise.gateway.value (slice_index_or joined s r)
 
 -- what the workers have sent of their streams, one by one

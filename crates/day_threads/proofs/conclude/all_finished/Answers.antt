@@ -1,9 +1,8 @@
-use Rattle.std.proofs.Common.{◌≡◌, ◌∙◌, sym, ap, arith, ◌<◌, ℕ, length, get_or}
+use Rattle.std.proofs.Common.{◌≡◌, ◌∙◌, sym, ap, arith, ◌<◌, length, get_or}
 use Rattle.stage_rings.specs.Posting.{posted, written}
 use Rattle.gate_link.proofs.inboxes.AlongTwoLists.{left_more}
 use Rattle.gate_link.proofs.links.PartOfASession.{row_at}
-use Rattle.day_stages.specs.code.Posting.{posted_at}
-use Rattle.session_threads.specs.code.Writing.{bytes_written, written_at}
+use Rattle.session_threads.specs.code.Writing.{bytes_written}
 use Rattle.day_threads.proofs.JoinedParts.{row_written, finishes_whole}
 use Rattle.day_threads.proofs.conclude.all_finished.Goals as goal
 

@@ -1,4 +1,4 @@
-use Rattle.std.proofs.Common.{◌≡◌, ◌≤◌, ◌<◌, ℕ, length, get_or}
+use Rattle.std.proofs.Common.{◌≡◌, ◌≤◌, ◌<◌, ℕ, get_or}
 use Rattle.stage_rings.specs.declared.post.Poster.{Poster}
 use Rattle.day_stages.specs.code.Posting.{posted_at}
 use Rattle.session_threads.specs.code.Writing.{written_at}

@@ -1,4 +1,4 @@
-use Rattle.std.proofs.Common.{◌≡◌, ◌≤◌, ◌∙◌, sym, ap, subst, ℕ, ◌<◌, List, length, arith, vec_len, Vec, Option, Some, None, refl}
+use Rattle.std.proofs.Common.{◌≡◌, ◌∙◌, sym, ap, subst, ℕ, ◌<◌, List, length, arith, vec_len, Option, Some, None, refl}
 use Rattle.std.specs.Prelude.{IfNone}
 use Rattle.std.proofs.lemmas.List.{with_items_is}
 use Rattle.std.specs.Vec.{with_items}
@@ -23,7 +23,7 @@ none_found None other h = h
 none_found (Some f) other h = absurd (other f refl)
 
 -- nothing went wrong
-all_whole : (g : _) (c : After-into_parts-fills g) → IsWhole c.args.streams.now c.args.sequenced.journal.items c.args.matched.posted c.fault_of.new.written
+all_whole : (g : _) (c : After-into_parts-fills g) → IsWhole c.args.streams.now.value.items c.args.sequenced.journal.items c.args.matched.posted c.fault_of.new.written
 all_whole g c = none_found c.fault_of.result c.in_default.not-Some c.fault_of.ensures.whole
 
 -- there are as many texts as sessions
@@ -62,7 +62,7 @@ returns-clause-day g c =
     ∙ (ap (λ (xs : List (Written g.row.A.Denot)). written_at xs s) items
     ∙ all.written s (omega (arith, low, all.count))))
     (λ s past. made.others s (omega (arith, past, n)) ∙ ap (λ (ts : List (List ℕ)). session_text ts s) kept) in
-    subst (λ j. IsDayOfSessions rules stamp c.args.streams.now record { journal = j; applied = record { fills = c.into_parts-fills.result.fills; out = out } }) (sym c.fault_of.ensures.journal)
+    subst (λ j. IsDayOfSessions rules stamp c.args.streams.now.value.items record { journal = j; applied = record { fills = c.into_parts-fills.result.fills; out = out } }) (sym c.fault_of.ensures.journal)
     record {
       parts = all.parts;
       fills = c.into_parts-fills.ensures.fills ∙ (ap (λ r. r.applied.fills) c.fault_of.ensures.reported ∙ all.posted.reported.applied.fills);

@@ -1,4 +1,4 @@
-use Rattle.std.proofs.Common.{◌≡◌, ◌≤◌, ◌+◌, ◌∙◌, refl, sym, ap, subst, ℕ, ◌<◌, List, length, arith, inr}
+use Rattle.std.proofs.Common.{◌≡◌, ◌∙◌, refl, sym, ap, subst, List, arith, inr}
 use mathlib.Core.List.{IsPrefix}
 use Rattle.spread_rules.specs.declared.event.Entry.{Entry}
 use Rattle.gate_link.proofs.links.SeveralCalls.{prefix_trans}
@@ -18,17 +18,17 @@ use Rattle.day_threads.proofs.conclude.fault_of.Goals as goal
 use Rattle.day_threads.proofs.conclude.fault_of.Goals.{After-agree-agreed, After-saturating_add}
 
 -- of each session, what was taken is a beginning of its stream's events
-took_parts : (g : _) (c : After-agree-agreed g) → IsBeginningOf c.args.streams.now (taken c.args.matched.now.matcher)
+took_parts : (g : _) (c : After-agree-agreed g) → IsBeginningOf c.args.streams.now.value.items (taken c.args.matched.now.matcher)
 took_parts g c =
     let j = c.requires in
     let took = taken c.args.matched.now.matcher in
     let gave = given c.args.sequenced.now.feeder in
     let journal = c.args.sequenced.now.journal.items in
     let front : IsPrefix took gave = agrees_prefix c.agree-agreed.result (feed_ended c.args.sequenced.now.feeder) gave took c.agree-agreed.ensures.agree in
-    parts_of_front c.args.streams.now took journal (prefix_trans took gave journal front j.given_on) j.parts
+    parts_of_front c.args.streams.now.value.items took journal (prefix_trans took gave journal front j.given_on) j.parts
 
 -- the place behind the entries that were worked
-behind_worked : (g : _) (c : After-saturating_add g) → IsLivePlace c.args.streams.now c.saturating_add.result
+behind_worked : (g : _) (c : After-saturating_add g) → IsLivePlace c.args.streams.now.value.items c.saturating_add.result
 behind_worked g c = record {
   journal = taken c.args.matched.now.matcher;
   parts = took_parts g (goal.at.After-saturating_add g c).After-agree-agreed;
@@ -46,8 +46,8 @@ returns-in-Fault-clause-fault g c =
     let took = taken c.args.matched.now.matcher in
     let rules = sending_rules c.args.matched.now.posted.reported in
     let is : IsApplyFault rules took c.in-Fault.fault = subst (λ (e : MatchEnd). MatchEnds e took c.args.matched.now.posted) c.in-Fault.is c.requires.matched in
-    λ ring. subst (IsThreadsFault rules c.args.streams.now ring c.args.room) (sym c.of_apply.ensures)
-    (live_fault rules c.args.streams.now ring c.args.room took c.in-Fault.fault (took_parts g (goal.at.returns-in-Fault-clause-fault g c).After-agree-agreed) is)
+    λ ring. subst (IsThreadsFault rules c.args.streams.now.value.items ring c.args.room) (sym c.of_apply.ensures)
+    (live_fault rules c.args.streams.now.value.items ring c.args.room took c.in-Fault.fault (took_parts g (goal.at.returns-in-Fault-clause-fault g c).After-agree-agreed) is)
 
 pub all_finished-requires : goal.all_finished-requires
 all_finished-requires g c = rw (c.as_mut_slice.ensures.value) c.requires.posts
@@ -86,7 +86,7 @@ returns-in-Whole-Whole g c =
     let p = c.args.matched.now.posted in
     let feeder = c.args.sequenced.now.feeder in
     let journal = c.args.sequenced.now.journal.items in
-    let whole = subst (λ (e : SequenceEnd). SequenceEnds e c.args.room c.args.streams.now journal feeder) c.in-Whole-Whole.is-0 j.sequenced in
+    let whole = subst (λ (e : SequenceEnd). SequenceEnds e c.args.room c.args.streams.now.value.items journal feeder) c.in-Whole-Whole.is-0 j.sequenced in
     let all : took ≡ journal = agrees_whole c.agree-agreed.result (feed_ended feeder) (given feeder) took c.if-not-agreed.false c.agree-agreed.ensures.agree ∙ whole.1 in
     record {
       journal = refl;

@@ -1,6 +1,5 @@
-use Rattle.std.proofs.Common.{arith, ◌≡◌, ◌≢◌, ◌<◌, ◌≤◌, ◌+◌, ◌∙◌, sym, ap, subst, refl, ℕ, List, Vec, length, get_or, vec_len, slice_set}
+use Rattle.std.proofs.Common.{arith, ◌≡◌, ◌≢◌, ◌<◌, ◌∙◌, sym, ap, ℕ, Vec, length, vec_len}
 use Rattle.std.specs.Vec.Iter.{into_iter_items}
-use Rattle.spread_report.specs.Sessions.{bytes_of}
 use Rattle.gate_link.proofs.links.PartOfASession.{row_at, row_other}
 use Rattle.session_threads.specs.code.Writing.{bytes_written, written_at}
 use Rattle.session_threads.proofs.ElementByElement.{next_is}

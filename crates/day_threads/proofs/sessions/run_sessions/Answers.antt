@@ -1,4 +1,4 @@
-use Rattle.std.proofs.Common.{arith, ◌≡◌, ◌≤◌, ◌∙◌, length, subst, ℕ, List, Result, Ok, Err, Vec}
+use Rattle.std.proofs.Common.{arith, ◌≤◌, ◌∙◌, length, subst, ℕ, Result, Ok, Err}
 use Rattle.std.specs.Prelude.{IfErr, OnOk}
 use denote.Param.Always.{Once-at_one}
 use Rattle.spread_rules.specs.Rulebook.{Rules}
@@ -14,9 +14,9 @@ returns-clause-lawful g c =
     let e = c.scoped.ensures.1 in
     let made = c.in-Ok.ensures in
     let stages = c.in-Ok.stages in
-    let all = c.as_slice-all.result.now in
-    let few : length all ≤ 16 = omega (arith, c.as_slice-all.ensures.len, c.len.ensures, made.limits.0.1) in
-    lawful_result c.scoped.result (sending_rules stages.posted.reported) (stamp_of stages.posted.reported) all stages.room few (omega (arith, made.room, made.limits.2)) e.0 e.1.0
+    let streams = c.args.streams.items in
+    let few : length streams ≤ 16 = omega (arith, c.args.streams.ok.0, c.len.ensures, made.limits.0.1) in
+    lawful_result c.scoped.result (sending_rules stages.posted.reported) (stamp_of stages.posted.reported) streams stages.room few (omega (arith, made.room, made.limits.2)) e.0 e.1.0
 
 pub returns-clause-fault : goal.returns-clause-fault
 returns-clause-fault g c =
@@ -28,20 +28,18 @@ returns-clause-fault g c =
     let streams = c.args.streams.items in
     subst (λ (r : Rules). IfErr told (IsThreadsFault r streams ring c.args.caps.journal)) made.rules
     (subst (λ (k : ℕ). IfErr told (IsThreadsFault rules streams ring k)) made.room
-    (subst (λ (s : List (Vec ℕ g.row.A.Denot)). IfErr told (IsThreadsFault rules s ring stages.room)) c.as_slice-all.ensures.value
-    (fault_result told rules c.as_slice-all.result.now ring stages.room c.scoped.ensures.1.1.1)))
+    (fault_result told rules streams ring stages.room c.scoped.ensures.1.1.1))
 
 pub scoped-requires : goal.scoped-requires
 scoped-requires g c =
     let b = c.type_bounds in
     let made = c.in-Ok.ensures in
     let stages = c.in-Ok.stages in
-    let all = c.as_slice-all.result.now in
-    let is : AreReady all stages = record {
+    let is : AreReady c.args.streams.items stages = record {
       ring = c.args.caps.ring;
       made = made.ready;
-      stream_count = omega (arith, made.count, c.len.ensures, c.as_slice-all.ensures.len);
-      few = omega (arith, c.as_slice-all.ensures.len, c.len.ensures, made.limits.0.1);
+      stream_count = omega (arith, made.count, c.len.ensures, c.args.streams.ok.0);
+      few = omega (arith, c.args.streams.ok.0, c.len.ensures, made.limits.0.1);
     } in
     Once-at_one _ _ (λ scope. (is, (b.send-A, record { shared = b.sync-R.shared }, record { shared = b.sync-G.shared }, b.frees-A-Allocator)))
 

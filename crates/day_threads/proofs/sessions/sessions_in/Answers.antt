@@ -1,8 +1,7 @@
-use Rattle.std.proofs.Common.{◌≡◌, ◌≤◌, refl, sym, subst, arith, length, vec_len, ℕ, Option, Some, None}
+use Rattle.std.proofs.Common.{◌≡◌, ◌≤◌, refl, subst, arith, length, vec_len, ℕ, Option, Some, None}
 use Rattle.std.specs.Prelude.{IfErr, IfNone}
 use Rattle.spread_rules.specs.Rulebook.{Rules}
 use Rattle.gate_link.specs.Links.{journal_of}
-use Rattle.day_apply.specs.Sending.{sending_rules}
 use Rattle.day_threads.specs.Streams.{IsThreadsFault}
 use Rattle.day_stages.specs.code.Matching.{HasMatched}
 use Rattle.session_threads.specs.code.Sequencing.{SequenceEnds}
@@ -18,6 +17,18 @@ none_left (Some x) other h = absurd (other x refl)
 -- what the matching thread promised
 matched : (g : _) (c : After-join-matched g) → HasMatched c.args.stages.matcher c.args.stages.posted c.join-matched.result
 matched g c = let h = c.in-Some-start_matching.ensures in rw (← h.0, ← h.1) c.join-matched.ensures
+
+pub sequence-sequenced-requires-clause-staffed : goal.sequence-sequenced-requires-clause-staffed
+sequence-sequenced-requires-clause-staffed g c =
+    let hs = c.start_all-handles.result.handles in
+    let all : vec_len hs ≡ vec_len c.args.stages.gateways = none_left c.start_all-handles.result.refused c.in_default-refused.not-Some c.start_all-handles.ensures.all in
+    rw c.of-given.ensures record {
+      gateways = c.args.stages.gateways.items;
+      pairs = c.requires.made.pairs;
+      started = c.start_all-handles.ensures.started;
+      handle_count = omega (arith, hs.ok.0, c.args.stages.gateways.ok.0, all);
+      stream_count = c.requires.stream_count;
+    }
 
 -- nothing was given yet
 pub sequence-sequenced-requires-clause-prefix : goal.sequence-sequenced-requires-clause-prefix
@@ -45,11 +56,11 @@ conclude-requires g c =
       given_on = q.given_on;
       parts = q.parts;
       size = subst (λ (n : ℕ). length c.sequence-sequenced.result.journal.items ≤ n) r.made.room q.size;
-      sequenced = subst (λ (n : ℕ). SequenceEnds c.sequence-sequenced.result.end n c.args.streams.now c.sequence-sequenced.result.journal.items c.sequence-sequenced.result.feeder) r.made.room q.ends;
+      sequenced = subst (λ (n : ℕ). SequenceEnds c.sequence-sequenced.result.end n c.of-given.result.value.items c.sequence-sequenced.result.journal.items c.sequence-sequenced.result.feeder) r.made.room q.ends;
       matched = m.ends;
     }
 
 pub returns-clause-fault : goal.returns-clause-fault
 returns-clause-fault g c =
     let m = matched g (goal.at.returns-clause-fault g c).After-join-matched in
-    subst (λ (rules : Rules). IfErr c.conclude.result (λ f. (ring : ℕ) → IsThreadsFault rules c.args.streams.now ring c.args.stages.room f)) m.rules c.conclude.ensures.fault
+    rw (← c.of-given.ensures) (subst (λ (rules : Rules). IfErr c.conclude.result (λ f. (ring : ℕ) → IsThreadsFault rules c.of-given.result.value.items ring c.args.stages.room f)) m.rules c.conclude.ensures.fault)

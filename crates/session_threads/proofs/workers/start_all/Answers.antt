@@ -1,10 +1,11 @@
-use Rattle.std.proofs.Common.{rules, arith, ◌≡◌, ◌<◌, ◌∙◌, sym, length, get_or, vec_len}
+use Rattle.std.proofs.Common.{rules, arith, ◌≡◌, ◌<◌, ◌∙◌, ℕ, ap, refl, sym, length, vec_len, Vec}
+use Rattle.std.proofs.lemmas.List.{length-drop}
 use Rattle.std.specs.Vec.Iter.{into_iter_items}
 use Rattle.gate_link.specs.Opening.{IsFresh}
 use Rattle.session_threads.proofs.ElementByElement.{next_is}
-use Rattle.session_threads.proofs.StartedWorkers.{started_snoc}
+use Rattle.session_threads.proofs.StartedWorkers.{first_removed, started_snoc}
 use Rattle.session_threads.proofs.workers.start_all.Goals as goal
-use Rattle.session_threads.proofs.workers.start_all.Goals.{After-as_slice-stream}
+use Rattle.session_threads.proofs.workers.start_all.Goals.{After-remove}
 
 pub loop-gateway-init : goal.loop-gateway-init
 loop-gateway-init g c =
@@ -14,17 +15,30 @@ loop-gateway-init g c =
     record {
       count = omega (arith, none, gives.1);
       left = rw none gives.0;
+      streams = rw none refl;
       room = c.requires.room.1;
       started = λ s v d h below. absurd (omega (arith, none, n));
     }
 
 -- there is a gateway in this place
-in_gateways : (g : _) (c : After-as_slice-stream g) → vec_len c.loop-gateway.handles < length c.args.gateways.items
+in_gateways : (g : _) (c : After-remove g) → vec_len c.loop-gateway.handles < length c.args.gateways.items
 in_gateways g c =
     let was = c.loop-gateway.invariant in
     let steps = c.in-Some.ensures.steps in
     let all : length c.args.gateways.items ≡ vec_len c.args.gateways = sym c.args.gateways.ok.0 in
     omega (arith, was.count, steps.1)
+
+-- and a stream
+in_streams : (g : _) (c : After-remove g) → vec_len c.loop-gateway.handles < length c.args.streams.items
+in_streams g c =
+    let was = c.loop-gateway.invariant in
+    let steps = c.in-Some.ensures.steps in
+    omega (arith, c.requires.streams, c.args.streams.ok.0, was.count, steps.1)
+
+streams_left : (g : _) (c : After-remove g) → 0 < length c.loop-gateway.streams.items
+streams_left g c =
+    let n = ap length c.loop-gateway.invariant.streams ∙ length-drop (vec_len c.loop-gateway.handles) c.args.streams.items in
+    omega (arith, n, in_streams g c)
 
 -- it is the one at hand, and a fresh one
 pub start-requires-after_bounds : goal.start-requires-after_bounds
@@ -41,25 +55,28 @@ start-requires-after_bounds g c κs within =
 
 pub loop-gateway-preserved : goal.loop-gateway-preserved
 loop-gateway-preserved g c =
-    let at = (goal.at.loop-gateway-preserved g c).After-as_slice-stream in
+    let at = (goal.at.loop-gateway-preserved g c).After-remove in
     let was = c.loop-gateway.invariant in
     let steps = c.in-Some.ensures.steps in
     let handles = c.loop-gateway.handles in
     let gateway = c.in-Some.gateway in
-    let stream = c.index-streams-s.result in
+    let stream = c.remove.result in
+    let streams = c.args.streams.items in
     let promised = c.in-Some-start.ensures in
     let gs = c.args.gateways.items in
     let n : length handles.items ≡ vec_len handles = sym handles.ok.0 in
     let here = in_gateways g at in
-    let there : vec_len handles < length c.args.streams.now = omega (arith, c.requires.streams, was.count, steps.1) in
+    let there : vec_len handles < length streams = in_streams g at in
     let next = next_is gs (into_iter_items c.loop-gateway.gateway-iterator) (into_iter_items c.next.new.self) gateway (vec_len handles) here was.left steps.0 in
-    let its_stream : stream ≡ get_or c.args.streams.now (vec_len handles) stream = rw (← c.len-s.ensures) c.index-streams-s.is in
+    let first = first_removed c.loop-gateway.streams.items c.remove.new.self.items stream (streams_left g at) c.remove.ensures.value c.remove.ensures.items in
+    let after = next_is streams c.loop-gateway.streams.items c.remove.new.self.items stream (vec_len handles) there was.streams first in
     record {
       count = search rules;
       left = rw c.push_reserved.ensures.len next.1;
+      streams = rw c.push_reserved.ensures.len after.1;
       room = search rules;
       started =
           rw c.push_reserved.ensures.items
-          (started_snoc c.args.streams.now gs handles.items c.in-Some-start.handle gateway stream (rw n here) (rw n there) was.started
-          (rw n next.0) (rw n its_stream) promised.0 (promised.1 ∙ c.as_slice-stream.ensures.value));
+          (started_snoc streams gs handles.items c.in-Some-start.handle gateway stream (rw n here) (rw n there) was.started
+          (rw n next.0) (rw n after.0) promised.0 (ap (λ (v : Vec ℕ _). v.items) promised.1));
     }

@@ -8,6 +8,7 @@ invariant-loop-gateway g l =
     let done = vec_len l.handles in let rest = l.gateway-iterator in record {
       count : done + into_iter_len rest ≡ vec_len l.fn.gateways;
       left : into_iter_items rest ≡ drop done l.fn.gateways.items;
+      streams : l.streams.items ≡ drop done l.fn.streams.items;
       room : vec_len l.fn.gateways ≤ vec_capacity l.handles;
-      started : AreStarted l.streams l.fn.gateways.items l.handles.items;
+      started : AreStarted l.fn.streams.items l.fn.gateways.items l.handles.items;
     }

@@ -1,4 +1,4 @@
-use Rattle.std.proofs.Common.{rules, arith, ◌≡◌, ◌<◌, ◌∙◌, sym, length, get_or, vec_len, refl}
+use Rattle.std.proofs.Common.{rules, arith, ◌≡◌, ◌<◌, sym, length, vec_len}
 use Rattle.std.specs.Vec.Iter.{into_iter_items}
 use Rattle.session_threads.proofs.ElementByElement.{next_is}
 use Rattle.session_threads.proofs.Writers.{writing_snoc}

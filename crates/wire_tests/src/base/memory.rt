@@ -1,0 +1,15 @@
+//! Memory that is let go.
+use host_base::release;
+use std::process::Abort;
+use test_support::Refusing;
+
+/// The first request is for the list, the second for the smaller block that its one element takes.
+#[test]
+fn released_lists(rt: HostRuntime) {
+    for refused in 2..4u64 {
+        let heap = Refusing::new(rt.alloc(), refused);
+        let list = Vec::from_slice(&heap, b"three").expect(&rt, "memory");
+        release(list);
+        assert!(rt; heap.has_refused() == (refused == 2));
+    }
+}
