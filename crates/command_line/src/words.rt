@@ -117,7 +117,7 @@ fn replay_command<'a>(alloc: Global) -> Result<Command<'a>, AllocError> {
 }
 
 const RING_HELP: &str =
-    "How many events wait between a session's thread and the sequencer, 1 to 4096";
+    "How many items each ring between two threads has room for, 1 to 4096";
 
 const ENTRIES_HELP: &str = "How many entries the journal has room for, at most 1000000";
 

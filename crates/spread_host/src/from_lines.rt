@@ -13,7 +13,7 @@ use crate::day::{day_of, write_day};
 use crate::fault::HostFault;
 use day_lines::read_day_lines;
 use day_text::Day;
-use host_base::{Id, Sink, Source, read_all};
+use host_base::{Id, Sink, Source, read_all, release};
 use spread_journal::laws::read_back;
 use spread_rules::Rulebook;
 use std::alloc::Allocator;
