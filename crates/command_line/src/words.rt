@@ -116,8 +116,7 @@ fn replay_command<'a>(alloc: Global) -> Result<Command<'a>, AllocError> {
         .arg(journal_only)
 }
 
-const RING_HELP: &str =
-    "How many items each ring between two threads has room for, 1 to 4096";
+const RING_HELP: &str = "How many items each ring between two threads has room for, 1 to 4096";
 
 const ENTRIES_HELP: &str = "How many entries the journal has room for, at most 1000000";
 

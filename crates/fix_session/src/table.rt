@@ -1,9 +1,10 @@
 //! The kinds of messages with their tags, and what an accepted message of each kind means.
 //!
 //! The tags of a kind are read in their order. The first fault is the SessionRejectReason of the Reject.
-ghost use Rattle.std.specs.Prelude.{◌≡◌, ◌≤◌, ℕ, List, length, Result, ◌==◌};
+ghost use Rattle.std.specs.Prelude.{◌≡◌, ◌≤◌, ℕ, List, length, Result, ◌==◌, IfOk, true};
 ghost use Rattle.std.specs.Option.{option_copied};
 ghost use Rattle.std.specs.List.{list_any};
+ghost use Rattle.host_base.specs.Ids.{is_id};
 ghost use Rattle.fix_wire.specs.Messages.{get};
 ghost use Rattle.fix_wire.specs.declared.tags.TheConstants as tags;
 ghost use Rattle.fix_session.specs.Table.{value_at, id_at, number_at, quantity_at, price_at, choice_at, one_of, side_at, time_in_force_of, gap_fill_flag_of, passed_over, test_request, resend_request, sequence_reset, new_order, cancel_request, replace_request, meaning_of_kind, meaning_of_message, reason_of};
@@ -39,12 +40,16 @@ fn value_at<'a>(message: &Message<'a>, tag: u32) -> Result<&'a [u8], u8>
     }
 }
 
-fn id_at(message: &Message, tag: u32) -> Result<Id, u8>
-    ensures { result ≡ id_at tag message.now.frame.now }
+/// The text of a tag that has to stand and be an id.
+fn id_text_at<'a>(message: &Message<'a>, tag: u32) -> Result<&'a [u8], u8>
+    ensures text { bytes_behind result ≡ id_at tag message.now.frame.now }
+    ensures id { IfOk result (λ text. is_id text.now ≡ true) }
 {
-    match Id::new(value_at(message, tag)?) {
-        Some(id) => Ok(id),
-        None => Err(session_reject_reason::VALUE_OUT_OF_RANGE),
+    let text = value_at(message, tag)?;
+    if Id::fits(text) {
+        Ok(text)
+    } else {
+        Err(session_reject_reason::VALUE_OUT_OF_RANGE)
     }
 }
 
@@ -157,7 +162,7 @@ fn test_request(message: &Message) -> Result<Meaning, u8>
     ensures { result ≡ test_request message.now.frame.now }
 {
     value_at(message, tags::SENDING_TIME)?;
-    let text = id_at(message, tags::TEST_REQ_ID)?;
+    let text = Id::of(id_text_at(message, tags::TEST_REQ_ID)?);
     Ok(Meaning::Gives(Event::TestReply { text }))
 }
 
@@ -200,9 +205,9 @@ pub(crate) fn new_order(message: &Message) -> Result<Ticket, u8>
     ensures { result ≡ new_order message.now.frame.now }
 {
     value_at(message, tags::SENDING_TIME)?;
-    let id = id_at(message, tags::CL_ORD_ID)?;
+    let id = Id::of(id_text_at(message, tags::CL_ORD_ID)?);
     let _handling = choice_at(message, tags::HANDL_INST, b"123")?;
-    let symbol = id_at(message, tags::SYMBOL)?;
+    let symbol = Id::of(id_text_at(message, tags::SYMBOL)?);
     let side = side_at(message)?;
     value_at(message, tags::TRANSACT_TIME)?;
     let quantity = quantity_at(message, tags::ORDER_QTY)?;
@@ -224,9 +229,9 @@ fn cancel_request(message: &Message) -> Result<Meaning, u8>
     ensures { result ≡ cancel_request message.now.frame.now }
 {
     value_at(message, tags::SENDING_TIME)?;
-    let original = id_at(message, tags::ORIG_CL_ORD_ID)?;
-    let id = id_at(message, tags::CL_ORD_ID)?;
-    let _symbol = id_at(message, tags::SYMBOL)?;
+    let original = Id::of(id_text_at(message, tags::ORIG_CL_ORD_ID)?);
+    let id = Id::of(id_text_at(message, tags::CL_ORD_ID)?);
+    let _symbol = id_text_at(message, tags::SYMBOL)?;
     let _side = side_at(message)?;
     value_at(message, tags::TRANSACT_TIME)?;
     Ok(Meaning::Gives(Event::Cancel { id, original }))
@@ -238,7 +243,7 @@ fn replace_request(message: &Message) -> Result<Meaning, u8>
     ensures { result ≡ replace_request message.now.frame.now }
 {
     value_at(message, tags::SENDING_TIME)?;
-    let original = id_at(message, tags::ORIG_CL_ORD_ID)?;
+    let original = Id::of(id_text_at(message, tags::ORIG_CL_ORD_ID)?);
     let ticket = new_order(message)?;
     Ok(Meaning::Gives(Event::Replace { original, ticket }))
 }

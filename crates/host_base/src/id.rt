@@ -1,7 +1,7 @@
 //! Ids: client order ids, CompIDs, symbols and stamps.
 ghost use Rattle.std.specs.Prelude.{◌≡◌, ◌≤◌, ◌<◌, ◌+◌, ◌-◌, ◌++◌, ◌∷◌, ℕ, List, length, replicate, true};
 ghost use Rattle.std.specs.Str.{bytes_eq};
-ghost use Rattle.host_base.specs.Ids.{id_of, is_plain};
+ghost use Rattle.host_base.specs.Ids.{id_of, is_id, is_plain};
 
 use crate::bytes::SOH;
 use crate::limits::MAX_ID_LENGTH;
@@ -31,25 +31,49 @@ impl Model for Id {
     ghost inverse_ok = { kept_again };
 }
 
+/// Whether no byte 1, which ends a field, stands among these.
+fn is_plain(text: &[u8]) -> bool
+    ensures { result ≡ is_plain text.now }
+{
+    for b in text {
+        if *b == SOH {
+            return false;
+        }
+    }
+    true
+}
+
 impl Id {
+    /// Whether these bytes are an id: 1 to 32 of them, none of them byte 1.
+    pub fn fits(text: &[u8]) -> bool
+        ensures { result ≡ is_id text.now }
+    {
+        !text.is_empty() && text.len() <= MAX_ID_LENGTH && is_plain(text)
+    }
+
+    /// The id of bytes that are one.
+    #[inline(always)]
+    pub fn of(text: &[u8]) -> Id
+        requires { is_id text.now ≡ true }
+        ensures { result ≡ text.now }
+    {
+        let mut bytes = [0; MAX_ID_LENGTH];
+        bytes[..text.len()].copy_from_slice(text);
+        Id {
+            bytes,
+            len: text.len() as u8,
+        }
+    }
+
     /// The id of these bytes. None where they are none, more than 32, or have a byte 1 among them.
     pub fn new(text: &[u8]) -> Option<Id>
         ensures { result ≡ id_of text.now }
     {
-        if text.is_empty() || text.len() > MAX_ID_LENGTH {
-            return None;
+        if Id::fits(text) {
+            Some(Id::of(text))
+        } else {
+            None
         }
-        for b in text {
-            if *b == SOH {
-                return None;
-            }
-        }
-        let mut bytes = [0; MAX_ID_LENGTH];
-        bytes[..text.len()].copy_from_slice(text);
-        Some(Id {
-            bytes,
-            len: text.len() as u8,
-        })
     }
 
     /// Its bytes, 1 to 32 of them.

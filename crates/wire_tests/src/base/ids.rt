@@ -41,6 +41,7 @@ fn ids(rt: HostRuntime) {
     let most = Id::new(&long[..32]).expect(&rt, "an id of 32 bytes");
     let id = Id::new(b"C1").expect(&rt, "an id");
     assert!(rt; most.bytes() == &long[..32]);
+    assert!(rt; Id::fits(b"C1") && !Id::fits(b"a\x01b") && !Id::fits(&long));
     assert!(rt; id.bytes() == b"C1".as_slice());
     assert!(rt; id.is(&id) && !id.is(&most));
 }

@@ -1,18 +1,17 @@
-use Rattle.std.proofs.Common.{◌≡◌, ℕ, ◌-◌, ◌<◌, true, not, eqb, List, ◌++◌, length, drop, replicate, sym, ap, ◌∙◌, subst, arith}
+use Rattle.std.proofs.Common.{◌≡◌, ℕ, ◌-◌, ◌<◌, ◌≤◌, true, not, eqb, List, ◌++◌, length, drop, replicate, sym, ap, ◌∙◌, subst, arith}
 use Rattle.std.specs.List.{list_all}
-use Rattle.std.proofs.lemmas.List.{drop-replicate, take_all}
+use Rattle.std.proofs.lemmas.List.{drop-replicate}
 use Rattle.std.proofs.lemmas.Bool.Decides.{nat_tests}
 use Rattle.host_base.specs.declared.id.Id.TheInside.{Inside}
 use Rattle.host_base.specs.code.IdFields.{IsKept}
-use Rattle.host_base.proofs.IdKept.{kept_new}
-use Rattle.host_base.proofs.id.Id.new.Goals as goal
+use Rattle.host_base.proofs.IdKept.{kept_new, id_parts}
+use Rattle.host_base.proofs.id.Id.of.Goals as goal
 
 pub invariant_of-result : goal.invariant_of-result
 invariant_of-result c =
     let text = c.args.text.now in
-    let some : 0 < length text = grind (arith, nat_tests) in
-    let clean : list_all (λ b. not (eqb b 1)) text ≡ true = ap (λ t. list_all (λ b. not (eqb b 1)) t) (sym (take_all c.loop-b.b-index text (omega arith))) ∙ c.loop-b.invariant in
+    let parts = id_parts text c.requires in
     let same : text ++ replicate (32 - length text) 0 ≡ c.copy_from_slice.new.self ++ drop (length text) (replicate 32 0) =
     ap (λ t. t ++ replicate (32 - length text) 0) (sym c.copy_from_slice.ensures.after) ∙ ap (λ t. c.copy_from_slice.new.self ++ t) (sym (drop-replicate (length text) 32 0)) in
     let P : List ℕ → Type 0 = λ bs. let i : Inside = record { bytes = bs; len = length text } in IsKept i in
-    subst P same (kept_new text some c.if-text-gt-MAX_ID_LENGTH.false clean)
+    subst P same (kept_new text parts.0 parts.1 parts.2)
