@@ -7,7 +7,7 @@ ghost use Rattle.day_text.specs.DayText.{texts_of};
 ghost use Rattle.day_text.specs.Messages.{shown_byte, line_lead, outgoing_line, outgoing_lines, outgoing_lines_from};
 ghost use Rattle.day_text.specs.code.Pieces.{IsPut};
 
-use crate::pieces::{make_room, write_out};
+use crate::pieces::{append, make_room, write_out};
 use fix_wire::first_of_row;
 use host_base::limits::SESSIONS;
 use host_base::{Failed, Sink};
@@ -35,10 +35,8 @@ fn append_shown<A: Allocator>(piece: &mut Vec<u8, A>, bytes: &[u8])
     ensures room { vec_capacity piece.old ≤ vec_capacity piece.new }
 {
     let start = piece.len();
-    match piece.extend_from_slice(bytes) {
-        Ok(()) => show_field_ends(&mut piece[start..]),
-        Err(_) => unreachable!(),
-    }
+    append(piece, bytes);
+    show_field_ends(&mut piece[start..]);
 }
 
 /// Puts bytes behind those of the piece, as they are shown. The piece is written each time that it is full.

@@ -95,8 +95,8 @@ fn note_fault(rt: &impl Abort, places: &mut Places, has_refused: bool, fault: Op
 }
 
 /// The entries are three Logons, each answered in a list of its own, and three ends of streams, which send nothing. Two
-/// requests are for a smaller block, of the input and of its lines: one that is refused leaves the block as it was, and the
-/// answer is the same. The last of the numbers names no request.
+/// requests are for a smaller block, of the input and of its lines: one that is refused leaves the block as it was, and
+/// the answer is the same. The last of the numbers names no request.
 #[test]
 fn replay_refused_memory(rt: HostRuntime) {
     let rules = three_months(&rt);

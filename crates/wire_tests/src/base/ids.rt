@@ -42,6 +42,9 @@ fn ids(rt: HostRuntime) {
     let id = Id::new(b"C1").expect(&rt, "an id");
     assert!(rt; most.bytes() == &long[..32]);
     assert!(rt; Id::fits(b"C1") && !Id::fits(b"a\x01b") && !Id::fits(&long));
+    if Id::fits(b"C1") {
+        assert!(rt; Id::of(b"C1").is(&id));
+    }
     assert!(rt; id.bytes() == b"C1".as_slice());
     assert!(rt; id.is(&id) && !id.is(&most));
 }
