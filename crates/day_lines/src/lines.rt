@@ -4,7 +4,7 @@
 //! Empty lines and lines that begin with `#` are passed over.
 ghost use Rattle.std.specs.Prelude.{◌≡◌, ℕ, ◌<◌, ◌+◌, [], ◌++◌, map, option_map, IfSome, Some, None, Ok, Err, OnOk, IfOk, IfErr, ◌≢◌};
 ghost use Rattle.host_base.specs.declared.limits.TheConstants.{SESSIONS};
-ghost use Rattle.fix_wire.specs.Texts.{soh_for_bar, with_soh};
+ghost use Rattle.fix_frames.specs.Texts.{soh_for_bar, with_soh};
 ghost use Rattle.day_lines.specs.LineText.{is_passed_over, session_line, one_line, lines_said, day_line};
 ghost use Rattle.day_lines.specs.code.LinesRead.{said_by, HaveSessions};
 ghost use Rattle.day_lines.specs.declared.lines.LinesFault.TheVariants.{NoMemory};

@@ -1,6 +1,6 @@
 //! Names, prices and numbers as the text of an SVG file.
 ghost use Rattle.std.specs.Prelude.{◌<◌};
-ghost use Rattle.spread_rules.specs.Rulebook.{month_count};
+ghost use Rattle.spread_rulebook.specs.Rulebook.{month_count};
 
 use spread_rules::{Instrument, Rulebook};
 use std::alloc::{AllocError, Allocator};

@@ -6,7 +6,7 @@ use Rattle.stage_rings.specs.declared.feed.Feeder.{Feeder}
 use Rattle.stage_rings.specs.declared.feed.Matcher.{Matcher}
 use Rattle.stage_rings.specs.declared.post.Poster.{Poster}
 use Rattle.day_apply.specs.Applied.{IsApplyFault}
-use Rattle.spread_rules.specs.Rulebook.{Rules}
+use Rattle.spread_rulebook.specs.Rulebook.{Rules}
 use Rattle.spread_report.specs.Sessions.{session_text}
 use Rattle.day_apply.specs.Sending.{HasReported, HasReportedBehind, Sending, sending_rules, stamp_of}
 use Rattle.day_apply.proofs.HandedOn.{behind_at, behind_length, handed_on}

@@ -4,7 +4,7 @@ use Rattle.std.specs.declared.vec.Vec.{Vec}
 use Rattle.spread_journal.specs.JournalText.{journal_text}
 use Rattle.spread_rules.specs.declared.event.Entry.{Entry}
 use Rattle.spread_rules.specs.declared.fill.Fill.{Fill}
-use Rattle.spread_rules.specs.Rulebook.{Rules, IsListed}
+use Rattle.spread_rulebook.specs.Rulebook.{Rules, IsListed}
 use Rattle.day_text.specs.Fills.{fill_lines}
 use Rattle.day_text.specs.Messages.{outgoing_lines_from}
 use Rattle.day_text.specs.Months.{month_lines}

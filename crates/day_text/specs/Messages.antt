@@ -1,7 +1,7 @@
 -- The lines of outgoing messages: each session's frames, SOH shown as `|`.
 use Rattle.std.specs.Prelude.{ℕ, suc, ◌==◌, if◌then◌else◌, List, [], ◌∷◌, ◌++◌, map, codes, decimal}
 use Rattle.std.specs.List.{flat_map}
-use Rattle.fix_wire.specs.Frames.{frames}
+use Rattle.fix_frames.specs.Frames.{frames}
 use Rattle.host_base.specs.Ascii.{line_feed, vertical_bar}
 use Rattle.host_base.specs.declared.bytes.TheConstants.{SOH}
 

@@ -2,7 +2,7 @@
 use Rattle.std.specs.Prelude.{ℕ, suc, List, [], ◌∷◌, ◌++◌, codes, decimal}
 use Rattle.std.specs.Fmt.{signed_decimal}
 use Rattle.spread_rules.specs.declared.fill.Fill.{Fill}
-use Rattle.spread_rules.specs.Rulebook.{Rules, names_of}
+use Rattle.spread_rulebook.specs.Rulebook.{Rules, names_of}
 use Rattle.host_base.specs.Ascii.{line_feed, space}
 use Rattle.month_totals.specs.declared.totals.MonthTotals.{MonthTotals}
 use Rattle.month_totals.specs.Totals.{totals_of}

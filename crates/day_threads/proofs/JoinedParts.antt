@@ -5,7 +5,7 @@ use Rattle.std.proofs.lemmas.Bool.{cases_eq}
 use mathlib.Core.List.{IsPrefix}
 use Rattle.spread_rules.specs.declared.event.Entry.{Entry}
 use Rattle.spread_rules.specs.Journal.{restricted}
-use Rattle.spread_rules.specs.Rulebook.{Rules}
+use Rattle.spread_rulebook.specs.Rulebook.{Rules}
 use Rattle.gate_link.proofs.links.SeveralCalls.{prefix_trans}
 use Rattle.gate_link.proofs.links.PartOfASession.{restricted-append, row_other, row_same}
 use Rattle.gate_link.specs.Rows.{row}

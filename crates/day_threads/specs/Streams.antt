@@ -4,7 +4,7 @@ use Rattle.host_base.specs.declared.limits.TheConstants.{SESSIONS}
 use Rattle.spread_rules.specs.declared.event.Entry.{Entry}
 use Rattle.spread_rules.specs.Journal.{restricted}
 use Rattle.spread_rules.specs.Meaning.{meaning_of_journal}
-use Rattle.spread_rules.specs.Rulebook.{Rules}
+use Rattle.spread_rulebook.specs.Rulebook.{Rules}
 use Rattle.spread_report.specs.Messages.{IsRow, messages_to}
 use Rattle.spread_report.specs.Sessions.{bytes_of}
 use Rattle.day_apply.specs.Applied.{SpendsAt, applied_entries, outgoing_bytes}

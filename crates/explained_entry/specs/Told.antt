@@ -2,7 +2,7 @@
 use Rattle.std.specs.Prelude.{◌≡◌, ℕ, List, Option, Some, None}
 use Rattle.std.specs.List.{find}
 use Rattle.spread_rules.specs.declared.order.Order.{Order}
-use Rattle.spread_rules.specs.declared.order.Instrument.{Instrument}
+use Rattle.spread_rulebook.specs.declared.instrument.Instrument.{Instrument}
 use Rattle.spread_rules.specs.declared.event.Entry.{Entry}
 use Rattle.spread_rules.specs.declared.event.Ticket.{Ticket}
 use Rattle.spread_rules.specs.declared.event.Event.{Event}
@@ -11,7 +11,7 @@ use Rattle.spread_rules.specs.declared.outcome.Outcome.{Outcome}
 use Rattle.spread_rules.specs.declared.outcome.Outcome.TheVariants.{Replaced}
 use Rattle.spread_rules.specs.Clearing.{removed}
 use Rattle.spread_rules.specs.Meaning.{is_own, meaning_of_journal, order_of}
-use Rattle.spread_rules.specs.Rulebook.{Rules, find_symbol}
+use Rattle.spread_rulebook.specs.Rulebook.{Rules, find_symbol}
 
 -- the orders that rest behind these entries
 abbrev pub standing_at : Rules → List Entry → List Order

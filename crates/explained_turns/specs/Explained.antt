@@ -8,7 +8,7 @@ use Rattle.spread_rules.specs.declared.candidate.Candidate.{Candidate}
 use Rattle.spread_rules.specs.declared.candidate.Rank.{Rank}
 use Rattle.spread_rules.specs.Candidates.{Pairs, HasLegPrice, IsBest, IsEligible, IsLeast, is_before, least_left}
 use Rattle.spread_rules.specs.Clearing.{Trading, begin, clear, leg_prices, next_candidate, turns}
-use Rattle.spread_rules.specs.Rulebook.{Rules, implied, references_of}
+use Rattle.spread_rulebook.specs.Rulebook.{Rules, implied, references_of}
 use Rattle.explained_turns.specs.declared.turn.Turn.{Turn}
 use Rattle.explained_turns.specs.declared.turn.Beyond.{Beyond}
 use Rattle.explained_turns.specs.declared.point.Point.{Point}

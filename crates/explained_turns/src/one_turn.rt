@@ -2,8 +2,8 @@
 ghost use Rattle.std.specs.Prelude.{◌≡◌, ◌-◌, All, IfSome, IfNone, None, Some, fold, get_or, pos, ℤ};
 ghost use Rattle.spread_rules.specs.Candidates.{HasOrderPrice, HasLegPrice, least_candidate, counterparties, least_left};
 ghost use Rattle.spread_rules.specs.Clearing.{after_fill, leg_prices, members, reduced, removed, with_less_left};
-ghost use Rattle.spread_rules.specs.Prices.{IsOrderPrice};
-ghost use Rattle.spread_rules.specs.Rulebook.{implied, references_of};
+ghost use Rattle.spread_rulebook.specs.Prices.{IsOrderPrice};
+ghost use Rattle.spread_rulebook.specs.Rulebook.{implied, references_of};
 ghost use Rattle.explained_turns.specs.Explained.{AreNext, Follows, HaveLegPrices};
 ghost use Rattle.explained_turns.specs.code.Turns.{IsNextTurn};
 

@@ -2,8 +2,8 @@
 ghost use Rattle.std.specs.Prelude.{◌≡◌, ◌-◌, All, IfOk, IfSome, fold};
 ghost use Rattle.spread_rules.specs.Candidates.{HasOrderPrice, HasLegPrice};
 ghost use Rattle.spread_rules.specs.Clearing.{after_fill, clear, members};
-ghost use Rattle.spread_rules.specs.Prices.{IsOrderPrice};
-ghost use Rattle.spread_rules.specs.Rulebook.{implied, references_of};
+ghost use Rattle.spread_rulebook.specs.Prices.{IsOrderPrice};
+ghost use Rattle.spread_rulebook.specs.Rulebook.{implied, references_of};
 ghost use Rattle.explained_turns.specs.Explained.{AreTurns, HaveLegPrices, IsBeyond};
 ghost use Rattle.explained_turns.specs.code.Turns.{IsAfter};
 

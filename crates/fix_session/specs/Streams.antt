@@ -1,7 +1,7 @@
 -- What the bytes of a stream say.
 use Rattle.std.specs.Prelude.{ℕ, Bool, List, filter_map}
 use Rattle.spread_rules.specs.declared.event.Event.{Event}
-use Rattle.fix_wire.specs.Frames.{frames}
+use Rattle.fix_frames.specs.Frames.{frames}
 use Rattle.fix_session.specs.View.{MessageView, view}
 use Rattle.fix_session.specs.Places as places
 

@@ -8,13 +8,13 @@ use Rattle.spread_rules.specs.declared.order.Side.TheVariants.{Buy, Sell}
 use Rattle.spread_rules.specs.declared.codes.session_reject_reason.TheConstants as reject
 use Rattle.spread_rules.specs.declared.event.Ticket.{Ticket}
 use Rattle.spread_rules.specs.declared.event.Event.TheVariants as events
-use Rattle.fix_wire.specs.declared.field_values.TheConstants as field_values
-use Rattle.fix_wire.specs.declared.msg_types.TheConstants as msg_types
-use Rattle.fix_wire.specs.declared.tags.TheConstants as tags
+use Rattle.fix_frames.specs.declared.field_values.TheConstants as field_values
+use Rattle.fix_frames.specs.declared.msg_types.TheConstants as msg_types
+use Rattle.fix_frames.specs.declared.tags.TheConstants as tags
 use Rattle.fix_values.specs.declared.values.Unread.{Unread}
 use Rattle.fix_values.specs.declared.values.Unread.TheVariants.{Format, Range}
 use Rattle.fix_values.specs.Values.{number_in, quantity_in, price_in}
-use Rattle.fix_wire.specs.Messages.{get, kind}
+use Rattle.fix_frames.specs.Messages.{get, kind}
 use Rattle.fix_session.specs.declared.table.Meaning.{Meaning}
 use Rattle.fix_session.specs.declared.table.Meaning.TheVariants.{Nothing, Gives, Fills}
 

@@ -5,11 +5,11 @@ use Rattle.host_base.specs.Ids.{id_of}
 use Rattle.host_base.specs.declared.limits.TheConstants.{FIRST_MSG_SEQ_NUM}
 use Rattle.spread_rules.specs.declared.event.Event.{Event}
 use Rattle.spread_rules.specs.declared.event.Event.TheVariants as events
-use Rattle.fix_wire.specs.declared.msg_types.TheConstants as msg_types
-use Rattle.fix_wire.specs.declared.tags.TheConstants as tags
+use Rattle.fix_frames.specs.declared.msg_types.TheConstants as msg_types
+use Rattle.fix_frames.specs.declared.tags.TheConstants as tags
 use Rattle.fix_values.specs.declared.values.Unread.{Unread}
 use Rattle.fix_values.specs.Values.{number_in}
-use Rattle.fix_wire.specs.Messages.{get, kind, number}
+use Rattle.fix_frames.specs.Messages.{get, kind, number}
 use Rattle.fix_session.specs.declared.table.Meaning.{Meaning}
 use Rattle.fix_session.specs.declared.table.Meaning.TheVariants.{Nothing, Gives, Fills}
 use Rattle.fix_session.specs.Table.{meaning_of_message}

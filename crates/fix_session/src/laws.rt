@@ -7,7 +7,7 @@ ghost use Rattle.spread_rules.specs.declared.event.Event.TheVariants.{Close};
 ghost use Rattle.spread_rules.specs.Journal.{FitsEvent, is_in_order};
 ghost use Rattle.fix_session.specs.declared.session.Session.{Session};
 ghost use Rattle.fix_session.specs.declared.session.Verdict.TheVariants.{Nothing};
-ghost use Rattle.fix_wire.specs.Frames.{frames};
+ghost use Rattle.fix_frames.specs.Frames.{frames};
 ghost use Rattle.fix_session.specs.Streams.{stays_open_of, events_of, whole_of, events, whole};
 ghost use Rattle.fix_session.specs.Steps.{new_session, judge, ended, is_closed, is_closing, event_in, events_said, session_after, events_at_end};
 

@@ -5,8 +5,8 @@ ghost use Rattle.std.specs.Prelude.{◌≡◌, ◌≤◌, ℕ, List, length, Res
 ghost use Rattle.std.specs.Option.{option_copied};
 ghost use Rattle.std.specs.List.{list_any};
 ghost use Rattle.host_base.specs.Ids.{is_id};
-ghost use Rattle.fix_wire.specs.Messages.{get};
-ghost use Rattle.fix_wire.specs.declared.tags.TheConstants as tags;
+ghost use Rattle.fix_frames.specs.Messages.{get};
+ghost use Rattle.fix_frames.specs.declared.tags.TheConstants as tags;
 ghost use Rattle.fix_session.specs.Table.{value_at, id_at, number_at, quantity_at, price_at, choice_at, one_of, side_at, time_in_force_of, gap_fill_flag_of, passed_over, test_request, resend_request, sequence_reset, new_order, cancel_request, replace_request, meaning_of_kind, meaning_of_message, reason_of};
 ghost use Rattle.fix_session.specs.code.Shown.{bytes_behind};
 

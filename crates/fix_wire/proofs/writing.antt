@@ -1,3 +1,4 @@
 pub mod HeadFields
 pub mod PartsInRoom
+pub mod SpelledRow
 pub mod WrittenMessage

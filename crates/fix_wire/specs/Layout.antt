@@ -5,16 +5,16 @@ use Rattle.host_base.specs.declared.bytes.TheConstants.{SOH}
 use Rattle.host_base.specs.declared.limits.TheConstants.{MAX_BODY_LENGTH}
 use Rattle.host_base.specs.Ascii.{equals, hyphen_minus}
 use Rattle.host_base.specs.Ids.{is_plain}
-use Rattle.fix_wire.specs.declared.frame.TheConstants.{MAX_TAG_DIGITS}
-use Rattle.fix_wire.specs.declared.tags.TheConstants as tags
+use Rattle.fix_frames.specs.declared.frame.TheConstants.{MAX_TAG_DIGITS}
+use Rattle.fix_frames.specs.declared.tags.TheConstants as tags
 use Rattle.fix_wire.specs.declared.writer.Value.{Value}
 use Rattle.fix_wire.specs.declared.writer.Value.TheVariants.{Text, Number, Price, Pair}
 use Rattle.fix_wire.specs.declared.writer.Field as given
 use Rattle.fix_wire.specs.declared.writer.Head.{Head}
 use Rattle.fix_values.specs.Values.{price_text}
-use Rattle.fix_wire.specs.Fields.{TagValue}
-use Rattle.fix_wire.specs.Frames.{begin_text, checksum_field, IsFrame, frames}
-use Rattle.fix_wire.specs.Messages.{fields}
+use Rattle.fix_frames.specs.Fields.{TagValue}
+use Rattle.fix_frames.specs.Frames.{begin_text, checksum_field, IsFrame, frames}
+use Rattle.fix_frames.specs.Messages.{fields}
 
 -- what a field's value is written as; a pair is `a-b`
 abbrev pub value_text : Value → List ℕ

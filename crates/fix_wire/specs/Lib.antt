@@ -1,11 +1,2 @@
 pub mod code
-pub mod Texts
-pub mod Fields
-pub mod Frames
-pub mod Messages
-pub mod Held
-pub mod Next
-pub mod Looks
 pub mod Layout
-pub mod Pieces
-pub mod Examples

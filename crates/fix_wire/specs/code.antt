@@ -1,5 +1,1 @@
-pub mod Scans
-pub mod FramerFields
-pub mod Tabled
 pub mod Spelling
-pub mod Marked

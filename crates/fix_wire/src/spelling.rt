@@ -3,7 +3,7 @@
 ghost use Rattle.std.specs.Prelude.{◌≡◌, ◌++◌, ◌∷◌, [], ◌<◌, ◌≤◌, ◌*◌, ◌+◌, ◌%◌, true, sum, set, take, drop, length, decimal, ◌/◌, ◌^◌};
 ghost use Rattle.std.specs.List.{flat_map, AllByRecursion};
 ghost use Rattle.host_base.specs.declared.limits.TheConstants.{MAX_ID_LENGTH};
-ghost use Rattle.fix_wire.specs.Frames.{begin_text, checksum_field};
+ghost use Rattle.fix_frames.specs.Frames.{begin_text, checksum_field};
 ghost use Rattle.host_base.specs.Ascii.{digit_zero};
 ghost use Rattle.host_base.specs.Ids.{is_plain};
 ghost use Rattle.fix_wire.specs.Layout.{value_text, field_text, head_fields, field_of_given, body_text, summed_text, FitsTypes, FitsValueOf, FitsValue};
@@ -11,8 +11,8 @@ ghost use Rattle.fix_values.specs.Values.{price_text};
 ghost use Rattle.fix_wire.specs.code.Spelling.{kind_text, orig_text};
 
 use crate::body::Body;
-use crate::frame::{BEGIN_BYTES, BEGIN_TEXT, CHECKSUM_BYTES, checksum, checksum_digits};
 use crate::writer::{Field, Head, Value};
+use fix_frames::{BEGIN_BYTES, BEGIN_TEXT, CHECKSUM_BYTES, checksum, checksum_digits};
 use fix_values::{put, put_byte, put_number, put_price};
 use host_base::Id;
 use host_base::bytes::SOH;

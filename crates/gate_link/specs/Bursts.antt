@@ -1,8 +1,8 @@
 -- Several messages are passed at once: their events are sent as one slice, all of them or none.
 use Rattle.std.specs.Prelude.{◌≡◌, ℕ, ◌+◌, ◌≤◌, ◌<◌, false, List, [], ◌++◌, length, min, if◌then◌else◌}
 use Rattle.spread_rules.specs.declared.event.Event.{Event}
-use Rattle.fix_wire.specs.Frames.{frames}
-use Rattle.fix_wire.specs.Pieces.{SplitsInto}
+use Rattle.fix_frames.specs.Frames.{frames}
+use Rattle.fix_frames.specs.Pieces.{SplitsInto}
 use Rattle.fix_session.specs.Steps.{events_said, session_after}
 use Rattle.fix_session.specs.Ahead.{up_to_close, after_frames}
 use Rattle.gate_link.specs.Gateways.{session_state, bytes_held, events_sent, free_slots, pending_events, is_over, Needs, WasClosed}

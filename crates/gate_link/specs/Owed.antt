@@ -1,8 +1,8 @@
 -- What a session still has to say.
 use Rattle.std.specs.Prelude.{◌≡◌, ℕ, List, ◌++◌, Some}
 use Rattle.spread_rules.specs.declared.event.Event.{Event}
-use Rattle.fix_wire.specs.Frames.{frames}
-use Rattle.fix_wire.specs.Held.{first_frame}
+use Rattle.fix_frames.specs.Frames.{frames}
+use Rattle.fix_frames.specs.Held.{first_frame}
 use Rattle.fix_session.specs.declared.session.Session.{Session}
 use Rattle.fix_session.specs.Steps.{events_said, session_after, events_at_end}
 

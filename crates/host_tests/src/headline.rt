@@ -3,12 +3,12 @@
 ghost use Rattle.std.specs.Io.KnownBytes.{Appends, IsAtEnd};
 ghost use Rattle.std.specs.Prelude.{◌≡◌, ℕ, ◌<◌, ◌≤◌, ◌+◌, ◌⊎◌, ◌≢◌, Contains, IfOk, IfErr, IfSome, OnOk, IsErrOf, length, take, true, false, Ok, [], All};
 ghost use Rattle.host_base.specs.declared.limits.TheConstants.{MAX_INPUT_BYTES, SESSIONS};
-ghost use Rattle.fix_wire.specs.Frames.{IsFrameRow};
+ghost use Rattle.fix_frames.specs.Frames.{IsFrameRow};
 ghost use Rattle.spread_rules.specs.Journal.{IsLawful, restricted};
 ghost use Rattle.spread_rules.specs.Legs.{bought, sold, paid, received};
 ghost use Rattle.spread_rules.specs.Meaning.{meaning_of_journal, filled};
 ghost use Rattle.spread_rules.specs.Quiet.{IsQuiet};
-ghost use Rattle.spread_rules.specs.Rulebook.{implied};
+ghost use Rattle.spread_rulebook.specs.Rulebook.{implied};
 ghost use Rattle.spread_rules.specs.declared.fill.Fill.{Fill};
 ghost use Rattle.spread_match.specs.Sound.{KeepsOrder};
 ghost use Rattle.spread_report.specs.Messages.{IsRow, messages_to};

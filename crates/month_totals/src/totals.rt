@@ -1,7 +1,7 @@
 //! What each month sums to: lots bought and sold, money paid and received.
 ghost use Rattle.std.specs.Prelude.{◌≡◌, ◌<◌, ◌≤◌, ◌^◌, All};
 ghost use Rattle.spread_rules.specs.Legs.{other_side};
-ghost use Rattle.spread_rules.specs.Prices.{IsLegPrice};
+ghost use Rattle.spread_rulebook.specs.Prices.{IsLegPrice};
 ghost use Rattle.month_totals.specs.Totals.{AreTotals, IsSummable, IsBelow};
 ghost use Rattle.month_totals.specs.code.Sums.{plus_leg, with_leg, HasRoom, with_fill};
 

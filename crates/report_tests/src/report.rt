@@ -2,7 +2,7 @@
 ghost use Rattle.std.specs.Prelude.{◌≡◌, ℕ, ◌<◌, length, slice_index_or};
 ghost use Rattle.std.specs.Bool.{OnTrue};
 ghost use Rattle.spread_rules.specs.declared.fill.Fill.{Fill};
-ghost use Rattle.spread_rules.specs.Rulebook.{IsListed};
+ghost use Rattle.spread_rulebook.specs.Rulebook.{IsListed};
 ghost use Rattle.spread_rules.specs.Ranges.{FitsOutcome, FitsFill};
 
 use crate::said::{Said, entry_of};

@@ -4,7 +4,7 @@ use Rattle.std.proofs.lemmas.List.{drop-drop, length-drop, take-append-drop}
 use Rattle.std.proofs.Math.Seq.{take-length}
 use Rattle.fix_session.specs.Steps.{new_session}
 use Rattle.spread_rules.specs.declared.event.Event.{Event}
-use Rattle.fix_wire.specs.Frames.{frames}
+use Rattle.fix_frames.specs.Frames.{frames}
 use Rattle.fix_session.specs.declared.session.Session.{Session}
 use Rattle.fix_session.proofs.events.StateOfPlaces.{whole_law}
 use Rattle.gate_link.specs.Owed.{events_left}

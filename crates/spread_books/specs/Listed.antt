@@ -1,8 +1,8 @@
 -- Of which months an instrument is, and that a spread's near month comes before its far one.
 use Rattle.std.specs.Prelude.{ℕ, ◌<◌}
 use Rattle.spread_rules.specs.declared.order.Order.{Order}
-use Rattle.spread_rules.specs.declared.order.Instrument.{Instrument}
-use Rattle.spread_rules.specs.declared.order.Instrument.TheVariants.{Outright, Spread}
+use Rattle.spread_rulebook.specs.declared.instrument.Instrument.{Instrument}
+use Rattle.spread_rulebook.specs.declared.instrument.Instrument.TheVariants.{Outright, Spread}
 
 -- an instrument of so many months
 abbrev pub IsInMonths : ℕ → Instrument → Type 0

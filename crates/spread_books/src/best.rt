@@ -1,11 +1,11 @@
 //! The least candidate, over fronts alone.
 ghost use Rattle.std.specs.Prelude.{◌≡◌, ℕ, ◌<◌, ◌+ℤ◌, List, All, IfSome, Contains, None, true, false};
 ghost use Rattle.spread_rules.specs.Candidates.{Pairs, all_on, takes_part, candidate_of, better_of, cost, HasOrderPrice, HasLegPrice, IsBest};
-ghost use Rattle.spread_rules.specs.Prices.{IsOrderPrice, IsLegPrice};
-ghost use Rattle.spread_rules.specs.Rulebook.{implied, month_count};
+ghost use Rattle.spread_rulebook.specs.Prices.{IsOrderPrice, IsLegPrice};
+ghost use Rattle.spread_rulebook.specs.Rulebook.{implied, month_count};
 ghost use Rattle.spread_rules.specs.declared.candidate.Counterparty.TheVariants.{Implied};
 ghost use Rattle.spread_rules.specs.Legs.{other_side};
-ghost use Rattle.spread_rules.specs.declared.order.Instrument.TheVariants.{Outright};
+ghost use Rattle.spread_rulebook.specs.declared.instrument.Instrument.TheVariants.{Outright};
 ghost use Rattle.spread_books.specs.Listed.{IsInMonths, IsNearFirst};
 ghost use Rattle.spread_books.specs.code.Best.{IsFair, IsBeyond, Offers, CoversOne, CoversTwo, CoversBelow};
 ghost use Rattle.spread_books.specs.code.Cheapest.{spread_of, spread_side, CostsOfFront, CostsOfFronts, cheaper_of, IsCheapest};

@@ -1,8 +1,8 @@
 //! The pair of fronts that costs the least among those of all other months.
 ghost use Rattle.std.specs.Prelude.{◌≡◌, ℕ, ◌+ℤ◌, List, All, IfSome, None};
 ghost use Rattle.spread_rules.specs.Candidates.{cost, HasOrderPrice};
-ghost use Rattle.spread_rules.specs.Rulebook.{implied};
-ghost use Rattle.spread_rules.specs.Prices.{IsOrderPrice, IsLegPrice};
+ghost use Rattle.spread_rulebook.specs.Rulebook.{implied};
+ghost use Rattle.spread_rulebook.specs.Prices.{IsOrderPrice, IsLegPrice};
 ghost use Rattle.spread_rules.specs.Legs.{other_side};
 ghost use Rattle.spread_rules.specs.declared.order.Order.{Order};
 ghost use Rattle.spread_books.specs.code.Cheapest.{spread_of, spread_side, is_pair_on, CostsOfFront, CostsOfFronts, cheaper_of, IsCheapest, KeepsOthers, must_search, sooner_of};

@@ -1,7 +1,7 @@
 //! A table of the pairs of fronts that cost the least, one for each month and side, renewed as fronts change.
 ghost use Rattle.std.specs.Prelude.{◌≡◌, ℕ, ◌<◌, ◌*◌, List, All, replicate, slice_get, slice_set, None, IfOk};
 ghost use Rattle.spread_rules.specs.Candidates.{HasOrderPrice};
-ghost use Rattle.spread_rules.specs.Rulebook.{implied};
+ghost use Rattle.spread_rulebook.specs.Rulebook.{implied};
 ghost use Rattle.spread_rules.specs.declared.order.Side.{Side};
 ghost use Rattle.spread_rules.specs.declared.order.Order.{Order};
 ghost use Rattle.spread_books.specs.code.Cheapest.{KeepsOthers};

@@ -2,7 +2,7 @@
 ghost use Rattle.std.specs.Prelude.{◌≡◌, ◌<◌, ◌^◌, [], All, IfOk, IfSome, true, length};
 ghost use Rattle.host_base.specs.declared.limits.TheConstants.{MAX_MONTHS};
 ghost use Rattle.spread_rules.specs.Candidates.{HasOrderPrice};
-ghost use Rattle.spread_rules.specs.Rulebook.{implied};
+ghost use Rattle.spread_rulebook.specs.Rulebook.{implied};
 ghost use Rattle.spread_books.specs.Listed.{IsInMonths};
 ghost use Rattle.spread_books.specs.code.Cheapest.{IsCheapest};
 ghost use Rattle.spread_books.specs.code.QuoteTable.{IsListed};
@@ -28,7 +28,7 @@ pub struct QuotedBook<'r, A: Allocator + Copy> {
 }
 
 impl<'r, A: Allocator + Copy> Model for QuotedBook<'r, A> {
-    ghost use Rattle.spread_rules.specs.Rulebook.{implied};
+    ghost use Rattle.spread_rulebook.specs.Rulebook.{implied};
     ghost use Rattle.spread_books.specs.BookView.{BookView};
     ghost use Rattle.spread_books.specs.code.QuoteTable.{KeepsTable};
 

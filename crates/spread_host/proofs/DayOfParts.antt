@@ -6,7 +6,7 @@ use Rattle.spread_rules.specs.declared.fill.Fill.{Fill}
 use Rattle.spread_rules.specs.Journal.{FitsEntry, IsLawful}
 use Rattle.spread_rules.specs.Meaning.{meaning_of_journal}
 use Rattle.spread_rules.specs.Ranges.{IsFillInRange}
-use Rattle.spread_rules.specs.Rulebook.{Rules, IsRules}
+use Rattle.spread_rulebook.specs.Rulebook.{Rules, IsRules}
 use Rattle.spread_report.specs.Messages.{IsRow, messages_to}
 use Rattle.spread_report.specs.Sessions.{bytes_of}
 use Rattle.day_apply.specs.Applied.{outgoing_bytes, applied_entries}

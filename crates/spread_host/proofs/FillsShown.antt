@@ -1,7 +1,7 @@
 -- Fills in range can be shown in a day's text.
 use Rattle.std.proofs.Common.{List, All, get_or}
 use Rattle.spread_rules.specs.declared.fill.Fill.{Fill}
-use Rattle.spread_rules.specs.Rulebook.{Rules}
+use Rattle.spread_rulebook.specs.Rulebook.{Rules}
 use Rattle.spread_rules.specs.Ranges.{IsFillInRange}
 use Rattle.month_totals.specs.Totals.{IsSummable}
 use Rattle.day_text.specs.DayText.{AreShown}

@@ -6,7 +6,7 @@ use Rattle.spread_rules.specs.declared.event.Event.{Event}
 use Rattle.spread_rules.specs.declared.event.Event.TheVariants.{Logon, New, Cancel, Replace, TestReply, Gap, Resend, Reject, Close}
 use Rattle.spread_rules.specs.Journal.{restricted}
 use Rattle.spread_rules.specs.Meaning.{JournalState, meaning_of, after_entry, no_entries}
-use Rattle.spread_rules.specs.Rulebook.{Rules}
+use Rattle.spread_rulebook.specs.Rulebook.{Rules}
 use Rattle.spread_report.specs.declared.outbound.OutboundSession.{OutboundSession}
 use Rattle.spread_report.specs.EntryMessages.{AddressedMessage}
 use Rattle.spread_report.specs.Outgoing.{messages_bytes, journal_bytes, entry_messages, bytes_for, outbound_after, outbound_at_entry, outbound_before_logon, outbound_for}

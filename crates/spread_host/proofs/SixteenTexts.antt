@@ -4,8 +4,8 @@ use Rattle.std.proofs.lemmas.List.{ext_get_or, get_or_append_left, length-map}
 use Rattle.std.proofs.Math.Seq.{get_or-append_seam}
 use Rattle.std.specs.declared.vec.Vec.{Vec}
 use Rattle.spread_rules.specs.declared.event.Entry.{Entry}
-use Rattle.spread_rules.specs.Rulebook.{Rules}
-use Rattle.fix_wire.specs.Frames.{IsFrameRow}
+use Rattle.spread_rulebook.specs.Rulebook.{Rules}
+use Rattle.fix_frames.specs.Frames.{IsFrameRow}
 use Rattle.spread_report.specs.Messages.{IsRow}
 use Rattle.spread_report.specs.Sessions.{bytes_of}
 use Rattle.std.specs.List.{All}

@@ -1,7 +1,7 @@
 -- A claim of a journal's fills and month totals, and whether it is what the rule gives.
 use Rattle.std.specs.Prelude.{◌≡◌, ℕ, List}
 use Rattle.spread_rules.specs.declared.fill.Fill.{Fill}
-use Rattle.spread_rules.specs.Rulebook.{Rules}
+use Rattle.spread_rulebook.specs.Rulebook.{Rules}
 use Rattle.day_text.specs.DayText.{fills_text}
 use Rattle.day_text.specs.Differences.{DiffersFirst}
 use Rattle.spread_host.specs.Checks.{IsChecked, IsCheckFault}

@@ -2,14 +2,14 @@
 use Rattle.std.specs.Prelude.{◌≡◌, ℕ, ◌<◌, ◌≤◌, List, length, take, All, Contains}
 use Rattle.std.specs.declared.vec.Vec.{Vec}
 use Rattle.host_base.specs.declared.limits.TheConstants.{SESSIONS}
-use Rattle.fix_wire.specs.Frames.{IsFrameRow}
+use Rattle.fix_frames.specs.Frames.{IsFrameRow}
 use Rattle.spread_rules.specs.declared.event.Entry.{Entry}
 use Rattle.spread_rules.specs.declared.fill.Fill.{Fill}
 use Rattle.spread_rules.specs.Journal.{IsLawful, restricted}
 use Rattle.spread_rules.specs.Legs.{bought, sold, paid, received}
 use Rattle.spread_rules.specs.Meaning.{meaning_of_journal, filled}
 use Rattle.spread_rules.specs.Quiet.{IsQuiet}
-use Rattle.spread_rules.specs.Rulebook.{implied, Rules}
+use Rattle.spread_rulebook.specs.Rulebook.{implied, Rules}
 use Rattle.spread_match.specs.Sound.{KeepsOrder}
 use Rattle.spread_report.specs.Messages.{IsRow, messages_to}
 use Rattle.spread_report.specs.Sessions.{bytes_of}

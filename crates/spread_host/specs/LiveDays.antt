@@ -1,7 +1,7 @@
 -- Why a day in threads was not handed out.
 use Rattle.std.specs.Prelude.{◌≡◌, ℕ, ◌<◌, ◌≤◌, ◌⊎◌, List, length}
 use Rattle.std.specs.declared.vec.Vec.{Vec}
-use Rattle.spread_rules.specs.Rulebook.{Rules}
+use Rattle.spread_rulebook.specs.Rulebook.{Rules}
 use Rattle.gate_link.specs.Opening.{IsRefusal}
 use Rattle.session_threads.specs.Streams.{all_events}
 use Rattle.day_threads.specs.Streams.{IsLivePlace, IsSpentLive, IsThread}

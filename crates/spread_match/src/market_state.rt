@@ -11,9 +11,9 @@ ghost use Rattle.spread_rules.specs.declared.outcome.Outcome.TheVariants.{Refuse
 ghost use Rattle.spread_rules.specs.Amended.{done};
 ghost use Rattle.spread_rules.specs.Candidates.{PlacesDiffer};
 ghost use Rattle.spread_rules.specs.Clearing.{removed};
-ghost use Rattle.spread_rules.specs.Prices.{IsOrderPrice};
+ghost use Rattle.spread_rulebook.specs.Prices.{IsOrderPrice};
 ghost use Rattle.spread_rules.specs.Meaning.{has_id, is_refused, refusal_or_instrument, outcome_of, order_of, resting, resting_status, may_replace, keeps_place, moved_to, keeping_means, cancel_of_nothing_resting, unchanged_with};
-ghost use Rattle.spread_rules.specs.Rulebook.{month_count, find_symbol};
+ghost use Rattle.spread_rulebook.specs.Rulebook.{month_count, find_symbol};
 ghost use Rattle.spread_match.specs.State.{empty_state};
 ghost use Rattle.spread_books.specs.Listed.{IsInMonths, IsNearBeforeFar};
 ghost use Rattle.spread_match.specs.Trade.{IsPriced, IsTradable};

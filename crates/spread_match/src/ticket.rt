@@ -3,7 +3,7 @@ ghost use Rattle.std.specs.Prelude.{◌≡◌, ℤ, pos, ◌<ℤ◌, Option, Non
 ghost use Rattle.spread_rules.specs.declared.outcome.OrderStatus.{OrderStatus};
 ghost use Rattle.spread_rules.specs.Amended.{done};
 ghost use Rattle.spread_rules.specs.Meaning.{refusal_or_instrument, resting_status, may_replace, keeps_place, moved_to};
-ghost use Rattle.spread_rules.specs.Rulebook.{find_symbol};
+ghost use Rattle.spread_rulebook.specs.Rulebook.{find_symbol};
 ghost use Rattle.spread_match.specs.code.StateAfter.{replace_refusal};
 
 use host_base::limits;

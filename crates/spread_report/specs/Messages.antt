@@ -1,8 +1,8 @@
 -- The messages that a session is sent, one by one.
 use Rattle.std.specs.Prelude.{◌≡◌, ℕ, List, [], ◌∷◌, ◌++◌}
 use Rattle.std.specs.List.{AllByRecursion, concat}
-use Rattle.fix_wire.specs.Frames.{IsFrame, frames}
-use Rattle.spread_rules.specs.Rulebook.{Rules}
+use Rattle.fix_frames.specs.Frames.{IsFrame, frames}
+use Rattle.spread_rulebook.specs.Rulebook.{Rules}
 use Rattle.spread_report.specs.declared.outbound.OutboundSession.{OutboundSession}
 use Rattle.spread_report.specs.EntryMessages.{AddressedMessage}
 use Rattle.spread_report.specs.Outgoing.{AppliedEntry, bytes_for, outbound_for, outbound_before, entry_messages, entry_outbound, outbound_before_logon}

@@ -2,8 +2,8 @@
 use Rattle.std.specs.Prelude.{ℕ, ◌+◌, ◌==◌, nat_lt, Bool, true, false, ◌&&◌, ◌||◌, if◌then◌else◌, List, [], ◌∷◌, ◌++◌, codes, Option, Some, None}
 use Rattle.host_base.specs.declared.limits.TheConstants.{MAX_MSG_SEQ_NUM}
 use Rattle.fix_wire.specs.Layout.{message_text}
-use Rattle.fix_wire.specs.declared.msg_types.TheConstants as msg_types
-use Rattle.fix_wire.specs.declared.tags.TheConstants as tags
+use Rattle.fix_frames.specs.declared.msg_types.TheConstants as msg_types
+use Rattle.fix_frames.specs.declared.tags.TheConstants as tags
 use Rattle.fix_wire.specs.declared.writer.Head.{Head}
 use Rattle.fix_wire.specs.declared.writer.Field.{Field}
 use Rattle.spread_rules.specs.declared.fill.Fill.{Fill}
@@ -11,7 +11,7 @@ use Rattle.spread_rules.specs.declared.event.Entry.{Entry}
 use Rattle.spread_rules.specs.declared.event.Event.{Event}
 use Rattle.spread_rules.specs.declared.event.Event.TheVariants.{Logon}
 use Rattle.spread_rules.specs.declared.outcome.Outcome.{Outcome}
-use Rattle.spread_rules.specs.Rulebook.{Rules}
+use Rattle.spread_rulebook.specs.Rulebook.{Rules}
 use Rattle.spread_report.specs.declared.outbound.OutboundSession.{OutboundSession}
 use Rattle.spread_report.specs.declared.outbound.CompIds.{CompIds}
 use Rattle.spread_report.specs.EntryMessages.{MessageContent, numbered, gap_fill, AddressedMessage, text_field, number_field, event_messages}

@@ -2,7 +2,7 @@
 use Rattle.std.specs.Prelude.{◌≡◌, ℕ, ◌<◌, ◌≤◌, ◌^◌, true, [], length, get_or, unsigned_abs}
 use Rattle.std.specs.List.{AllByRecursion}
 use Rattle.host_base.specs.Ids.{is_id}
-use Rattle.spread_rules.specs.Rulebook.{Rules, IsListed, month_count, names_of}
+use Rattle.spread_rulebook.specs.Rulebook.{Rules, IsListed, month_count, names_of}
 use Rattle.spread_rules.specs.Journal.{FitsEvent}
 use Rattle.spread_rules.specs.declared.fill.Fill.{Fill}
 use Rattle.spread_rules.specs.declared.outcome.Outcome.{Outcome}

@@ -3,7 +3,7 @@ use Rattle.std.specs.Prelude.{◌≡◌, ℕ, ◌<◌, true, List, [], map, slic
 use Rattle.std.specs.declared.vec.Vec.{Vec}
 use Rattle.host_base.specs.declared.limits.TheConstants.{SESSIONS}
 use Rattle.spread_report.specs.declared.outbound.OutboundSession.{OutboundSession}
-use Rattle.spread_rules.specs.Rulebook.{Rules}
+use Rattle.spread_rulebook.specs.Rulebook.{Rules}
 use Rattle.spread_report.specs.Outgoing.{AppliedEntry, entry_spends, outbound_before_logon}
 
 -- the texts of the sessions' lists

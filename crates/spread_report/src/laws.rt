@@ -1,10 +1,10 @@
 //! Laws over the definitions alone.
 ghost use Rattle.std.specs.Prelude.{◌≡◌, ◌<◌, ◌≤◌, ◌∷◌, ◌++◌, [], List, ℕ, true, false, length};
 ghost use Rattle.std.specs.List.{AllByRecursion, concat};
-ghost use Rattle.fix_wire.specs.Frames.{IsFrame, frames};
+ghost use Rattle.fix_frames.specs.Frames.{IsFrame, frames};
 ghost use Rattle.host_base.specs.declared.limits.TheConstants.{SESSIONS, MAX_MSG_SEQ_NUM};
 ghost use Rattle.host_base.specs.Ids.{is_id};
-ghost use Rattle.spread_rules.specs.Rulebook.{Rules};
+ghost use Rattle.spread_rulebook.specs.Rulebook.{Rules};
 ghost use Rattle.spread_report.specs.Outgoing.{AppliedEntry, entry_bytes, entry_outbound, entry_spends, outgoing_starting, spends_from, outbound_before_logon};
 ghost use Rattle.spread_report.specs.Messages.{IsRow, entry_texts, messages_starting};
 ghost use Rattle.spread_report.specs.Desk.{DeskState, desk_starting};

@@ -2,7 +2,7 @@
 ghost use Rattle.std.specs.Prelude.{◌≡◌, ◌≤◌, ◌<◌, ◌+◌, ◌++◌, ◌∷◌, true, length, take};
 ghost use Rattle.host_base.specs.Ids.{is_id};
 ghost use Rattle.host_base.specs.Ascii.{hyphen_minus};
-ghost use Rattle.spread_rules.specs.Rulebook.{IsListed, symbol_of};
+ghost use Rattle.spread_rulebook.specs.Rulebook.{IsListed, symbol_of};
 
 use host_base::Id;
 use host_base::limits::MAX_ID_LENGTH;

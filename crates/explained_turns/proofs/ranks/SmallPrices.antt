@@ -1,7 +1,7 @@
 -- prices fit a signed word
 use Rattle.std.proofs.Common.{◌≡◌, ℤ, pos, neg_ℤ, ◌-ℤ◌, ◌≤ℤ◌, ap, ◌∙◌, arith, FitsSigned, to_z, of_z, w64, unsigned_abs}
 use Rattle.std.proofs.lemmas.Int.{ints, to_z-of_z}
-use Rattle.spread_rules.specs.Prices.{IsLegPrice, IsOrderPrice}
+use Rattle.spread_rulebook.specs.Prices.{IsLegPrice, IsOrderPrice}
 
 small_64 : (z : ℤ) → neg_ℤ (pos 4000000000) ≤ℤ z → z ≤ℤ pos 4000000000 → to_z w64 (of_z w64 z) ≡ z
 small_64 z low high = let f : FitsSigned w64 z = omega (arith, ints) in to_z-of_z w64 z f

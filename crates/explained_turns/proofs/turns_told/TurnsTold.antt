@@ -8,9 +8,9 @@ use Rattle.spread_rules.specs.declared.candidate.Counterparty.{Counterparty}
 use Rattle.spread_rules.specs.declared.candidate.Counterparty.TheVariants.{Direct, Implied}
 use Rattle.spread_rules.specs.Candidates.{Pairs, HasOrderPrice}
 use Rattle.spread_rules.specs.Clearing.{Trading, after_fill, after_match, begin, clear, members, next_candidate, reduced, removed, turn, turns, with_less_left}
-use Rattle.spread_rules.specs.Rulebook.{Rules, IsMonth, IsRules, implied, references_of}
-use Rattle.spread_rules.specs.Prices.{IsOrderPrice}
-use Rattle.spread_rules.specs.declared.rulebook.Month.{Month}
+use Rattle.spread_rulebook.specs.Rulebook.{Rules, IsMonth, IsRules, implied, references_of}
+use Rattle.spread_rulebook.specs.Prices.{IsOrderPrice}
+use Rattle.spread_rulebook.specs.declared.rulebook.Month.{Month}
 use Rattle.spread_rules.proofs.clearings.TurnsEnd.{enough, one_end}
 use Rattle.explained_turns.specs.declared.turn.Turn.{Turn}
 use Rattle.explained_turns.specs.Explained.{AreTurns, IsTurn, after_turns}

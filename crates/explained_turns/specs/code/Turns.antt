@@ -3,7 +3,7 @@
 use Rattle.std.specs.Prelude.{◌≡◌, ℕ, ◌<◌, List, length, get_or, Option, Some, None}
 use Rattle.spread_rules.specs.declared.order.Order.{Order}
 use Rattle.spread_rules.specs.Clearing.{begin, next_candidate}
-use Rattle.spread_rules.specs.Rulebook.{Rules, implied}
+use Rattle.spread_rulebook.specs.Rulebook.{Rules, implied}
 use Rattle.explained_turns.specs.declared.turn.Turn.{Turn}
 use Rattle.explained_turns.specs.Explained.{IsTurn, after_turns}
 

@@ -12,7 +12,7 @@ use Rattle.fix_values.specs.declared.values.Unread.{Unread}
 use Rattle.fix_values.specs.declared.values.Unread.TheVariants.{Range, Format}
 use Rattle.fix_values.specs.Digits.{number_of}
 use Rattle.fix_values.specs.Values.{is_number, within, number_in}
-use Rattle.fix_wire.specs.Messages.{get, number, at_least_one}
+use Rattle.fix_frames.specs.Messages.{get, number, at_least_one}
 use Rattle.fix_session.specs.declared.table.Meaning.{Meaning}
 use Rattle.fix_session.specs.declared.table.Meaning.TheVariants.{Nothing, Gives, Fills}
 use Rattle.fix_session.specs.declared.session.Logon.{Logon}

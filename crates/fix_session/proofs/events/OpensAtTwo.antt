@@ -4,7 +4,7 @@ use Rattle.std.specs.Str.{bytes_eq}
 use Rattle.std.proofs.lemmas.Bool.{false≢true}
 use Rattle.std.proofs.lemmas.Bool.Decides.{nat_tests}
 use Rattle.std.proofs.lemmas.Slice.Eq.{bytes_eq-Decides}
-use Rattle.fix_wire.specs.Messages.{kind, number}
+use Rattle.fix_frames.specs.Messages.{kind, number}
 use Rattle.fix_session.specs.Table.{meaning_of_message, meaning_of_kind_text}
 use Rattle.fix_session.specs.declared.session.Logon.{Logon}
 use Rattle.fix_session.specs.declared.session.State.TheVariants as states

@@ -7,14 +7,14 @@ use Rattle.std.proofs.lemmas.Bool.Decides.{nat_tests}
 use Rattle.std.proofs.lemmas.Int.{ints}
 use Rattle.host_base.specs.Ids.{is_id, id_of}
 use Rattle.spread_rules.specs.Journal.{IsNumber, FitsTicket, FitsEvent, is_reject_reason, is_logon, is_close}
-use Rattle.spread_rules.specs.Prices.{IsOrderPrice}
+use Rattle.spread_rulebook.specs.Prices.{IsOrderPrice}
 use Rattle.spread_rules.specs.declared.event.Event.{Event}
 use Rattle.spread_rules.specs.declared.event.Event.TheVariants as events
 use Rattle.fix_values.specs.declared.values.Unread.{Unread}
 use Rattle.fix_values.specs.declared.values.Unread.TheVariants.{Format, Range}
 use Rattle.fix_values.specs.Digits.{is_point, is_zero, number_of}
 use Rattle.fix_values.specs.Values.{is_number, within, number_in, quantity_in, hundredths, hundredths_in, signed, price_in}
-use Rattle.fix_wire.specs.Messages.{get, kind}
+use Rattle.fix_frames.specs.Messages.{get, kind}
 use Rattle.fix_session.specs.declared.table.Meaning.{Meaning}
 use Rattle.fix_session.specs.declared.table.Meaning.TheVariants.{Nothing, Gives, Fills}
 use Rattle.fix_session.specs.Table.{◌>>=◌, required_text, value_at, or_out_of_range, id_at, or_reason, number_at, quantity_at, price_at, one_of, choice_at, allowed_if, side_at, side_of, time_in_force_of, gap_fill_flag_of, passed_over, test_request, resend_request, sequence_reset, new_order, cancel_request, replace_request, meaning_of_kind, meaning_of_kind_text, meaning_of_message}

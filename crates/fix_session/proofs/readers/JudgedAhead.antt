@@ -5,13 +5,13 @@ use Rattle.std.proofs.lemmas.List.{map-append, take_more_set}
 use Rattle.std.proofs.Math.ListN.{set}
 use Rattle.spread_rules.specs.declared.event.Event.{Event}
 use Rattle.spread_rules.specs.declared.event.Entry.{Entry}
-use Rattle.fix_wire.specs.Frames.{frames}
-use Rattle.fix_wire.specs.Held.{first_frame, after_first_frame}
-use Rattle.fix_wire.specs.Pieces.{SplitsInto}
-use Rattle.fix_wire.specs.Looks.{EndsFirst}
+use Rattle.fix_frames.specs.Frames.{frames}
+use Rattle.fix_frames.specs.Held.{first_frame, after_first_frame}
+use Rattle.fix_frames.specs.Pieces.{SplitsInto}
+use Rattle.fix_frames.specs.Looks.{EndsFirst}
 use Rattle.fix_session.specs.declared.session.Verdict.{Verdict}
 use Rattle.fix_session.specs.declared.session.Verdict.TheVariants.{Event as Says, Nothing}
-use Rattle.fix_wire.proofs.framing.FramesHeld.{pass_law}
+use Rattle.fix_frames.proofs.framing.FramesHeld.{pass_law}
 use Rattle.fix_session.specs.declared.session.Session.{Session}
 use Rattle.fix_session.specs.declared.ahead.Ahead.{Ahead}
 use Rattle.fix_session.specs.Steps.{judge, event_in, is_closed, events_said, session_after}

@@ -1,7 +1,7 @@
 -- How a reader keeps what its first message says.
 -- Words of the code alone.
 use Rattle.std.specs.Prelude.{◌≡◌, Some}
-use Rattle.fix_wire.specs.Held.{from_first_start}
+use Rattle.fix_frames.specs.Held.{from_first_start}
 use Rattle.fix_session.specs.declared.session.Change.{Change}
 use Rattle.fix_session.specs.code.Changes.{judgement_with}
 use Rattle.fix_session.specs.declared.reader.Reader.TheInside.{Inside}

@@ -5,7 +5,7 @@ use Rattle.std.specs.List.{flat_map}
 use Rattle.std.proofs.lemmas.List.{append_assoc}
 use Rattle.std.proofs.lemmas.Fmt.{decimal_step, decimal_digit}
 use Rattle.fix_wire.specs.declared.writer.Head.{Head}
-use Rattle.fix_wire.specs.Fields.{TagValue}
+use Rattle.fix_frames.specs.Fields.{TagValue}
 use Rattle.fix_wire.specs.Layout.{field, field_text, only_if, head_fields}
 use Rattle.fix_wire.specs.code.Spelling.{kind_text, orig_text}
 use Rattle.fix_values.proofs.Appended.{step}

@@ -1,7 +1,7 @@
 -- Parts written one behind the other into room.
 use Rattle.std.proofs.Common.{◌≡◌, ℕ, zero, suc, ◌+◌, ◌/◌, ◌%◌, ◌<◌, ◌≤◌, Bool, true, false, cond, List, [], ◌∷◌, ◌++◌, length, take, drop, set, refl, sym, ap, ◌∙◌, arith, length-append, append_assoc, decimal}
 use Rattle.std.proofs.lemmas.List.{take_at, take_all, take-take, length-take-le, set_at}
-use Rattle.fix_wire.specs.Frames.{begin_text}
+use Rattle.fix_frames.specs.Frames.{begin_text}
 use Rattle.fix_wire.specs.Layout.{summed_text}
 use Rattle.fix_values.proofs.LastTwoDigits.{three_digits}
 

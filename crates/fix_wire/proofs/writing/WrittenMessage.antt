@@ -11,21 +11,21 @@ use Rattle.std.proofs.lemmas.List.Folds.{list_all-append}
 use Rattle.std.proofs.lemmas.Slice.Eq.{bytes_eq-Decides}
 use Rattle.std.proofs.lemmas.Str.Parse.{IsNumeralModel, numerals_by_fold}
 use Rattle.std.proofs.lemmas.Fmt.{digits_decimal, digits_value-decimal, length-decimal-le, decimal_nonempty, first_decimal, decimal_step, decimal_digit}
-use Rattle.fix_wire.specs.declared.frame.FrameHeader.{FrameHeader}
+use Rattle.fix_frames.specs.declared.frame.FrameHeader.{FrameHeader}
 use Rattle.fix_wire.specs.declared.writer.Value.{Value}
 use Rattle.fix_wire.specs.declared.writer.Value.TheVariants.{Text, Number, Price, Pair}
 use Rattle.fix_wire.specs.declared.writer.Field as given
 use Rattle.fix_wire.specs.declared.writer.Head.{Head}
-use Rattle.fix_wire.specs.Texts.{is_soh, strip_prefix}
+use Rattle.fix_frames.specs.Texts.{is_soh, strip_prefix}
 use Rattle.fix_values.specs.Digits.{number_after, number_of, two_digits}
-use Rattle.fix_wire.specs.Fields.{TagValue, is_tag, fields_of_body}
-use Rattle.fix_wire.specs.Frames.{begin_text, header, header_after, header_with, is_body_length, is_body, is_intact, body_at, frame_length, intact_length, frame_at, frames, checksum_field}
-use Rattle.fix_wire.specs.Messages.{fields}
+use Rattle.fix_frames.specs.Fields.{TagValue, is_tag, fields_of_body}
+use Rattle.fix_frames.specs.Frames.{begin_text, header, header_after, header_with, is_body_length, is_body, is_intact, body_at, frame_length, intact_length, frame_at, frames, checksum_field}
+use Rattle.fix_frames.specs.Messages.{fields}
 use Rattle.host_base.specs.Ids.{is_plain}
 use Rattle.fix_wire.specs.Layout.{field, field_text, only_if, head_fields, field_of_given, all_fields, body_text, summed_text, message_text, value_text, FitsValue, FitsValueOf, FitsTags, FitsField, FitsHead, FitsMessage, IsReadBack}
 use Rattle.fix_values.proofs.SpelledNumbers.{and_true}
-use Rattle.fix_wire.proofs.fields.SpelledRow as spelled
-use Rattle.fix_wire.proofs.framing.FramesHeld.{scan_frame}
+use Rattle.fix_wire.proofs.writing.SpelledRow as spelled
+use Rattle.fix_frames.proofs.framing.FramesHeld.{scan_frame}
 
 -- ---- the body as one list of fields
 

@@ -2,7 +2,7 @@
 -- Words of the code alone.
 use Rattle.std.specs.Prelude.{ℕ, if◌then◌else◌, List, [], ◌∷◌, ◌++◌, decimal, codes}
 use Rattle.fix_wire.specs.declared.writer.Head.{Head}
-use Rattle.fix_wire.specs.Texts.{with_soh}
+use Rattle.fix_frames.specs.Texts.{with_soh}
 
 -- MsgType, MsgSeqNum and PossDupFlag, up to the tag of SenderCompID
 abbrev pub kind_text : Head → List ℕ

@@ -3,7 +3,7 @@ use Rattle.std.proofs.Common.{◌≡◌, ◌≢◌, ℕ, ◌≤◌, List, [], �
 use Rattle.std.proofs.lemmas.List.{length-map, length-take-le, map-append, nil_from_length}
 use Rattle.spread_rules.specs.declared.event.Event.{Event}
 use Rattle.spread_rules.specs.declared.event.Entry.{Entry}
-use Rattle.fix_wire.specs.Frames.{frames}
+use Rattle.fix_frames.specs.Frames.{frames}
 use Rattle.fix_session.specs.declared.ahead.Ahead.{Ahead}
 use Rattle.fix_session.specs.Reading.{ReaderState, entries_of}
 use Rattle.fix_session.specs.Ahead.{after_frames, IsAhead, after_ahead}

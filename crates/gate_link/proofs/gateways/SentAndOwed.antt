@@ -3,7 +3,7 @@ use Rattle.std.proofs.Common.{◌≡◌, ℕ, Bool, true, false, refl, List, [],
 use mathlib.Core.List.{IsPrefix}
 use Rattle.spread_rules.specs.declared.event.Event.{Event}
 use Rattle.spread_rules.specs.declared.event.Event.TheVariants as events
-use Rattle.fix_wire.specs.Frames.{frames}
+use Rattle.fix_frames.specs.Frames.{frames}
 use Rattle.gate_link.proofs.gateways.StillOwed.{owes_nothing}
 use Rattle.gate_link.specs.Gateways.{events_sent, session_state, bytes_held, pending_events, is_over, OnlySkipped, Stepped, Ended}
 use Rattle.gate_link.specs.Bursts.{first_events, SteppedMany}

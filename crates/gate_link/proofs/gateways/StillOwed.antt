@@ -5,7 +5,7 @@ use Rattle.std.proofs.lemmas.Bool.{false≢true}
 use Rattle.spread_rules.specs.Journal.{is_close}
 use Rattle.spread_rules.specs.declared.event.Event.{Event}
 use Rattle.spread_rules.specs.declared.event.Event.TheVariants.{Close}
-use Rattle.fix_wire.specs.Frames.{frames}
+use Rattle.fix_frames.specs.Frames.{frames}
 use Rattle.fix_session.specs.declared.session.State.{State}
 use Rattle.fix_session.specs.declared.session.State.TheVariants.{Before, Running, Closed}
 use Rattle.fix_session.specs.declared.session.Session.{Session}
@@ -14,7 +14,7 @@ use Rattle.fix_session.specs.declared.session.Verdict.TheVariants.{Event as Says
 use Rattle.fix_session.specs.Steps.{judge, event_in, is_closed, is_closing, events_said, session_after, events_at_end}
 use Rattle.fix_session.proofs.events.StateOfPlaces.{cons_two}
 use Rattle.fix_session.proofs.events.ClosesOnce.{closed_silent, closes_with}
-use Rattle.fix_wire.specs.Pieces.{SplitsInto}
+use Rattle.fix_frames.specs.Pieces.{SplitsInto}
 use Rattle.gate_link.specs.Owed.{whole_from, events_left}
 
 -- what a session says to one message and then to others

@@ -1,6 +1,6 @@
 //! A day's text, and what goes into it.
 ghost use Rattle.std.specs.Prelude.{◌<◌, ◌≤◌, All, length};
-ghost use Rattle.fix_wire.specs.Frames.{IsFrameRow};
+ghost use Rattle.fix_frames.specs.Frames.{IsFrameRow};
 ghost use Rattle.day_text.specs.DayText.{AreShown, texts_of};
 
 use super::{read_again, three_months};

@@ -6,7 +6,7 @@ use Rattle.spread_rules.specs.declared.order.Side.{Side}
 use Rattle.spread_rules.specs.declared.order.Side.TheVariants.{Buy, Sell}
 use Rattle.spread_rules.specs.declared.fill.Fill.{Fill}
 use Rattle.spread_rules.specs.Legs.{Leg, legs_in}
-use Rattle.spread_rules.specs.Prices.{IsLegPrice}
+use Rattle.spread_rulebook.specs.Prices.{IsLegPrice}
 use Rattle.month_totals.specs.declared.totals.MonthTotals.{MonthTotals}
 
 -- one more leg on that side

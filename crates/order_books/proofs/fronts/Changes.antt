@@ -7,13 +7,13 @@ use Rattle.std.proofs.lemmas.Cmp.{tied_itself}
 use Rattle.std.proofs.lemmas.Bool.Decides.{nat_tests}
 use Rattle.std.proofs.lemmas.List.Elements.{Contains-append_left, Contains-push, Contains-push_cases}
 use Rattle.spread_rules.specs.declared.order.Side.{Side}
-use Rattle.spread_rules.specs.declared.order.Instrument.{Instrument}
+use Rattle.spread_rulebook.specs.declared.instrument.Instrument.{Instrument}
 use Rattle.spread_rules.specs.declared.order.Order.{Order}
 use Rattle.spread_rules.specs.declared.order.Level.{Level}
 use Rattle.spread_rules.specs.Candidates.{better_by}
 use Rattle.spread_rules.specs.Quiet.{Rests}
 use Rattle.spread_rules.specs.Clearing.{removed}
-use Rattle.spread_rules.proofs.lists.Membership.{in_head, in_map, from_map}
+use Rattle.spread_rulebook.proofs.lists.Membership.{in_head, in_map, from_map}
 use Rattle.order_books.specs.Queues.{IsFront, IsFrontLevel, is_in, is_ahead, queue_cmp}
 use Rattle.order_tables.specs.Places.{Ascends}
 use Rattle.order_books.proofs.fronts.FoldGivesFront.{queue_total, in_queue, from_queue}

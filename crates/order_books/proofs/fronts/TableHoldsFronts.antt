@@ -4,12 +4,12 @@ use Rattle.std.specs.List.{find}
 use Rattle.std.proofs.lemmas.Bool.Decides.{nat_tests}
 use Rattle.spread_rules.specs.declared.order.Side.{Side}
 use Rattle.spread_rules.specs.declared.order.Side.TheVariants.{Buy, Sell}
-use Rattle.spread_rules.specs.declared.order.Instrument.{Instrument}
-use Rattle.spread_rules.specs.declared.order.Instrument.TheVariants.{Outright, Spread}
+use Rattle.spread_rulebook.specs.declared.instrument.Instrument.{Instrument}
+use Rattle.spread_rulebook.specs.declared.instrument.Instrument.TheVariants.{Outright, Spread}
 use Rattle.spread_rules.specs.declared.order.Order.{Order}
 use Rattle.spread_rules.specs.Candidates.{same_instrument}
 use Rattle.spread_rules.specs.Clearing.{removed}
-use Rattle.spread_rules.proofs.lists.Membership.{not_in_nil, in_head, in_tail, in_cons_cases}
+use Rattle.spread_rulebook.proofs.lists.Membership.{not_in_nil, in_head, in_tail, in_cons_cases}
 use Rattle.order_books.specs.Queues.{IsFront, IsFrontLevel, is_ahead}
 use Rattle.spread_rules.specs.Legs.{is_side}
 use Rattle.order_tables.specs.Places.{Ascends}

@@ -9,7 +9,7 @@ use Rattle.std.proofs.lemmas.Bool.Decides.{nat_tests}
 use Rattle.std.proofs.lemmas.List.Elements.{Contains-append_cases}
 use Rattle.spread_rules.specs.declared.order.Order.{Order}
 use Rattle.spread_rules.specs.Clearing.{reduced, removed, with_less_left}
-use Rattle.spread_rules.proofs.lists.Membership.{not_in_nil, in_head, in_tail, in_cons_cases, from_map}
+use Rattle.spread_rulebook.proofs.lists.Membership.{not_in_nil, in_head, in_tail, in_cons_cases, from_map}
 use Rattle.order_tables.specs.declared.queue_key.QueueKey.{QueueKey}
 use Rattle.order_tables.specs.declared.own_key.OwnKey.{OwnKey}
 use Rattle.order_tables.specs.QueueKeys.{queue_key}

@@ -11,8 +11,8 @@ use Rattle.std.proofs.lemmas.Map.Lookups.{CmpEqualImpliesEq, exact_unsigned, exa
 use Rattle.std.proofs.lemmas.Bool.Decides.{nat_tests}
 use Rattle.spread_rules.specs.declared.order.Side.{Side}
 use Rattle.spread_rules.specs.declared.order.Side.TheVariants.{Buy, Sell}
-use Rattle.spread_rules.specs.declared.order.Instrument.{Instrument}
-use Rattle.spread_rules.specs.declared.order.Instrument.TheVariants.{Outright, Spread}
+use Rattle.spread_rulebook.specs.declared.instrument.Instrument.{Instrument}
+use Rattle.spread_rulebook.specs.declared.instrument.Instrument.TheVariants.{Outright, Spread}
 use Rattle.spread_rules.specs.declared.order.Order.{Order}
 use Rattle.host_base.specs.declared.id_key.IdKey.{IdKey}
 use Rattle.spread_rules.specs.Candidates.{cost}

@@ -1,7 +1,7 @@
 -- a list of orders of which the one of a place is changed
 use Rattle.std.proofs.Common.{◌≡◌, ℕ, ◌-◌, ◌==◌, Bool, true, false, cond, List, [], ◌∷◌, map, Contains, refl, ap}
 use Rattle.spread_rules.specs.declared.order.Order.{Order}
-use Rattle.spread_rules.proofs.lists.Membership.{in_head, in_tail}
+use Rattle.spread_rulebook.proofs.lists.Membership.{in_head, in_tail}
 
 abbrev pub changed_at : (Order → Order) → ℕ → Order → Order
 changed_at f place o = cond (o.place == place) (f o) o

@@ -9,7 +9,7 @@ use Rattle.std.specs.List.Sorted.{IsStrictlySortedBy}
 use Rattle.row_index.proofs.Places.{not_later}
 use Rattle.spread_rules.specs.declared.order.Order.{Order}
 use Rattle.spread_rules.specs.Clearing.{removed}
-use Rattle.spread_rules.proofs.lists.Membership.{not_in_nil, in_head, in_tail, in_cons_cases}
+use Rattle.spread_rulebook.proofs.lists.Membership.{not_in_nil, in_head, in_tail, in_cons_cases}
 use Rattle.order_tables.specs.declared.row.Row.{Row}
 use Rattle.order_tables.specs.Places.{Ascends, HasPlace, HasMore}
 use Rattle.order_tables.specs.code.Rows.{live, Rises}

@@ -4,12 +4,13 @@ use Rattle.std.specs.Cmp.{IsStrictWeakOrder}
 use Rattle.std.specs.Ordering.{is_lt}
 use Rattle.spread_rules.specs.declared.order.Side.{Side}
 use Rattle.spread_rules.specs.declared.order.Side.TheVariants.{Buy, Sell}
-use Rattle.spread_rules.specs.declared.order.Instrument.{Instrument}
+use Rattle.spread_rulebook.specs.declared.instrument.Instrument.{Instrument}
 use Rattle.spread_rules.specs.declared.order.Order.{Order}
 use Rattle.spread_rules.specs.declared.candidate.Counterparty.{Counterparty}
 use Rattle.spread_rules.specs.declared.candidate.Counterparty.TheVariants.{Direct, Implied}
 use Rattle.spread_rules.specs.declared.candidate.Candidate.{Candidate}
-use Rattle.spread_rules.specs.Candidates.{implied_price, cost, is_within_limit, price_of, candidate_of, better_by, AllStandIn, month_of, rank_cmp, Pairs, all_on, takes_part, offered_if, IsEligible}
+use Rattle.spread_rules.specs.Candidates.{implied_price, cost, is_within_limit, price_of, candidate_of, better_by, AllStandIn, rank_cmp, Pairs, all_on, takes_part, offered_if, IsEligible}
+use Rattle.spread_rulebook.specs.Instruments.{month_of}
 use Rattle.spread_rules.specs.Quiet.{Rests}
 use Rattle.spread_rules.proofs.ranks.PlainIsLeast.{candidate_is}
 use Rattle.order_books.specs.Queues.{IsFront}

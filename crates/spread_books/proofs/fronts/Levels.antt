@@ -1,7 +1,7 @@
 -- what the levels of two fronts tell of their queues
 use Rattle.std.proofs.Common.{◌≡◌, false, Option, List, Some, None, is_some, option_map, refl, subst, ap, ◌∙◌, IfSome, Bool, true, ℤ}
 use Rattle.spread_rules.specs.declared.order.Side.{Side}
-use Rattle.spread_rules.specs.declared.order.Instrument.{Instrument}
+use Rattle.spread_rulebook.specs.declared.instrument.Instrument.{Instrument}
 use Rattle.spread_rules.specs.declared.order.Order.{Order}
 use Rattle.spread_rules.specs.declared.order.Level.{Level}
 use Rattle.spread_rules.specs.declared.candidate.Candidate.{Candidate}

@@ -9,13 +9,14 @@ use Rattle.std.specs.declared.cmp.Ordering.{Ordering}
 use Rattle.std.proofs.lemmas.Cmp.{ranked}
 use Rattle.spread_rules.specs.declared.order.Side.{Side}
 use Rattle.spread_rules.specs.declared.order.Side.TheVariants.{Buy, Sell}
-use Rattle.spread_rules.specs.declared.order.Instrument.{Instrument}
-use Rattle.spread_rules.specs.declared.order.Instrument.TheVariants.{Outright, Spread}
+use Rattle.spread_rulebook.specs.declared.instrument.Instrument.{Instrument}
+use Rattle.spread_rulebook.specs.declared.instrument.Instrument.TheVariants.{Outright, Spread}
 use Rattle.spread_rules.specs.declared.order.Order.{Order}
 use Rattle.spread_rules.specs.declared.candidate.Counterparty.TheVariants.{Implied}
 use Rattle.spread_rules.specs.declared.candidate.Candidate.{Candidate}
-use Rattle.spread_rules.specs.Candidates.{price_if, implied_price, cost, is_within_limit, rank_cmp, price_of, is_before, IsEligible, month_of, takes_part, all_on, Pairs, HasOrderPrice}
-use Rattle.spread_rules.specs.Prices.{IsOrderPrice, IsLegPrice}
+use Rattle.spread_rules.specs.Candidates.{price_if, implied_price, cost, is_within_limit, rank_cmp, price_of, is_before, IsEligible, takes_part, all_on, Pairs, HasOrderPrice}
+use Rattle.spread_rulebook.specs.Instruments.{month_of}
+use Rattle.spread_rulebook.specs.Prices.{IsOrderPrice, IsLegPrice}
 use Rattle.spread_rules.specs.Legs.{other_side}
 use Rattle.spread_rules.proofs.ranks.PlainIsLeast.{ranks}
 use Rattle.spread_rules.proofs.clearings.BoughtIsSold.{on_price}

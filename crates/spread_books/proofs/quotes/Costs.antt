@@ -4,7 +4,7 @@ use Rattle.std.proofs.lemmas.Bool.Decides.{nat_tests}
 use Rattle.std.proofs.lemmas.Int.{ints}
 use Rattle.std.proofs.lemmas.List.Elements.{Contains-append_left, Contains-push_cases}
 use Rattle.spread_rules.specs.declared.order.Side.{Side}
-use Rattle.spread_rules.specs.declared.order.Instrument.{Instrument}
+use Rattle.spread_rulebook.specs.declared.instrument.Instrument.{Instrument}
 use Rattle.spread_rules.specs.declared.order.Order.{Order}
 use Rattle.spread_rules.specs.declared.order.Level.{Level}
 use Rattle.spread_rules.specs.Candidates.{cost, all_on}

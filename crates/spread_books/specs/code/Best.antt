@@ -2,11 +2,12 @@
 -- Words of the code alone.
 use Rattle.std.specs.Prelude.{◌≡◌, ℕ, ℤ, ◌<◌, false, List, Option, IfSome, IsSomeAnd}
 use Rattle.spread_rules.specs.declared.order.Side.{Side}
-use Rattle.spread_rules.specs.declared.order.Instrument.{Instrument}
+use Rattle.spread_rulebook.specs.declared.instrument.Instrument.{Instrument}
 use Rattle.spread_rules.specs.declared.order.Order.{Order}
 use Rattle.spread_rules.specs.declared.candidate.Counterparty.TheVariants.{Direct, Implied}
 use Rattle.spread_rules.specs.declared.candidate.Candidate.{Candidate}
-use Rattle.spread_rules.specs.Candidates.{Pairs, HasLegPrice, is_within_limit, is_before, IsEligible, month_of}
+use Rattle.spread_rules.specs.Candidates.{Pairs, HasLegPrice, is_within_limit, is_before, IsEligible}
+use Rattle.spread_rulebook.specs.Instruments.{month_of}
 use Rattle.spread_rules.specs.Quiet.{Rests}
 use Rattle.order_books.specs.Queues.{IsFront}
 

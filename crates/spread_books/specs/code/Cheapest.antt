@@ -3,12 +3,12 @@
 use Rattle.std.specs.Prelude.{◌≡◌, ℕ, ◌==◌, ℤ, ◌<◌, ◌≤◌, ◌+ℤ◌, ◌≤ℤ◌, nat_lt, int_lt, Bool, true, ◌&&◌, cond, List, Option, Some, None, IfSome, IsSomeAnd, ◌⊎◌}
 use Rattle.std.specs.Ordering.{nat_cmp, int_cmp, ordering_then, is_lt}
 use Rattle.spread_rules.specs.declared.order.Side.{Side}
-use Rattle.spread_rules.specs.declared.order.Instrument.{Instrument}
-use Rattle.spread_rules.specs.declared.order.Instrument.TheVariants.{Outright, Spread}
+use Rattle.spread_rulebook.specs.declared.instrument.Instrument.{Instrument}
+use Rattle.spread_rulebook.specs.declared.instrument.Instrument.TheVariants.{Outright, Spread}
 use Rattle.spread_rules.specs.declared.order.Order.{Order}
 use Rattle.spread_rules.specs.Candidates.{Pairs, cost}
 use Rattle.spread_rules.specs.Quiet.{Rests}
-use Rattle.spread_rules.specs.Prices.{IsLegPrice}
+use Rattle.spread_rulebook.specs.Prices.{IsLegPrice}
 use Rattle.spread_rules.specs.Legs.{other_side}
 use Rattle.order_books.specs.Queues.{IsFront}
 use Rattle.spread_books.specs.declared.cheapest.PairCost.{PairCost}

@@ -2,7 +2,7 @@
 -- Words of the code alone.
 use Rattle.std.specs.Prelude.{◌≡◌, ℤ, min, List, Option, Some, MatchOption}
 use Rattle.spread_rules.specs.declared.order.Side.{Side}
-use Rattle.spread_rules.specs.declared.order.Instrument.{Instrument}
+use Rattle.spread_rulebook.specs.declared.instrument.Instrument.{Instrument}
 use Rattle.spread_rules.specs.declared.order.Order.{Order}
 use Rattle.spread_rules.specs.declared.candidate.Choice.{Choice}
 use Rattle.spread_rules.specs.declared.candidate.Counterparty.TheVariants.{Implied}

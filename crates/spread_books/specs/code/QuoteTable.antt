@@ -3,7 +3,7 @@
 use Rattle.std.specs.Prelude.{◌≡◌, ℕ, ◌+◌, ◌*◌, ◌<◌, ◌≤◌, int_le, Bool, true, false, List, [], ◌∷◌, ◌++◌, Contains, All, Option, Some, None, slice_get}
 use Rattle.host_base.specs.declared.limits.TheConstants as limits
 use Rattle.spread_rules.specs.declared.order.Side.{Side}
-use Rattle.spread_rules.specs.declared.order.Instrument.{Instrument}
+use Rattle.spread_rulebook.specs.declared.instrument.Instrument.{Instrument}
 use Rattle.spread_rules.specs.declared.order.Order.{Order}
 use Rattle.spread_rules.specs.declared.order.Level.{Level}
 use Rattle.spread_rules.specs.Candidates.{Pairs, cost, HasOrderPrice}

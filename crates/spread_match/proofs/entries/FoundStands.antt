@@ -1,7 +1,7 @@
 -- who is found stands in the list
 use Rattle.std.proofs.Common.{◌≡◌, Bool, true, false, cond, List, [], ◌∷◌, Contains, Option, Some, subst}
 use Rattle.std.specs.List.{find}
-use Rattle.spread_rules.proofs.lists.Membership.{in_head, in_tail}
+use Rattle.spread_rulebook.proofs.lists.Membership.{in_head, in_tail}
 
 found_at : {X : Type 0} (x : X) (xs : List X) (o : X) (b : Bool) (r : Option X) → (r ≡ Some o → Contains xs o) → cond b (Some x) r ≡ Some o → Contains (x ∷ xs) o
 found_at {X} x xs o true r on e = let same : x ≡ o = cc in subst (λ (y : X). Contains (x ∷ xs) y) same (in_head x xs)

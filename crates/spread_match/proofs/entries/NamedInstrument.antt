@@ -2,12 +2,12 @@
 use Rattle.std.proofs.Common.{◌≡◌, ℕ, List, All, Some}
 use Rattle.std.specs.Str.{bytes_eq}
 use Rattle.std.proofs.lemmas.List.Elements.{All-map, All-weaker}
-use Rattle.spread_rules.specs.declared.rulebook.Month.{Month}
-use Rattle.spread_rules.specs.Prices.{IsOrderPrice}
-use Rattle.spread_rules.specs.declared.order.Instrument.{Instrument}
-use Rattle.spread_rules.specs.declared.order.Instrument.TheVariants.{Outright, Spread}
-use Rattle.spread_rules.specs.Rulebook.{Rules, month_count, instruments_of, IsListed, symbol_of, find_symbol, references_of, IsRules, IsMonth}
-use Rattle.spread_rules.proofs.rulebook_texts.SymbolsNameOne.{from_instruments}
+use Rattle.spread_rulebook.specs.declared.rulebook.Month.{Month}
+use Rattle.spread_rulebook.specs.Prices.{IsOrderPrice}
+use Rattle.spread_rulebook.specs.declared.instrument.Instrument.{Instrument}
+use Rattle.spread_rulebook.specs.declared.instrument.Instrument.TheVariants.{Outright, Spread}
+use Rattle.spread_rulebook.specs.Rulebook.{Rules, month_count, instruments_of, IsListed, symbol_of, find_symbol, references_of, IsRules, IsMonth}
+use Rattle.spread_rulebook.proofs.rulebook_texts.SymbolsNameOne.{from_instruments}
 use Rattle.spread_books.specs.Listed.{IsInMonths, IsNearBeforeFar}
 use Rattle.spread_match.proofs.entries.FoundStands.{find_stands}
 

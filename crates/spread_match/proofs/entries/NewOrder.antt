@@ -6,20 +6,20 @@ use Rattle.spread_rules.specs.declared.order.Order.{Order}
 use Rattle.spread_rules.specs.declared.candidate.Candidate.{Candidate}
 use Rattle.spread_rules.specs.Candidates.{least_left, HasOrderPrice, Pairs, PlacesDiffer}
 use Rattle.spread_rules.specs.Clearing.{Trading, next_candidate, turn, turns, after_match, begin, clear, removed, reduced, with_less_left}
-use Rattle.spread_rules.proofs.lists.Membership.{in_head, in_tail}
+use Rattle.spread_rulebook.proofs.lists.Membership.{in_head, in_tail}
 use Rattle.spread_rules.proofs.clearings.TurnsEnd.{keeps_turns}
 use Rattle.spread_books.specs.Listed.{IsNearFirst, IsInMonths}
 use Rattle.spread_match.specs.Trade.{IsTradable}
 use Rattle.spread_match.specs.code.StateAfter.{orders_after_trading}
 use Rattle.spread_match.specs.code.Turns.{IsNewest}
-use Rattle.spread_rules.specs.declared.order.Instrument.{Instrument}
+use Rattle.spread_rulebook.specs.declared.instrument.Instrument.{Instrument}
 use Rattle.spread_rules.specs.declared.outcome.OrderStatus.{OrderStatus}
 use Rattle.spread_rules.specs.declared.event.Ticket.{Ticket}
 use Rattle.spread_rules.specs.declared.outcome.Outcome.TheVariants.{Rested, Filled, Ended}
 use Rattle.spread_match.proofs.turns.NotAgainstItself.{map_push}
 use Rattle.spread_match.proofs.turns.StaysTradable.{members_all}
 use Rattle.spread_rules.specs.Meaning.{is_refused, refusal_or_instrument, outcome_of, resting}
-use Rattle.spread_rules.specs.Rulebook.{Rules, find_symbol}
+use Rattle.spread_rulebook.specs.Rulebook.{Rules, find_symbol}
 
 filter_all : (p : Order → Bool) (xs : List Order) → ((o : Order) → Contains xs o → p o ≡ true) → filter p xs ≡ xs
 filter_all p [] h = refl

@@ -4,11 +4,11 @@ use Rattle.std.proofs.lemmas.Bool.Decides.{nat_tests}
 use Rattle.std.proofs.lemmas.List.Elements.{All-contains, All-filter, Contains-push_cases, Contains-append_cases, Contains-append_left, Contains-push, Contains-get_or}
 use Rattle.std.specs.List.{find}
 use Rattle.spread_rules.specs.declared.order.Order.{Order}
-use Rattle.spread_rules.specs.declared.order.Instrument.{Instrument}
+use Rattle.spread_rulebook.specs.declared.instrument.Instrument.{Instrument}
 use Rattle.spread_rules.specs.declared.fill.Fill.{Fill}
 use Rattle.spread_rules.specs.Candidates.{HasOrderPrice, Pairs}
 use Rattle.spread_rules.specs.Clearing.{Trading, begin, clear, removed}
-use Rattle.spread_rules.proofs.lists.Membership.{in_head, in_tail, not_in_nil}
+use Rattle.spread_rulebook.proofs.lists.Membership.{in_head, in_tail, not_in_nil}
 use Rattle.spread_rules.proofs.clearings.TurnsEnd.{keeps_turns}
 use Rattle.spread_rules.specs.declared.outcome.OrderStatus.{OrderStatus}
 use Rattle.spread_rules.specs.declared.event.Ticket.{Ticket}
@@ -23,14 +23,14 @@ use Rattle.spread_match.specs.code.StateAfter.{statuses_after, statuses_after_re
 use Rattle.spread_match.specs.Sound.{HasEntry, IsCounted, IsEntryApplied, IsNamed, IsOriginalNamed, IsSound, IsStateOf, KeepsLimit}
 use Rattle.spread_match.proofs.entries.FillsCounted.{IsRunning, running}
 use Rattle.spread_match.proofs.entries.NamedInstrument.{listed_found, near_of, months_of}
-use Rattle.spread_rules.specs.Prices.{IsOrderPrice}
+use Rattle.spread_rulebook.specs.Prices.{IsOrderPrice}
 use Rattle.spread_match.proofs.entries.NewOrder.{tradable_more, turns_all, taken_is, below_new}
 use Rattle.spread_rules.specs.Meaning.{EntryMeaning, JournalState, PastTicket, cancel_means, filled, has_id, is_own, is_refused, keeping_means, meaning_of, meaning_with, moved_to, new_order_means, order_of, original_of, refusal_or_instrument, replace_means, resting, statuses_of, ticket_of, with_meaning}
 use Rattle.spread_rules.specs.Amended.{amended, done, with_quantity}
 use Rattle.spread_match.proofs.entries.FoundStands.{find_stands}
 use Rattle.spread_match.proofs.entries.Replaces.{IsOwn, accepted_unused, amended_place, amended_tradable, by_replace, from_amended, none_refused, own_is}
 use Rattle.spread_match.proofs.status_rows.StatusesOfThePast.{statuses_more, unused}
-use Rattle.spread_rules.specs.Rulebook.{Rules, month_count, references_of, find_symbol, implied}
+use Rattle.spread_rulebook.specs.Rulebook.{Rules, month_count, references_of, find_symbol, implied}
 use Rattle.spread_match.specs.State.{MarketState}
 use Rattle.spread_match.proofs.turns.StaysAfterAFill.{from_filter}
 

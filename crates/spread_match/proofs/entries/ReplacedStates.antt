@@ -5,7 +5,7 @@ use Rattle.std.specs.List.{find}
 use Rattle.std.proofs.lemmas.Bool.Decides.{nat_tests}
 use Rattle.std.proofs.lemmas.List.Elements.{All-contains, All-filter, Contains-get_or, filter-append}
 use Rattle.spread_rules.specs.declared.order.Order.{Order}
-use Rattle.spread_rules.specs.declared.order.Instrument.{Instrument}
+use Rattle.spread_rulebook.specs.declared.instrument.Instrument.{Instrument}
 use Rattle.spread_rules.specs.declared.event.Ticket.{Ticket}
 use Rattle.spread_rules.specs.declared.event.Event.TheVariants.{New, Replace}
 use Rattle.spread_rules.specs.declared.outcome.Outcome.{Outcome}
@@ -15,8 +15,8 @@ use Rattle.spread_rules.specs.Amended.{done}
 use Rattle.spread_rules.specs.Candidates.{PlacesDiffer}
 use Rattle.spread_rules.specs.Clearing.{Trading, clear, removed}
 use Rattle.spread_rules.specs.Meaning.{clearing_means, has_id, instrument_or_refusal_of, is_own, is_refused, keeping_means, keeps_place, may_replace, moved_to, moving_means, order_of, outcome_of, place_left, replace_means, replace_of_resting, replace_refused, resting}
-use Rattle.spread_rules.specs.Prices.{IsOrderPrice}
-use Rattle.spread_rules.specs.Rulebook.{Rules, references_of, implied}
+use Rattle.spread_rulebook.specs.Prices.{IsOrderPrice}
+use Rattle.spread_rulebook.specs.Rulebook.{Rules, references_of, implied}
 use Rattle.order_books.specs.Queues.{CanAmend}
 use Rattle.spread_match.specs.State.{MarketState}
 use Rattle.spread_match.specs.Trade.{IsTradable}

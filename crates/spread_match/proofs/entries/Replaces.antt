@@ -11,7 +11,7 @@ use Rattle.std.proofs.lemmas.Slice.Eq.{bytes_eq-Decides}
 use Rattle.spread_rules.specs.declared.order.Order.{Order}
 use Rattle.spread_rules.specs.declared.order.Side.{Side}
 use Rattle.spread_rules.specs.declared.order.Side.TheVariants.{Buy, Sell}
-use Rattle.spread_rules.specs.declared.order.Instrument.{Instrument}
+use Rattle.spread_rulebook.specs.declared.instrument.Instrument.{Instrument}
 use Rattle.spread_rules.specs.declared.event.Ticket.{Ticket}
 use Rattle.spread_rules.specs.declared.event.Event.{Event}
 use Rattle.spread_rules.specs.declared.event.Event.TheVariants.{Logon, New, Cancel, Replace, TestReply, Gap, Resend, Reject, Close}
@@ -21,8 +21,8 @@ use Rattle.spread_rules.specs.Candidates.{HasOrderPrice, same_instrument}
 use Rattle.spread_rules.specs.Clearing.{clear, removed}
 use Rattle.spread_rules.specs.Legs.{is_side}
 use Rattle.spread_rules.specs.Meaning.{EntryMeaning, JournalState, cancel_of_nothing_resting, has_id, is_own, is_refused, keeping_means, keeps_place, may_replace, meaning_of, moved_to, moving_means, new_order_means, refusal_or_instrument, replace_means, replace_of_resting, replace_refused, statuses_of, ticket_of}
-use Rattle.spread_rules.specs.Rulebook.{Rules, find_symbol, references_of, implied}
-use Rattle.spread_rules.proofs.lists.Membership.{from_map, in_head, in_tail}
+use Rattle.spread_rulebook.specs.Rulebook.{Rules, find_symbol, references_of, implied}
+use Rattle.spread_rulebook.proofs.lists.Membership.{from_map, in_head, in_tail}
 use Rattle.spread_books.specs.Listed.{IsNearFirst, IsInMonths}
 use Rattle.order_books.proofs.fronts.FoldGivesFront.{same_instrument_is}
 use Rattle.spread_match.specs.Trade.{IsTradable}

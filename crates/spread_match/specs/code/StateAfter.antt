@@ -10,7 +10,7 @@ use Rattle.spread_rules.specs.declared.order.Order.{Order}
 use Rattle.spread_rules.specs.declared.fill.Fill.{Fill}
 use Rattle.spread_rules.specs.Clearing.{clear, removed, reduced, Trading}
 use Rattle.spread_rules.specs.declared.outcome.OrderStatus.{OrderStatus}
-use Rattle.spread_rules.specs.declared.order.Instrument.{Instrument}
+use Rattle.spread_rulebook.specs.declared.instrument.Instrument.{Instrument}
 use Rattle.spread_rules.specs.declared.event.Ticket.{Ticket}
 use Rattle.spread_rules.specs.declared.event.Event.{Event}
 use Rattle.spread_rules.specs.declared.outcome.Outcome.{Outcome}
@@ -18,7 +18,7 @@ use Rattle.spread_rules.specs.declared.outcome.Outcome.TheVariants.{Refused}
 use Rattle.spread_match.specs.Trade.{IsTradable}
 use Rattle.spread_rules.specs.Amended.{done}
 use Rattle.spread_rules.specs.Meaning.{EntryMeaning, has_id, instrument_or_refusal_of, is_own, is_refused, may_replace, meaning_with, moved_to, moving_means, order_of, original_of, place_left, replace_of_resting, ticket_of, unchanged_with, clearing_means, cancel_means}
-use Rattle.spread_rules.specs.Rulebook.{implied, Rules, references_of}
+use Rattle.spread_rulebook.specs.Rulebook.{implied, Rules, references_of}
 use Rattle.spread_match.specs.State.{MarketState}
 
 -- the order of that session and id, which was not refused

@@ -3,7 +3,7 @@ use Rattle.std.proofs.Common.{◌≡◌, ℕ, ◌<◌, ◌++◌, true, false, Li
 use Rattle.std.proofs.lemmas.Bool.{false≢true}
 use Rattle.std.specs.Result.{OnOk, OnErr, IsErrOf, is_err}
 use Rattle.std.specs.declared.vec.Vec.{Vec}
-use Rattle.spread_rules.specs.Rulebook.{Rules}
+use Rattle.spread_rulebook.specs.Rulebook.{Rules}
 use Rattle.spread_report.specs.declared.fault.DeskFault.{DeskFault}
 use Rattle.spread_report.specs.declared.fault.DeskFault.TheVariants.{NoMemory, NumbersSpent}
 use Rattle.spread_report.specs.declared.outbound.OutboundSession.{OutboundSession}

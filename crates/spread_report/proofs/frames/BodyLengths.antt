@@ -8,7 +8,7 @@ use Rattle.fix_wire.specs.declared.writer.Value.{Value}
 use Rattle.fix_wire.specs.declared.writer.Value.TheVariants.{Text, Number, Price, Pair}
 use Rattle.fix_wire.specs.declared.writer.Field as given
 use Rattle.fix_wire.specs.declared.writer.Head.{Head}
-use Rattle.fix_wire.specs.Fields.{TagValue}
+use Rattle.fix_frames.specs.Fields.{TagValue}
 use Rattle.fix_values.specs.Digits.{two_digits}
 use Rattle.fix_wire.specs.Layout.{value_text, field_text, field, only_if, head_fields, field_of_given, all_fields, body_text, FitsValue, FitsField}
 use Rattle.fix_values.specs.Values.{price_text}

@@ -7,7 +7,7 @@ use Rattle.std.proofs.lemmas.Bool.{leb-true}
 use Rattle.fix_wire.specs.declared.writer.Field.{Field}
 use Rattle.fix_wire.specs.declared.writer.Head.{Head}
 use Rattle.fix_wire.specs.Layout.{message_text, body_text, FitsKind, FitsTags, FitsBody, IsReadBack}
-use Rattle.fix_wire.specs.Frames.{IsFrame, frames}
+use Rattle.fix_frames.specs.Frames.{IsFrame, frames}
 use Rattle.spread_report.specs.EntryMessages.{has_tag}
 use Rattle.spread_report.specs.Messages.{IsRow, as_message}
 

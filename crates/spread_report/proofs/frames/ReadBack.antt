@@ -4,10 +4,10 @@ use Rattle.std.specs.List.{AllByRecursion}
 use Rattle.std.proofs.lemmas.Bool.Decides.{nat_tests}
 use Rattle.fix_wire.specs.declared.writer.Field.{Field}
 use Rattle.fix_wire.specs.Layout.{FitsMessage, message_text}
-use Rattle.fix_wire.specs.Frames.{IsFrame}
+use Rattle.fix_frames.specs.Frames.{IsFrame}
 use Rattle.fix_wire.proofs.writing.WrittenMessage.{written_frame, read_first}
 use Rattle.host_base.specs.Ids.{is_id}
-use Rattle.spread_rules.specs.Rulebook.{Rules}
+use Rattle.spread_rulebook.specs.Rulebook.{Rules}
 use Rattle.spread_rules.specs.declared.event.Event.{Event}
 use Rattle.spread_rules.specs.declared.event.Event.TheVariants.{Logon, New, Cancel, Replace, TestReply, Gap, Resend, Reject, Close}
 use Rattle.spread_rules.specs.Journal.{FitsEvent}

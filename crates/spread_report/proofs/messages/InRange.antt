@@ -6,14 +6,14 @@ use Rattle.std.proofs.lemmas.Bool.{leb-true}
 use Rattle.std.proofs.lemmas.Bool.Decides.{nat_tests}
 use Rattle.fix_wire.specs.declared.writer.Field.{Field}
 use Rattle.host_base.specs.Ids.{is_id, is_plain}
-use Rattle.spread_rules.specs.Rulebook.{Rules, IsListed, month_count, names_of, symbol_of}
+use Rattle.spread_rulebook.specs.Rulebook.{Rules, IsListed, month_count, names_of, symbol_of}
 use Rattle.spread_rules.specs.Journal.{FitsEvent, FitsTicket}
 use Rattle.spread_rules.specs.Legs.{other_side}
 use Rattle.spread_rules.specs.declared.order.Order.{Order}
 use Rattle.spread_rules.specs.declared.order.Side.{Side}
 use Rattle.spread_rules.specs.declared.order.Side.TheVariants.{Buy, Sell}
-use Rattle.spread_rules.specs.declared.order.Instrument.{Instrument}
-use Rattle.spread_rules.specs.declared.order.Instrument.TheVariants.{Outright, Spread}
+use Rattle.spread_rulebook.specs.declared.instrument.Instrument.{Instrument}
+use Rattle.spread_rulebook.specs.declared.instrument.Instrument.TheVariants.{Outright, Spread}
 use Rattle.spread_rules.specs.declared.fill.Fill.{Fill}
 use Rattle.spread_rules.specs.declared.event.Ticket.{Ticket}
 use Rattle.spread_rules.specs.declared.event.Event.{Event}

@@ -7,7 +7,7 @@ use Rattle.spread_report.specs.Desk.{DeskState}
 use Rattle.spread_report.specs.code.Sending.{Sends}
 use Rattle.spread_report.proofs.messages.MoreMessages.{all_sent, sends_after, sends_no_more}
 use Rattle.spread_rules.specs.declared.fill.Fill.{Fill}
-use Rattle.spread_rules.specs.Rulebook.{Rules}
+use Rattle.spread_rulebook.specs.Rulebook.{Rules}
 use Rattle.spread_report.specs.EntryMessages.{AddressedMessage, fill_reports, fills_reports, reports_of, report_count}
 
 pub reports_of-push : (fs : List Fill) (f : Fill) → reports_of (fs ++ f ∷ []) ≡ reports_of fs + report_count f.instrument

@@ -1,7 +1,7 @@
 -- The fields of the execution reports, part by part.
 -- Words of the code alone.
 use Rattle.std.specs.Prelude.{ℕ, ℤ, List, [], ◌∷◌, ◌++◌}
-use Rattle.fix_wire.specs.declared.tags.TheConstants as tags
+use Rattle.fix_frames.specs.declared.tags.TheConstants as tags
 use Rattle.fix_wire.specs.declared.writer.Field.{Field}
 use Rattle.spread_report.specs.declared.codes.TheConstants.{EXEC_TRANS_TYPE_NEW}
 use Rattle.spread_report.specs.declared.desk.report_body.OrderReport.{OrderReport}

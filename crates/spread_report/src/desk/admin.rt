@@ -1,7 +1,7 @@
 //! The session's own messages, one method for each kind.
 ghost use Rattle.std.specs.Prelude.{◌≡◌, ◌<◌, ◌≤◌, ◌∷◌, [], length};
 ghost use Rattle.spread_report.specs.code.Sending.{Sends};
-ghost use Rattle.fix_wire.specs.declared.msg_types.TheConstants.{HEARTBEAT, RESEND_REQUEST, REJECT, ORDER_CANCEL_REJECT, LOGON};
+ghost use Rattle.fix_frames.specs.declared.msg_types.TheConstants.{HEARTBEAT, RESEND_REQUEST, REJECT, ORDER_CANCEL_REJECT, LOGON};
 ghost use Rattle.spread_report.specs.EntryMessages.{numbered_message, gap_fill};
 ghost use Rattle.spread_report.specs.EntryMessages.{logon_fields, heartbeat_fields, reject_fields};
 ghost use Rattle.spread_report.specs.EntryMessages.{resend_request_fields, close_messages};

@@ -1,8 +1,8 @@
 -- A pair of months that takes part in implied trading, and one that does not.
 use Rattle.std.proofs.Common.{◌≡◌, true, false, Option, Some, None, refl, sym, ap, ◌∙◌}
 use Rattle.spread_rules.specs.declared.order.Order.{Order}
-use Rattle.spread_rules.specs.declared.order.Instrument.{Instrument}
-use Rattle.spread_rules.specs.declared.order.Instrument.TheVariants.{Outright, Spread}
+use Rattle.spread_rulebook.specs.declared.instrument.Instrument.{Instrument}
+use Rattle.spread_rulebook.specs.declared.instrument.Instrument.TheVariants.{Outright, Spread}
 use Rattle.spread_rules.specs.declared.candidate.Counterparty.TheVariants.{Direct, Implied}
 use Rattle.spread_rules.specs.Candidates.{step, Pairs, all_on, takes_part, offered_if, implied_price, price_of, candidate_at, candidate_of}
 use Rattle.std.specs.Prelude.{ℤ, List, [], ◌∷◌, map, fold}

@@ -1,5 +1,5 @@
 //! Messages and their fields.
-ghost use Rattle.fix_wire.specs.Frames.{IsFrameRow};
+ghost use Rattle.fix_frames.specs.Frames.{IsFrameRow};
 
 use super::writing::REPORT;
 use crate::day::{LOGON, SELL};

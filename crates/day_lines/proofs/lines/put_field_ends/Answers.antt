@@ -1,5 +1,5 @@
 use Rattle.std.proofs.Common.{◌≡◌, ℕ, List, set, get_or, ap, ◌∙◌}
-use Rattle.fix_wire.specs.Texts.{soh_for_bar}
+use Rattle.fix_frames.specs.Texts.{soh_for_bar}
 use Rattle.host_base.proofs.MappedInPlace.{map_next, map_rest}
 use Rattle.day_lines.proofs.lines.put_field_ends.Goals as goal
 

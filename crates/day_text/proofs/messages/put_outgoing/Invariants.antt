@@ -1,5 +1,5 @@
 use Rattle.std.proofs.Common.{◌≡◌, ◌<◌, ℕ, List, ◌++◌, length, vec_capacity, false}
-use Rattle.fix_wire.specs.Frames.{IsFrameRow}
+use Rattle.fix_frames.specs.Frames.{IsFrameRow}
 use Rattle.day_text.specs.Messages.{outgoing_lines}
 use Rattle.day_text.specs.code.Pieces.{IsPut}
 use Rattle.day_text.proofs.messages.put_outgoing.Given as goal

@@ -1,7 +1,7 @@
 use Rattle.std.proofs.Common.{rules, ◌≡◌, ◌+◌, ◌<◌, ◌++◌, ℕ, List, [], length, map, take, get_or, Vec, subst, sym, ap, ◌∙◌, append_assoc}
 use Rattle.std.proofs.lemmas.List.{length-map, get_or-map}
 use Rattle.std.proofs.lemmas.List.Elements.{All-get_or}
-use Rattle.fix_wire.specs.Frames.{IsFrameRow}
+use Rattle.fix_frames.specs.Frames.{IsFrameRow}
 use Rattle.day_text.specs.Messages.{outgoing_lines, outgoing_lines_from}
 use Rattle.day_text.specs.code.Pieces.{IsPut}
 use Rattle.day_text.proofs.SessionLines.{sessions_next_of, sessions_rest}

@@ -1,7 +1,7 @@
 use Rattle.std.proofs.Common.{◌<◌, length, arith}
 use Rattle.std.proofs.lemmas.List.{length-map}
-use Rattle.spread_rules.specs.declared.rulebook.Month.{Month}
-use Rattle.spread_rules.specs.Rulebook.{names_of}
+use Rattle.spread_rulebook.specs.declared.rulebook.Month.{Month}
+use Rattle.spread_rulebook.specs.Rulebook.{names_of}
 use Rattle.day_text.proofs.MonthLines.{months_step}
 use Rattle.day_text.proofs.months.put_months.Goals as goal
 

@@ -1,5 +1,5 @@
 use Rattle.std.proofs.Common.{◌≡◌, ◌++◌, take}
-use Rattle.spread_rules.specs.Rulebook.{names_of}
+use Rattle.spread_rulebook.specs.Rulebook.{names_of}
 use Rattle.day_text.specs.Months.{month_lines_from}
 use Rattle.day_text.proofs.months.put_months.Given as goal
 

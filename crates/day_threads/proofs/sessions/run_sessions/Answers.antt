@@ -1,7 +1,7 @@
 use Rattle.std.proofs.Common.{arith, ◌≤◌, ◌∙◌, length, subst, ℕ, Result, Ok, Err}
 use Rattle.std.specs.Prelude.{IfErr, OnOk}
 use denote.Param.Always.{Once-at_one}
-use Rattle.spread_rules.specs.Rulebook.{Rules}
+use Rattle.spread_rulebook.specs.Rulebook.{Rules}
 use Rattle.day_apply.specs.Sending.{sending_rules, stamp_of}
 use Rattle.day_threads.specs.Streams.{IsThreadsFault}
 use Rattle.day_stages.specs.Limits.{IsWithinLimits}

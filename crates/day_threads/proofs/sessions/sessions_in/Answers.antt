@@ -1,6 +1,6 @@
 use Rattle.std.proofs.Common.{◌≡◌, ◌≤◌, refl, subst, arith, length, vec_len, ℕ, Option, Some, None}
 use Rattle.std.specs.Prelude.{IfErr, IfNone}
-use Rattle.spread_rules.specs.Rulebook.{Rules}
+use Rattle.spread_rulebook.specs.Rulebook.{Rules}
 use Rattle.gate_link.specs.Links.{journal_of}
 use Rattle.day_threads.specs.Streams.{IsThreadsFault}
 use Rattle.day_stages.specs.code.Matching.{HasMatched}

@@ -1,7 +1,7 @@
 use Rattle.std.proofs.Common.{Some, ℤ, to_z, of_z, w64, ap, ◌∙◌, subst, arith}
 use Rattle.spread_rules.specs.declared.order.Order.{Order}
 use Rattle.spread_rules.specs.Candidates.{IsBest}
-use Rattle.spread_rules.specs.Rulebook.{implied}
+use Rattle.spread_rulebook.specs.Rulebook.{implied}
 use Rattle.explained_turns.specs.Explained.{ticks_between}
 use Rattle.explained_turns.proofs.ranks.LeastOfAll.{least_of_all}
 use Rattle.explained_turns.proofs.ranks.SmallPrices.{leg_price, order_price}

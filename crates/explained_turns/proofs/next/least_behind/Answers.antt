@@ -1,6 +1,6 @@
 use Rattle.std.proofs.Common.{◌∙◌, ap, sym, fold, map, arith}
 use Rattle.spread_rules.specs.declared.candidate.Counterparty.TheVariants.{Implied}
-use Rattle.spread_rules.specs.Rulebook.{implied}
+use Rattle.spread_rulebook.specs.Rulebook.{implied}
 use Rattle.explained_turns.specs.code.Search.{next_step}
 use Rattle.explained_turns.proofs.ranks.Rows.{rows_more}
 use Rattle.explained_turns.proofs.next.least_behind.Goals as goal

@@ -1,7 +1,7 @@
 use Rattle.std.proofs.Common.{Option, subst, sym, ap, ◌∙◌}
 use Rattle.spread_rules.specs.declared.candidate.Candidate.{Candidate}
 use Rattle.spread_rules.specs.Candidates.{counterparties}
-use Rattle.spread_rules.specs.Rulebook.{implied}
+use Rattle.spread_rulebook.specs.Rulebook.{implied}
 use Rattle.explained_turns.specs.Explained.{IsNextBest}
 use Rattle.explained_turns.specs.code.Search.{next_candidate_of}
 use Rattle.explained_turns.proofs.ranks.NextIsLeast.{fold_is_next, without_bound}

@@ -1,6 +1,6 @@
 use Rattle.std.proofs.Common.{sym, ◌∙◌}
 use Rattle.spread_rules.specs.declared.candidate.Counterparty.TheVariants.{Implied}
-use Rattle.spread_rules.specs.Rulebook.{implied}
+use Rattle.spread_rulebook.specs.Rulebook.{implied}
 use Rattle.spread_rules.specs.Candidates.{candidate_of, all_on}
 use Rattle.explained_turns.proofs.ranks.PassedOver.{none_on, some_no, step_none}
 use Rattle.explained_turns.proofs.next.with_pair.Goals as goal

@@ -1,5 +1,5 @@
 use Rattle.std.proofs.Common.{sym, ◌∙◌}
-use Rattle.spread_rules.specs.Rulebook.{implied}
+use Rattle.spread_rulebook.specs.Rulebook.{implied}
 use Rattle.explained_turns.proofs.ranks.PassedOver.{pairs_none}
 use Rattle.explained_turns.proofs.next.with_pairs_of.Goals as goal
 

@@ -1,7 +1,7 @@
 use Rattle.std.proofs.Common.{◌≡◌, IfSome, map, take}
 use Rattle.spread_rules.specs.declared.candidate.Counterparty.TheVariants.{Direct}
 use Rattle.spread_rules.specs.Candidates.{HasLegPrice}
-use Rattle.spread_rules.specs.Rulebook.{implied}
+use Rattle.spread_rulebook.specs.Rulebook.{implied}
 use Rattle.explained_turns.specs.code.Search.{next_candidate_of}
 use Rattle.explained_turns.proofs.next.with_singles.Given as goal
 

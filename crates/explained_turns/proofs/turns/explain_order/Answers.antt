@@ -1,8 +1,8 @@
 use Rattle.std.proofs.Common.{List, subst, sym, ap, ◌∙◌}
 use Rattle.spread_rules.specs.declared.order.Order.{Order}
 use Rattle.spread_rules.specs.Clearing.{clear}
-use Rattle.spread_rules.specs.Prices.{IsOrderPrice}
-use Rattle.spread_rules.specs.Rulebook.{implied, references_of}
+use Rattle.spread_rulebook.specs.Prices.{IsOrderPrice}
+use Rattle.spread_rulebook.specs.Rulebook.{implied, references_of}
 use Rattle.explained_turns.specs.Explained.{IsBeyond}
 use Rattle.explained_turns.proofs.turns_told.TurnsTold.{left_is, orders_are, small_references}
 use Rattle.explained_turns.proofs.turns.explain_order.Goals as goal

@@ -1,5 +1,5 @@
 use Rattle.std.proofs.Common.{◌≡◌, ◌+◌, ◌≤◌, drop, length}
-use Rattle.fix_wire.specs.Frames.{frames}
+use Rattle.fix_frames.specs.Frames.{frames}
 use Rattle.fix_session.proofs.ahead.count_messages.Given as goal
 
 abbrev pub invariant-loop-count : goal.invariant-loop-count

@@ -1,4 +1,4 @@
-use Rattle.fix_wire.specs.Frames.{frames}
+use Rattle.fix_frames.specs.Frames.{frames}
 use Rattle.fix_session.proofs.events.StateOfPlaces.{events_law, whole_law}
 use Rattle.fix_session.proofs.laws.judged.Goals as goal
 

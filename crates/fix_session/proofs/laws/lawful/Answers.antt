@@ -1,7 +1,7 @@
 use Rattle.std.proofs.Common.{sym, subst, ◌≡◌, true}
 use Rattle.std.specs.List.{All}
 use Rattle.spread_rules.specs.Journal.{FitsEvent, is_in_order}
-use Rattle.fix_wire.specs.Frames.{frames}
+use Rattle.fix_frames.specs.Frames.{frames}
 use Rattle.fix_session.specs.Streams.{events, whole}
 use Rattle.fix_session.proofs.events.StateOfPlaces.{whole_law}
 use Rattle.fix_session.proofs.events.InRangeAndOrder.{whole_lawful, events_fit, in_order_of}

@@ -1,6 +1,6 @@
 use Rattle.std.proofs.Common.{rules, ◌≡◌, ◌++◌, ◌-◌, ◌%◌, take, drop, sum, ap, ◌∙◌}
 use Rattle.std.proofs.lemmas.Slice.{between_is}
-use Rattle.fix_wire.specs.Frames.{checksum_field}
+use Rattle.fix_frames.specs.Frames.{checksum_field}
 use Rattle.fix_wire.proofs.spelling.put_checksum.Goals as goal
 
 pub returns-clause-text : goal.returns-clause-text

@@ -3,11 +3,11 @@ use Rattle.std.proofs.Common.{◌≡◌, true, false, subst, sym, ap, ◌∙◌,
 use Rattle.std.proofs.lemmas.List.Elements.{All-contains}
 use Rattle.spread_rules.specs.declared.order.Order.{Order}
 use Rattle.spread_rules.specs.declared.order.Side.{Side}
-use Rattle.spread_rules.specs.declared.order.Instrument.{Instrument}
-use Rattle.spread_rules.specs.declared.order.Instrument.TheVariants.{Outright}
+use Rattle.spread_rulebook.specs.declared.instrument.Instrument.{Instrument}
+use Rattle.spread_rulebook.specs.declared.instrument.Instrument.TheVariants.{Outright}
 use Rattle.spread_rules.specs.declared.candidate.Counterparty.TheVariants.{Direct}
 use Rattle.spread_rules.specs.Candidates.{implied_price, takes_part}
-use Rattle.spread_rules.specs.Rulebook.{implied, month_count}
+use Rattle.spread_rulebook.specs.Rulebook.{implied, month_count}
 use Rattle.spread_books.specs.Listed.{IsInMonths}
 use Rattle.spread_books.specs.code.Best.{CoversTwo}
 use Rattle.spread_books.proofs.fronts.BeatAnyPair.{was_on}

@@ -1,8 +1,8 @@
 use Rattle.std.proofs.Common.{ℕ, Some, None, false, subst, sym, ◌∙◌}
 use Rattle.spread_rules.specs.declared.order.Side.{Side}
-use Rattle.spread_rules.specs.declared.order.Instrument.{Instrument}
-use Rattle.spread_rules.specs.declared.order.Instrument.TheVariants.{Outright}
-use Rattle.spread_rules.specs.Rulebook.{implied, month_count}
+use Rattle.spread_rulebook.specs.declared.instrument.Instrument.{Instrument}
+use Rattle.spread_rulebook.specs.declared.instrument.Instrument.TheVariants.{Outright}
+use Rattle.spread_rulebook.specs.Rulebook.{implied, month_count}
 use Rattle.spread_rules.specs.Legs.{other_side}
 use Rattle.spread_books.specs.code.Best.{CoversTwo}
 use Rattle.spread_books.specs.code.Cheapest.{IsCheapest, spread_of, spread_side}

@@ -1,4 +1,4 @@
-use Rattle.spread_rules.specs.Rulebook.{implied}
+use Rattle.spread_rulebook.specs.Rulebook.{implied}
 use Rattle.spread_books.specs.code.Cheapest.{IsCheapest}
 use Rattle.spread_books.proofs.cheapest.cheapest_pair.Given as goal
 

@@ -1,8 +1,8 @@
 use Rattle.std.proofs.Common.{◌≡◌, ℕ, ◌≤◌, true, false, List, [], sym, ap, ◌∙◌, append-nil, arith}
 use Rattle.std.specs.List.{AllByRecursion}
-use Rattle.fix_wire.specs.Frames.{frames}
+use Rattle.fix_frames.specs.Frames.{frames}
 use Rattle.host_base.specs.Ids.{is_id}
-use Rattle.spread_rules.specs.Rulebook.{Rules}
+use Rattle.spread_rulebook.specs.Rulebook.{Rules}
 use Rattle.spread_report.specs.Outgoing.{AppliedEntry, outgoing_starting, spends_from, outbound_before_logon}
 use Rattle.spread_report.specs.Ranges.{AreNames, EntryInRange}
 use Rattle.spread_report.specs.Messages.{IsRow, messages_starting}

@@ -1,6 +1,6 @@
 use Rattle.std.proofs.Common.{sym, ◌∙◌, subst}
 use Rattle.spread_rules.specs.Journal.{IsNumber}
-use Rattle.fix_wire.specs.Messages.{get}
+use Rattle.fix_frames.specs.Messages.{get}
 use Rattle.fix_session.proofs.events.InRangeAndOrder.{May, number_holds}
 use Rattle.fix_session.proofs.events.OpensAtTwo.{judge_opens}
 use Rattle.fix_session.proofs.session.Session.judged.Goals as goal

@@ -1,5 +1,5 @@
 use Rattle.std.proofs.Common.{◌∙◌, sym, ◌++◌, take, length}
-use Rattle.fix_wire.specs.Frames.{frames}
+use Rattle.fix_frames.specs.Frames.{frames}
 use Rattle.gate_link.proofs.gateways.StillOwed.{owes_nothing}
 use Rattle.gate_link.proofs.gateway.Gateway.put.Goals as goal
 

@@ -1,8 +1,8 @@
 use Rattle.std.proofs.Common.{◌≡◌, ◌≤◌, ◌∙◌, false, length, sym, ap, refl, arith}
 use Rattle.std.proofs.lemmas.List.{length-take-le}
 use Rattle.rtrb.specs.Ring.{sent}
-use Rattle.fix_wire.specs.Frames.{frames}
-use Rattle.fix_wire.specs.Held.{first_frame}
+use Rattle.fix_frames.specs.Frames.{frames}
+use Rattle.fix_frames.specs.Held.{first_frame}
 use Rattle.fix_session.specs.Steps.{is_closed}
 use Rattle.fix_session.proofs.readers.BytesFed.{drained_where_none}
 use Rattle.gate_link.specs.Rows.{entry_events}

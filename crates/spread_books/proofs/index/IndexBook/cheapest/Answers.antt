@@ -2,7 +2,7 @@ use Rattle.std.proofs.Common.{◌≡◌, ℕ, List, ◌++◌, Option, Some, sym,
 use Rattle.std.specs.Option.{option_to_list}
 use Rattle.host_base.specs.declared.limits.TheConstants.{MAX_MONTHS}
 use Rattle.spread_rules.specs.declared.order.Order.{Order}
-use Rattle.spread_rules.specs.Rulebook.{Rules, implied}
+use Rattle.spread_rulebook.specs.Rulebook.{Rules, implied}
 use Rattle.spread_books.specs.BookView.{BookView}
 use Rattle.spread_books.specs.code.Cheapest.{IsCheapest, KeepsCost}
 use Rattle.spread_books.specs.code.QuoteTable.{ChangesOneQueue}

@@ -1,9 +1,9 @@
 use Rattle.std.proofs.Common.{◌≡◌, true, sym, ap, ◌∙◌, subst}
 use Rattle.spread_rules.specs.declared.order.Side.{Side}
-use Rattle.spread_rules.specs.declared.order.Instrument.TheVariants.{Outright, Spread}
+use Rattle.spread_rulebook.specs.declared.instrument.Instrument.TheVariants.{Outright, Spread}
 use Rattle.spread_rules.specs.Candidates.{all_on}
 use Rattle.spread_rules.specs.Legs.{other_side}
-use Rattle.spread_rules.specs.Rulebook.{Rules, implied}
+use Rattle.spread_rulebook.specs.Rulebook.{Rules, implied}
 use Rattle.spread_books.specs.BookView.{BookView}
 use Rattle.spread_books.specs.code.PairQuote.{IsQuoteOfFronts}
 use Rattle.spread_books.proofs.quotes.Implied.{spread_quote, quote_on}

@@ -1,7 +1,7 @@
 use Rattle.std.proofs.Common.{◌≡◌, ℕ, ◌<◌, subst}
 use Rattle.spread_rules.specs.declared.order.Side.{Side}
-use Rattle.spread_rules.specs.declared.order.Instrument.{Instrument}
-use Rattle.spread_rules.specs.Rulebook.{implied}
+use Rattle.spread_rulebook.specs.declared.instrument.Instrument.{Instrument}
+use Rattle.spread_rulebook.specs.Rulebook.{implied}
 use Rattle.spread_books.specs.code.Cheapest.{KeepsOthers}
 use Rattle.spread_books.specs.code.QuoteTable.{known_pair, HasCheapest, ChangesOneQueue}
 use Rattle.spread_books.proofs.quotes.Tables.{outright_renewed, spread_renewed}

@@ -1,5 +1,5 @@
 use Rattle.std.proofs.Common.{sym, ◌∙◌}
-use Rattle.spread_rules.specs.Rulebook.{implied}
+use Rattle.spread_rulebook.specs.Rulebook.{implied}
 use Rattle.spread_books.proofs.quotes.Tables.{come_one, left_one, come_kept, left_kept, all_kept}
 use Rattle.spread_books.proofs.quote_table.QuoteTable.renew_for.Goals as goal
 

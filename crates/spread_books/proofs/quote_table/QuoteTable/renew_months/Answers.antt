@@ -1,5 +1,5 @@
 use Rattle.std.proofs.Common.{ℕ, refl, sym, subst, ◌∙◌, arith, inl, inr}
-use Rattle.spread_rules.specs.Rulebook.{implied}
+use Rattle.spread_rulebook.specs.Rulebook.{implied}
 use Rattle.spread_books.specs.code.Cheapest.{KeepsOthers}
 use Rattle.spread_books.specs.code.QuoteTable.{HasCheapest}
 use Rattle.spread_books.proofs.fronts.Suffice.{less_or_same}

@@ -1,7 +1,7 @@
 use Rattle.std.proofs.Common.{◌≡◌, ℕ, ◌<◌, ◌≤◌, List}
 use Rattle.spread_rules.specs.declared.order.Side.{Side}
 use Rattle.spread_rules.specs.declared.order.Order.{Order}
-use Rattle.spread_rules.specs.Rulebook.{implied}
+use Rattle.spread_rulebook.specs.Rulebook.{implied}
 use Rattle.spread_books.specs.code.Cheapest.{KeepsOthers}
 use Rattle.spread_books.specs.code.QuoteTable.{known_pair, HasCheapest}
 use Rattle.spread_books.proofs.quote_table.QuoteTable.renew_months.Given as goal

@@ -1,5 +1,5 @@
 use Rattle.std.proofs.Common.{◌≡◌, true, false, sym, ◌∙◌}
-use Rattle.spread_rules.specs.Rulebook.{implied}
+use Rattle.spread_rulebook.specs.Rulebook.{implied}
 use Rattle.spread_books.specs.code.QuoteTable.{HasCome, IsListed}
 use Rattle.spread_books.proofs.quotes.Tables.{come_table}
 use Rattle.spread_books.proofs.quoted_book.QuotedBookBook.add.Goals.{then-self, else-self}

@@ -4,7 +4,7 @@ use Rattle.spread_rules.specs.Candidates.{HasOrderPrice}
 use Rattle.spread_rules.specs.Clearing.{removed}
 use Rattle.order_tables.specs.Places.{HasPlace}
 use Rattle.order_books.proofs.fronts.TableHoldsFronts.{rests_at, not_nobody}
-use Rattle.spread_rules.specs.Rulebook.{implied}
+use Rattle.spread_rulebook.specs.Rulebook.{implied}
 use Rattle.spread_books.specs.BookView.{BookView}
 use Rattle.spread_books.specs.code.QuoteTable.{HasLeft}
 use Rattle.spread_books.proofs.quotes.Tables.{removed_all, left_table}

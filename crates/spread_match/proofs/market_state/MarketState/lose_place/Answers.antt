@@ -6,7 +6,7 @@ use Rattle.spread_rules.specs.declared.fill.Fill.{Fill}
 use Rattle.spread_rules.specs.declared.outcome.OrderStatus.{OrderStatus}
 use Rattle.spread_rules.specs.Clearing.{clear, removed, Trading}
 use Rattle.spread_rules.specs.Meaning.{has_id, moved_to}
-use Rattle.spread_rules.specs.Rulebook.{month_count, references_of, implied}
+use Rattle.spread_rulebook.specs.Rulebook.{month_count, references_of, implied}
 use Rattle.spread_match.specs.State.{MarketState}
 use Rattle.spread_match.specs.code.StateAfter.{entered_status, status_after_replace, statuses_after}
 use Rattle.spread_match.proofs.entries.NewOrder.{clear_same}

@@ -2,14 +2,14 @@ use Rattle.std.proofs.Common.{◌≡◌, ℕ, ◌<◌, ◌≤◌, List, All, ◌
 use Rattle.std.specs.List.{find}
 use Rattle.std.specs.Option.{is_some}
 use Rattle.spread_rules.specs.declared.order.Order.{Order}
-use Rattle.spread_rules.specs.declared.order.Instrument.{Instrument}
+use Rattle.spread_rulebook.specs.declared.instrument.Instrument.{Instrument}
 use Rattle.spread_rules.specs.declared.fill.Fill.{Fill}
 use Rattle.spread_rules.specs.declared.event.Ticket.{Ticket}
 use Rattle.spread_rules.specs.declared.event.Event.TheVariants.{New}
 use Rattle.spread_rules.specs.Candidates.{HasOrderPrice}
 use Rattle.spread_rules.specs.Clearing.{clear, removed, Trading}
 use Rattle.spread_rules.specs.Meaning.{EntryMeaning, clearing_means, has_id, order_of, outcome_of, resting}
-use Rattle.spread_rules.specs.Rulebook.{Rules, month_count, references_of, implied}
+use Rattle.spread_rulebook.specs.Rulebook.{Rules, month_count, references_of, implied}
 use Rattle.spread_books.specs.Listed.{IsNearFirst, IsInMonths}
 use Rattle.spread_match.specs.State.{MarketState}
 use Rattle.spread_match.specs.Trade.{IsTradable}

@@ -3,7 +3,7 @@ use Rattle.std.specs.Vec.{vec_len, vec_capacity}
 use Rattle.spread_rules.specs.declared.order.Order.{Order}
 use Rattle.spread_rules.specs.Clearing.{clear, removed, begin}
 use Rattle.spread_rules.specs.Meaning.{resting}
-use Rattle.spread_rules.specs.Rulebook.{month_count, references_of, implied}
+use Rattle.spread_rulebook.specs.Rulebook.{month_count, references_of, implied}
 use Rattle.spread_match.specs.State.{MarketState}
 use Rattle.spread_match.specs.Trade.{IsTradable}
 use Rattle.spread_match.specs.code.StateAfter.{orders_after_trading}

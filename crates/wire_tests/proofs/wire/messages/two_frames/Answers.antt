@@ -1,5 +1,5 @@
 use Rattle.std.proofs.Common.{◌∷◌, [], refl}
-use Rattle.fix_wire.specs.Examples.{logon, order, logon_is, order_is}
+use Rattle.fix_frames.specs.Examples.{logon, order, logon_is, order_is}
 use Rattle.wire_tests.proofs.wire.messages.two_frames.Goals as goal
 
 pub returns : goal.returns

@@ -1,0 +1,3 @@
+pub mod texts
+pub mod framing
+pub mod fields

@@ -1,0 +1,4 @@
+pub mod RowOfFields
+pub mod TableOfFields
+pub mod MarkedField
+pub mod ShortTags

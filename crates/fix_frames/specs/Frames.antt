@@ -1,0 +1,122 @@
+-- Lawful frames, what may still begin one, and the frames of an input (FIX 4.2: BeginString, BodyLength, body, CheckSum).
+use Rattle.std.specs.Prelude.{◌≡◌, ℕ, zero, suc, ◌+◌, ◌-◌, ◌/◌, ◌%◌, Bool, false, ◌&&◌, ◌||◌, nat_le, nat_lt, if◌then◌else◌, List, [], ◌∷◌, ◌++◌, Option, Some, None, option_and_then, is_some, length, take, drop, sum, codes}
+use Rattle.std.specs.Char.{is_ascii_digit}
+use Rattle.std.specs.List.{list_all, position_or_len, AllByRecursion, concat}
+use Rattle.std.specs.Str.{bytes_eq}
+use Rattle.host_base.specs.declared.bytes.TheConstants.{SOH}
+use Rattle.host_base.specs.declared.limits.TheConstants.{MIN_BODY_LENGTH, MAX_BODY_LENGTH}
+use Rattle.host_base.specs.Ascii.{digit_zero}
+use Rattle.fix_frames.specs.declared.frame.FrameHeader.{FrameHeader}
+use Rattle.fix_frames.specs.declared.frame.TheConstants.{BEGIN_BYTES, CHECKSUM_BYTES, MAX_LENGTH_DIGITS}
+use Rattle.fix_frames.specs.Texts.{is_soh, strip_prefix, is_cut_short, with_soh}
+use Rattle.fix_values.specs.Digits.{number_of, two_digits}
+use Rattle.fix_frames.specs.Fields.{fields_of_body}
+
+-- ---- the header: BeginString and BodyLength
+
+-- what each frame begins with: BeginString, and the tag of BodyLength
+abbrev pub begin_text : List ℕ
+begin_text = with_soh (codes "8=FIX.4.2|9=")
+
+-- 1 to 8 digits of a number from 5 to 4096; leading zeros are allowed
+abbrev pub is_body_length : List ℕ → Bool
+is_body_length digits =
+    nat_le 1 (length digits) && nat_le (length digits) MAX_LENGTH_DIGITS
+    && list_all is_ascii_digit digits
+    && nat_le MIN_BODY_LENGTH (number_of digits) && nat_le (number_of digits) MAX_BODY_LENGTH
+
+abbrev pub header_with : ℕ → List ℕ → Option FrameHeader
+header_with digits rest =
+    if nat_lt digits (length rest) && is_body_length (take digits rest)
+    then Some (record {
+      body_start = digits + (BEGIN_BYTES + 1);
+      body_length = number_of (take digits rest);
+    })
+    else None
+
+-- what follows the begin text: BodyLength, and SOH
+abbrev pub header_after : List ℕ → Option FrameHeader
+header_after rest = header_with (position_or_len is_soh rest) rest
+
+-- where a frame's body starts, and how long BodyLength says it is
+abbrev pub header : List ℕ → Option FrameHeader
+header text = option_and_then header_after (strip_prefix begin_text text)
+
+-- how many bytes stand before CheckSum: the header and the body
+abbrev pub summed_length : FrameHeader → ℕ
+summed_length h = h.body_start + h.body_length
+
+-- the length of a frame: its header, its body, and CheckSum
+abbrev pub frame_length : FrameHeader → ℕ
+frame_length h = summed_length h + CHECKSUM_BYTES
+
+-- ---- a lawful frame
+
+-- a row of fields whose first is MsgType
+abbrev pub is_body : List ℕ → Bool
+is_body body = is_some (strip_prefix (codes "35=") body) && is_some (fields_of_body body)
+
+-- CheckSum: its tag, a number in three digits, and SOH
+abbrev pub checksum_field : ℕ → List ℕ
+checksum_field n = codes "10=" ++ ((digit_zero + n / 100) ∷ two_digits n ++ (SOH ∷ []))
+
+abbrev pub body_at : List ℕ → FrameHeader → List ℕ
+body_at text h = take h.body_length (drop h.body_start text)
+
+-- The frame is there whole, its body is one, and its CheckSum is the sum of all bytes before it, modulo 256.
+abbrev pub is_intact : List ℕ → FrameHeader → Bool
+is_intact text h =
+    nat_le (frame_length h) (length text) && is_body (body_at text h)
+    && bytes_eq (take CHECKSUM_BYTES (drop (summed_length h) text))
+    (checksum_field (sum (take (summed_length h) text) % 256))
+
+abbrev pub intact_length : List ℕ → FrameHeader → Option ℕ
+intact_length text h = if is_intact text h then Some (frame_length h) else None
+
+-- the length of the lawful frame that stands at the front of a text
+abbrev pub frame_at : List ℕ → Option ℕ
+frame_at text = option_and_then (intact_length text) (header text)
+
+-- the text is one lawful frame
+abbrev pub IsFrame : List ℕ → Type 0
+IsFrame bytes = frame_at bytes ≡ Some (length bytes)
+
+-- the text is lawful frames, one after another
+pub record IsFrameRow (text : List ℕ) : Type 0 where
+  pub row : List (List ℕ)
+  pub whole : AllByRecursion IsFrame row
+  pub joined : concat row ≡ text
+
+-- ---- what may still begin one
+
+-- digits of BodyLength, and nothing more, follow the begin text
+abbrev pub is_length_open : Option (List ℕ) → Bool
+is_length_open None = false
+is_length_open (Some rest) = nat_le (length rest) MAX_LENGTH_DIGITS && list_all is_ascii_digit rest
+
+-- bytes of the frame that the header announces are still to come
+abbrev pub is_unfinished : List ℕ → Option FrameHeader → Bool
+is_unfinished text None = false
+is_unfinished text (Some h) = nat_lt (length text) (frame_length h)
+
+-- the text may still begin a frame
+abbrev pub may_begin : List ℕ → Bool
+may_begin text =
+    is_cut_short begin_text text || is_length_open (strip_prefix begin_text text)
+    || is_unfinished text (header text)
+
+-- ---- the frames of an input
+
+-- The frames of an input from its place `skip` on. Where a frame stands, that one and then those after it; else, where the
+-- rest may still begin one, none; else those from the next place.
+abbrev pub frames_after : ℕ → List ℕ → List (List ℕ)
+frames_after skip [] = []
+frames_after (suc skip) (b ∷ bs) = frames_after skip bs
+frames_after zero (b ∷ bs) = elim (frame_at (b ∷ bs)) [
+  | Some n ↦ take n (b ∷ bs) ∷ frames_after (n - 1) bs
+  | None ↦ if may_begin (b ∷ bs) then [] else frames_after 0 bs
+]
+
+-- the frames of an input
+abbrev pub frames : List ℕ → List (List ℕ)
+frames input = frames_after 0 input

@@ -1,0 +1,4 @@
+pub mod Scans
+pub mod FramerFields
+pub mod Tabled
+pub mod Marked

@@ -1,0 +1,2 @@
+pub mod rulebook_texts
+pub mod lists

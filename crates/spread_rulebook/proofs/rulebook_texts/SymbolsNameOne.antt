@@ -1,0 +1,188 @@
+-- A symbol names one instrument at most, and the search through the list of instruments finds it.
+use Rattle.std.proofs.Common.{◌≡◌, ◌≢◌, ℕ, zero, suc, ◌≤◌, ◌<◌, ◌⊎◌, inl, inr, Bool, true, false, cond, eqb, List, [], ◌∷◌, ◌++◌, get_or, Option, Some, None, pos, refl, sym, ap, ◌∙◌, subst, arith, Contains}
+use Rattle.std.specs.Prelude.{IfSome, IfNone}
+use Rattle.std.specs.List.{find, list_all}
+use Rattle.std.specs.Str.{bytes_eq}
+use Rattle.std.proofs.lemmas.Bool.{eqb-true, true≢false}
+use Rattle.std.proofs.lemmas.Bool.Decides.{nat_tests}
+use Rattle.std.proofs.lemmas.List.{get_or-map}
+use Rattle.std.proofs.lemmas.List.Elements.{Contains-append_left, Contains-append_right, Contains-append_cases, Contains-push, Contains-push_cases, All-get_or}
+use Rattle.std.proofs.lemmas.Slice.Eq.{bytes_eq-Decides}
+use Rattle.host_base.specs.Cut.{Lacks}
+use Rattle.spread_rulebook.specs.declared.instrument.Instrument.{Instrument}
+use Rattle.spread_rulebook.specs.declared.instrument.Instrument.TheVariants.{Outright, Spread}
+use Rattle.spread_rulebook.specs.declared.rulebook.Month.{Month}
+use Rattle.spread_rulebook.specs.Rulebook.{Rules, IsRules, IsMonth, is_name_byte, month_count, names_of, outrights_below, spreads_to, spreads_below, instruments_of, IsListed, symbol_of, find_symbol}
+use Rattle.spread_rulebook.proofs.rulebook_texts.NamesHaveNoSpace.{Lacks-name}
+use Rattle.spread_rulebook.proofs.lists.Membership.{not_in_nil, in_head, in_tail, in_cons_cases}
+use Rattle.host_base.proofs.Cuts.{cut_once, not_lacking}
+
+-- ---- search
+
+pub find_found : {X : Type 0} (p : X → Bool) (xs : List X) (x : X) → find p xs ≡ Some x → Contains xs x × (p x ≡ true)
+find_found p [] x e = absurd cc
+find_found {X} p (y ∷ ys) x e = by (p y) (λ h. find_found p ys x h) refl e
+  where
+    by : (b : Bool) → (find p ys ≡ Some x → Contains ys x × (p x ≡ true)) → p y ≡ b → cond b (Some y) (find p ys) ≡ Some x → Contains (y ∷ ys) x × (p x ≡ true)
+    by true rest t h = let same : y ≡ x = cc in (subst (Contains (y ∷ ys)) same (in_head y ys), subst (λ z. p z ≡ true) same t)
+    by false rest t h = let r = rest h in (in_tail y ys x r.0, r.1)
+
+pub not_missed : {X : Type 0} (p : X → Bool) (xs : List X) (x : X) → Contains xs x → p x ≡ true → find p xs ≡ None → ⊥
+not_missed p [] x c t e = not_in_nil x c
+not_missed {X} p (y ∷ ys) x c t e = by (p y) (λ d h. not_missed p ys x d t h) refl e
+  where
+    by : (b : Bool) → (Contains ys x → find p ys ≡ None → ⊥) → p y ≡ b → cond b (Some y) (find p ys) ≡ None → ⊥
+    by true more u h = absurd cc
+    by false more u h =
+        elim (in_cons_cases y ys x c) [
+          | inl same ↦ absurd (true≢false (sym t ∙ sym (ap p same) ∙ u))
+          | inr rest ↦ more rest h
+        ]
+
+-- ---- the list of instruments
+
+below_or_last : (m n : ℕ) → m < suc n → (m < n) ⊎ (m ≡ n)
+below_or_last m n lt = by (eqb m n) refl
+  where
+    by : (b : Bool) → eqb m n ≡ b → (m < n) ⊎ (m ≡ n)
+    by true e = inr (eqb-true m n e)
+    by false e = inl (grind (arith, nat_tests))
+
+in_outrights : (n m : ℕ) → m < n → Contains (outrights_below n) (Outright m)
+in_outrights zero m lt = absurd (omega arith)
+in_outrights (suc n) m lt =
+    elim (below_or_last m n lt) [
+      | inl h ↦ Contains-append_left (outrights_below n) (Outright n ∷ []) (Outright m) (in_outrights n m h)
+      | inr e ↦ subst (λ k. Contains (outrights_below n ++ Outright n ∷ []) (Outright k)) (sym e) (Contains-push (outrights_below n) (Outright n))
+    ]
+
+in_spreads_to : (far n m : ℕ) → m < n → Contains (spreads_to far n) (Spread m far)
+in_spreads_to far zero m lt = absurd (omega arith)
+in_spreads_to far (suc n) m lt =
+    elim (below_or_last m n lt) [
+      | inl h ↦ Contains-append_left (spreads_to far n) (Spread n far ∷ []) (Spread m far) (in_spreads_to far n m h)
+      | inr e ↦ subst (λ k. Contains (spreads_to far n ++ Spread n far ∷ []) (Spread k far)) (sym e) (Contains-push (spreads_to far n) (Spread n far))
+    ]
+
+in_spreads : (n m far : ℕ) → m < far → far < n → Contains (spreads_below n) (Spread m far)
+in_spreads zero m far lt below = absurd (omega arith)
+in_spreads (suc n) m far lt below =
+    elim (below_or_last far n below) [
+      | inl h ↦ Contains-append_left (spreads_below n) (spreads_to n n) (Spread m far) (in_spreads n m far lt h)
+      | inr e ↦ subst (λ k. Contains (spreads_below n ++ spreads_to n n) (Spread m k)) (sym e) (Contains-append_right (spreads_below n) (spreads_to n n) (Spread m n) (in_spreads_to n n m (omega arith)))
+    ]
+
+pub in_instruments : (rules : Rules) (i : Instrument) → IsListed rules i → Contains (instruments_of rules) i
+in_instruments rules (Outright m) l = Contains-append_left (outrights_below (month_count rules)) (spreads_below (month_count rules)) (Outright m) (in_outrights (month_count rules) m l)
+in_instruments rules (Spread m far) l = Contains-append_right (outrights_below (month_count rules)) (spreads_below (month_count rules)) (Spread m far) (in_spreads (month_count rules) m far l.0 l.1)
+
+from_outrights : (n : ℕ) (i : Instrument) → Contains (outrights_below n) i → (m : ℕ) × (m < n) × (Outright m ≡ i)
+from_outrights zero i c = absurd (not_in_nil i c)
+from_outrights (suc n) i c =
+    elim (Contains-push_cases (outrights_below n) (Outright n) i c) [
+      | inl h ↦ let r = from_outrights n i h in let lt = r.1 in (r.0, omega (arith, lt), r.2)
+      | inr e ↦ (n, omega arith, e)
+    ]
+
+from_spreads_to : (far n : ℕ) (i : Instrument) → Contains (spreads_to far n) i → (m : ℕ) × (m < n) × (Spread m far ≡ i)
+from_spreads_to far zero i c = absurd (not_in_nil i c)
+from_spreads_to far (suc n) i c =
+    elim (Contains-push_cases (spreads_to far n) (Spread n far) i c) [
+      | inl h ↦ let r = from_spreads_to far n i h in let lt = r.1 in (r.0, omega (arith, lt), r.2)
+      | inr e ↦ (n, omega arith, e)
+    ]
+
+from_spreads : (n : ℕ) (i : Instrument) → Contains (spreads_below n) i → (m : ℕ) × (far : ℕ) × (m < far) × (far < n) × (Spread m far ≡ i)
+from_spreads zero i c = absurd (not_in_nil i c)
+from_spreads (suc n) i c =
+    elim (Contains-append_cases (spreads_below n) (spreads_to n n) i c) [
+      | inl h ↦ let r = from_spreads n i h in let lt = r.3 in (r.0, r.1, r.2, omega (arith, lt), r.4)
+      | inr h ↦ let r = from_spreads_to n n i h in (r.0, n, r.1, omega arith, r.2)
+    ]
+
+pub from_instruments : (rules : Rules) (i : Instrument) → Contains (instruments_of rules) i → IsListed rules i
+from_instruments rules i c =
+    elim (Contains-append_cases (outrights_below (month_count rules)) (spreads_below (month_count rules)) i c) [
+      | inl h ↦ let r = from_outrights (month_count rules) i h in subst (IsListed rules) r.2 r.1
+      | inr h ↦ let r = from_spreads (month_count rules) i h in subst (IsListed rules) r.4 (r.2, r.3)
+    ]
+
+-- ---- symbols
+
+name_lacks : (rules : Rules) → IsRules rules → (m : ℕ) → m < month_count rules → Lacks 45 (get_or (names_of rules) m [])
+name_lacks rules r m lt =
+    let d : Month = record { name = []; reference = pos 0 } in
+    let month = All-get_or (IsMonth rules.tick) rules.months m d lt r.months in
+    Lacks-name 45 refl (get_or (names_of rules) m []) (ap (list_all is_name_byte) (get_or-map (λ (x : Month). x.name) rules.months m d [] lt) ∙ month.name.letters)
+
+pub symbol_once : (rules : Rules) → IsRules rules → (i j : Instrument) → IsListed rules i → IsListed rules j → symbol_of rules i ≡ symbol_of rules j → i ≡ j
+symbol_once rules r (Outright m) (Outright n) a b e = ap Outright (r.names m n a b e)
+symbol_once rules r (Outright m) (Spread n far) a b e = absurd (not_lacking 45 (get_or (names_of rules) n []) (get_or (names_of rules) far []) (subst (Lacks 45) e (name_lacks rules r m a)))
+symbol_once rules r (Spread n far) (Outright m) b a e = absurd (not_lacking 45 (get_or (names_of rules) n []) (get_or (names_of rules) far []) (subst (Lacks 45) (sym e) (name_lacks rules r m a)))
+symbol_once rules r (Spread m f) (Spread n g) a b e =
+    let af = a.1 in let bg = b.1 in let am = a.0 in let bn = b.0 in
+    let once = cut_once 45 (get_or (names_of rules) m []) (get_or (names_of rules) n []) (get_or (names_of rules) f []) (get_or (names_of rules) g []) e (name_lacks rules r m (omega arith)) (name_lacks rules r n (omega arith)) in
+    ap (λ k. Spread k f) (r.names m n (omega arith) (omega arith) once.0) ∙ ap (Spread n) (r.names f g af bg once.1)
+
+pub find_symbol_some : (rules : Rules) → IsRules rules → (symbol : List ℕ) (i : Instrument) → IsListed rules i → symbol_of rules i ≡ symbol → find_symbol rules symbol ≡ Some i
+find_symbol_some rules r symbol i l e = by (find_symbol rules symbol) refl
+  where
+    test : Instrument → Bool
+    test j = bytes_eq (symbol_of rules j) symbol
+
+    by : (o : Option Instrument) → find test (instruments_of rules) ≡ o → o ≡ Some i
+    by None f = absurd (not_missed test (instruments_of rules) i (in_instruments rules i l) ((bytes_eq-Decides (symbol_of rules i) symbol).1 e) f)
+    by (Some j) f =
+        let h = find_found test (instruments_of rules) j f in
+        ap Some (symbol_once rules r j i (from_instruments rules j h.0) l ((bytes_eq-Decides (symbol_of rules j) symbol).0 h.1 ∙ sym e))
+
+pub find_symbol_none : (rules : Rules) (symbol : List ℕ) → ((i : Instrument) → IsListed rules i → symbol_of rules i ≢ symbol) → find_symbol rules symbol ≡ None
+find_symbol_none rules symbol none = by (find_symbol rules symbol) refl
+  where
+    test : Instrument → Bool
+    test j = bytes_eq (symbol_of rules j) symbol
+
+    by : (o : Option Instrument) → find test (instruments_of rules) ≡ o → o ≡ None
+    by None f = refl
+    by (Some j) f =
+        let h = find_found test (instruments_of rules) j f in
+        absurd (none j (from_instruments rules j h.0) ((bytes_eq-Decides (symbol_of rules j) symbol).0 h.1))
+
+-- ---- what a symbol that was cut at its dash says
+
+-- a spread with that symbol has the two parts as its months' names
+pub parts_are : (rules : Rules) → IsRules rules → (symbol near far : List ℕ) (m f : ℕ) → symbol ≡ near ++ 45 ∷ far → Lacks 45 near → IsListed rules (Spread m f) → symbol_of rules (Spread m f) ≡ symbol
+    → (m < month_count rules) × (f < month_count rules) × (get_or (names_of rules) m [] ≡ near) × (get_or (names_of rules) f [] ≡ far)
+parts_are rules r symbol near far m f is lacks l e =
+    let below = l.0 in let last = l.1 in
+    let once = cut_once 45 (get_or (names_of rules) m []) near (get_or (names_of rules) f []) far (e ∙ is) (name_lacks rules r m (omega arith)) lacks in
+    (omega arith, last, once.0, once.1)
+
+-- months in the wrong order are no spread
+pub not_reversed : (rules : Rules) → IsRules rules → (symbol near far : List ℕ) (i j m f : ℕ) → symbol ≡ near ++ 45 ∷ far → Lacks 45 near → (i < month_count rules) × (get_or (names_of rules) i [] ≡ near) → (j < month_count rules) × (get_or (names_of rules) j [] ≡ far) → j ≤ i
+    → IsListed rules (Spread m f) → symbol_of rules (Spread m f) ≡ symbol → ⊥
+not_reversed rules r symbol near far i j m f is lacks a b le l e =
+    let parts = parts_are rules r symbol near far m f is lacks l e in
+    let same_near : m ≡ i = r.names m i parts.0 a.0 (parts.2 ∙ sym a.1) in
+    let same_far : f ≡ j = r.names f j parts.1 b.0 (parts.3 ∙ sym b.1) in
+    let below = l.0 in
+    omega arith
+
+pub has_dash : (rules : Rules) (symbol : List ℕ) (m f : ℕ) → Lacks 45 symbol → symbol_of rules (Spread m f) ≢ symbol
+has_dash rules symbol m f lacks e = not_lacking 45 (get_or (names_of rules) m []) (get_or (names_of rules) f []) (subst (Lacks 45) (sym e) lacks)
+
+-- neither a month nor a spread
+pub neither : (rules : Rules) (symbol : List ℕ) → ((m : ℕ) → m < month_count rules → get_or (names_of rules) m [] ≢ symbol) → ((m f : ℕ) → IsListed rules (Spread m f) → symbol_of rules (Spread m f) ≢ symbol)
+    → (i : Instrument) → IsListed rules i → symbol_of rules i ≢ symbol
+neither rules symbol a b (Outright m) l = a m l
+neither rules symbol a b (Spread m f) l = b m f l
+
+-- what one look-up answers is what the search through the list does
+pub found_is : (rules : Rules) → IsRules rules → (symbol : List ℕ) (o : Option Instrument) → IfSome o (λ i. IsListed rules i × (symbol_of rules i ≡ symbol)) → IfNone o ((i : Instrument) → IsListed rules i → symbol_of rules i ≢ symbol) → o ≡ find_symbol rules symbol
+found_is rules r symbol None s n = sym (find_symbol_none rules symbol n)
+found_is rules r symbol (Some i) s n = sym (find_symbol_some rules r symbol i s.0 s.1)
+
+pub found_spread_is : (rules : Rules) → IsRules rules → (symbol : List ℕ) (o : Option Instrument) → ((m : ℕ) → m < month_count rules → get_or (names_of rules) m [] ≢ symbol) → IfSome o (λ i. IsListed rules i × (symbol_of rules i ≡ symbol))
+    → IfNone o ((m f : ℕ) → IsListed rules (Spread m f) → symbol_of rules (Spread m f) ≢ symbol) → o ≡ find_symbol rules symbol
+found_spread_is rules r symbol None a s n = sym (find_symbol_none rules symbol (neither rules symbol a n))
+found_spread_is rules r symbol (Some i) a s n = sym (find_symbol_some rules r symbol i s.0 s.1)

@@ -1,0 +1,6 @@
+pub mod Instruments
+pub mod Prices
+pub mod Rulebook
+pub mod RulebookText
+pub mod FirstRulebookText
+pub mod code

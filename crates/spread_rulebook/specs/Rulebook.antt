@@ -1,0 +1,120 @@
+-- A rulebook: the tick, the months in order of expiry, and which pairs of them take part in implied trading. What it
+-- lists, and what names it.
+use Rattle.std.specs.Prelude.{◌≡◌, ℕ, zero, suc, ◌<◌, ◌≤◌, ◌+◌, ◌*◌, ℤ, pos, ◌≤ℤ◌, int_rem, Bool, true, ◌&&◌, ◌||◌, nat_le, List, [], ◌∷◌, ◌++◌, map, length, get_or, All, Option, Some, None}
+use Rattle.std.specs.List.{find, list_all}
+use Rattle.std.specs.Str.{bytes_eq}
+use Rattle.host_base.specs.Ascii.{hyphen_minus}
+use Rattle.host_base.specs.declared.limits.TheConstants as limits
+use Rattle.spread_rulebook.specs.declared.instrument.Instrument.{Instrument}
+use Rattle.spread_rulebook.specs.declared.instrument.Instrument.TheVariants.{Outright, Spread}
+use Rattle.spread_rulebook.specs.Prices.{IsOrderPrice}
+use Rattle.spread_rulebook.specs.declared.rulebook.Month.{Month}
+
+pub record Rules : Type 0 where
+  pub tick : ℤ
+  pub months : List Month
+  pub switches : List (Option Bool)
+
+abbrev pub month_count : Rules → ℕ
+month_count rules = length rules.months
+
+abbrev pub names_of : Rules → List (List ℕ)
+names_of rules = map (λ m. m.name) rules.months
+
+abbrev pub references_of : Rules → List ℤ
+references_of rules = map (λ m. m.reference) rules.months
+
+-- ---- switches
+
+-- which switch is that of a pair, the near month first
+abbrev pub switch_number : ℕ → ℕ → ℕ
+switch_number near far = near * limits.MAX_MONTHS + far
+
+-- how a pair was switched, none where it was not
+abbrev pub switch_of : List (Option Bool) → ℕ → ℕ → Option Bool
+switch_of switches near far = get_or switches (switch_number near far) None
+
+-- a pair that was not switched is on
+abbrev pub is_on : Option Bool → Bool
+is_on None = true
+is_on (Some on) = on
+
+-- whether the pair of these months takes part in implied trading
+abbrev pub implied : Rules → ℕ → ℕ → Bool
+implied rules near far = is_on (switch_of rules.switches near far)
+
+-- ---- what a rulebook may say
+
+-- a letter A to Z or a to z, or a digit, in ASCII
+abbrev pub is_name_byte : ℕ → Bool
+is_name_byte b =
+    (nat_le 65 b && nat_le b 90) || (nat_le 97 b && nat_le b 122) || (nat_le 48 b && nat_le b 57)
+
+-- the name of a month: letters and digits
+pub record IsName (name : List ℕ) : Type 0 where
+  pub some : 1 ≤ length name
+  pub most : length name ≤ limits.MAX_NAME_LENGTH
+  pub letters : list_all is_name_byte name ≡ true
+
+-- a month's reference price: within the limits of prices, and a multiple of the tick
+pub record IsReference (tick z : ℤ) : Type 0 where
+  pub price : IsOrderPrice z
+  pub multiple : int_rem z tick ≡ pos 0
+
+pub record IsMonth (tick : ℤ) (m : Month) : Type 0 where
+  pub name : IsName m.name
+  pub reference : IsReference tick m.reference
+
+-- at least one hundredth
+pub record IsTick (tick : ℤ) : Type 0 where
+  pub low : pos 1 ≤ℤ tick
+  pub high : tick ≤ℤ limits.MAX_TICK
+
+-- a tick, at least one month and no more than a rulebook may have, and no name twice
+pub record IsRules (rules : Rules) : Type 0 where
+  pub tick : IsTick rules.tick
+  pub some : 1 ≤ month_count rules
+  pub most : month_count rules ≤ limits.MAX_MONTHS
+  pub months : All (IsMonth rules.tick) rules.months
+  pub names :
+      (i j : ℕ) → i < month_count rules → j < month_count rules
+      → get_or (names_of rules) i [] ≡ get_or (names_of rules) j [] → i ≡ j
+
+-- ---- instruments
+
+-- the months below n
+abbrev pub outrights_below : ℕ → List Instrument
+outrights_below zero = []
+outrights_below (suc n) = outrights_below n ++ Outright n ∷ []
+
+-- the spreads with this far month and a near one below n
+abbrev pub spreads_to : ℕ → ℕ → List Instrument
+spreads_to far zero = []
+spreads_to far (suc n) = spreads_to far n ++ Spread n far ∷ []
+
+abbrev pub spreads_below : ℕ → List Instrument
+spreads_below zero = []
+spreads_below (suc n) = spreads_below n ++ spreads_to n n
+
+-- every month, and every pair of months, the near one first
+abbrev pub instruments_of : Rules → List Instrument
+instruments_of rules = outrights_below (month_count rules) ++ spreads_below (month_count rules)
+
+-- the same, of one instrument
+abbrev pub IsListed : Rules → Instrument → Type 0
+IsListed rules (Outright m) = m < month_count rules
+IsListed rules (Spread i j) = (i < j) × (j < month_count rules)
+
+-- ---- symbols
+
+-- a month's name; of a spread both names with `-` between, the near one first
+abbrev pub symbol_with : List (List ℕ) → Instrument → List ℕ
+symbol_with names (Outright m) = get_or names m []
+symbol_with names (Spread i j) = get_or names i [] ++ hyphen_minus ∷ get_or names j []
+
+abbrev pub symbol_of : Rules → Instrument → List ℕ
+symbol_of rules i = symbol_with (names_of rules) i
+
+-- the instrument with that symbol
+abbrev pub find_symbol : Rules → List ℕ → Option Instrument
+find_symbol rules symbol = find (λ i. bytes_eq (symbol_of rules i) symbol) (instruments_of rules)
