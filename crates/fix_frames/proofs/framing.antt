@@ -3,7 +3,3 @@ pub mod IntactFrame
 pub mod FrontStays
 pub mod FramesHeld
 pub mod FrameStarts
-pub mod FrontFrame
-pub mod HeldPart
-pub mod OneTurn
-pub mod FrameFromAPlace

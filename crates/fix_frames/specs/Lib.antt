@@ -4,7 +4,4 @@ pub mod Fields
 pub mod Frames
 pub mod Messages
 pub mod Held
-pub mod Next
-pub mod Looks
-pub mod Pieces
 pub mod Examples

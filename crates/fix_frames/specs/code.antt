@@ -1,4 +1,3 @@
 pub mod Scans
-pub mod FramerFields
 pub mod Tabled
 pub mod Marked

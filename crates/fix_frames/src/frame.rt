@@ -155,7 +155,7 @@ fn is_header_open(text: &[u8]) -> bool
 }
 
 /// The next place at which a frame may begin, once none begins at the first: where its `8` stands, or the end.
-pub(crate) fn next_begin(text: &[u8]) -> usize
+pub fn next_begin(text: &[u8]) -> usize
     requires { 0 < length text.now }
     ensures past { 0 < result }
     ensures within { result ≤ length text.now }
@@ -319,7 +319,7 @@ fn is_intact(text: &[u8], header: FrameHeader, table: &mut FieldTable) -> bool
 }
 
 /// What stands at the front of a text, and the table of a frame that does.
-pub(crate) fn scan_front(text: &[u8], table: &mut FieldTable) -> Scan
+pub fn scan_front(text: &[u8], table: &mut FieldTable) -> Scan
     requires { length text.now < 2 ^ 32 }
     ensures front { result ≡ scan_front text.now }
     ensures table { (n : ℕ) → result ≡ Frame n → IsTableOf text.now table.new }

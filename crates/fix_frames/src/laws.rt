@@ -1,25 +1,8 @@
 //! Laws over the definitions alone.
-ghost use Rattle.std.specs.Prelude.{◌≡◌, List, ℕ, [], ◌∷◌, ◌++◌, Some, None, true, false, ◌+◌, ◌<◌, codes, length, take, drop};
+ghost use Rattle.std.specs.Prelude.{◌≡◌, List, ℕ, [], ◌∷◌, Some, None, true, false, codes, take, drop};
 ghost use Rattle.fix_frames.specs.Frames.{frame_at, may_begin, frames};
 ghost use Rattle.fix_frames.specs.declared.tags.TheConstants as tag;
 ghost use Rattle.fix_frames.specs.declared.msg_types.TheConstants as msg_type;
-ghost use Rattle.fix_frames.specs.Held.{first_frame, from_first_start, after_first_frame};
-
-/// The bytes that `next` lets go have no part in any frame, whatever follows; and what `pass` takes away is the first
-/// frame and nothing else.
-pub fn scan()
-    // Before the bytes that stay, no frame stands or may still begin at any place.
-    ensures skipped { (held : List ℕ) (k : ℕ) → k + length (from_first_start held) < length held →
-        (frame_at (drop k held) ≡ None) × (may_begin (drop k held) ≡ false) }
-    ensures rest { (held : List ℕ) (k : ℕ) → k + length (from_first_start held) ≡ length held →
-        from_first_start held ≡ drop k held }
-    // Asked again, it finds the same.
-    ensures again { (held : List ℕ) → frames (from_first_start held) ≡ frames held }
-    ensures kept { (held more : List ℕ) →
-        frames (from_first_start held ++ more) ≡ frames (held ++ more) }
-    ensures passed { (held more frame : List ℕ) → first_frame (frames held) ≡ Some frame →
-        frames (held ++ more) ≡ frame ∷ frames (after_first_frame held ++ more) }
-{}
 
 /// The frames of an input, in words: where a lawful frame stands at its front, that one, then those after it; else, where the
 /// input may still begin one, none; else those from the next place on.

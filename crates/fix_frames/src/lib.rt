@@ -1,9 +1,8 @@
-//! Frames of FIX 4.2, found and read.
+//! Lawful frames of FIX 4.2 and their values.
 #![tactic(auto)]
 
 pub mod field_values;
 mod frame;
-mod framer;
 pub mod laws;
 mod marks;
 mod message;
@@ -12,7 +11,9 @@ mod row;
 mod table;
 pub mod tags;
 
-pub use frame::{BEGIN_BYTES, BEGIN_TEXT, CHECKSUM_BYTES, checksum, checksum_digits};
-pub use framer::{Framer, Look, Next};
-pub use message::Message;
+pub use frame::{
+    BEGIN_BYTES, BEGIN_TEXT, CHECKSUM_BYTES, Scan, checksum, checksum_digits, next_begin, scan_front,
+};
+pub use message::{MAX_FRAME_BYTES, Message};
 pub use row::first_of_row;
+pub use table::FieldTable;

@@ -82,7 +82,7 @@ impl<'a> Message<'a> {
     }
 
     /// The message of a lawful frame, whose table is known.
-    pub(crate) fn of_frame(frame: &'a [u8], table: &FieldTable) -> Message<'a>
+    pub fn of_frame(frame: &'a [u8], table: &FieldTable) -> Message<'a>
         requires short { length frame.now < 2 ^ 32 }
         requires lawful { IsFrame frame.now }
         requires tabled { IsTableOf frame.now table.now }

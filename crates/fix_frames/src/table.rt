@@ -46,7 +46,7 @@ pub struct FieldTable {
 
 impl FieldTable {
     /// A table of no field, to be filled.
-    pub(crate) fn empty() -> FieldTable
+    pub fn empty() -> FieldTable
         ensures { result.present ≡ 0 }
     {
         FieldTable {

@@ -4,7 +4,7 @@ use Rattle.spread_rules.specs.declared.event.Event.{Event}
 use Rattle.spread_rules.specs.declared.event.Entry.{Entry}
 use Rattle.fix_frames.specs.Frames.{frames}
 use Rattle.fix_frames.specs.Held.{first_frame, from_first_start, after_first_frame}
-use Rattle.fix_frames.specs.Pieces.{SplitsInto}
+use Rattle.fix_wire.specs.Pieces.{SplitsInto}
 use Rattle.fix_session.specs.declared.session.Session.{Session}
 use Rattle.fix_session.specs.declared.session.Verdict.{Verdict}
 use Rattle.fix_session.specs.Steps.{new_session, judge, events_said, session_after}

@@ -1,1 +1,2 @@
+pub mod FramerFields
 pub mod Spelling

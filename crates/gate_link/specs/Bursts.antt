@@ -2,7 +2,7 @@
 use Rattle.std.specs.Prelude.{◌≡◌, ℕ, ◌+◌, ◌≤◌, ◌<◌, false, List, [], ◌++◌, length, min, if◌then◌else◌}
 use Rattle.spread_rules.specs.declared.event.Event.{Event}
 use Rattle.fix_frames.specs.Frames.{frames}
-use Rattle.fix_frames.specs.Pieces.{SplitsInto}
+use Rattle.fix_wire.specs.Pieces.{SplitsInto}
 use Rattle.fix_session.specs.Steps.{events_said, session_after}
 use Rattle.fix_session.specs.Ahead.{up_to_close, after_frames}
 use Rattle.gate_link.specs.Gateways.{session_state, bytes_held, events_sent, free_slots, pending_events, is_over, Needs, WasClosed}

@@ -9,8 +9,8 @@ ghost use Rattle.fix_frames.specs.Frames.{frames};
 ghost use Rattle.fix_session.specs.declared.session.Session.{Session};
 ghost use Rattle.fix_session.specs.Steps.{new_session, judge, event_in, is_closed};
 ghost use Rattle.fix_session.specs.Streams.{whole};
-ghost use Rattle.fix_frames.specs.Pieces.{SplitsInto, IsDrained};
-ghost use Rattle.fix_frames.specs.declared.framer.TheConstants.{BUFFER_BYTES};
+ghost use Rattle.fix_wire.specs.Pieces.{SplitsInto, IsDrained};
+ghost use Rattle.fix_wire.specs.declared.framer.TheConstants.{BUFFER_BYTES};
 ghost use Rattle.gate_link.specs.Owed.{events_left};
 ghost use Rattle.gate_link.specs.Schedules.{ScheduleStep, send, take, ScheduleState, no_events, Leads, IsClosed, IsInOrder, in_a_row, SentTogether, TakenTogether};
 

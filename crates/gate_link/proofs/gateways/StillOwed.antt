@@ -14,7 +14,7 @@ use Rattle.fix_session.specs.declared.session.Verdict.TheVariants.{Event as Says
 use Rattle.fix_session.specs.Steps.{judge, event_in, is_closed, is_closing, events_said, session_after, events_at_end}
 use Rattle.fix_session.proofs.events.StateOfPlaces.{cons_two}
 use Rattle.fix_session.proofs.events.ClosesOnce.{closed_silent, closes_with}
-use Rattle.fix_frames.specs.Pieces.{SplitsInto}
+use Rattle.fix_wire.specs.Pieces.{SplitsInto}
 use Rattle.gate_link.specs.Owed.{whole_from, events_left}
 
 -- what a session says to one message and then to others

@@ -1,0 +1,4 @@
+pub mod FrontFrame
+pub mod HeldPart
+pub mod OneTurn
+pub mod FrameFromAPlace

@@ -1,0 +1,55 @@
+-- What a framer knows of the frame at its front.
+use Rattle.std.proofs.Common.{◌≡◌, ◌≢◌, ℕ, ◌+◌, ◌-◌, ◌≤◌, List, ◌++◌, length, drop, Option, Some, None, sym, ap, subst, ◌∙◌, arith}
+use Rattle.std.specs.Prelude.{slice_range, unwrap_or}
+use Rattle.std.specs.List.{between}
+use Rattle.std.proofs.lemmas.List.{length-take-le, length-drop}
+use Rattle.fix_wire.specs.declared.framer.Framer.TheInside.{Inside}
+use Rattle.fix_wire.specs.code.FramerFields.{held_of, IsKept}
+use Rattle.fix_frames.specs.Frames.{frame_at}
+use Rattle.fix_frames.specs.declared.table.FieldTable.{FieldTable}
+use Rattle.fix_frames.specs.code.Tabled.{IsTableOf}
+use Rattle.fix_frames.proofs.framing.FrontStays.{frame_stays}
+use Rattle.fix_frames.proofs.fields.TableOfFields.{table_stays}
+
+-- it still knows it when bytes were put
+pub knows_put : (text held : List ℕ) (found : ℕ) (now : List ℕ) → now ≡ held ++ text → (found ≢ 0 → frame_at held ≡ Some found) → found ≢ 0 → frame_at now ≡ Some found
+knows_put text held found now e known some = ap frame_at e ∙ frame_stays held text found (known some)
+
+-- it knows what it found
+pub knows_found : (o : Option ℕ) (found : ℕ) (text : List ℕ) → found ≡ unwrap_or o 0 → o ≡ frame_at text → found ≢ 0 → frame_at text ≡ Some found
+knows_found None found text e f some = absurd (some e)
+knows_found (Some n) found text e f some = sym f ∙ ap Some (sym e)
+
+-- and its table too
+table_put : (text held : List ℕ) (found : ℕ) (t : FieldTable) (now : List ℕ) → now ≡ held ++ text → (found ≢ 0 → frame_at held ≡ Some found) → (found ≢ 0 → IsTableOf held t) → found ≢ 0 → IsTableOf now t
+table_put text held found t now e known tabled some = subst (λ (x : List ℕ). IsTableOf x t) (sym e) (table_stays held text found t (known some) (tabled some))
+
+-- bytes are put behind those that are held, wherever these were moved to
+pub put_kept : (f i : Inside) (buffer text : List ℕ) (taken : ℕ) → IsKept f → i.start ≤ i.end → i.end + taken ≤ 8192 → i.front_length ≡ f.front_length → i.table ≡ f.table → held_of i ≡ held_of f → length text ≡ taken →
+    slice_range buffer i.start (i.end + length text) ≡ slice_range i.buffer i.start i.end ++ text → IsKept (record { buffer = buffer; start = i.start; end = i.end + taken; front_length = i.front_length; table = i.table })
+put_kept f i buffer text taken kept order room same table held len put =
+    let now = ap (λ n. slice_range buffer i.start (i.end + n)) (sym len) ∙ put ∙ ap (λ t. t ++ text) held in
+    let known : i.front_length ≢ 0 → frame_at (held_of f) ≡ Some i.front_length = λ some. kept.known (λ none. some (same ∙ none)) ∙ ap Some (sym same) in
+    record {
+      order = omega (arith, order);
+      room = room;
+      known = knows_put text (held_of f) i.front_length _ now known;
+      tabled = table_put text (held_of f) i.front_length i.table _ now known (λ some. subst (λ (t : FieldTable). IsTableOf (held_of f) t) (sym table) (kept.tabled (λ none. some (same ∙ none))));
+    }
+
+range_length : (xs : List ℕ) (start end : ℕ) → end ≤ length xs → length (between start end xs) ≡ end - start
+range_length xs start end l = length-take-le (end - start) (drop start xs) (omega (arith, length-drop start xs))
+
+-- the places that were skipped lie within what is held
+pub skip_within : (f : Inside) (skip : ℕ) (held : List ℕ) → length f.buffer ≡ 8192 → IsKept f → held_of f ≡ held → skip ≤ length held → f.start + skip ≤ f.end
+skip_within f skip held full kept e l =
+    let len = range_length f.buffer f.start f.end (omega (arith, full, kept.room)) in
+    let same = ap length e in
+    omega (arith, len, same, kept.order, l)
+
+-- what is held fits into the buffer
+pub held_short : (f : Inside) (held : List ℕ) → length f.buffer ≡ 8192 → IsKept f → held_of f ≡ held → length held ≤ 8192
+held_short f held full kept e =
+    let len = range_length f.buffer f.start f.end (omega (arith, full, kept.room)) in
+    let same = ap length e in
+    omega (arith, len, same, kept.room)
