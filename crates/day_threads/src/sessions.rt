@@ -12,8 +12,8 @@ ghost use Rattle.day_stages.specs.declared.fault.ThreadsFault.TheVariants.{NoMem
 use crate::conclude::{SessionsDay, conclude};
 use day_stages::{Caps, DayRules, Stages, ThreadsFault, stages_of, start_matching};
 use session_threads::{
-    Gate, SequenceEnd, Shared, Started, StartedWriters, Workers, WritingHandle, Written, join_all,
-    join_writers, sequence, start_all, start_writers,
+    Gate, SequenceEnd, Shared, Started, StartedWriters, Workers, Writing, join_all, join_writers,
+    sequence, start_all, start_writers,
 };
 use std::alloc::{AllocError, Allocator};
 use std::snapshot::Snapshot;
@@ -21,13 +21,6 @@ use std::sync::Wait;
 use std::sync::atomic::{AtomicBool, Ordering};
 use std::thread;
 use std::thread::{Scope, Threads};
-
-/// The handles of all writers' threads, and room for what they hand back.
-#[derive(Drop)]
-struct Writing<A: Allocator> {
-    handles: Vec<WritingHandle<A>, A>,
-    room: Vec<Written<A>, A>,
-}
 
 /// The fault of a day whose stages found no room for their threads' handles.
 fn no_room<T: Drop>(_unused: T) -> ThreadsFault
@@ -48,7 +41,7 @@ fn stop_workers<R: Threads, G, A: Allocator, T: Drop>(
     ensures { result ≡ Spawn number }
 {
     shared.stop.store(true, Ordering::SeqCst);
-    drop(join_all(shared.rt, workers.handles, workers.room));
+    drop(join_all(shared.rt, workers));
     ThreadsFault::Spawn(number)
 }
 
@@ -106,9 +99,7 @@ fn sessions_in<'r: 's, 's, E, R: Wait + Threads + Sync, G: Gate, A: Allocator + 
         writers,
         room: size,
     } = stages;
-    let Workers { handles, room } = workers;
-    let Started { handles, refused } = start_all(scope, shared, gateways, streams, handles);
-    let workers = Workers { handles, room };
+    let Started { workers, refused } = start_all(scope, shared, gateways, streams, workers);
     if let Some(session) = refused {
         let unused = (sequencer, feeder, matcher, posted, writers, writing);
         return Err(stop_workers(shared, workers, session, unused));
@@ -118,16 +109,14 @@ fn sessions_in<'r: 's, 's, E, R: Wait + Threads + Sync, G: Gate, A: Allocator + 
         let unused = (sequencer, feeder, writers, writing);
         return Err(stop_workers(shared, workers, sessions as u8, unused));
     };
-    let Writing { handles, room } = writing;
-    let StartedWriters { handles, refused } = start_writers(
-        scope, rt, gate, stop, writers, handles,
+    let StartedWriters { writing, refused } = start_writers(
+        scope, rt, gate, stop, writers, writing,
     );
-    let writing = Writing { handles, room };
     if let Some(session) = refused {
         let number = sessions as u8 + 1 + session;
         let fault = stop_workers(shared, workers, number, (sequencer, feeder));
         drop(matching.join(rt));
-        drop(join_writers(rt, writing.handles, writing.room));
+        drop(join_writers(rt, writing));
         return Err(fault);
     }
     let sequenced = sequence(rt, stop, sequencer, feeder, workers, &given);
@@ -135,7 +124,7 @@ fn sessions_in<'r: 's, 's, E, R: Wait + Threads + Sync, G: Gate, A: Allocator + 
         stop.store(true, Ordering::SeqCst);
     }
     let matched = matching.join(rt);
-    let written = join_writers(rt, writing.handles, writing.room);
+    let written = join_writers(rt, writing);
     conclude(sequenced, matched, written, &given, size)
 }
 

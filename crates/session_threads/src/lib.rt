@@ -14,5 +14,5 @@ pub use sequencing::{SequenceEnd, Sequenced, sequence};
 pub use worker::{Gate, WorkerPromise};
 pub use workers::{GivenStreams, Shared, Started, WorkerHandle, Workers, join_all, start_all};
 pub use writing::{
-    StartedWriters, WritePromise, WritingHandle, Written, join_writers, start_writers,
+    StartedWriters, WritePromise, Writing, WritingHandle, Written, join_writers, start_writers,
 };

@@ -29,18 +29,18 @@ pub struct Shared<'r, 's, R, G> {
     pub ring: usize,
 }
 
-/// The handles of the threads that were started, and the session of the one that was refused.
-#[derive(Drop)]
-pub struct Started<A: Allocator> {
-    pub handles: Vec<WorkerHandle<A>, A>,
-    pub refused: Option<u8>,
-}
-
-/// The handles of all threads of sessions, and room for the gateways that they hand back.
+/// The handles of all threads of sessions that were started, and room for the gateways that they hand back.
 #[derive(Drop)]
 pub struct Workers<A: Allocator> {
     pub handles: Vec<WorkerHandle<A>, A>,
     pub room: Vec<Gateway<A>, A>,
+}
+
+/// The threads that were started, and the session of the one that was refused.
+#[derive(Drop)]
+pub struct Started<A: Allocator> {
+    pub workers: Workers<A>,
+    pub refused: Option<u8>,
 }
 
 /// Starts a thread for each gateway, with its stream, up to the first that is refused.
@@ -49,18 +49,21 @@ pub fn start_all<'r: 's, 's, E, R: Wait + Threads + Sync, G: Gate, A: Allocator 
     shared: &Shared<'r, 's, R, G>,
     gateways: Vec<Gateway<A>, A>,
     streams: Vec<Vec<u8, A>, A>,
-    handles: Vec<WorkerHandle<A>, A>,
+    workers: Workers<A>,
 ) -> Started<A>
     requires fresh { (ring : ℕ) × AreFresh ring gateways.items }
     requires streams { vec_len gateways ≡ vec_len streams }
     requires few { vec_len gateways ≤ SESSIONS }
-    requires room { (vec_len handles ≡ 0) × (vec_len gateways ≤ vec_capacity handles) }
-    ensures most { vec_len result.handles ≤ vec_len gateways }
-    ensures all { IfNone result.refused (vec_len result.handles ≡ vec_len gateways) }
-    ensures refused { IfSome result.refused
-        (λ session. (session ≡ vec_len result.handles) × (session < vec_len streams)) }
-    ensures started { AreStarted streams.items gateways.items result.handles.items }
+    requires room { (vec_len workers.handles ≡ 0)
+        × (vec_len gateways ≤ vec_capacity workers.handles) }
+    ensures most { vec_len result.workers.handles ≤ vec_len gateways }
+    ensures all { IfNone result.refused (vec_len result.workers.handles ≡ vec_len gateways) }
+    ensures refused { IfSome result.refused (λ session.
+        (session ≡ vec_len result.workers.handles) × (session < vec_len streams)) }
+    ensures started { AreStarted streams.items gateways.items result.workers.handles.items }
+    ensures room { result.workers.room ≡ workers.room }
 {
+    let Workers { handles, room } = workers;
     let mut handles = handles;
     let mut streams = streams;
     for gateway in gateways {
@@ -68,27 +71,26 @@ pub fn start_all<'r: 's, 's, E, R: Wait + Threads + Sync, G: Gate, A: Allocator 
             Some(handle) => handles.push_reserved(handle),
             None => {
                 let refused = Some(handles.len() as u8);
-                return Started { handles, refused };
+                let workers = Workers { handles, room };
+                return Started { workers, refused };
             }
         }
     }
     Started {
-        handles,
+        workers: Workers { handles, room },
         refused: None,
     }
 }
 
 /// Joins each thread.
-pub fn join_all<R: Threads, A: Allocator>(
-    rt: &R,
-    handles: Vec<WorkerHandle<A>, A>,
-    joined: Vec<Gateway<A>, A>,
-) -> Vec<Gateway<A>, A>
-    requires { (vec_len joined ≡ 0) × (vec_len handles ≤ vec_capacity joined) }
-    ensures len { vec_len result ≡ vec_len handles }
-    ensures kept { AreKept handles.items result.items }
+pub fn join_all<R: Threads, A: Allocator>(rt: &R, workers: Workers<A>) -> Vec<Gateway<A>, A>
+    requires { (vec_len workers.room ≡ 0)
+        × (vec_len workers.handles ≤ vec_capacity workers.room) }
+    ensures len { vec_len result ≡ vec_len workers.handles }
+    ensures kept { AreKept workers.handles.items result.items }
 {
-    let mut joined = joined;
+    let Workers { handles, room } = workers;
+    let mut joined = room;
     for handle in handles {
         joined.push_reserved(handle.join(rt));
     }

@@ -36,10 +36,17 @@ impl<A: Allocator> Promise<Written<A>> for WritePromise<A> {
 /// The handle of a writer's thread.
 pub type WritingHandle<A> = PromisedHandle<Written<A>, WritePromise<A>>;
 
-/// The handles of the writers' threads that were started, and the session of the one that was refused.
+/// The handles of all writers' threads that were started, and room for what they hand back.
+#[derive(Drop)]
+pub struct Writing<A: Allocator> {
+    pub handles: Vec<WritingHandle<A>, A>,
+    pub room: Vec<Written<A>, A>,
+}
+
+/// The writers' threads that were started, and the session of the one that was refused.
 #[derive(Drop)]
 pub struct StartedWriters<A: Allocator> {
-    pub handles: Vec<WritingHandle<A>, A>,
+    pub writing: Writing<A>,
     pub refused: Option<u8>,
 }
 
@@ -114,15 +121,18 @@ pub fn start_writers<'s, E, R: Wait + Threads + Sync, G: Gate, A: Allocator + Se
     gate: &'s G,
     stop: &'s AtomicBool,
     writers: Vec<Writer<A>, A>,
-    handles: Vec<WritingHandle<A>, A>,
+    writing: Writing<A>,
 ) -> StartedWriters<A>
     requires few { vec_len writers ≤ SESSIONS }
-    requires room { (vec_len handles ≡ 0) × (vec_len writers ≤ vec_capacity handles) }
-    ensures most { vec_len result.handles ≤ vec_len writers }
-    ensures all { IfNone result.refused (vec_len result.handles ≡ vec_len writers) }
+    requires room { (vec_len writing.handles ≡ 0)
+        × (vec_len writers ≤ vec_capacity writing.handles) }
+    ensures most { vec_len result.writing.handles ≤ vec_len writers }
+    ensures all { IfNone result.refused (vec_len result.writing.handles ≡ vec_len writers) }
     ensures refused { IfSome result.refused (λ session. session < vec_len writers) }
-    ensures started { AreWriting writers.items result.handles.items }
+    ensures started { AreWriting writers.items result.writing.handles.items }
+    ensures room { result.writing.room ≡ writing.room }
 {
+    let Writing { handles, room } = writing;
     let mut handles = handles;
     for writer in writers {
         let session = handles.len() as u8;
@@ -130,29 +140,27 @@ pub fn start_writers<'s, E, R: Wait + Threads + Sync, G: Gate, A: Allocator + Se
             Some(handle) => handles.push_reserved(handle),
             None => {
                 return StartedWriters {
-                    handles,
+                    writing: Writing { handles, room },
                     refused: Some(session),
                 };
             }
         }
     }
     StartedWriters {
-        handles,
+        writing: Writing { handles, room },
         refused: None,
     }
 }
 
 /// Joins each writer's thread.
-pub fn join_writers<R: Threads, A: Allocator>(
-    rt: &R,
-    handles: Vec<WritingHandle<A>, A>,
-    joined: Vec<Written<A>, A>,
-) -> Vec<Written<A>, A>
-    requires { (vec_len joined ≡ 0) × (vec_len handles ≤ vec_capacity joined) }
-    ensures len { vec_len result ≡ vec_len handles }
-    ensures kept { AreWritten handles.items result.items }
+pub fn join_writers<R: Threads, A: Allocator>(rt: &R, writing: Writing<A>) -> Vec<Written<A>, A>
+    requires { (vec_len writing.room ≡ 0)
+        × (vec_len writing.handles ≤ vec_capacity writing.room) }
+    ensures len { vec_len result ≡ vec_len writing.handles }
+    ensures kept { AreWritten writing.handles.items result.items }
 {
-    let mut joined = joined;
+    let Writing { handles, room } = writing;
+    let mut joined = room;
     for handle in handles {
         joined.push_reserved(handle.join(rt));
     }

@@ -20,12 +20,12 @@ matched g c = let h = c.in-Some-start_matching.ensures in rw (← h.0, ← h.1) 
 
 pub sequence-sequenced-requires-clause-staffed : goal.sequence-sequenced-requires-clause-staffed
 sequence-sequenced-requires-clause-staffed g c =
-    let hs = c.start_all-handles.result.handles in
-    let all : vec_len hs ≡ vec_len c.args.stages.gateways = none_left c.start_all-handles.result.refused c.in_default-refused.not-Some c.start_all-handles.ensures.all in
+    let hs = c.start_all-workers.result.workers.handles in
+    let all : vec_len hs ≡ vec_len c.args.stages.gateways = none_left c.start_all-workers.result.refused c.in_default-refused.not-Some c.start_all-workers.ensures.all in
     rw c.of-given.ensures record {
       gateways = c.args.stages.gateways.items;
       pairs = c.requires.made.pairs;
-      started = c.start_all-handles.ensures.started;
+      started = c.start_all-workers.ensures.started;
       handle_count = omega (arith, hs.ok.0, c.args.stages.gateways.ok.0, all);
       stream_count = c.requires.stream_count;
     }
@@ -40,17 +40,17 @@ conclude-requires g c =
     let stages = c.args.stages in
     let m = matched g (goal.at.conclude-requires g c).After-join-matched in
     let q = c.sequence-sequenced.ensures in
-    let hs = c.start_writers-handles.result.handles in
+    let hs = c.start_writers-writing.result.writing.handles in
     let ws = stages.writers in
     let rs = c.join_writers-written.result in
-    let all : vec_len hs ≡ vec_len ws = none_left c.start_writers-handles.result.refused c.in_default-refused-2.not-Some c.start_writers-handles.ensures.all in
+    let all : vec_len hs ≡ vec_len ws = none_left c.start_writers-writing.result.refused c.in_default-refused-2.not-Some c.start_writers-writing.ensures.all in
     let lh : length hs.items ≡ length ws.items = omega (arith, hs.ok.0, ws.ok.0, all) in
     let lr : length rs.items ≡ length hs.items = omega (arith, rs.ok.0, hs.ok.0, c.join_writers-written.ensures.len) in
     record {
       feed = feed_kept stages.feeder c.sequence-sequenced.result.feeder stages.matcher c.join-matched.result.matcher q.ring m.ring r.made.feed;
       posts =
           posts_kept stages.posted.posters.items c.join-matched.result.posted.posters.items ws.items hs.items rs.items lh lr r.made.posts m.writers
-          c.start_writers-handles.ensures.started c.join_writers-written.ensures.kept;
+          c.start_writers-writing.ensures.started c.join_writers-written.ensures.kept;
       few_writers = omega (arith, lr, lh, r.made.writer_count, r.stream_count, r.few);
       few = m.few;
       given_on = q.given_on;

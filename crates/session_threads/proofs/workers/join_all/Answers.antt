@@ -6,9 +6,9 @@ use Rattle.session_threads.proofs.workers.join_all.Goals as goal
 
 pub loop-handle-init : goal.loop-handle-init
 loop-handle-init g c =
-    let none : vec_len c.args.joined ≡ 0 = c.requires.0 in
+    let none : vec_len c.args.workers.room ≡ 0 = c.requires.0 in
     let gives = c.into_iter-handle-iterator.ensures.into_iter_gives in
-    let n = c.args.joined.ok.0 in
+    let n = c.args.workers.room.ok.0 in
     record {
       count = omega (arith, none, gives.1);
       left = rw none gives.0;
@@ -22,9 +22,9 @@ loop-handle-preserved g c =
     let steps = c.in-Some.ensures.steps in
     let joined = c.loop-handle.joined in
     let handle = c.in-Some.handle in
-    let hs = c.args.handles.items in
+    let hs = c.args.workers.handles.items in
     let n : length joined.items ≡ vec_len joined = sym joined.ok.0 in
-    let all : length hs ≡ vec_len c.args.handles = sym c.args.handles.ok.0 in
+    let all : length hs ≡ vec_len c.args.workers.handles = sym c.args.workers.handles.ok.0 in
     let here : vec_len joined < length hs = omega (arith, was.count, steps.1) in
     let next = next_is hs (into_iter_items c.loop-handle.handle-iterator) (into_iter_items c.next.new.self) handle (vec_len joined) here was.left steps.0 in
     record {

@@ -6,8 +6,8 @@ use Rattle.session_threads.proofs.workers.join_all.Given as goal
 abbrev pub invariant-loop-handle : goal.invariant-loop-handle
 invariant-loop-handle g l =
     let done = vec_len l.joined in let rest = l.handle-iterator in record {
-      count : done + into_iter_len rest ≡ vec_len l.fn.handles;
-      left : into_iter_items rest ≡ drop done l.fn.handles.items;
-      room : vec_len l.fn.handles ≤ vec_capacity l.joined;
-      kept : AreKept l.fn.handles.items l.joined.items;
+      count : done + into_iter_len rest ≡ vec_len l.fn.workers.handles;
+      left : into_iter_items rest ≡ drop done l.fn.workers.handles.items;
+      room : vec_len l.fn.workers.handles ≤ vec_capacity l.joined;
+      kept : AreKept l.fn.workers.handles.items l.joined.items;
     }

@@ -9,9 +9,9 @@ use Rattle.session_threads.proofs.workers.start_all.Goals.{After-remove}
 
 pub loop-gateway-init : goal.loop-gateway-init
 loop-gateway-init g c =
-    let none : vec_len c.args.handles ≡ 0 = c.requires.room.0 in
+    let none : vec_len c.args.workers.handles ≡ 0 = c.requires.room.0 in
     let gives = c.into_iter-gateway-iterator.ensures.into_iter_gives in
-    let n = c.args.handles.ok.0 in
+    let n = c.args.workers.handles.ok.0 in
     record {
       count = omega (arith, none, gives.1);
       left = rw none gives.0;

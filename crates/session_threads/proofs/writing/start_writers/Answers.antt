@@ -6,9 +6,9 @@ use Rattle.session_threads.proofs.writing.start_writers.Goals as goal
 
 pub loop-writer-init : goal.loop-writer-init
 loop-writer-init g c =
-    let none : vec_len c.args.handles ≡ 0 = c.requires.room.0 in
+    let none : vec_len c.args.writing.handles ≡ 0 = c.requires.room.0 in
     let gives = c.into_iter-writer-iterator.ensures.into_iter_gives in
-    let n = c.args.handles.ok.0 in
+    let n = c.args.writing.handles.ok.0 in
     record {
       count = omega (arith, none, gives.1);
       left = rw none gives.0;
