@@ -1,6 +1,7 @@
 //! Worked frames, values and messages.
 
 mod frames;
+mod fronts;
 mod laws;
 mod messages;
 mod values;
