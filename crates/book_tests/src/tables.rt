@@ -2,7 +2,7 @@
 ghost use Rattle.std.specs.Prelude.{◌≡◌};
 
 use crate::books::rows::is;
-use order_tables::{BestPrice, FrontTable, OwnKey, PlaceRows, QueueKey, first_from, with_quantity};
+use order_tables::{BestPrice, FrontTable, PlaceRows, QueueKey, first_from, is_own, with_quantity};
 use spread_rules::{Instrument, Order, Side};
 use std::collections::BTreeSet;
 use test_support::id;
@@ -83,18 +83,17 @@ fn keys_of_a_queue(rt: HostRuntime) {
 }
 
 #[test]
-fn keys_of_an_id(rt: HostRuntime) {
-    let later = seller();
-    let earlier = Order { place: 3, ..later };
-    let mut keys = BTreeSet::new(rt.alloc());
-    keys.insert(OwnKey::new(&later)).expect(&rt, "memory");
-    keys.insert(OwnKey::new(&earlier)).expect(&rt, "memory");
-    let start = OwnKey::start(1, &id(b"a"));
-    match first_from(&keys, start) {
-        Some(key) => assert!(rt; key.has_id_of(&start) && key.place() == 3),
-        None => assert!(rt; false),
-    }
-    assert!(rt; !start.has_id_of(&OwnKey::start(0, &id(b"a"))));
+fn whose_a_row_is(rt: HostRuntime) {
+    let first = seller();
+    assert!(rt; is_own(&first, 1, &id(b"a")));
+    assert!(rt; !is_own(&first, 0, &id(b"a")));
+    assert!(rt; !is_own(&first, 1, &id(b"b")));
+    let mut rows = PlaceRows::new(rt.alloc());
+    rows.push(first).expect(&rt, "memory");
+    assert!(rt; is(rows.find_own(1, &id(b"a")), &first));
+    assert!(rt; rows.find_own(1, &id(b"b")) == None);
+    assert!(rt; is(rows.remove(7), &first));
+    assert!(rt; rows.find_own(1, &id(b"a")) == None);
 }
 
 #[test]

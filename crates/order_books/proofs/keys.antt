@@ -1,5 +1,4 @@
 pub mod TablesThroughChanges
 pub mod TotalOrders
 pub mod SetOfKeys
-pub mod FirstOfAnId
 pub mod FirstOfAQueue

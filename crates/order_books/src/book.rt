@@ -1,5 +1,5 @@
 //! What a book of resting orders does.
-ghost use Rattle.std.specs.Prelude.{◌≡◌, ℕ, ◌<◌, ◌++◌, ◌∷◌, [], List, length, slice_get, OnOk, OnErr, All};
+ghost use Rattle.std.specs.Prelude.{◌≡◌, ◌==◌, ℕ, ◌<◌, ◌++◌, ◌∷◌, [], List, length, slice_get, OnOk, OnErr, All};
 ghost use Rattle.std.specs.List.{find};
 ghost use Rattle.spread_rules.specs.Clearing.{reduced, removed};
 ghost use Rattle.spread_rules.specs.Meaning.{is_own};
@@ -31,9 +31,14 @@ pub trait Book {
         }
     }
 
-    /// The session's resting order with that id. Takes no memory.
+    /// The session's resting order with that id. Takes no memory, and time for all orders before it: who knows its place
+    /// asks `at`.
     fn find(&self, session: u8, id: &Id) -> Option<Order>
         ensures { result ≡ find (is_own session id.now) (orders self.now) };
+
+    /// The resting order of that place. Takes no memory.
+    fn at(&self, place: u64) -> Option<Order>
+        ensures { result ≡ find (λ o. o.place == place) (orders self.now) };
 
     /// The order rests, behind all others: its place is above theirs. All growth comes before the change, so after
     /// NoMemory nothing has changed.

@@ -178,6 +178,10 @@ impl<A: Allocator + Copy> Book for FrontBook<A> {
         self.tables.find(session, id)
     }
 
+    fn at(&self, place: u64) -> Option<Order> {
+        self.tables.at(place)
+    }
+
     fn add(&mut self, order: Order) -> Result<(), NoMemory> {
         make_room(&self.tables, &mut self.fronts)?;
         self.tables.add(order)?;

@@ -10,5 +10,5 @@ mod tree;
 pub use book::Book;
 pub use front_book::FrontBook;
 pub use list::ListBook;
-pub use queue::{front_with, is_in, is_own};
+pub use queue::{front_with, is_in};
 pub use tree::TreeBook;

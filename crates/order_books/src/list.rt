@@ -1,5 +1,5 @@
 //! A book over one list, in order of place.
-ghost use Rattle.std.specs.Prelude.{◌≡◌, ℕ, ◌<◌, ◌++◌, ◌∷◌, [], List, length, slice_get, OnOk, OnErr, All, IfOk, neg_ℤ, pos, ◌≤ℤ◌, fold, None, Some};
+ghost use Rattle.std.specs.Prelude.{◌≡◌, ◌==◌, ℕ, ◌<◌, ◌++◌, ◌∷◌, [], List, length, slice_get, OnOk, OnErr, All, IfOk, neg_ℤ, pos, ◌≤ℤ◌, fold, None, Some};
 ghost use Rattle.std.specs.List.{find};
 ghost use Rattle.spread_rules.specs.Clearing.{reduced, removed, with_less_left};
 ghost use Rattle.spread_rules.specs.Candidates.{better_by, cost, HasOrderPrice};
@@ -10,9 +10,9 @@ ghost use Rattle.order_tables.specs.Places.{HasMore, HasPlace};
 ghost use Rattle.spread_rules.specs.Legs.{other_side};
 
 use crate::book::Book;
-use crate::queue::{front_with, is_in, is_own};
+use crate::queue::{front_with, is_in};
 use host_base::{Id, NoMemory};
-use order_tables::with_quantity;
+use order_tables::{is_own, with_quantity};
 use spread_rules::{Instrument, Order, Side};
 use std::alloc::Allocator;
 use std::marker::Model;
@@ -110,6 +110,17 @@ fn find_own(orders: &[Order], session: u8, id: &Id) -> Option<Order>
     None
 }
 
+fn find_at(orders: &[Order], place: u64) -> Option<Order>
+    ensures { result ≡ find (λ o. o.place == place) orders.now }
+{
+    for order in orders {
+        if order.place == place {
+            return Some(*order);
+        }
+    }
+    None
+}
+
 impl<A: Allocator + Copy> ListBook<A> {
     /// A book in which no order rests. Takes no memory yet.
     pub fn new(alloc: A) -> Self
@@ -130,6 +141,10 @@ impl<A: Allocator + Copy> Book for ListBook<A> {
 
     fn find(&self, session: u8, id: &Id) -> Option<Order> {
         find_own(&self.orders, session, id)
+    }
+
+    fn at(&self, place: u64) -> Option<Order> {
+        find_at(&self.orders, place)
     }
 
     fn add(&mut self, order: Order) -> Result<(), NoMemory> {

@@ -1,11 +1,9 @@
-//! Where an order stands among others: in which queue, ahead of whom, and whose it is.
+//! Where an order stands among others: in which queue, and ahead of whom.
 ghost use Rattle.std.specs.Prelude.{◌≡◌, neg_ℤ, pos, ◌≤ℤ◌, None, Some};
 ghost use Rattle.spread_rules.specs.Candidates.{better_by, cost};
-ghost use Rattle.spread_rules.specs.Meaning.{is_own};
 ghost use Rattle.order_books.specs.Queues.{is_ahead, is_in};
 ghost use Rattle.spread_rules.specs.Legs.{other_side};
 
-use host_base::Id;
 use spread_rules::{Instrument, Order, Side};
 
 /// Whether the first stands ahead of the second in the queue of that side.
@@ -40,11 +38,4 @@ pub fn is_in(order: &Order, instrument: Instrument, side: Side) -> bool
     ensures { result ≡ is_in instrument side order.now }
 {
     order.instrument == instrument && order.side == side
-}
-
-/// Whether it is the session's with that id.
-pub fn is_own(order: &Order, session: u8, id: &Id) -> bool
-    ensures { result ≡ is_own session id.now order.now }
-{
-    order.session == session && order.id.is(id)
 }

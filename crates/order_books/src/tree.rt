@@ -1,4 +1,4 @@
-//! A book over ordered tables: its orders by place, and their keys by queue and by id.
+//! A book over ordered tables: its orders by place, and their keys by queue.
 ghost use Rattle.std.specs.Prelude.{◌≡◌, ◌<◌, ◌^◌, ◌==◌, [], length};
 ghost use Rattle.std.specs.List.{find};
 ghost use Rattle.spread_rules.specs.Clearing.{reduced, removed};
@@ -6,18 +6,17 @@ ghost use Rattle.order_tables.specs.Places.{HasMore, HasPlace, Ascends};
 
 use crate::book::Book;
 use host_base::{Id, NoMemory};
-use order_tables::{OwnKey, PlaceRows, QueueKey, first_from, with_quantity};
+use order_tables::{PlaceRows, QueueKey, first_from};
 use spread_rules::{Instrument, Order, Side};
 use std::alloc::Allocator;
 use std::collections::BTreeSet;
 use std::marker::Model;
 
-/// Resting orders by place, and their keys by queue and by id.
+/// Resting orders by place, and their keys by queue.
 #[derive(Drop)]
 pub struct TreeBook<A: Allocator + Copy> {
     orders: PlaceRows<A>,
     queues: BTreeSet<QueueKey, A>,
-    ids: BTreeSet<OwnKey, A>,
 }
 
 impl<A: Allocator + Copy> Model for TreeBook<A> {
@@ -29,7 +28,7 @@ impl<A: Allocator + Copy> Model for TreeBook<A> {
 
     ghost view = { λ b. b.orders };
 
-    ghost invariant = { λ b. IsIndex b.orders b.queues b.ids };
+    ghost invariant = { λ b. IsIndex b.orders b.queues };
 }
 
 impl<A: Allocator + Copy> TreeBook<A> {
@@ -40,7 +39,6 @@ impl<A: Allocator + Copy> TreeBook<A> {
         TreeBook {
             orders: PlaceRows::new(alloc),
             queues: BTreeSet::new(alloc),
-            ids: BTreeSet::new(alloc),
         }
     }
 
@@ -79,7 +77,6 @@ impl<A: Allocator + Copy> TreeBook<A> {
     {
         if let Some(order) = self.orders.remove(place) {
             self.queues.remove(&QueueKey::new(&order));
-            self.ids.remove(&OwnKey::new(&order));
             return Some(order);
         }
         None
@@ -99,26 +96,17 @@ impl<A: Allocator + Copy> Book for TreeBook<A> {
     }
 
     fn find(&self, session: u8, id: &Id) -> Option<Order> {
-        let start = OwnKey::start(session, id);
-        let key = first_from(&self.ids, start)?;
-        if !key.has_id_of(&start) {
-            return None;
-        }
-        self.order_at(key.place())
+        self.orders.find_own(session, id)
+    }
+
+    fn at(&self, place: u64) -> Option<Order> {
+        self.orders.get(place)
     }
 
     fn add(&mut self, order: Order) -> Result<(), NoMemory> {
         let queue = QueueKey::new(&order);
-        let own = OwnKey::new(&order);
-        if self.queues.insert(queue).is_err() {
-            return Err(NoMemory);
-        }
-        if self.ids.insert(own).is_err() {
-            self.queues.remove(&queue);
-            return Err(NoMemory);
-        }
+        self.queues.insert(queue)?;
         if self.orders.push(order).is_err() {
-            self.ids.remove(&own);
             self.queues.remove(&queue);
             return Err(NoMemory);
         }
@@ -130,14 +118,7 @@ impl<A: Allocator + Copy> Book for TreeBook<A> {
     }
 
     fn amend(&mut self, place: u64, id: Id, quantity: u32) -> Result<(), NoMemory> {
-        if let Some(was) = self.orders.get(place) {
-            let amended = with_quantity(&was, id, quantity);
-            if self.ids.insert(OwnKey::new(&amended)).is_err() {
-                return Err(NoMemory);
-            }
-            self.ids.remove(&OwnKey::new(&was));
-            self.orders.amend(place, id, quantity);
-        }
+        self.orders.amend(place, id, quantity);
         Ok(())
     }
 

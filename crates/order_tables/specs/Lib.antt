@@ -2,5 +2,4 @@ pub mod Places
 pub mod FrontTable
 pub mod Firsts
 pub mod QueueKeys
-pub mod OwnKeys
 pub mod code

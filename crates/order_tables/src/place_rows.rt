@@ -9,10 +9,12 @@ ghost use Rattle.spread_rules.specs.declared.order.Order.{Order};
 ghost use Rattle.spread_rules.specs.Clearing.{reduced, removed};
 ghost use Rattle.order_tables.specs.declared.row.Row.{Row};
 ghost use Rattle.spread_rules.specs.Amended.{amended};
+ghost use Rattle.spread_rules.specs.Meaning.{is_own};
 ghost use Rattle.order_tables.specs.Places.{HasMore, HasPlace, Ascends};
 ghost use Rattle.order_tables.specs.code.Rows.{live, Rises};
 
 use crate::amend::with_quantity;
+use crate::own::is_own;
 use crate::row::Row;
 use host_base::{Id, NoMemory};
 use row_index::{Hints, PlacedRows};
@@ -225,6 +227,13 @@ impl<A: Allocator + Copy> PlaceRows<A> {
     {
         nth_live(&self.rows, n)
     }
+
+    /// The earliest of the session's orders with that id. Takes time for all before it.
+    pub fn find_own(&self, session: u8, id: &Id) -> Option<Order>
+        ensures { result ≡ find (is_own session id.now) self.now }
+    {
+        first_own(&self.rows, session, id)
+    }
 }
 
 /// The n-th from 0 of those that rest.
@@ -238,6 +247,18 @@ fn nth_live(rows: &[Row], n: usize) -> Option<Order>
                 return Some(row.order);
             }
             left -= 1;
+        }
+    }
+    None
+}
+
+/// The first of those that rest that is the session's with that id.
+fn first_own(rows: &[Row], session: u8, id: &Id) -> Option<Order>
+    ensures { result ≡ find (is_own session id.now) (live rows.now) }
+{
+    for row in rows {
+        if row.rests && is_own(&row.order, session, id) {
+            return Some(row.order);
         }
     }
     None

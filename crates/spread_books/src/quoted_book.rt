@@ -110,6 +110,10 @@ impl<'r, A: Allocator + Copy> Book for QuotedBook<'r, A> {
         self.book.find(session, id)
     }
 
+    fn at(&self, place: u64) -> Option<Order> {
+        self.book.at(place)
+    }
+
     fn add(&mut self, order: Order) -> Result<(), NoMemory> {
         let others = self.book.front_level(order.instrument, order.side);
         self.book.add(order)?;

@@ -1,5 +1,6 @@
 pub mod FillsCounted
 pub mod FoundStands
+pub mod OrderOfAnId
 pub mod Replaces
 pub mod NewOrder
 pub mod IdNotUsed

@@ -12,19 +12,19 @@ ghost use Rattle.spread_rules.specs.Amended.{done};
 ghost use Rattle.spread_rules.specs.Candidates.{PlacesDiffer};
 ghost use Rattle.spread_rules.specs.Clearing.{removed};
 ghost use Rattle.spread_rulebook.specs.Prices.{IsOrderPrice};
-ghost use Rattle.spread_rules.specs.Meaning.{has_id, is_refused, refusal_or_instrument, outcome_of, order_of, resting, resting_status, may_replace, keeps_place, moved_to, keeping_means, cancel_of_nothing_resting, unchanged_with};
+ghost use Rattle.spread_rules.specs.Meaning.{has_id, is_own, is_refused, refusal_or_instrument, outcome_of, order_of, resting, resting_status, may_replace, keeps_place, moved_to, keeping_means, cancel_of_nothing_resting, unchanged_with};
 ghost use Rattle.spread_rulebook.specs.Rulebook.{month_count, find_symbol};
 ghost use Rattle.spread_match.specs.State.{empty_state};
 ghost use Rattle.spread_books.specs.Listed.{IsInMonths, IsNearBeforeFar};
 ghost use Rattle.spread_match.specs.Trade.{IsPriced, IsTradable};
-ghost use Rattle.spread_match.specs.code.StateAfter.{statuses_after, with_order, with_refusal, refusal_in, matched_in, cancel_in, replace_refusal, replaced_in, moved_in, trading_in, meaning_in, state_after, state_with, orders_after_trading, IsKnown, IsReady};
+ghost use Rattle.spread_match.specs.code.StateAfter.{statuses_after, with_order, with_refusal, refusal_in, matched_in, cancel_in, replace_refusal, replaced_in, moved_in, trading_in, meaning_in, state_after, state_with, orders_after_trading, AreKnown, IsReady};
 ghost use Rattle.spread_match.specs.code.Turns.{IsNewest};
 
 use crate::statuses::Statuses;
 use crate::ticket::{judge, keeps_place, moved_order, replace_refusal, resting_status};
 use crate::trade::trade;
 use host_base::{Id, NoMemory};
-use order_tables::with_quantity;
+use order_tables::{is_own, with_quantity};
 use spread_books::Book;
 use spread_rules::codes::{cxl_rej_reason, ord_rej_reason, ord_status};
 use spread_rules::{Entry, Event, Fill, Instrument, Order, OrderStatus, Outcome, Rulebook, Ticket};
@@ -315,16 +315,34 @@ impl<B: Book, A: Allocator + Copy> MarketState<B, A> {
         }
     }
 
+    /// The session's resting order with that id. It stands at the place that the status of the id names, or nowhere.
+    fn resting(&self, session: u8, id: &Id) -> Option<Order>
+        requires places { PlacesDiffer self.now.orders }
+        requires known { AreKnown self.now.statuses self.now.orders }
+        ensures { result ≡ find (is_own session id.now) self.now.orders }
+    {
+        let status = self.statuses.find(session, id)?;
+        let order = self.book.at(status.place)?;
+        if is_own(&order, session, id) {
+            Some(order)
+        } else {
+            None
+        }
+    }
+
     /// Ends the resting order with the original id.
     fn cancel(&mut self, place: u64, session: u8, id: &Id, original: &Id) -> Outcome
-        requires { self.old.last < place }
+        requires places { PlacesDiffer self.old.orders }
+        requires known { AreKnown self.old.statuses self.old.orders }
+        requires place { self.old.last < place }
         ensures outcome { result ≡ (cancel_in self.old session original.now).outcome }
         ensures after { self.new
             ≡ state_with self.old place session (Cancel id.now original.now)
             (cancel_in self.old session original.now) }
     {
+        let resting = self.resting(session, original);
         self.last = place;
-        match self.book.find(session, original) {
+        match resting {
             Some(order) => {
                 self.book.remove(order.place);
                 Outcome::Cancelled(order)
@@ -367,7 +385,7 @@ impl<B: Book, A: Allocator + Copy> MarketState<B, A> {
         resting: &Order,
     ) -> Result<Outcome, NoMemory>
         requires places { PlacesDiffer self.old.orders }
-        requires known { All (λ o. IsKnown self.old.statuses o.session o.id) self.old.orders }
+        requires known { AreKnown self.old.statuses self.old.orders }
         requires rests { Contains self.old.orders resting.now }
         requires unused { find (has_id resting.now.session ticket.now.id) self.old.statuses
             ≡ None }
@@ -495,7 +513,7 @@ impl<B: Book, A: Allocator + Copy> MarketState<B, A> {
         match &entry.event {
             Event::New(ticket) => self.apply_new(rules, place, entry.session, ticket, fills),
             Event::Cancel { id, original } => Ok(self.cancel(place, entry.session, id, original)),
-            Event::Replace { original, ticket } => match self.book.find(entry.session, original) {
+            Event::Replace { original, ticket } => match self.resting(entry.session, original) {
                 Some(resting) => self.replace_resting(rules, place, ticket, &resting, fills),
                 None => {
                     let refusal = self.refusal_of(entry.session, original);

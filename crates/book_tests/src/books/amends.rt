@@ -128,6 +128,7 @@ fn make<B: Book>(book: &mut B, change: &Change) -> Result<bool, NoMemory> {
 /// Both books answer alike of that order.
 fn compare_of<B: Book, C: Book>(rt: &impl Abort, book: &B, other: &C, order: &Order) {
     let Order {
+        place,
         session,
         id,
         instrument,
@@ -135,6 +136,7 @@ fn compare_of<B: Book, C: Book>(rt: &impl Abort, book: &B, other: &C, order: &Or
         ..
     } = order;
     assert!(rt; book.find(*session, id) == other.find(*session, id));
+    assert!(rt; book.at(*place) == other.at(*place));
     assert!(rt; book.front(*instrument, *side) == other.front(*instrument, *side));
     assert!(rt; book.front_level(*instrument, *side) == other.front_level(*instrument, *side));
 }
@@ -184,6 +186,8 @@ fn run_in_both<B: Book, C: Book>(
         let done = make_in_both(rt, book, other, &next);
         let gone = name(chance);
         assert!(rt; book.find(0, &gone) == other.find(0, &gone));
+        let any = chance.below(90) as u64;
+        assert!(rt; book.at(any) == other.at(any));
         if amends && done {
             amended = amended.saturating_add(1);
         }

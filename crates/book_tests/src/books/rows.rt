@@ -84,9 +84,9 @@ fn none_stands<B: Book>(book: &B, instrument: Instrument, side: Side) -> bool {
     book.front(instrument, side).is_none() && book.front_level(instrument, side).is_none()
 }
 
-/// Whether that order is found by its session and id.
+/// Whether that order is found by its session and id, and at its place.
 fn is_found<B: Book>(book: &B, want: &Order) -> bool {
-    is(book.find(want.session, &want.id), want)
+    is(book.find(want.session, &want.id), want) && is(book.at(want.place), want)
 }
 
 /// Whether the change was made or refused, or the answer was given, as the step says.

@@ -13,7 +13,7 @@ use Rattle.order_tables.specs.declared.queue_key.QueueKey.{QueueKey}
 use Rattle.order_books.specs.Queues.{IsFront, queue_cmp}
 use Rattle.order_tables.specs.QueueKeys.{queue_key, queue_start, queue_number, HasMonths, IsInRange}
 use Rattle.order_tables.specs.Firsts.{IsFirstFrom}
-use Rattle.order_books.specs.code.Index.{queue_key_cmp, HasKeys, IsKept}
+use Rattle.order_books.specs.code.Index.{queue_key_cmp, HasKeys}
 use Rattle.order_books.proofs.fronts.FoldGivesFront.{queue_total}
 use Rattle.order_books.proofs.keys.SetOfKeys.{has_key, key_of_some}
 use Rattle.order_books.proofs.keys.TotalOrders.{queue_key_total, queue_key_exact, queue_is, queue_le, from_start, same_queue_cmp}
@@ -31,18 +31,18 @@ start_below xs instrument side o r k =
 number_of : (xs : List Order) (instrument : Instrument) (side : Side) (o : Order) → Rests xs instrument side o → queue_number o.instrument o.side ≡ queue_number instrument side
 number_of xs instrument side o r = ap (λ (x : Instrument). queue_number x o.side) r.instrument_is ∙ ap (λ (s : Side). queue_number instrument s) r.side_is
 
-module _ (xs : List Order) (s : BTreeSet QueueKey) (kept : (o : Order) → Contains xs o → IsKept o) (keys : HasKeys queue_key_cmp queue_key s xs) (instrument : Instrument) (side : Side) where
+module _ (xs : List Order) (s : BTreeSet QueueKey) (in_range : (o : Order) → Contains xs o → IsInRange o) (keys : HasKeys queue_key_cmp queue_key s xs) (instrument : Instrument) (side : Side) where
   pub no_key : IsFirstFrom queue_key_cmp s (queue_start instrument side) None → IsFront xs instrument side None
   no_key first o r =
       let here = has_key queue_key_cmp queue_key_total queue_key_exact queue_key s xs o keys r.stands in
-      let none = first (queue_key o) (start_below xs instrument side o r (kept o r.stands).in_range) in
+      let none = first (queue_key o) (start_below xs instrument side o r (in_range o r.stands)) in
       cc
 
   pub key_of_another : (k : QueueKey) → IsFirstFrom queue_key_cmp s (queue_start instrument side) (Some k) → (k.queue ≡ queue_number instrument side → ⊥) → IsFront xs instrument side None
   key_of_another k first other o r =
       let here = has_key queue_key_cmp queue_key_total queue_key_exact queue_key s xs o keys r.stands in
       let low = queue_le (queue_start instrument side) k first.0 in
-      let high = queue_le k (queue_key o) (first.2 (queue_key o) (start_below xs instrument side o r (kept o r.stands).in_range) here) in
+      let high = queue_le k (queue_key o) (first.2 (queue_key o) (start_below xs instrument side o r (in_range o r.stands)) here) in
       let same = number_of xs instrument side o r in
       other (omega arith)
 
@@ -50,14 +50,14 @@ module _ (xs : List Order) (s : BTreeSet QueueKey) (kept : (o : Order) → Conta
   key_of_front k months first same =
       let found = key_of_some queue_key_cmp queue_key_total queue_key_exact queue_key s xs k keys first.1 in
       let o = found.0 in
-      let at = queue_is o.instrument instrument o.side side (kept o found.1).in_range.months months (ap (λ (x : QueueKey). x.queue) found.2 ∙ same) in (
+      let at = queue_is o.instrument instrument o.side side (in_range o found.1).months months (ap (λ (x : QueueKey). x.queue) found.2 ∙ same) in (
         o,
         found.2,
         (
           record { stands = found.1; instrument_is = at.0; side_is = at.1 },
           λ p r.
               let here = has_key queue_key_cmp queue_key_total queue_key_exact queue_key s xs p keys r.stands in
-              let le = first.2 (queue_key p) (start_below xs instrument side p r (kept p r.stands).in_range) here in
+              let le = first.2 (queue_key p) (start_below xs instrument side p r (in_range p r.stands)) here in
               let gt : is_gt (queue_key_cmp (queue_key o) (queue_key p)) ≡ false = subst (λ (x : QueueKey). is_gt (queue_key_cmp x (queue_key p)) ≡ false) (sym found.2) le in
               let cmp = same_queue_cmp instrument side o p at.0 at.1 r.instrument_is r.side_is in
               not_ahead (queue_cmp side p o) (queue_cmp side o p) ((queue_total side).antisymm p o) (subst (λ (t : Ordering). is_gt t ≡ false) cmp gt),

@@ -90,42 +90,6 @@ module _ {K : Type 0} (key : Order → K) (test : K → Bool) where
         | inr k ↦ rw k (ap (λ (b : Bool). test (key x) || b) rest)
       ]
 
-as_or : (a l : Bool) → (a || l) ≡ cond a true l
-as_or true l = refl
-as_or false l = refl
-
-or_cond : (a b l c : Bool) → c ≡ cond b true l → (a || c) ≡ cond b true (a || l)
-or_cond true true l c e = refl
-or_cond true false l c e = refl
-or_cond false true l c e = e
-or_cond false false l c e = e
-
--- the keys after the order of a place is changed: its new one, and those of the others
-any_changed : {K : Type 0} (key : Order → K) (test : K → Bool) (f : Order → Order) (xs : List Order) (o : Order) → Ascends xs → Contains xs o → list_any test (map key (changed f o.place xs)) ≡ cond (test (key (f o))) true (list_any test (map key (removed o.place xs)))
-any_changed key test f [] o s c = absurd (not_in_nil o c)
-any_changed key test f (x ∷ xs) o s c =
-    elim (is_so (x.place == o.place)) [
-      | inl k ↦
-          let e : x.place ≡ o.place = grind (arith, nat_tests, k) in
-          let same = one_at_a_place (x ∷ xs) x o s (in_head x xs) c e in
-          let later : (p : Order) → Contains xs p → (p.place == o.place) ≡ false = λ p d. (let b = behind_first x xs p s d in grind (arith, nat_tests, b, e)) in
-          let nobody : changed f o.place xs ≡ xs = changed_nobody f xs o.place later in
-          let kept : removed o.place xs ≡ xs = removed_nobody xs o.place later in
-          rw k (ap (λ (ys : List Order). list_any test (map key (f x ∷ ys))) nobody
-          ∙ ap (λ (p : Order). list_any test (map key (f p ∷ xs))) same
-          ∙ as_or (test (key (f o))) (list_any test (map key xs))
-          ∙ ap (λ (ys : List Order). cond (test (key (f o))) true (list_any test (map key ys))) (sym kept))
-      | inr k ↦ elim (in_cons_cases x xs o c) [
-        | inl h ↦ let e = ap (λ (p : Order). p.place) h in absurd (grind (arith, nat_tests, k, e))
-        | inr d ↦ rw k (or_cond (test (key x)) (test (key (f o))) (list_any test (map key (removed o.place xs))) (list_any test (map key (changed f o.place xs))) (any_changed key test f xs o (others_ascend x xs s) d))
-      ]
-    ]
-
-in_turn : (a b l : Bool) → (a ≡ true → b ≡ true → ⊥) → cond a false (cond b true l) ≡ cond b true (cond a false l)
-in_turn true true l h = absurd (h refl refl)
-in_turn true false l h = refl
-in_turn false b l h = refl
-
 module _ {K : Type 0} (cmp : K → K → Ordering) (total : IsTotalOrder cmp) (exact : CmpEqualImpliesEq cmp) (key : Order → K) where
   is_key : (a b : K) → is_at (cmp a) b ≡ true → a ≡ b
   is_key a b h = exact a b (is_equal (cmp a b) h)
@@ -160,17 +124,6 @@ module _ {K : Type 0} (cmp : K → K → Ordering) (total : IsTotalOrder cmp) (e
 
   pub keys_removed : (s n : BTreeSet K) (xs : List Order) (o : Order) → ((p r : Order) → key p ≡ key r → p.place ≡ r.place) → Ascends xs → Contains xs o → HasKeys cmp key s xs → ((q : K) → contains cmp n q ≡ cond (is_at (cmp (key o)) q) false (contains cmp s q)) → HasKeys cmp key n (removed o.place xs)
   keys_removed s n xs o tells up in' h u q = u q ∙ (ap (λ (b : Bool). cond (is_at (cmp (key o)) q) false b) (h q) ∙ sym (any_without xs o tells up in' q))
-
-  -- a key is taken out for another one
-  pub keys_changed : (f : Order → Order) (s n m : BTreeSet K) (xs : List Order) (o : Order) → ((p r : Order) → key p ≡ key r → p.place ≡ r.place) → (key (f o) ≡ key o → ⊥) → Ascends xs → Contains xs o → HasKeys cmp key s xs → ((q : K) → contains cmp n q ≡ cond (is_at (cmp (key (f o))) q) true (contains cmp s q)) → ((q : K) → contains cmp m q ≡ cond (is_at (cmp (key o)) q) false (contains cmp n q)) → HasKeys cmp key m (changed f o.place xs)
-  keys_changed f s n m xs o tells other up in' h u v q =
-      let was = is_at (cmp (key o)) q in
-      let own = is_at (cmp (key (f o))) q in
-      v q ∙ (ap (λ (b : Bool). cond was false b) (u q ∙ ap (λ (b : Bool). cond own true b) (h q))
-      ∙ (in_turn was own (list_any (is_at (cmp q)) (map key xs)) (λ a b. other (is_key (key (f o)) q b ∙ sym (is_key (key o) q a)))
-      ∙ (ap (λ (b : Bool). cond own true b) (sym (any_without xs o tells up in' q))
-      ∙ (ap (λ (b : Bool). cond b true (list_any (is_at (cmp q)) (map key (removed o.place xs)))) ((eq_by_cmp_equiv total).symm (key (f o)) q)
-      ∙ sym (any_changed key (is_at (cmp q)) f xs o up in')))))
 
   -- a key that was added and taken out again
   pub keys_restored : (s n m : BTreeSet K) (xs : List Order) (o : Order) → ((p r : Order) → key p ≡ key r → p.place ≡ r.place) → All (λ p. p.place < o.place) xs → HasKeys cmp key s xs → ((q : K) → contains cmp n q ≡ cond (is_at (cmp (key o)) q) true (contains cmp s q)) → ((q : K) → contains cmp m q ≡ cond (is_at (cmp (key o)) q) false (contains cmp n q)) → HasKeys cmp key m xs

@@ -14,28 +14,17 @@ use Rattle.spread_rules.specs.declared.order.Side.TheVariants.{Buy, Sell}
 use Rattle.spread_rulebook.specs.declared.instrument.Instrument.{Instrument}
 use Rattle.spread_rulebook.specs.declared.instrument.Instrument.TheVariants.{Outright, Spread}
 use Rattle.spread_rules.specs.declared.order.Order.{Order}
-use Rattle.host_base.specs.declared.id_key.IdKey.{IdKey}
 use Rattle.spread_rules.specs.Candidates.{cost}
-use Rattle.row_index.proofs.Keys.{both_equal, exact_id_key}
+use Rattle.row_index.proofs.Keys.{both_equal}
 use Rattle.order_tables.proofs.places.Ascending.{cmp_same}
 use Rattle.order_tables.specs.declared.queue_key.QueueKey.{QueueKey}
-use Rattle.order_tables.specs.declared.own_key.OwnKey.{OwnKey}
 use Rattle.order_books.specs.Queues.{queue_cmp}
 use Rattle.spread_rules.specs.Legs.{other_side}
 use Rattle.order_tables.specs.QueueKeys.{queue_number, queue_cost, queue_key, queue_start, HasMonths, IsInRange}
-use Rattle.host_base.specs.IdKeys.{id_key_cmp}
-use Rattle.order_books.specs.code.Index.{queue_key_cmp, own_key_cmp}
+use Rattle.order_books.specs.code.Index.{queue_key_cmp}
 
 pub queue_key_total : IsTotalOrder queue_key_cmp
 queue_key_total = then_total (on_total (λ (k : QueueKey). k.queue) nat_cmp_total) (then_total (on_total (λ (k : QueueKey). k.cost) int_cmp_total) (on_total (λ (k : QueueKey). k.place) nat_cmp_total))
-
-pub id_key_total : IsTotalOrder id_key_cmp
-id_key_total =
-    then_total (on_total (λ (k : IdKey). k.session) nat_cmp_total) (then_total (on_total (λ (k : IdKey). k.first) nat_cmp_total) (then_total (on_total (λ (k : IdKey). k.second) nat_cmp_total)
-    (then_total (on_total (λ (k : IdKey). k.third) nat_cmp_total) (then_total (on_total (λ (k : IdKey). k.fourth) nat_cmp_total) (on_total (λ (k : IdKey). k.size) nat_cmp_total)))))
-
-pub own_key_total : IsTotalOrder own_key_cmp
-own_key_total = then_total (on_total (λ (k : OwnKey). k.id) id_key_total) (on_total (λ (k : OwnKey). k.place) nat_cmp_total)
 
 abbrev queue_key_of : ℕ → ℤ → ℕ → QueueKey
 queue_key_of queue cost place = record { queue = queue; cost = cost; place = place }
@@ -48,17 +37,6 @@ queue_key_exact x y h =
     let price = exact_signed x.cost y.cost b.0 in
     let place = exact_unsigned x.place y.place b.1 in
     let same : queue_key_of x.queue x.cost x.place ≡ queue_key_of y.queue y.cost y.place = cc in
-    same
-
-abbrev own_key_of : IdKey → ℕ → OwnKey
-own_key_of id place = record { id = id; place = place }
-
-pub own_key_exact : CmpEqualImpliesEq own_key_cmp
-own_key_exact x y h =
-    let a = both_equal (id_key_cmp x.id y.id) (nat_cmp x.place y.place) h in
-    let id = exact_id_key x.id y.id a.0 in
-    let place = exact_unsigned x.place y.place a.1 in
-    let same : own_key_of x.id x.place ≡ own_key_of y.id y.place = cc in
     same
 
 -- ---- queues

@@ -147,6 +147,11 @@ most_quantity : (q : ℕ) (c : Bool) → (c || nat_lt 999999 q) ≡ false → q 
 most_quantity q true h = cc
 most_quantity q false h = grind (arith, nat_tests)
 
+-- its id was not used
+pub none_earlier : (rules : Rules) (t : Ticket) (earlier : Option OrderStatus) (named : Option Instrument) (i : Instrument) → refusal_or_instrument rules t earlier named ≡ Ok i → earlier ≡ None
+none_earlier rules t (Some s) named i e = cc
+none_earlier rules t None named i e = refl
+
 pub record IsTaken (rules : Rules) (t : Ticket) (i : Instrument) : Type 0 where
   pub names : find_symbol rules t.symbol ≡ Some i
   pub some : 0 < t.quantity

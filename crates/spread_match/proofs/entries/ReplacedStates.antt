@@ -20,11 +20,12 @@ use Rattle.spread_rulebook.specs.Rulebook.{Rules, references_of, implied}
 use Rattle.order_books.specs.Queues.{CanAmend}
 use Rattle.spread_match.specs.State.{MarketState}
 use Rattle.spread_match.specs.Trade.{IsTradable}
-use Rattle.spread_match.specs.code.StateAfter.{IsKnown, entered_status, meaning_in, moved_in, replace_refusal, replaced_in, state_after, state_with, status_after_replace, statuses_after}
+use Rattle.spread_match.specs.code.StateAfter.{AreKnown, entered_status, meaning_in, moved_in, replace_refusal, replaced_in, state_after, state_with, status_after_replace, statuses_after}
 use Rattle.spread_match.specs.code.Turns.{IsNewest}
 use Rattle.spread_match.proofs.entries.NewOrder.{below_new, removed_newest, tradable_more, first_is_four}
 use Rattle.spread_match.proofs.entries.PastStaysSound.{moved_rests, removed_tradable}
-use Rattle.spread_match.proofs.entries.Replaces.{own_is, unused_rests}
+use Rattle.spread_match.proofs.entries.OrderOfAnId.{unused_rests}
+use Rattle.spread_match.proofs.entries.Replaces.{own_is}
 
 -- ---- a new order
 
@@ -106,7 +107,7 @@ moved_state rules m place t r n orders statuses d same e f g =
 
 -- ---- a replace that keeps its place
 
-pub may_amend : (xs : List Order) (ss : List OrderStatus) (r : Order) (id : List ℕ) (quantity : ℕ) → PlacesDiffer xs → All (λ o. IsKnown ss o.session o.id) xs → Contains xs r → find (has_id r.session id) ss ≡ None → done r < quantity → quantity ≤ 999999 →
+pub may_amend : (xs : List Order) (ss : List OrderStatus) (r : Order) (id : List ℕ) (quantity : ℕ) → PlacesDiffer xs → AreKnown ss xs → Contains xs r → find (has_id r.session id) ss ≡ None → done r < quantity → quantity ≤ 999999 →
     CanAmend xs r.place id quantity
 may_amend xs ss r id quantity differ known stands unused more most = record {
   order = r;

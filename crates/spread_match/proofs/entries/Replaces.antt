@@ -26,8 +26,7 @@ use Rattle.spread_rulebook.proofs.lists.Membership.{from_map, in_head, in_tail}
 use Rattle.spread_books.specs.Listed.{IsNearFirst, IsInMonths}
 use Rattle.order_books.proofs.fronts.FoldGivesFront.{same_instrument_is}
 use Rattle.spread_match.specs.Trade.{IsTradable}
-use Rattle.spread_match.specs.code.StateAfter.{IsKnown}
-use Rattle.std.specs.Option.{is_some}
+use Rattle.spread_match.proofs.entries.FoundStands.{find_holds}
 use Rattle.spread_match.proofs.status_rows.MarkedRows.{both_are, same_number}
 
 -- ---- the order that is named
@@ -35,14 +34,6 @@ use Rattle.spread_match.proofs.status_rows.MarkedRows.{both_are, same_number}
 pub record IsOwn (session : ℕ) (id : List ℕ) (o : Order) : Type 0 where
   pub session_is : o.session ≡ session
   pub id_is : o.id ≡ id
-
-find_holds : {X : Type 0} (p : X → Bool) (xs : List X) (x : X) → find p xs ≡ Some x → p x ≡ true
-find_holds p [] x e = cc
-find_holds {X} p (y ∷ xs) x e = by_test (p y) refl (find_holds p xs x)
-  where
-    by_test : (b : Bool) → p y ≡ b → (find p xs ≡ Some x → p x ≡ true) → p x ≡ true
-    by_test true f on = let same : y ≡ x = (let k : ◌≡◌ {A = Option X} (Some y) (Some x) = sym (ap (λ (b : Bool). cond b (Some y) (find p xs)) f) ∙ e in cc) in ap p (sym same) ∙ f
-    by_test false f on = on (sym (ap (λ (b : Bool). cond b (Some y) (find p xs)) f) ∙ e)
 
 pub own_is : (xs : List Order) (session : ℕ) (id : List ℕ) (o : Order) → find (is_own session id) xs ≡ Some o → IsOwn session id o
 own_is xs session id o e =
@@ -221,20 +212,3 @@ amended_tradable months xs r id quantity t stands more = record {
         | inr f ↦ sym e.1 ∙ (same ∙ f.1)
       ]
     ]
-
--- ---- an id that was not used
-
-find_none : {X : Type 0} (p : X → Bool) (xs : List X) → ((x : X) → Contains xs x → p x ≡ true → ⊥) → find p xs ≡ None
-find_none p [] h = refl
-find_none p (x ∷ xs) h = by_test (p x) refl (find_none p xs (λ y c. h y (in_tail x xs y c)))
-  where
-    by_test : (b : Bool) → p x ≡ b → find p xs ≡ None → cond (p x) (Some x) (find p xs) ≡ None
-    by_test true e n = absurd (h x (in_head x xs) e)
-    by_test false e n = ap (λ (b : Bool). cond b (Some x) (find p xs)) e ∙ n
-
--- no order rests with it
-pub unused_rests : (xs : List Order) (ss : List OrderStatus) (session : ℕ) (id : List ℕ) → All (λ o. IsKnown ss o.session o.id) xs → find (has_id session id) ss ≡ None → find (is_own session id) xs ≡ None
-unused_rests xs ss session id known none = find_none (is_own session id) xs (λ o c e.
-    let k = both_are (o.session == session) (bytes_eq o.id id) e in
-    let is : IsKnown ss session id = subst (λ (n : ℕ). IsKnown ss n id) (same_number o.session session k.0) (subst (IsKnown ss o.session) ((bytes_eq-Decides o.id id).0 k.1) (All-contains (λ (w : Order). IsKnown ss w.session w.id) xs o known c)) in
-    let no : false ≡ true = sym (ap (λ (r : Option OrderStatus). is_some r) none) ∙ is in cc)

@@ -19,7 +19,7 @@ use Rattle.spread_rules.specs.FirstMeaning.{is_replace, is_refused as was_refuse
 use Rattle.spread_rulebook.specs.Rulebook.{Rules, find_symbol, month_count, references_of, implied}
 use Rattle.spread_rulebook.proofs.lists.Membership.{not_in_nil}
 use Rattle.spread_match.specs.Sound.{IsSound}
-use Rattle.spread_match.proofs.entries.NewOrder.{taken_is}
+use Rattle.spread_match.proofs.entries.NewOrder.{none_earlier, taken_is}
 use Rattle.spread_match.proofs.entries.PastStaysSound.{filled_none, new_asks, rests_all, started}
 use Rattle.spread_match.proofs.first_meaning.FilledWhole.{AreExact, IsExact, IsMarked, IsTicketOf, exact_turns}
 use Rattle.spread_match.proofs.status_rows.StatusesOfThePast.{not_named, not_named_at, unused}
@@ -149,10 +149,6 @@ traded_first on references months past last place session t i l some none s x =
       marked = done.marked;
       new = new_push past.entered p (traded_new place session t t.immediate d.new.leaves) x.new;
     }
-
-none_earlier : (rules : Rules) (t : Ticket) (earlier : Option OrderStatus) (named : Option Instrument) (i : Instrument) → refusal_or_instrument rules t earlier named ≡ Ok i → earlier ≡ None
-none_earlier rules t (Some s) named i e = cc
-none_earlier rules t None named i e = refl
 
 entered_first : (rules : Rules) (past : JournalState) (last place session : ℕ) (t : Ticket) (r : Result Instrument ℕ) → refusal_or_instrument rules t (find (has_id session t.id) (statuses_of past)) (find_symbol rules t.symbol) ≡ r → last < place →
     IsSound (month_count rules) past last → IsFirst past → IsFirst (with_meaning past place (record { session = session; event = New t }) (new_order_means rules past.orders place session t r))

@@ -120,10 +120,11 @@ one_marked session id g (s ∷ ss) (suc at) r m h e o =
 
 -- ---- what a change keeps
 
--- a change that keeps whose a status is, and that it was refused
+-- a change that keeps whose a status is, its place, and that it was refused
 pub record KeepsName (g : OrderStatus → OrderStatus) : Type 0 where
   pub session : (s : OrderStatus) → (g s).session ≡ s.session
   pub id : (s : OrderStatus) → (g s).id ≡ s.id
+  pub place : (s : OrderStatus) → (g s).place ≡ s.place
   pub refused : (s : OrderStatus) → s.status ≡ 8 → (g s).status ≡ 8
 
 pub has_id_kept : (g : OrderStatus → OrderStatus) (session : ℕ) (id : List ℕ) (s : OrderStatus) → KeepsName g → has_id session id (g s) ≡ has_id session id s

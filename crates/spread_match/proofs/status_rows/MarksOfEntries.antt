@@ -30,6 +30,10 @@ same_id : (b : Bool) (k : ℕ) (s : OrderStatus) → (cond b (record s { status 
 same_id true k s = refl
 same_id false k s = refl
 
+same_place : (b : Bool) (k : ℕ) (s : OrderStatus) → (cond b (record s { status = k }) s).place ≡ s.place
+same_place true k s = refl
+same_place false k s = refl
+
 same_key : (b : Bool) (k : ℕ) (s : OrderStatus) → key_of_status (cond b (record s { status = k }) s) ≡ key_of_status s
 same_key true k s = refl
 same_key false k s = refl
@@ -38,6 +42,7 @@ pub fill_keeps : (f : Fill) → KeepsName (status_after_fill f)
 fill_keeps f = record {
   session = λ s. same_session (is_open f.session f.id s && f.leaves == 0) 2 s;
   id = λ s. same_id (is_open f.session f.id s && f.leaves == 0) 2 s;
+  place = λ s. same_place (is_open f.session f.id s && f.leaves == 0) 2 s;
   refused = λ s e. ap (λ (t : OrderStatus). t.status) (fill_refused f s e) ∙ e;
 }
 
@@ -74,6 +79,7 @@ pub replace_keeps : (session : ℕ) (id : List ℕ) → KeepsName (status_after_
 replace_keeps session id = record {
   session = λ s. same_session (has_id session id s && s.status == 4) 5 s;
   id = λ s. same_id (has_id session id s && s.status == 4) 5 s;
+  place = λ s. same_place (has_id session id s && s.status == 4) 5 s;
   refused = λ s e. ap (λ (b : Bool). (cond b (record s { status = 5 }) s).status) (eight_is_four (has_id session id s) s.status e) ∙ e;
 }
 

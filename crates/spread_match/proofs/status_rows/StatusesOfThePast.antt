@@ -15,7 +15,7 @@ use Rattle.spread_rules.specs.declared.outcome.Outcome.{Outcome}
 use Rattle.spread_rules.specs.declared.outcome.OrderStatus.{OrderStatus}
 use Rattle.spread_rules.specs.Meaning.{EntryMeaning, JournalState, PastTicket, has_id, is_filled, is_refused, is_replaced, names, original_of, past_tickets, place_left, status_at, status_of, statuses_of, ticket_of, with_meaning}
 use Rattle.spread_rulebook.proofs.lists.Membership.{in_head, in_tail, in_cons_cases, not_in_nil}
-use Rattle.spread_match.specs.code.StateAfter.{IsKnown, first_status, is_open, status_after_fill, status_after_replace, statuses_after, statuses_after_replace}
+use Rattle.spread_match.specs.code.StateAfter.{first_status, is_open, status_after_fill, status_after_replace, statuses_after, statuses_after_replace}
 use Rattle.spread_match.specs.Sound.{IsNamed, IsOriginalNamed}
 use Rattle.spread_match.proofs.status_rows.MarkedRows.{both_are, same_number}
 
@@ -303,21 +303,3 @@ unused past session id none named originals = record {
     not_original p c s (Some original) e n true f a = let refused = sym (ap not f) ∙ a in cc
     not_original p c s (Some original) e n false f a =
         not_named past session p.session id original none (originals p c original e f) (same_number p.session session s) ((bytes_eq-Decides original id).0 (sym (ap (names id) e) ∙ n))
-
--- ---- which ids are known
-
-known_at : (past : JournalState) (session : ℕ) (id : List ℕ) (ps : List PastTicket) (q : PastTicket) → Contains ps q → q.session ≡ session → q.ticket.id ≡ id → is_some (find (has_id session id) (map (status_of past) ps)) ≡ true
-known_at past session id [] q c e f = absurd (not_in_nil q c)
-known_at past session id (p ∷ ps) q c e f = by_test (has_id session id (status_of past p)) refl (elim (in_cons_cases p ps q c) [
-  | inl same ↦ inl (has_name past session id p (ap (λ (x : PastTicket). x.session) same ∙ e) (ap (λ (x : PastTicket). x.ticket.id) same ∙ f))
-  | inr later ↦ inr (known_at past session id ps q later e f)
-])
-  where
-    by_test : (b : Bool) → has_id session id (status_of past p) ≡ b → (has_id session id (status_of past p) ≡ true) ⊎ (is_some (find (has_id session id) (map (status_of past) ps)) ≡ true) →
-        is_some (cond (has_id session id (status_of past p)) (Some (status_of past p)) (find (has_id session id) (map (status_of past) ps))) ≡ true
-    by_test true g k = ap (λ (b : Bool). is_some (cond b (Some (status_of past p)) (find (has_id session id) (map (status_of past) ps)))) g
-    by_test false g (inl own) = cc
-    by_test false g (inr later) = ap (λ (b : Bool). is_some (cond b (Some (status_of past p)) (find (has_id session id) (map (status_of past) ps)))) g ∙ later
-
-pub named_known : (past : JournalState) (session : ℕ) (id : List ℕ) → IsNamed past.entered session id → IsKnown (statuses_of past) session id
-named_known past session id n = known_at past session id past.entered n.new n.entered n.session_is n.id_is

@@ -1,7 +1,7 @@
 -- The market's state after an entry: the orders that rest, and a status for each New and Replace entry in place of the
 -- past.
 -- Words of the code alone.
-use Rattle.std.specs.Prelude.{◌≡◌, ℕ, ◌-◌, ◌==◌, ◌≤◌, nat_le, ⊤, Bool, true, not, ◌&&◌, ◌||◌, cond, if◌then◌else◌, List, [], ◌∷◌, ◌++◌, map, fold, All, Option, Some, None, is_some, Result}
+use Rattle.std.specs.Prelude.{◌≡◌, ℕ, ◌-◌, ◌==◌, ◌≤◌, nat_le, ⊤, Bool, true, not, ◌&&◌, ◌||◌, cond, if◌then◌else◌, List, [], ◌∷◌, ◌++◌, map, fold, All, Option, Some, None, option_map, Result}
 use Rattle.std.specs.List.{find}
 use Rattle.spread_rules.specs.declared.codes.cxl_rej_reason.TheConstants as cxl_rej_reason
 use Rattle.spread_rules.specs.declared.codes.ord_rej_reason.TheConstants as ord_rej_reason
@@ -162,12 +162,16 @@ orders_after_trading immediate own left xs =
     else if left == own.leaves then xs
     else reduced own.place (own.leaves - left) xs
 
--- the status of that session and id is kept
-abbrev pub IsKnown : List OrderStatus → ℕ → List ℕ → Type 0
-IsKnown ss session id = is_some (find (has_id session id) ss) ≡ true
+-- the place that the first status of that session and id names
+abbrev pub place_of_id : List OrderStatus → ℕ → List ℕ → Option ℕ
+place_of_id ss session id = option_map (λ s. s.place) (find (has_id session id) ss)
+
+-- each order stands at the place that the status of its session and id names
+abbrev pub AreKnown : List OrderStatus → List Order → Type 0
+AreKnown ss xs = All (λ o. place_of_id ss o.session o.id ≡ Some o.place) xs
 
 -- what has to hold of a market, so that the next entry can be applied
 pub record IsReady (months : ℕ) (m : MarketState) : Type 0 where
   pub tradable : IsTradable months m.orders
   pub below : All (λ o. o.place ≤ m.last) m.orders
-  pub known : All (λ o. IsKnown m.statuses o.session o.id) m.orders
+  pub known : AreKnown m.statuses m.orders

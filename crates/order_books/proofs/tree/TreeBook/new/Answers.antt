@@ -2,4 +2,4 @@ use Rattle.order_books.proofs.keys.TablesThroughChanges.{empty_index}
 use Rattle.order_books.proofs.tree.TreeBook.new.Goals as goal
 
 pub invariant_of-result : goal.invariant_of-result
-invariant_of-result g c = empty_index c.new.result c.new-2.result c.new-3.result c.new.ensures c.new-2.ensures.empty c.new-3.ensures.empty
+invariant_of-result g c = empty_index c.new.result c.new-2.result c.new.ensures c.new-2.ensures.empty

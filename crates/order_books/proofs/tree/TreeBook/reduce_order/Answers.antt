@@ -5,4 +5,4 @@ use Rattle.order_books.specs.code.Index.{IsIndex}
 use Rattle.order_books.proofs.tree.TreeBook.reduce_order.Goals as goal
 
 pub invariant_of-self : goal.invariant_of-self
-invariant_of-self g c = subst (λ (xs : List Order). IsIndex xs c.self.inside.queues c.self.inside.ids) (sym c.reduce.ensures.book) (index_reduced c.self.inside.orders c.self.inside.queues c.self.inside.ids c.args.place c.args.by c.self.invariant)
+invariant_of-self g c = subst (λ (xs : List Order). IsIndex xs c.self.inside.queues) (sym c.reduce.ensures.book) (index_reduced c.self.inside.orders c.self.inside.queues c.args.place c.args.by c.self.invariant)

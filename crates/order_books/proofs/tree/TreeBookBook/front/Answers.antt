@@ -14,30 +14,30 @@ use Rattle.order_books.proofs.tree.TreeBookBook.front.Goals as goal
 pub returns-in_err-key : goal.returns-in_err-key
 returns-in_err-key g c =
     let xs = c.args.self.now in
-    let now = subst (λ (ys : List Order). IsIndex ys c.self.inside.queues c.self.inside.ids) c.self.view_is c.self.invariant in
+    let now = subst (λ (ys : List Order). IsIndex ys c.self.inside.queues) c.self.view_is c.self.invariant in
     let first = subst (λ (k : QueueKey). IsFirstFrom queue_key_cmp c.self.inside.queues k None) c.start-start.ensures.key (subst (λ (r : Option QueueKey). IsFirstFrom queue_key_cmp c.self.inside.queues c.start-start.result r) c.in_err-key.was c.first_from.ensures) in
-    subst (λ (r : Option Order). IsFront xs c.args.instrument c.args.side r) (sym c.from_residual.ensures) (no_key xs c.self.inside.queues now.kept now.queued c.args.instrument c.args.side first)
+    subst (λ (r : Option Order). IsFront xs c.args.instrument c.args.side r) (sym c.from_residual.ensures) (no_key xs c.self.inside.queues now.in_range now.queued c.args.instrument c.args.side first)
 
 pub returns-then-not-is_in_queue_of : goal.returns-then-not-is_in_queue_of
 returns-then-not-is_in_queue_of g c =
     let xs = c.args.self.now in
-    let now = subst (λ (ys : List Order). IsIndex ys c.self.inside.queues c.self.inside.ids) c.self.view_is c.self.invariant in
+    let now = subst (λ (ys : List Order). IsIndex ys c.self.inside.queues) c.self.view_is c.self.invariant in
     let k = c.in_ok-key.key in
     let first = subst (λ (f : QueueKey). IsFirstFrom queue_key_cmp c.self.inside.queues f (Some k)) c.start-start.ensures.key (subst (λ (r : Option QueueKey). IsFirstFrom queue_key_cmp c.self.inside.queues c.start-start.result r) c.in_ok-key.was c.first_from.ensures) in
     let start = ap (λ (f : QueueKey). f.queue) c.start-start.ensures.key in
     let other : (k.queue == c.start-start.result.queue) ≡ false = sym c.is_in_queue_of.ensures ∙ c.if-not-is_in_queue_of.true in
-    key_of_another xs c.self.inside.queues now.kept now.queued c.args.instrument c.args.side k first (λ e. grind (arith, nat_tests))
+    key_of_another xs c.self.inside.queues now.in_range now.queued c.args.instrument c.args.side k first (λ e. grind (arith, nat_tests))
 
 pub returns : goal.returns
 returns g c =
     let xs = c.args.self.now in
-    let now = subst (λ (ys : List Order). IsIndex ys c.self.inside.queues c.self.inside.ids) c.self.view_is c.self.invariant in
+    let now = subst (λ (ys : List Order). IsIndex ys c.self.inside.queues) c.self.view_is c.self.invariant in
     let k = c.in_ok-key.key in
     let first = subst (λ (f : QueueKey). IsFirstFrom queue_key_cmp c.self.inside.queues f (Some k)) c.start-start.ensures.key (subst (λ (r : Option QueueKey). IsFirstFrom queue_key_cmp c.self.inside.queues c.start-start.result r) c.in_ok-key.was c.first_from.ensures) in
     let start = ap (λ (f : QueueKey). f.queue) c.start-start.ensures.key in
     let test : (k.queue == c.start-start.result.queue) ≡ true = sym c.is_in_queue_of.ensures ∙ c.if-not-is_in_queue_of.false in
     let same : k.queue ≡ queue_number c.args.instrument c.args.side = grind (arith, nat_tests) in
-    let front = key_of_front xs c.self.inside.queues now.kept now.queued c.args.instrument c.args.side k c.start-start.ensures.months first same in
+    let front = key_of_front xs c.self.inside.queues now.in_range now.queued c.args.instrument c.args.side k c.start-start.ensures.months first same in
     let o = front.0 in
     let place = ap (λ (f : QueueKey). f.place) front.1 ∙ sym c.place.ensures in
     let found = subst (λ p. find (λ (q : Order). q.place == p) xs ≡ Some o) place (is_found xs o now.ordered front.2.0.stands) in

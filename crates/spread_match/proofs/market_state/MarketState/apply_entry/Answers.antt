@@ -9,22 +9,18 @@ use Rattle.spread_match.proofs.entries.FoundStands.{find_stands}
 use Rattle.spread_match.proofs.entries.ReplacedStates.{if_ok, replaced_means, replaced_state}
 use Rattle.spread_match.proofs.market_state.MarketState.apply_entry.Goals as goal
 
--- the order that is named
-found : (m : MarketState) (orders : List Order) (session : _) (original : _) (r : Order) → orders ≡ m.orders → Some r ≡ find (is_own session original) orders → find (is_own session original) m.orders ≡ Some r
-found m orders session original r e f = sym (f ∙ ap (find (is_own session original)) e)
-
 pub replace_resting-requires-clause-rests : goal.replace_resting-requires-clause-rests
 replace_resting-requires-clause-rests g c =
     let m = c.args.self.now in
     let session = c.args.entry.now.session in
-    let own = found m (g.B.Book.orders c.self.inside.book) session c.in-Replace.original c.in-Some.resting (ap (λ (x : MarketState). x.orders) c.self.view_is) c.in-Some.ensures in
+    let own = sym c.in-Some.ensures in
     find_stands (is_own session c.in-Replace.original) m.orders c.in-Some.resting own
 
 pub returns-in-Some-clause-outcome : goal.returns-in-Some-clause-outcome
 returns-in-Some-clause-outcome g c =
     let m = c.args.self.now in
     let session = c.args.entry.now.session in
-    let own = found m (g.B.Book.orders c.self.inside.book) session c.in-Replace.original c.in-Some.resting (ap (λ (x : MarketState). x.orders) c.self.view_is) c.in-Some.ensures in
+    let own = sym c.in-Some.ensures in
     let is = replaced_means c.args.rules.now m c.args.place session c.in-Replace.original c.in-Replace.ticket c.in-Some.resting own ∙ ap (meaning_in c.args.rules.now m c.args.place session) (sym c.in-Replace.is) in
     if_ok c.replace_resting.result _ _ (ap (λ (e : EntryMeaning). e.outcome) is) c.replace_resting.ensures.outcome
 
@@ -32,7 +28,7 @@ pub returns-in-Some-clause-fills : goal.returns-in-Some-clause-fills
 returns-in-Some-clause-fills g c =
     let m = c.args.self.now in
     let session = c.args.entry.now.session in
-    let own = found m (g.B.Book.orders c.self.inside.book) session c.in-Replace.original c.in-Some.resting (ap (λ (x : MarketState). x.orders) c.self.view_is) c.in-Some.ensures in
+    let own = sym c.in-Some.ensures in
     let is = replaced_means c.args.rules.now m c.args.place session c.in-Replace.original c.in-Replace.ticket c.in-Some.resting own ∙ ap (meaning_in c.args.rules.now m c.args.place session) (sym c.in-Replace.is) in
     on_ok c.replace_resting.result _ _ (λ h. h ∙ ap (λ (e : EntryMeaning). c.args.fills.now.items ++ e.fills) is) c.replace_resting.ensures.fills
 
@@ -40,7 +36,7 @@ pub returns-in-Some-clause-after : goal.returns-in-Some-clause-after
 returns-in-Some-clause-after g c =
     let m = c.args.self.now in
     let session = c.args.entry.now.session in
-    let own = found m (g.B.Book.orders c.self.inside.book) session c.in-Replace.original c.in-Some.resting (ap (λ (x : MarketState). x.orders) c.self.view_is) c.in-Some.ensures in
+    let own = sym c.in-Some.ensures in
     on_ok c.replace_resting.result _ _
     (λ h. h ∙ (replaced_state c.args.rules.now m c.args.place session c.in-Replace.original c.in-Replace.ticket c.in-Some.resting own ∙ ap (state_after c.args.rules.now m c.args.place session) (sym c.in-Replace.is)))
     c.replace_resting.ensures.after

@@ -1,11 +1,14 @@
-use Rattle.std.proofs.Common.{◌∙◌, sym, refl}
+use Rattle.std.proofs.Common.{List, Contains, ◌∙◌, sym, ap, subst, refl}
+use Rattle.spread_rules.specs.declared.order.Order.{Order}
+use Rattle.spread_rules.specs.Meaning.{is_own}
+use Rattle.spread_match.specs.State.{MarketState}
 use Rattle.spread_match.proofs.entries.FoundStands.{find_stands}
 use Rattle.spread_match.proofs.market_state.MarketState.cancel.Goals as goal
-use Rattle.spread_rules.specs.Meaning.{is_own}
 
 pub remove-requires : goal.remove-requires
 remove-requires g c = record {
   order = c.in-Some.order;
-  stands = find_stands (is_own c.args.session c.args.original.now) (g.B.Book.orders c.self.inside.book) c.in-Some.order (sym c.find.ensures ∙ c.in-Some.is);
+  stands = subst (λ (xs : List Order). Contains xs c.in-Some.order) (sym (ap (λ (m : MarketState). m.orders) c.self.view_is))
+      (find_stands (is_own c.args.session c.args.original.now) c.args.self.now.orders c.in-Some.order (sym c.resting-resting.ensures ∙ c.in-Some.is));
   at = refl;
 }
