@@ -1,2 +1,3 @@
 pub mod Queues
+pub mod Pairs
 pub mod code

@@ -1,15 +1,20 @@
 //! What a book of resting orders does.
-ghost use Rattle.std.specs.Prelude.{◌≡◌, ◌==◌, ℕ, ◌<◌, ◌++◌, ◌∷◌, [], List, length, slice_get, OnOk, OnErr, All};
+ghost use Rattle.std.specs.Prelude.{◌≡◌, ◌==◌, ℕ, ◌<◌, ◌++◌, ◌∷◌, [], List, length, slice_get, OnOk, OnErr, IfSome, All};
 ghost use Rattle.std.specs.List.{find};
+ghost use Rattle.host_base.specs.declared.limits.TheConstants.{MAX_MONTHS};
+ghost use Rattle.spread_rulebook.specs.Rulebook.{implied};
+ghost use Rattle.spread_rules.specs.Candidates.{HasOrderPrice};
 ghost use Rattle.spread_rules.specs.Clearing.{reduced, removed};
 ghost use Rattle.spread_rules.specs.Meaning.{is_own};
 ghost use Rattle.spread_rules.specs.declared.order.Order.{Order};
 ghost use Rattle.spread_rules.specs.Amended.{amended};
+ghost use Rattle.order_books.specs.Pairs.{IsCheapest};
 ghost use Rattle.order_books.specs.Queues.{CanAmend, IsFront, IsFrontLevel};
 ghost use Rattle.order_tables.specs.Places.{HasMore, HasPlace};
 
+use crate::pair::PairCost;
 use host_base::{Id, NoMemory};
-use spread_rules::{Instrument, Level, Order, Side};
+use spread_rules::{Instrument, Level, Order, Rulebook, Side};
 
 /// Resting orders, seen as the list of them in order of place.
 pub trait Book {
@@ -29,6 +34,16 @@ pub trait Book {
             None => None,
             Some(order) => Some(order.level()),
         }
+    }
+
+    /// What costs an order of that side and month the least, of the pairs of fronts that take part under the rulebook,
+    /// where the book has it at hand, and None where it has to be searched for. Takes no memory.
+    fn pair_at_hand(&self, rules: &Rulebook, side: Side, month: u8) -> Option<Option<PairCost>>
+        requires { All HasOrderPrice (orders self.now) }
+        ensures { IfSome result
+            (IsCheapest (implied rules.now) (orders self.now) side month MAX_MONTHS) }
+    {
+        None
     }
 
     /// The session's resting order with that id. Takes no memory, and time for all orders before it: who knows its place

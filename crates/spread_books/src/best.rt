@@ -1,5 +1,6 @@
 //! The least candidate, over fronts alone.
 ghost use Rattle.std.specs.Prelude.{◌≡◌, ℕ, ◌<◌, ◌+ℤ◌, List, All, IfSome, Contains, None, true, false};
+ghost use Rattle.host_base.specs.declared.limits.TheConstants.{MAX_MONTHS};
 ghost use Rattle.spread_rules.specs.Candidates.{Pairs, all_on, takes_part, candidate_of, better_of, cost, HasOrderPrice, HasLegPrice, IsBest};
 ghost use Rattle.spread_rulebook.specs.Prices.{IsOrderPrice, IsLegPrice};
 ghost use Rattle.spread_rulebook.specs.Rulebook.{implied, month_count};
@@ -8,10 +9,11 @@ ghost use Rattle.spread_rules.specs.Legs.{other_side};
 ghost use Rattle.spread_rulebook.specs.declared.instrument.Instrument.TheVariants.{Outright};
 ghost use Rattle.spread_books.specs.Listed.{IsInMonths, IsNearFirst};
 ghost use Rattle.spread_books.specs.code.Best.{IsFair, IsBeyond, Offers, CoversOne, CoversTwo, CoversBelow};
-ghost use Rattle.spread_books.specs.code.Cheapest.{spread_of, spread_side, CostsOfFront, CostsOfFronts, cheaper_of, IsCheapest};
+ghost use Rattle.order_books.specs.Pairs.{spread_of, spread_side, IsCheapest};
+ghost use Rattle.spread_books.specs.code.Cheapest.{CostsOfFront, CostsOfFronts, cheaper_of};
 
 use crate::cheapest::{MonthPairs, Queue, cheapest_pair, spreads_with};
-use order_books::Book;
+use order_books::{Book, PairCost};
 use spread_rules::{
     Candidate, Counterparty, Instrument, Order, Rulebook, Side, better, candidate_for, is_within,
     levels_meet,
@@ -141,6 +143,23 @@ fn price_for(side: Side, paid: i64) -> i64
     }
 }
 
+/// What costs an order of that side and month the least, of the pairs that take part: the book has it at hand, or it is
+/// searched for.
+fn least_pair<B: Book>(book: &B, rules: &Rulebook, side: Side, month: u8) -> Option<PairCost>
+    requires small { All HasOrderPrice (B.orders book.now) }
+    requires months { All (λ o. IsInMonths (month_count rules.now) o.instrument)
+        (B.orders book.now) }
+    ensures least { IsCheapest (implied rules.now) (B.orders book.now) side month
+        (month_count rules.now) result }
+    ensures month { IfSome result (λ l. l.other_month < MAX_MONTHS) }
+{
+    let months = rules.months();
+    match book.pair_at_hand(rules, side, month) {
+        Some(pair) => pair,
+        None => cheapest_pair(book, &MonthPairs { rules, months }, side, month),
+    }
+}
+
 /// The best with the pairs of all other months that take part. Whole orders are read of one month alone.
 fn with_months<B: Book>(
     book: &B,
@@ -151,15 +170,15 @@ fn with_months<B: Book>(
 )
     requires small { All HasOrderPrice (B.orders book.now) }
     requires listed { All IsNearFirst (B.orders book.now) }
+    requires months { All (λ o. IsInMonths (month_count rules.now) o.instrument)
+        (B.orders book.now) }
     requires new { new.now.instrument ≡ Outright month }
     requires fair { IsFair (implied rules.now) new.now (B.orders book.now) best.old }
     requires best { IfSome best.old HasLegPrice }
     ensures { Offers (implied rules.now) new.now (B.orders book.now) best.old best.new
         (CoversBelow (implied rules.now) new.now (B.orders book.now) (month_count rules.now)) }
 {
-    let months = rules.months();
-    let pairs = MonthPairs { rules, months };
-    if let Some(pair) = cheapest_pair(book, &pairs, new.side, month) {
+    if let Some(pair) = least_pair(book, rules, new.side, month) {
         if is_within(new, price_for(new.side, pair.cost)) {
             let other_month = pair.other_month as u8;
             let spreads = spreads_with(new.side, month, other_month);

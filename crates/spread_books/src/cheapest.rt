@@ -5,9 +5,10 @@ ghost use Rattle.spread_rulebook.specs.Rulebook.{implied};
 ghost use Rattle.spread_rulebook.specs.Prices.{IsOrderPrice, IsLegPrice};
 ghost use Rattle.spread_rules.specs.Legs.{other_side};
 ghost use Rattle.spread_rules.specs.declared.order.Order.{Order};
-ghost use Rattle.spread_books.specs.code.Cheapest.{spread_of, spread_side, is_pair_on, CostsOfFront, CostsOfFronts, cheaper_of, IsCheapest, KeepsOthers, must_search, sooner_of};
+ghost use Rattle.order_books.specs.Pairs.{spread_of, spread_side, is_pair_on, IsCheapest};
+ghost use Rattle.spread_books.specs.code.Cheapest.{CostsOfFront, CostsOfFronts, cheaper_of, KeepsOthers, must_search, sooner_of};
 
-use order_books::Book;
+use order_books::{Book, PairCost};
 use spread_rules::{Instrument, Rulebook, Side};
 
 /// The orders of one instrument and side.
@@ -22,14 +23,6 @@ pub struct Queue {
 pub struct MonthPairs<'r> {
     pub rules: &'r Rulebook,
     pub months: u8,
-}
-
-/// What a pair of that other month costs who meets it.
-#[derive(Clone, Copy)]
-pub struct PairCost {
-    pub cost: i64,
-    /// As wide as the cost: a record with a gap in it is copied slowly, and one is copied in each turn of the search.
-    pub other_month: u64,
 }
 
 /// What an order of a queue of that side costs who meets it.
@@ -90,7 +83,7 @@ pub fn spreads_with(side: Side, month: u8, other_month: u8) -> Queue
 
 /// Whether the pair of these two months, whichever is the near one, takes part in implied trading.
 #[inline(always)]
-fn is_pair_on(rules: &Rulebook, month: u8, other_month: u8) -> bool
+pub fn is_pair_on(rules: &Rulebook, month: u8, other_month: u8) -> bool
     ensures { result ≡ is_pair_on (implied rules.now) month other_month }
 {
     if month < other_month {

@@ -5,6 +5,7 @@ mod best;
 mod cheapest;
 mod index;
 mod pair_quote;
+mod pairs_on;
 mod quote_table;
 mod quoted_book;
 

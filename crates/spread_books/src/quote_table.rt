@@ -7,9 +7,9 @@ ghost use Rattle.spread_rules.specs.declared.order.Order.{Order};
 ghost use Rattle.spread_books.specs.code.Cheapest.{KeepsOthers};
 ghost use Rattle.spread_books.specs.code.QuoteTable.{cell_of, known_pair, HasCheapest, AreCheapest, ChangesOneQueue, HasCome, HasLeft, is_as_good};
 
-use crate::cheapest::{MonthPairs, PairCost, renewed_pair};
+use crate::cheapest::{MonthPairs, renewed_pair};
 use host_base::NoMemory;
-use order_books::Book;
+use order_books::{Book, PairCost};
 use spread_rules::{Instrument, Level, Order, Side};
 use std::alloc::Allocator;
 use std::marker::Model;
@@ -22,7 +22,7 @@ pub struct QuoteTable<A: Allocator + Copy> {
 
 impl<A: Allocator + Copy> Model for QuoteTable<A> {
     ghost use Rattle.std.specs.Prelude.{List, Option};
-    ghost use Rattle.spread_books.specs.declared.cheapest.PairCost.{PairCost};
+    ghost use Rattle.order_books.specs.declared.pair.PairCost.{PairCost};
 
     ghost Value = { List (Option PairCost) };
 

@@ -4,14 +4,16 @@ ghost use Rattle.host_base.specs.declared.limits.TheConstants.{MAX_MONTHS};
 ghost use Rattle.spread_rules.specs.Candidates.{HasOrderPrice};
 ghost use Rattle.spread_rulebook.specs.Rulebook.{implied};
 ghost use Rattle.spread_books.specs.Listed.{IsInMonths};
-ghost use Rattle.spread_books.specs.code.Cheapest.{IsCheapest};
+ghost use Rattle.order_books.specs.Pairs.{IsCheapest};
+ghost use Rattle.spread_books.specs.code.PairsOn.{AreAllOn};
 ghost use Rattle.spread_books.specs.code.QuoteTable.{IsListed};
 
-use crate::cheapest::{MonthPairs, PairCost};
+use crate::cheapest::MonthPairs;
+use crate::pairs_on::is_all_on;
 use crate::quote_table::QuoteTable;
 use host_base::limits::MAX_PRICE;
 use host_base::{Id, NoMemory};
-use order_books::{Book, FrontBook};
+use order_books::{Book, FrontBook, PairCost};
 use spread_rules::{Instrument, Level, Order, Rulebook, Side};
 use std::alloc::Allocator;
 use std::marker::Model;
@@ -24,6 +26,8 @@ pub struct QuotedBook<'r, A: Allocator + Copy> {
     quotes: QuoteTable<A>,
     /// The rulebook, and how many months it has, which is asked with every order.
     pairs: MonthPairs<'r>,
+    /// Known only where each pair takes part.
+    all_on: bool,
     listed: bool,
 }
 
@@ -36,7 +40,7 @@ impl<'r, A: Allocator + Copy> Model for QuotedBook<'r, A> {
 
     ghost view = { λ b. record { rules = b.pairs.rules.now; orders = b.book } };
 
-    ghost invariant = { λ b. KeepsTable b.listed (implied b.pairs.rules.now) b.pairs.months b.book b.quotes };
+    ghost invariant = { λ b. KeepsTable b.all_on b.listed (implied b.pairs.rules.now) b.pairs.months b.book b.quotes };
 }
 
 /// Whether the order is of so many months, at a price of orders.
@@ -62,6 +66,7 @@ impl<'r, A: Allocator + Copy> QuotedBook<'r, A> {
             book: FrontBook::new(alloc),
             quotes,
             pairs: MonthPairs { rules, months },
+            all_on: is_all_on(rules),
             listed: true,
         })
     }
@@ -71,6 +76,13 @@ impl<'r, A: Allocator + Copy> QuotedBook<'r, A> {
         ensures { result.now ≡ self.now.rules }
     {
         self.pairs.rules
+    }
+
+    /// Whether it is known that each pair of months takes part.
+    pub fn is_all_on(&self) -> bool
+        ensures { result ≡ true → AreAllOn (implied self.now.rules) }
+    {
+        self.all_on
     }
 
     /// As `len`. There is no memory for as many as a `usize` counts.

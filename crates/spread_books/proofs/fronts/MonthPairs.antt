@@ -21,9 +21,10 @@ use Rattle.spread_rules.specs.Legs.{other_side}
 use Rattle.spread_rules.proofs.ranks.PlainIsLeast.{ranks}
 use Rattle.spread_rules.proofs.clearings.BoughtIsSold.{on_price}
 use Rattle.spread_books.specs.Listed.{IsNearBeforeFar, IsNearFirst}
-use Rattle.spread_books.specs.declared.cheapest.PairCost.{PairCost}
+use Rattle.order_books.specs.declared.pair.PairCost.{PairCost}
 use Rattle.spread_books.specs.code.Best.{Beats, CoversTwo, CoversBelow}
-use Rattle.spread_books.specs.code.Cheapest.{spread_of, spread_side, is_pair_on, cost_of_pair, IsPair, HasFront, HasFronts, CostsOfFronts, cheaper_of, IsNoCheaper, IsCheapest}
+use Rattle.order_books.specs.Pairs.{spread_of, spread_side, is_pair_on, cost_of_pair, IsPair, HasFronts, IsNoCheaper, IsCheapest}
+use Rattle.spread_books.specs.code.Cheapest.{HasFront, CostsOfFronts, cheaper_of}
 use Rattle.spread_books.proofs.fronts.PairCost.{within_cost, after_cost, pair_le}
 use Rattle.spread_books.proofs.fronts.BeatAnyPair.{front_best, pair_cost, on_again, was_on}
 use Rattle.spread_books.proofs.fronts.Suffice.{less_or_same}

@@ -10,8 +10,9 @@ use Rattle.spread_rules.specs.Candidates.{Pairs, cost}
 use Rattle.spread_rulebook.specs.Prices.{IsLegPrice}
 use Rattle.spread_rules.specs.Legs.{other_side}
 use Rattle.order_tables.proofs.places.Ascending.{is_so}
-use Rattle.spread_books.specs.declared.cheapest.PairCost.{PairCost}
-use Rattle.spread_books.specs.code.Cheapest.{spread_of, spread_side, cost_of_pair, IsPair, HasFronts, CostsOfFront, CostsOfFronts, cheaper_of, IsNoCheaper, IsCheapest, KeepsColumn, KeepsOthers, must_search, sooner_of}
+use Rattle.order_books.specs.declared.pair.PairCost.{PairCost}
+use Rattle.order_books.specs.Pairs.{spread_of, spread_side, cost_of_pair, IsPair, HasFronts, IsNoCheaper, IsCheapest}
+use Rattle.spread_books.specs.code.Cheapest.{CostsOfFront, CostsOfFronts, cheaper_of, KeepsColumn, KeepsOthers, must_search, sooner_of}
 use Rattle.spread_books.proofs.fronts.PairCost.{behind, pair_le}
 use Rattle.spread_books.proofs.fronts.MonthPairs.{fresh}
 use Rattle.spread_books.proofs.quotes.Costs.{cost_there, no_dearer}

@@ -17,9 +17,9 @@ use Rattle.spread_rules.specs.Quiet.{Rests}
 use Rattle.spread_rules.proofs.clearings.BoughtIsSold.{on_price}
 use Rattle.spread_books.specs.Listed.{IsInMonths}
 use Rattle.spread_books.specs.Quotes.{pair_at, IsImplied, IsLeastImplied, IsQuote, AreQuotable}
-use Rattle.spread_books.specs.declared.cheapest.PairCost.{PairCost}
+use Rattle.order_books.specs.declared.pair.PairCost.{PairCost}
 use Rattle.spread_books.specs.code.Best.{Beats, CoversTwo}
-use Rattle.spread_books.specs.code.Cheapest.{spread_of, spread_side, IsCheapest}
+use Rattle.order_books.specs.Pairs.{spread_of, spread_side, IsCheapest}
 use Rattle.spread_books.specs.code.PairQuote.{AreFrontsOf, IsQuoteOfFronts}
 use Rattle.spread_rules.proofs.ranks.PairsSwitched.{price_on}
 use Rattle.spread_books.proofs.fronts.BeatAnyPair.{fronts_beat, was_on}

@@ -20,8 +20,9 @@ use Rattle.order_books.proofs.keys.SetOfKeys.{from_removed}
 use Rattle.order_books.proofs.fronts.Changes.{KeepsQueue}
 use Rattle.order_books.proofs.fronts.TableHoldsFronts.{get_set_same, get_set_other, get_replicate, same_queue}
 use Rattle.spread_books.specs.Listed.{IsInMonths}
-use Rattle.spread_books.specs.declared.cheapest.PairCost.{PairCost}
-use Rattle.spread_books.specs.code.Cheapest.{spread_of, spread_side, IsInColumn, IsCheapest, KeepsCost, KeepsColumn, KeepsOthers}
+use Rattle.order_books.specs.declared.pair.PairCost.{PairCost}
+use Rattle.order_books.specs.Pairs.{spread_of, spread_side, IsCheapest}
+use Rattle.spread_books.specs.code.Cheapest.{IsInColumn, KeepsCost, KeepsColumn, KeepsOthers}
 use Rattle.spread_books.specs.code.QuoteTable.{cell_of, known_pair, HasCheapest, AreCheapest, ChangesOneQueue, is_as_good, HasCome, HasLeft, IsListed, IsQuoted, KeepsTable}
 use Rattle.spread_books.proofs.quotes.Costs.{others_when_it_comes, others_when_it_leaves, changed_in_queue, own_when_it_comes, own_when_it_leaves}
 use Rattle.spread_books.proofs.quotes.Columns.{kept_row}
@@ -252,9 +253,10 @@ module _ (f : Order → Order) (keeps : KeepsQueue f) (place : ℕ) where
       let m = from_map (changed_at f place) xs o c in
       subst P (sym (key_kept key f kept place m.0) ∙ ap key m.2) (All-contains (λ (q : Order). P (key q)) xs m.0 h m.1))
 
-  pub changed_table : (listed : Bool) (on : Pairs) (months : ℕ) (xs : List Order) (cells : List (Option PairCost)) → KeepsTable listed on months xs cells → KeepsTable listed on months (changed f place xs) cells
-  changed_table listed on months xs cells h = record {
+  pub changed_table : (all_on listed : Bool) (on : Pairs) (months : ℕ) (xs : List Order) (cells : List (Option PairCost)) → KeepsTable all_on listed on months xs cells → KeepsTable all_on listed on months (changed f place xs) cells
+  changed_table all_on listed on months xs cells h = record {
     most = h.most;
+    on = h.on;
     quoted = λ e.
         let q = h.quoted e in
         record {

@@ -13,8 +13,10 @@ use Rattle.order_tables.specs.Places.{Ascends}
 use Rattle.order_tables.specs.QueueKeys.{side_index}
 use Rattle.order_books.specs.Queues.{IsFrontLevel}
 use Rattle.spread_books.specs.Listed.{IsInMonths}
-use Rattle.spread_books.specs.code.Cheapest.{IsCheapest, KeepsCost}
-use Rattle.spread_books.specs.declared.cheapest.PairCost.{PairCost}
+use Rattle.order_books.specs.Pairs.{IsCheapest}
+use Rattle.spread_books.specs.code.Cheapest.{KeepsCost}
+use Rattle.spread_books.specs.code.PairsOn.{AreAllOn}
+use Rattle.order_books.specs.declared.pair.PairCost.{PairCost}
 
 abbrev pub cell_of : Side → ℕ → ℕ
 cell_of side month = month * 2 + side_index side
@@ -73,7 +75,8 @@ pub record IsQuoted
 
 -- so it is as long as each order that came was of these months and at such a price
 pub record KeepsTable
-    (listed : Bool) (trades_implied : Pairs) (months : ℕ) (xs : List Order)
+    (all_on listed : Bool) (trades_implied : Pairs) (months : ℕ) (xs : List Order)
     (cells : List (Option PairCost)) : Type 0 where
   pub most : months ≤ limits.MAX_MONTHS
+  pub on : all_on ≡ true → AreAllOn trades_implied
   pub quoted : listed ≡ true → IsQuoted trades_implied months xs cells

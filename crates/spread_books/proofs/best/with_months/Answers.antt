@@ -5,7 +5,7 @@ use Rattle.spread_rulebook.specs.declared.instrument.Instrument.TheVariants.{Out
 use Rattle.spread_rulebook.specs.Rulebook.{implied, month_count}
 use Rattle.spread_rules.specs.Legs.{other_side}
 use Rattle.spread_books.specs.code.Best.{CoversTwo}
-use Rattle.spread_books.specs.code.Cheapest.{IsCheapest, spread_of, spread_side}
+use Rattle.order_books.specs.Pairs.{IsCheapest, spread_of, spread_side}
 use Rattle.spread_books.proofs.fronts.MonthPairs.{pair_takes_part, cheapest_beats, none_beats, too_dear, price_passed}
 use Rattle.spread_books.proofs.best.with_months.Goals as goal
 
@@ -19,7 +19,7 @@ returns-then-is_within g c =
     let q = c.spreads_with-spreads.result in
     let r = c.with_fronts.new.best in
     let and = Outright l.other_month in
-    let cheapest = subst (λ (k : ℕ). IsCheapest on xs n.side m k (Some l)) c.months-months.ensures.count (subst (IsCheapest on xs n.side m c.months-months.result) c.in-Some.is c.cheapest_pair.ensures) in
+    let cheapest = subst (IsCheapest on xs n.side m (month_count c.args.rules.now)) c.in-Some.is c.least_pair.ensures.least in
     let offers = c.with_fronts.ensures on (pair_takes_part on n m l.other_month q.instrument c.requires.new c.spreads_with-spreads.ensures.instrument ∙ cheapest.fronts.on) c.requires.fair in
     let covers : CoversTwo on n xs (spread_of m l.other_month) (spread_side n.side m l.other_month) and (other_side n.side) r =
     subst (λ (s : Side). CoversTwo on n xs (spread_of m l.other_month) (spread_side n.side m l.other_month) and s r) c.opposite.ensures
@@ -38,7 +38,7 @@ returns-else-is_within g c =
     let n = c.args.new.now in
     let on = implied c.args.rules.now in
     let l = c.in-Some.pair in
-    let cheapest = subst (λ (k : ℕ). IsCheapest on xs n.side c.args.month k (Some l)) c.months-months.ensures.count (subst (IsCheapest on xs n.side c.args.month c.months-months.result) c.in-Some.is c.cheapest_pair.ensures) in
+    let cheapest = subst (IsCheapest on xs n.side c.args.month (month_count c.args.rules.now)) c.in-Some.is c.least_pair.ensures.least in
     record {
       fair = c.requires.fair;
       small = c.requires.best;
@@ -51,7 +51,7 @@ returns-in_default g c =
     let xs = g.B.Book.orders c.args.book.now in
     let n = c.args.new.now in
     let on = implied c.args.rules.now in
-    let cheapest = subst (λ (k : ℕ). IsCheapest on xs n.side c.args.month k None) c.months-months.ensures.count (subst (IsCheapest on xs n.side c.args.month c.months-months.result) c.in_default.is c.cheapest_pair.ensures) in
+    let cheapest = subst (IsCheapest on xs n.side c.args.month (month_count c.args.rules.now)) c.in_default.is c.least_pair.ensures.least in
     record {
       fair = c.requires.fair;
       small = c.requires.best;

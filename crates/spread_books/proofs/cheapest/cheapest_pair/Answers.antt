@@ -1,6 +1,7 @@
 use Rattle.std.proofs.Common.{◌≡◌, subst, sym, ap, ◌∙◌}
 use Rattle.spread_rulebook.specs.Rulebook.{implied}
-use Rattle.spread_books.specs.code.Cheapest.{IsCheapest, cheaper_of}
+use Rattle.order_books.specs.Pairs.{IsCheapest}
+use Rattle.spread_books.specs.code.Cheapest.{cheaper_of}
 use Rattle.spread_books.proofs.fronts.MonthPairs.{cheapest_more}
 use Rattle.spread_books.proofs.cheapest.cheapest_pair.Goals as goal
 

@@ -4,7 +4,8 @@ use Rattle.spread_rulebook.specs.declared.instrument.Instrument.{Instrument}
 use Rattle.spread_rulebook.specs.declared.instrument.Instrument.TheVariants.{Outright}
 use Rattle.spread_rules.specs.Legs.{other_side}
 use Rattle.spread_rulebook.specs.Rulebook.{implied}
-use Rattle.spread_books.specs.code.Cheapest.{spread_of, spread_side, CostsOfFront, HasFronts}
+use Rattle.order_books.specs.Pairs.{spread_of, spread_side, HasFronts}
+use Rattle.spread_books.specs.code.Cheapest.{CostsOfFront}
 use Rattle.spread_books.proofs.fronts.MonthPairs.{fronts_cost, leg_is, sum_passed}
 use Rattle.spread_books.proofs.cheapest.pair_cost.Goals as goal
 

@@ -1,6 +1,7 @@
 use Rattle.std.proofs.Common.{◌≡◌, ◌<◌, false, Some, None, arith, subst, sym, ap, ◌∙◌}
 use Rattle.spread_rulebook.specs.Rulebook.{implied}
-use Rattle.spread_books.specs.code.Cheapest.{IsCheapest, cheaper_of, must_search, sooner_of}
+use Rattle.order_books.specs.Pairs.{IsCheapest}
+use Rattle.spread_books.specs.code.Cheapest.{cheaper_of, must_search, sooner_of}
 use Rattle.spread_books.proofs.quotes.Columns.{kept_row, not_via, first_pair, next_pair}
 use Rattle.spread_books.proofs.cheapest.renewed_pair.Goals as goal
 

@@ -4,17 +4,10 @@ use Rattle.host_base.specs.declared.limits.TheConstants.{MAX_MONTHS}
 use Rattle.spread_rules.specs.declared.order.Order.{Order}
 use Rattle.spread_rulebook.specs.Rulebook.{Rules, implied}
 use Rattle.spread_books.specs.BookView.{BookView}
-use Rattle.spread_books.specs.code.Cheapest.{IsCheapest, KeepsCost}
-use Rattle.spread_books.specs.code.QuoteTable.{ChangesOneQueue}
-use Rattle.spread_books.proofs.quotes.Costs.{others_when_it_comes}
-use Rattle.spread_books.proofs.quotes.Columns.{kept_row}
+use Rattle.order_books.specs.Pairs.{IsCheapest}
+use Rattle.spread_books.proofs.quotes.AtHand.{kept_by_newest, with_newest}
 use Rattle.spread_books.proofs.quotes.Tables.{column_kept}
 use Rattle.spread_books.proofs.index.IndexBook.cheapest.Goals as goal
-
--- with the newest order the others' fronts cost what they did, but for one queue
-with_newest : (xs zs : List Order) (newest : Option Order) (o : Order) → newest ≡ Some o → xs ++ option_to_list newest ≡ zs → ChangesOneQueue xs zs o.instrument o.side
-with_newest xs zs newest o is whole j t other =
-    subst (λ (ys : List Order). KeepsCost xs ys j t) (ap (λ (r : Option Order). xs ++ option_to_list r) (sym is) ∙ whole) (others_when_it_comes xs o j t other)
 
 one_month : (via k : ℕ) → Some via ≡ Some k → k ≡ via
 one_month via k e = cc
@@ -24,9 +17,8 @@ returns-in-None g c =
     let xs = c.self.inside.others.orders in
     let zs = c.args.self.now.orders in
     let o = c.in-Some-newest.newest in
-    let one = with_newest xs zs c.self.inside.newest o c.in-Some-newest.is (ap (λ (v : BookView). v.orders) c.self.view_is) in
-    kept_row (implied c.args.self.now.rules) xs zs c.args.side c.args.month MAX_MONTHS c.in-Some.held
-    (λ k lt. column_kept xs zs o.instrument o.side c.args.side c.args.month k one (λ at. let none = sym c.in-None.is ∙ c.other_month_of.ensures k at in cc))
+    kept_by_newest (implied c.args.self.now.rules) xs zs c.self.inside.newest o c.args.side c.args.month c.in-Some.held c.in-Some-newest.is (ap (λ (v : BookView). v.orders) c.self.view_is)
+    (λ k at. let none = sym c.in-None.is ∙ c.other_month_of.ensures k at in cc)
     (subst (λ (r : Rules). IsCheapest (implied r) xs c.args.side c.args.month MAX_MONTHS c.in-Some.held) (ap (λ (v : BookView). v.rules) c.self.view_is) c.in-Some.ensures)
 
 pub returns-in-Some-other_month_of : goal.returns-in-Some-other_month_of
