@@ -5,7 +5,8 @@ ghost use Rattle.spread_rulebook.specs.Rulebook.{implied};
 ghost use Rattle.spread_rules.specs.declared.order.Side.{Side};
 ghost use Rattle.spread_rules.specs.declared.order.Order.{Order};
 ghost use Rattle.spread_books.specs.code.Cheapest.{KeepsOthers};
-ghost use Rattle.spread_books.specs.code.QuoteTable.{cell_of, known_pair, HasCheapest, AreCheapest, ChangesOneQueue, HasCome, HasLeft, is_as_good};
+ghost use Rattle.spread_books.specs.code.QuoteTable.{cell_of, known_pair, must_renew, HasCheapest, AreCheapest, ChangesOneQueue, HasCome, HasLeft, NoneCame, is_as_good};
+ghost use Rattle.spread_books.specs.declared.quote_table.Change.TheVariants.{Came};
 
 use crate::cheapest::{MonthPairs, renewed_pair};
 use host_base::NoMemory;
@@ -13,6 +14,21 @@ use order_books::{Book, PairCost};
 use spread_rules::{Instrument, Level, Order, Side};
 use std::alloc::Allocator;
 use std::marker::Model;
+
+/// What an order did.
+#[derive(Clone, Copy)]
+pub enum Change {
+    Came,
+    Left,
+}
+
+/// The front of one of the two queues changed by which orders of that side are met by way of that other month.
+#[derive(Clone, Copy)]
+pub struct ColumnChange {
+    pub side: Side,
+    pub via: u8,
+    pub change: Change,
+}
 
 /// The cells of each month in turn, who buys before who sells.
 #[derive(Drop)]
@@ -52,6 +68,18 @@ fn is_as_good(level: Option<Level>, order: &Order) -> bool
     }
 }
 
+/// Whether another pair may cost the least after a change of that other month's fronts. Where an order left, it may only
+/// where what cost the least was of that month.
+fn must_renew(change: Change, held: Option<PairCost>, via: u8) -> bool
+    ensures { result ≡ must_renew change held via }
+{
+    match (change, held) {
+        (Change::Came, _) => true,
+        (Change::Left, None) => false,
+        (Change::Left, Some(pair)) => pair.other_month == u64::from(via),
+    }
+}
+
 impl<A: Allocator + Copy> QuoteTable<A> {
     /// A table for so many months, in which no two orders meet any other.
     pub fn new(alloc: A, months: u8) -> Result<Self, NoMemory>
@@ -79,66 +107,81 @@ impl<A: Allocator + Copy> QuoteTable<A> {
         }
     }
 
-    /// Renews one cell, after the fronts of that other month changed.
+    /// Renews the cell of that month, where it has to be.
     fn renew_cell<B: Book>(
         &mut self,
         book: &B,
         pairs: &MonthPairs<'_>,
-        side: Side,
+        column: ColumnChange,
         month: u8,
-        via: u8,
     )
         requires { All HasOrderPrice (B.orders book.now) }
         ensures rest { (t : Side) (m : ℕ)
-            → ((t ≡ side) × (m ≡ month) → ⊥)
+            → ((t ≡ column.side) × (m ≡ month) → ⊥)
             → known_pair self.new t m ≡ known_pair self.old t m }
         ensures own { (xs : List Order)
-            → KeepsOthers xs (B.orders book.now) side month via
-            → HasCheapest (implied pairs.now.rules.now) pairs.now.months xs self.old side month
-            → HasCheapest (implied pairs.now.rules.now) pairs.now.months (B.orders book.now) self.new side month }
+            → NoneCame column.change xs (B.orders book.now)
+            → KeepsOthers xs (B.orders book.now) column.side month column.via
+            → HasCheapest (implied pairs.now.rules.now) pairs.now.months xs
+            self.old column.side month
+            → HasCheapest (implied pairs.now.rules.now) pairs.now.months (B.orders book.now)
+            self.new column.side month }
     {
+        let ColumnChange { side, via, change } = column;
         if let Some(held) = self.known_pair(side, month) {
-            let pair = renewed_pair(book, pairs, side, month, via, held);
-            self.put(side, month, pair);
+            if must_renew(change, held, via) {
+                let pair = renewed_pair(book, pairs, side, month, via, held);
+                self.put(side, month, pair);
+            }
         }
     }
 
-    /// Renews that side's cell of each month, after the fronts of that other month changed.
-    fn renew_months<B: Book>(&mut self, book: &B, pairs: &MonthPairs<'_>, side: Side, via: u8)
+    /// Renews that side's cell of each month, where it has to be.
+    fn renew_months<B: Book>(&mut self, book: &B, pairs: &MonthPairs<'_>, column: ColumnChange)
         requires { All HasOrderPrice (B.orders book.now) }
         ensures rest { (t : Side) (m : ℕ)
-            → (t ≡ side → ⊥)
+            → (t ≡ column.side → ⊥)
             → known_pair self.new t m ≡ known_pair self.old t m }
         ensures own { (xs : List Order) (m : ℕ)
             → m < pairs.now.months
-            → KeepsOthers xs (B.orders book.now) side m via
-            → HasCheapest (implied pairs.now.rules.now) pairs.now.months xs self.old side m
-            → HasCheapest (implied pairs.now.rules.now) pairs.now.months (B.orders book.now) self.new side m }
+            → NoneCame column.change xs (B.orders book.now)
+            → KeepsOthers xs (B.orders book.now) column.side m column.via
+            → HasCheapest (implied pairs.now.rules.now) pairs.now.months xs self.old column.side m
+            → HasCheapest (implied pairs.now.rules.now) pairs.now.months (B.orders book.now)
+            self.new column.side m }
     {
         for month in 0..pairs.months {
-            self.renew_cell(book, pairs, side, month, via);
+            self.renew_cell(book, pairs, column, month);
         }
     }
 
-    /// Renews what the front of that queue has a part in, after it changed.
-    fn renew<B: Book>(
-        &mut self,
-        book: &B,
-        pairs: &MonthPairs<'_>,
-        instrument: Instrument,
-        side: Side,
-    )
+    /// Renews what the front of that order's queue has a part in, after the order did that.
+    fn renew<B: Book>(&mut self, book: &B, pairs: &MonthPairs<'_>, order: &Order, change: Change)
         requires { All HasOrderPrice (B.orders book.now) }
         ensures { (xs : List Order)
-            → ChangesOneQueue xs (B.orders book.now) instrument side
+            → NoneCame change xs (B.orders book.now)
+            → ChangesOneQueue xs (B.orders book.now) order.now.instrument order.now.side
             → AreCheapest (implied pairs.now.rules.now) pairs.now.months xs self.old
             → AreCheapest (implied pairs.now.rules.now) pairs.now.months (B.orders book.now) self.new }
     {
-        match instrument {
-            Instrument::Outright(month) => self.renew_months(book, pairs, side.opposite(), month),
+        let side = order.side.opposite();
+        match order.instrument {
+            Instrument::Outright(via) => {
+                self.renew_months(book, pairs, ColumnChange { side, via, change });
+            }
             Instrument::Spread(near, far) => {
-                self.renew_cell(book, pairs, side.opposite(), near, far);
-                self.renew_cell(book, pairs, side, far, near);
+                let of_near = ColumnChange {
+                    side,
+                    via: far,
+                    change,
+                };
+                let of_far = ColumnChange {
+                    side: order.side,
+                    via: near,
+                    change,
+                };
+                self.renew_cell(book, pairs, of_near, near);
+                self.renew_cell(book, pairs, of_far, far);
             }
         }
     }
@@ -151,9 +194,10 @@ impl<A: Allocator + Copy> QuoteTable<A> {
         pairs: &MonthPairs<'_>,
         order: &Order,
         others: Option<Level>,
+        change: Change,
     )
         requires { All HasOrderPrice (B.orders book.now) }
-        ensures came { (xs : List Order)
+        ensures came { change ≡ Came → (xs : List Order)
             → HasCome xs (B.orders book.now) order.now others
             → AreCheapest (implied pairs.now.rules.now) pairs.now.months xs self.old
             → AreCheapest (implied pairs.now.rules.now) pairs.now.months (B.orders book.now) self.new }
@@ -163,7 +207,7 @@ impl<A: Allocator + Copy> QuoteTable<A> {
             → AreCheapest (implied pairs.now.rules.now) pairs.now.months (B.orders book.now) self.new }
     {
         if !is_as_good(others, order) {
-            self.renew(book, pairs, order.instrument, order.side);
+            self.renew(book, pairs, order, change);
         }
     }
 }

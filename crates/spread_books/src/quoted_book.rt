@@ -10,7 +10,7 @@ ghost use Rattle.spread_books.specs.code.QuoteTable.{IsListed};
 
 use crate::cheapest::MonthPairs;
 use crate::pairs_on::is_all_on;
-use crate::quote_table::QuoteTable;
+use crate::quote_table::{Change, QuoteTable};
 use host_base::limits::MAX_PRICE;
 use host_base::{Id, NoMemory};
 use order_books::{Book, FrontBook, PairCost};
@@ -132,7 +132,7 @@ impl<'r, A: Allocator + Copy> Book for QuotedBook<'r, A> {
         self.listed = self.listed && is_listed(&order, self.pairs.months);
         if self.listed {
             self.quotes
-                .renew_for(&self.book, &self.pairs, &order, others);
+                .renew_for(&self.book, &self.pairs, &order, others, Change::Came);
         }
         Ok(())
     }
@@ -150,7 +150,7 @@ impl<'r, A: Allocator + Copy> Book for QuotedBook<'r, A> {
             if self.listed {
                 let others = self.book.front_level(order.instrument, order.side);
                 self.quotes
-                    .renew_for(&self.book, &self.pairs, &order, others);
+                    .renew_for(&self.book, &self.pairs, &order, others, Change::Left);
             }
         }
     }

@@ -6,8 +6,9 @@ use super::cases::Came::{Cancelled, Rested, Session};
 use super::cases::Sent::{Buy, Cancel, Logon, Sell};
 use super::cases::{Case, Kept, expect_case, expect_over_list};
 use super::every_book::instrument;
+use super::pairs::H6_U6_OFF;
 use super::{H6, H6_M6, U6, append_resting, cancel, day, is_priced};
-use spread_books::IndexBook;
+use spread_books::{Book, IndexBook};
 use spread_match::Market;
 use spread_rules::{Choice, Entry, Fill, Instrument, Members, Order, Rulebook, Side};
 use std::alloc::Global;
@@ -162,6 +163,46 @@ static QUOTES: &[QuoteCase] = &[
 #[test]
 fn of_a_buyer(rt: HostRuntime) {
     expect_quotes(&rt, rt.alloc(), QUOTES)
+}
+
+/// Two pairs offer a buyer of U6 the same price. The newest order has no part in them.
+static AT_HAND: Case = Case {
+    name: "the pair of the earlier month is at hand",
+    rulebook: THREE_MONTHS,
+    journal: &[
+        (0, Logon, Session),
+        (0, Sell(b"a", b"H6", 1, 10000), Rested),
+        (0, Buy(b"b", b"H6-U6", 1, 500), Rested),
+        (0, Sell(b"c", b"M6", 1, 9800), Rested),
+        (0, Buy(b"d", b"M6-U6", 1, 300), Rested),
+        (0, Buy(b"e", b"H6", 1, 9000), Rested),
+    ],
+    fills: &[],
+    resting: &[(2, 1), (3, 1), (4, 1), (5, 1), (6, 1)],
+};
+
+/// What a buyer of U6 pays the least, and by which other month, where the book has it at hand.
+fn at_hand(
+    market: &Market<'_, IndexBook<'_, Global>, Global>,
+    rules: &Rulebook,
+) -> Option<Option<(i64, u64)>> {
+    let least = market.book().pair_at_hand(rules, Side::Buy, 2)?;
+    match least {
+        None => Some(None),
+        Some(pair) => Some(Some((pair.cost, pair.other_month))),
+    }
+}
+
+#[test]
+fn pair_at_hand(rt: HostRuntime) {
+    let rules = Rulebook::read(THREE_MONTHS).expect(&rt, "rulebook");
+    let without = Rulebook::read(H6_U6_OFF).expect(&rt, "rulebook");
+    let book = IndexBook::new(rt.alloc(), &rules).expect(&rt, "memory");
+    let mut market = Market::new(rt.alloc(), &rules, book);
+    expect_case(&rt, &mut market, &AT_HAND, &mut Vec::new(rt.alloc()));
+    assert!(rt; at_hand(&market, &rules) == Some(Some((9500, 0))));
+    // Under a rulebook without that pair it has to be searched for.
+    assert!(rt; at_hand(&market, &without) == None);
 }
 
 /// What two orders together cost an order of that instrument and side, a case for each line of the rule.

@@ -1,18 +1,23 @@
 -- what costs the least among all months, after the fronts of one of them changed
-use Rattle.std.proofs.Common.{◌≡◌, ℕ, ◌<◌, ◌≤◌, ◌==◌, ℤ, ◌+ℤ◌, ◌≤ℤ◌, Bool, true, false, cond, List, Option, Some, None, IfSome, IsSomeAnd, refl, sym, ap, ◌∙◌, subst, arith, inl, inr}
+use Rattle.std.proofs.Common.{◌≡◌, ℕ, ◌<◌, ◌≤◌, ◌==◌, ℤ, ◌+ℤ◌, ◌≤ℤ◌, Bool, true, false, cond, List, Contains, Option, Some, None, IfSome, IsSomeAnd, refl, sym, ap, ◌∙◌, subst, arith, inl, inr}
 use Rattle.std.proofs.lemmas.Bool.Decides.{nat_tests}
 use Rattle.std.proofs.lemmas.Int.{ints}
 use Rattle.std.specs.Ordering.{nat_cmp, int_cmp, ordering_then, is_lt}
 use Rattle.spread_rules.specs.declared.order.Side.{Side}
+use Rattle.spread_rulebook.specs.declared.instrument.Instrument.{Instrument}
 use Rattle.spread_rulebook.specs.declared.instrument.Instrument.TheVariants.{Outright}
 use Rattle.spread_rules.specs.declared.order.Order.{Order}
 use Rattle.spread_rules.specs.Candidates.{Pairs, cost}
 use Rattle.spread_rulebook.specs.Prices.{IsLegPrice}
 use Rattle.spread_rules.specs.Legs.{other_side}
+use Rattle.spread_rules.specs.Quiet.{Rests}
 use Rattle.order_tables.proofs.places.Ascending.{is_so}
 use Rattle.order_books.specs.declared.pair.PairCost.{PairCost}
 use Rattle.order_books.specs.Pairs.{spread_of, spread_side, cost_of_pair, IsPair, HasFronts, IsNoCheaper, IsCheapest}
 use Rattle.spread_books.specs.code.Cheapest.{CostsOfFront, CostsOfFronts, cheaper_of, KeepsColumn, KeepsOthers, must_search, sooner_of}
+use Rattle.spread_books.specs.code.QuoteTable.{NoneCame, must_renew}
+use Rattle.spread_books.specs.declared.quote_table.Change.{Change}
+use Rattle.spread_books.specs.declared.quote_table.Change.TheVariants.{Came, Left}
 use Rattle.spread_books.proofs.fronts.PairCost.{behind, pair_le}
 use Rattle.spread_books.proofs.fronts.MonthPairs.{fresh}
 use Rattle.spread_books.proofs.quotes.Costs.{cost_there, no_dearer}
@@ -86,6 +91,33 @@ module _ (on : Pairs) where
     below = h.below;
     covers = λ k a b lt p. covered xs ys side m k held (keep k lt) a b (λ x y q. h.covers k x y lt q) p;
   }
+
+  still_rests : (xs ys : List Order) (i : Instrument) (s : Side) (o : Order) → ((p : Order) → Contains ys p → Contains xs p) → Rests ys i s o → Rests xs i s o
+  still_rests xs ys i s o fewer r = record { stands = fewer o r.stands; instrument_is = r.instrument_is; side_is = r.side_is }
+
+  -- where orders of one month left, and what cost the least is of another one
+  left_row : (xs ys : List Order) (side : Side) (m months via : ℕ) (held : Option PairCost) → ((o : Order) → Contains ys o → Contains xs o) → KeepsOthers xs ys side m via → must_renew Left held via ≡ false →
+      IsCheapest on xs side m months held → IsCheapest on ys side m months held
+  left_row xs ys side m months via held fewer keep other h = record {
+    fronts = fronts held other h.fronts;
+    small = h.small;
+    below = h.below;
+    covers = λ k a b lt p. h.covers k a b lt (record {
+      on = p.on;
+      first = still_rests xs ys (spread_of m k) (spread_side side m k) a fewer p.first;
+      second = still_rests xs ys (Outright k) (other_side side) b fewer p.second;
+    });
+  }
+    where
+      fronts : (l : Option PairCost) → must_renew Left l via ≡ false → IfSome l (λ c. HasFronts on xs side m c.other_month c.cost) → IfSome l (λ c. HasFronts on ys side m c.other_month c.cost)
+      fronts None e f = f
+      fronts (Some l) e f = kept_fronts xs ys side m l.other_month l.cost (keep l.other_month (differs l.other_month via e)) f
+
+  -- where a cell need not be renewed
+  pub stays_cheapest : (xs ys : List Order) (side : Side) (m months via : ℕ) (held : Option PairCost) (change : Change) → NoneCame change xs ys → KeepsOthers xs ys side m via → must_renew change held via ≡ false →
+      IsCheapest on xs side m months held → IsCheapest on ys side m months held
+  stays_cheapest xs ys side m months via held Came fewer keep other h = cc
+  stays_cheapest xs ys side m months via held Left fewer keep other h = left_row xs ys side m months via held fewer keep other h
 
   module _ (xs ys : List Order) (side : Side) (m months via : ℕ) (keep : KeepsOthers xs ys side m via) (lt : via < months) where
     -- where no two orders met it

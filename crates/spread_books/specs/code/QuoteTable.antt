@@ -1,6 +1,6 @@
 -- A table of the pairs of fronts that cost the least, one for each month and side, and when it stays one.
 -- Words of the code alone.
-use Rattle.std.specs.Prelude.{◌≡◌, ℕ, ◌+◌, ◌*◌, ◌<◌, ◌≤◌, int_le, Bool, true, false, List, [], ◌∷◌, ◌++◌, Contains, All, Option, Some, None, slice_get}
+use Rattle.std.specs.Prelude.{◌≡◌, ℕ, ◌==◌, ◌+◌, ◌*◌, ◌<◌, ◌≤◌, int_le, Bool, true, false, List, [], ◌∷◌, ◌++◌, Contains, All, Option, Some, None, slice_get}
 use Rattle.host_base.specs.declared.limits.TheConstants as limits
 use Rattle.spread_rules.specs.declared.order.Side.{Side}
 use Rattle.spread_rulebook.specs.declared.instrument.Instrument.{Instrument}
@@ -16,6 +16,8 @@ use Rattle.spread_books.specs.Listed.{IsInMonths}
 use Rattle.order_books.specs.Pairs.{IsCheapest}
 use Rattle.spread_books.specs.code.Cheapest.{KeepsCost}
 use Rattle.spread_books.specs.code.PairsOn.{AreAllOn}
+use Rattle.spread_books.specs.declared.quote_table.Change.{Change}
+use Rattle.spread_books.specs.declared.quote_table.Change.TheVariants.{Came, Left}
 use Rattle.order_books.specs.declared.pair.PairCost.{PairCost}
 
 abbrev pub cell_of : Side → ℕ → ℕ
@@ -42,6 +44,17 @@ AreCheapest trades_implied months xs cells =
 abbrev pub ChangesOneQueue : List Order → List Order → Instrument → Side → Type 0
 ChangesOneQueue xs ys instrument side =
     (j : Instrument) (t : Side) → ((instrument ≡ j) × (side ≡ t) → ⊥) → KeepsCost xs ys j t
+
+-- where an order left, no other one came
+abbrev pub NoneCame : Change → List Order → List Order → Type 0
+NoneCame Came xs ys = Unit {0}
+NoneCame Left xs ys = (o : Order) → Contains ys o → Contains xs o
+
+-- whether another pair may cost the least after a change of that other month's fronts
+abbrev pub must_renew : Change → Option PairCost → ℕ → Bool
+must_renew Came held via = true
+must_renew Left None via = false
+must_renew Left (Some l) via = l.other_month == via
 
 -- whether an order at that level is as good as this one for who meets it
 abbrev pub is_as_good : Option Level → Order → Bool

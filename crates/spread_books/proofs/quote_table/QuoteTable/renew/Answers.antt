@@ -8,20 +8,20 @@ use Rattle.spread_books.proofs.quotes.Tables.{outright_renewed, spread_renewed}
 use Rattle.spread_books.proofs.quote_table.QuoteTable.renew.Goals as goal
 
 pub returns-in-Outright : goal.returns-in-Outright
-returns-in-Outright g c = λ xs one h.
+returns-in-Outright g c = λ xs came one h.
     let ys = g.B.Book.orders c.args.book.now in
     let on = implied c.args.pairs.now.rules.now in
     let old = c.args.self.now in
     let new = c.renew_months.new.self in
     let months = c.args.pairs.now.months in
-    let j = c.in-Outright.month in
-    outright_renewed on months xs ys old new j c.args.side
-    (subst (λ (u : Side). (t : Side) (m : ℕ) → (t ≡ u → ⊥) → known_pair new t m ≡ known_pair old t m) c.opposite.ensures c.renew_months.ensures.rest)
-    (subst (λ (u : Side). (m : ℕ) → m < months → KeepsOthers xs ys u m j → HasCheapest on months xs old u m → HasCheapest on months ys new u m) c.opposite.ensures (c.renew_months.ensures.own xs))
-    (subst (λ (i : Instrument). ChangesOneQueue xs ys i c.args.side) c.in-Outright.is one) h
+    let j = c.in-Outright.via in
+    outright_renewed on months xs ys old new j c.args.order.now.side
+    (subst (λ (u : Side). (t : Side) (m : ℕ) → (t ≡ u → ⊥) → known_pair new t m ≡ known_pair old t m) c.opposite-side.ensures c.renew_months.ensures.rest)
+    (subst (λ (u : Side). (m : ℕ) → m < months → KeepsOthers xs ys u m j → HasCheapest on months xs old u m → HasCheapest on months ys new u m) c.opposite-side.ensures (λ m lt. c.renew_months.ensures.own xs m lt came))
+    (subst (λ (i : Instrument). ChangesOneQueue xs ys i c.args.order.now.side) c.in-Outright.is one) h
 
 pub returns-in-Spread : goal.returns-in-Spread
-returns-in-Spread g c = λ xs one h.
+returns-in-Spread g c = λ xs came one h.
     let ys = g.B.Book.orders c.args.book.now in
     let on = implied c.args.pairs.now.rules.now in
     let old = c.args.self.now in
@@ -30,9 +30,9 @@ returns-in-Spread g c = λ xs one h.
     let months = c.args.pairs.now.months in
     let near = c.in-Spread.near in
     let far = c.in-Spread.far in
-    spread_renewed on months xs ys old mid new near far c.args.side
-    (subst (λ (u : Side). (t : Side) (m : ℕ) → ((t ≡ u) × (m ≡ near) → ⊥) → known_pair mid t m ≡ known_pair old t m) c.opposite-in-Spread.ensures c.renew_cell.ensures.rest)
-    (subst (λ (u : Side). KeepsOthers xs ys u near far → HasCheapest on months xs old u near → HasCheapest on months ys mid u near) c.opposite-in-Spread.ensures (c.renew_cell.ensures.own xs))
+    spread_renewed on months xs ys old mid new near far c.args.order.now.side
+    (subst (λ (u : Side). (t : Side) (m : ℕ) → ((t ≡ u) × (m ≡ near) → ⊥) → known_pair mid t m ≡ known_pair old t m) c.opposite-side.ensures c.renew_cell.ensures.rest)
+    (subst (λ (u : Side). KeepsOthers xs ys u near far → HasCheapest on months xs old u near → HasCheapest on months ys mid u near) c.opposite-side.ensures (c.renew_cell.ensures.own xs came))
     c.renew_cell-in-Spread.ensures.rest
-    (c.renew_cell-in-Spread.ensures.own xs)
-    (subst (λ (i : Instrument). ChangesOneQueue xs ys i c.args.side) c.in-Spread.is one) h
+    (c.renew_cell-in-Spread.ensures.own xs came)
+    (subst (λ (i : Instrument). ChangesOneQueue xs ys i c.args.order.now.side) c.in-Spread.is one) h

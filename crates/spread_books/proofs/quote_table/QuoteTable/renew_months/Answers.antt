@@ -17,19 +17,19 @@ pub loop-month-preserved : goal.loop-month-preserved
 loop-month-preserved g c =
     let ys = g.B.Book.orders c.args.book.now in
     let on = implied c.args.pairs.now.rules.now in
-    let s = c.args.side in
+    let s = c.args.column.side in
     let k = c.loop-month.month in
     let was = c.loop-month.invariant in
     let one = c.renew_cell.ensures in
     record {
       rest = λ t m other. one.rest t m (λ q. other q.0) ∙ was.rest t m other;
       later = λ m lt. one.rest s m (λ q. let e = q.1 in omega (arith, lt, e)) ∙ was.later m (omega (arith, lt));
-      own = λ xs m lt keep h.
+      own = λ xs m lt came keep h.
           elim (less_or_same on m k lt) [
-            | inl before ↦ cell_as on c.args.pairs.now.months ys c.loop-month.self c.renew_cell.new.self s m (one.rest s m (λ q. let e = q.1 in omega (arith, before, e))) (was.own xs m before keep h)
+            | inl before ↦ cell_as on c.args.pairs.now.months ys c.loop-month.self c.renew_cell.new.self s m (one.rest s m (λ q. let e = q.1 in omega (arith, before, e))) (was.own xs m before came keep h)
             | inr e ↦
                 let mine : HasCheapest on c.args.pairs.now.months xs c.loop-month.self s k = cell_as on c.args.pairs.now.months xs c.args.self.now c.loop-month.self s k (was.later k (omega arith)) (subst (λ (j : ℕ). HasCheapest on c.args.pairs.now.months xs c.args.self.now s j) e h) in
-                subst (λ (j : ℕ). HasCheapest on c.args.pairs.now.months ys c.renew_cell.new.self s j) (sym e) (one.own xs (subst (λ (j : ℕ). KeepsOthers xs ys s j c.args.via) e keep) mine)
+                subst (λ (j : ℕ). HasCheapest on c.args.pairs.now.months ys c.renew_cell.new.self s j) (sym e) (one.own xs came (subst (λ (j : ℕ). KeepsOthers xs ys s j c.args.column.via) e keep) mine)
           ];
     }
 
@@ -37,4 +37,4 @@ pub returns-clause-rest : goal.returns-clause-rest
 returns-clause-rest g c = c.loop-month.invariant.rest
 
 pub returns-clause-own : goal.returns-clause-own
-returns-clause-own g c = λ xs m lt keep h. (let end = c.loop-month-test.false in c.loop-month.invariant.own xs m (omega (arith, lt, end)) keep h)
+returns-clause-own g c = λ xs m lt came keep h. (let end = c.loop-month-test.false in c.loop-month.invariant.own xs m (omega (arith, lt, end)) came keep h)

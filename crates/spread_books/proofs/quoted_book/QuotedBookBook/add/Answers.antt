@@ -1,4 +1,4 @@
-use Rattle.std.proofs.Common.{◌≡◌, true, false, sym, ◌∙◌}
+use Rattle.std.proofs.Common.{◌≡◌, true, false, refl, sym, ◌∙◌}
 use Rattle.spread_rulebook.specs.Rulebook.{implied}
 use Rattle.spread_books.specs.code.QuoteTable.{HasCome, IsListed}
 use Rattle.spread_books.proofs.quotes.Tables.{come_table}
@@ -18,5 +18,5 @@ invariant_of-self-then-self-2 g c =
     record {
       most = c.self.invariant.most;
       on = c.self.invariant.on;
-      quoted = λ e. come_table (implied c.self.inside.pairs.rules.now) c.self.inside.pairs.months xs ys o c.front_level-others.result c.self.inside.quotes c.renew_for.new.self (c.self.invariant.quoted both.0) both.1 come (c.renew_for.ensures.came xs come);
+      quoted = λ e. come_table (implied c.self.inside.pairs.rules.now) c.self.inside.pairs.months xs ys o c.front_level-others.result c.self.inside.quotes c.renew_for.new.self (c.self.invariant.quoted both.0) both.1 come (c.renew_for.ensures.came refl xs come);
     }
