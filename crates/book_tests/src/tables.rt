@@ -75,7 +75,11 @@ fn keys_of_a_queue(rt: HostRuntime) {
     keys.insert(QueueKey::new(&better)).expect(&rt, "memory");
     let start = QueueKey::start(better.instrument, better.side);
     match first_from(&keys, start) {
-        Some(key) => assert!(rt; key.is_in_queue_of(&start) && key.place() == 7),
+        Some(key) => {
+            let best = key.best_price(better.side);
+            assert!(rt; key.is_in_queue_of(&start));
+            assert!(rt; best.price == 9900 && best.place == 7);
+        }
         None => assert!(rt; false),
     }
     let other = QueueKey::start(better.instrument, Side::Buy);

@@ -4,7 +4,7 @@ ghost use Rattle.std.specs.List.{find};
 ghost use Rattle.spread_rules.specs.Clearing.{removed};
 ghost use Rattle.spread_rules.specs.declared.order.Order.{Order};
 ghost use Rattle.order_tables.specs.Places.{HasPlace, Ascends};
-ghost use Rattle.order_books.specs.code.FrontPrices.{may_be_at, becomes_front, is_ahead_of, IsBestPrice, HoldsPrices};
+ghost use Rattle.order_books.specs.code.FrontPrices.{may_be_at, becomes_front, is_ahead_of, HoldsPrices};
 
 use crate::book::Book;
 use crate::tree::TreeBook;
@@ -90,20 +90,6 @@ fn may_be_at(best: Option<BestPrice>, place: u64) -> bool
     }
 }
 
-/// The price and the place of the front of a queue, by a look-up.
-fn look_up<A: Allocator + Copy>(
-    tables: &TreeBook<A>,
-    instrument: Instrument,
-    side: Side,
-) -> Option<BestPrice>
-    ensures { IsBestPrice tables.now instrument side result }
-{
-    match tables.front(instrument, side) {
-        None => None,
-        Some(front) => Some(BestPrice::new(&front)),
-    }
-}
-
 /// After that order left the tables.
 fn renew_front<A: Allocator + Copy>(fronts: &mut FrontTable<A>, tables: &TreeBook<A>, order: &Order)
     ensures { (xs : List Order)
@@ -112,7 +98,7 @@ fn renew_front<A: Allocator + Copy>(fronts: &mut FrontTable<A>, tables: &TreeBoo
 {
     if let Some(best) = fronts.known_price(order.instrument, order.side) {
         if may_be_at(best, order.place) {
-            let next = look_up(tables, order.instrument, order.side);
+            let next = tables.best_price(order.instrument, order.side);
             fronts.put(order.instrument, order.side, next);
         }
     }

@@ -3,10 +3,11 @@ ghost use Rattle.std.specs.Prelude.{◌≡◌, ◌<◌, ◌^◌, ◌==◌, [], l
 ghost use Rattle.std.specs.List.{find};
 ghost use Rattle.spread_rules.specs.Clearing.{reduced, removed};
 ghost use Rattle.order_tables.specs.Places.{HasMore, HasPlace, Ascends};
+ghost use Rattle.order_books.specs.code.FrontPrices.{IsBestPrice};
 
 use crate::book::Book;
 use host_base::{Id, NoMemory};
-use order_tables::{PlaceRows, QueueKey, first_from};
+use order_tables::{BestPrice, PlaceRows, QueueKey, first_from};
 use spread_rules::{Instrument, Order, Side};
 use std::alloc::Allocator;
 use std::collections::BTreeSet;
@@ -50,6 +51,18 @@ impl<A: Allocator + Copy> TreeBook<A> {
         self.orders.count()
     }
 
+    /// Where the front of a queue stands. Takes no memory.
+    pub(crate) fn best_price(&self, instrument: Instrument, side: Side) -> Option<BestPrice>
+        ensures { IsBestPrice self.now instrument side result }
+    {
+        let start = QueueKey::start(instrument, side);
+        let key = first_from(&self.queues, start)?;
+        if !key.is_in_queue_of(&start) {
+            return None;
+        }
+        Some(key.best_price(side))
+    }
+
     /// The order of that place. Takes no memory.
     pub(crate) fn order_at(&self, place: u64) -> Option<Order>
         ensures value { result ≡ find (λ o. o.place == place) self.now }
@@ -87,12 +100,10 @@ impl<A: Allocator + Copy> Book for TreeBook<A> {
     ghost orders = { λ b. b };
 
     fn front(&self, instrument: Instrument, side: Side) -> Option<Order> {
-        let start = QueueKey::start(instrument, side);
-        let key = first_from(&self.queues, start)?;
-        if !key.is_in_queue_of(&start) {
-            return None;
+        match self.best_price(instrument, side) {
+            None => None,
+            Some(best) => self.order_at(best.place),
         }
-        self.order_at(key.place())
     }
 
     fn find(&self, session: u8, id: &Id) -> Option<Order> {

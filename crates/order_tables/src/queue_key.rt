@@ -2,6 +2,7 @@
 ghost use Rattle.std.specs.Prelude.{◌≡◌, ◌==◌};
 ghost use Rattle.order_tables.specs.QueueKeys.{queue_number, queue_cost, queue_key, queue_start, HasMonths, IsInRange};
 
+use crate::front_table::BestPrice;
 use spread_rules::{Instrument, Order, Side};
 
 /// The keys of one queue follow one another in the order of the queue, its front first.
@@ -28,7 +29,7 @@ fn queue_number(instrument: Instrument, side: Side) -> u32
     }
 }
 
-/// The least price has no negative, so a buyer's is counted down from -1.
+/// The least price has no negative, so a buyer's is counted down from -1. What the cost of a cost is, is the price.
 fn queue_cost(side: Side, price: i64) -> i64
     ensures { result ≡ queue_cost side price }
 {
@@ -70,10 +71,14 @@ impl QueueKey {
         self.queue == other.queue
     }
 
-    /// The place of its order.
-    pub fn place(&self) -> u64
-        ensures { result ≡ self.now.place }
+    /// Where its order stands in the queue of that side.
+    pub fn best_price(&self, side: Side) -> BestPrice
+        ensures price { result.price ≡ queue_cost side self.now.cost }
+        ensures place { result.place ≡ self.now.place }
     {
-        self.place
+        BestPrice {
+            price: queue_cost(side, self.cost),
+            place: self.place,
+        }
     }
 }

@@ -1,17 +1,21 @@
 -- the first key of a queue is that of its front
-use Rattle.std.proofs.Common.{◌≡◌, false, List, Contains, Some, None, sym, ap, ◌∙◌, subst, arith}
+use Rattle.std.proofs.Common.{◌≡◌, ℕ, ℤ, false, refl, List, Contains, Some, None, sym, ap, ◌∙◌, subst, arith}
 use Rattle.std.specs.Ordering.{is_gt, is_lt, ordering_reverse}
 use Rattle.std.specs.declared.cmp.Ordering.{Ordering}
 use Rattle.std.specs.declared.cmp.Ordering.TheVariants.{Less, Equal, Greater}
 use Rattle.std.specs.BTreeMap.Range.{IsLeBy}
 use Rattle.std.specs.BTreeSet.{BTreeSet}
+use Rattle.std.proofs.lemmas.Int.{ints}
 use Rattle.spread_rules.specs.declared.order.Side.{Side}
+use Rattle.spread_rules.specs.declared.order.Side.TheVariants.{Buy, Sell}
+use Rattle.order_tables.specs.FrontTable.{best_price_of}
+use Rattle.order_tables.specs.declared.front_table.BestPrice.{BestPrice}
 use Rattle.spread_rulebook.specs.declared.instrument.Instrument.{Instrument}
 use Rattle.spread_rules.specs.declared.order.Order.{Order}
 use Rattle.spread_rules.specs.Quiet.{Rests}
 use Rattle.order_tables.specs.declared.queue_key.QueueKey.{QueueKey}
 use Rattle.order_books.specs.Queues.{IsFront, queue_cmp}
-use Rattle.order_tables.specs.QueueKeys.{queue_key, queue_start, queue_number, HasMonths, IsInRange}
+use Rattle.order_tables.specs.QueueKeys.{queue_cost, queue_key, queue_start, queue_number, HasMonths, IsInRange}
 use Rattle.order_tables.specs.Firsts.{IsFirstFrom}
 use Rattle.order_books.specs.code.Index.{queue_key_cmp, HasKeys}
 use Rattle.order_books.proofs.fronts.FoldGivesFront.{queue_total}
@@ -30,6 +34,23 @@ start_below xs instrument side o r k =
 
 number_of : (xs : List Order) (instrument : Instrument) (side : Side) (o : Order) → Rests xs instrument side o → queue_number o.instrument o.side ≡ queue_number instrument side
 number_of xs instrument side o r = ap (λ (x : Instrument). queue_number x o.side) r.instrument_is ∙ ap (λ (s : Side). queue_number instrument s) r.side_is
+
+-- the cost of a cost is the price
+cost_back : (side : Side) (p : ℤ) → queue_cost side (queue_cost side p) ≡ p
+cost_back Sell p = refl
+cost_back Buy p = omega (arith, ints)
+
+abbrev best_of : ℤ → ℕ → BestPrice
+best_of price place = record { price = price; place = place }
+
+-- where the order of a key stands, by the key
+pub key_price : (k : QueueKey) (o : Order) (side : Side) (best : BestPrice) → queue_key o ≡ k → o.side ≡ side → best.price ≡ queue_cost side k.cost → best.place ≡ k.place → best ≡ best_price_of o
+key_price k o side best of at price place =
+    let cost : k.cost ≡ queue_cost side o.price = ap (λ (x : QueueKey). x.cost) (sym of) ∙ ap (λ (s : Side). queue_cost s o.price) at in
+    let p : best.price ≡ o.price = price ∙ (ap (queue_cost side) cost ∙ cost_back side o.price) in
+    let q : best.place ≡ o.place = place ∙ ap (λ (x : QueueKey). x.place) (sym of) in
+    let same : best_of best.price best.place ≡ best_of o.price o.place = cc in
+    same
 
 module _ (xs : List Order) (s : BTreeSet QueueKey) (in_range : (o : Order) → Contains xs o → IsInRange o) (keys : HasKeys queue_key_cmp queue_key s xs) (instrument : Instrument) (side : Side) where
   pub no_key : IsFirstFrom queue_key_cmp s (queue_start instrument side) None → IsFront xs instrument side None

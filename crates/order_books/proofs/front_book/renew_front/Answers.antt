@@ -10,9 +10,9 @@ pub returns-then-may_be_at : goal.returns-then-may_be_at
 returns-then-may_be_at g c = λ xs up stands gone h.
     let o = c.args.order.now in
     let slots = c.args.fronts.now in
-    let next = subst (λ (ys : List Order). IsBestPrice ys o.instrument o.side c.look_up-next.result) gone c.look_up-next.ensures in
+    let next = subst (λ (ys : List Order). IsBestPrice ys o.instrument o.side c.best_price-next.result) gone c.best_price-next.ensures in
     subst (λ (ys : List Order). HoldsPrices ys c.put.new.self) (sym gone) (subst (λ (t : List (Option BestPrice)). HoldsPrices (removed o.place xs) t) (sym c.put.ensures)
-    (prices_removed xs slots o h up stands c.look_up-next.result next))
+    (prices_removed xs slots o h up stands c.best_price-next.result next))
 
 pub returns-else-may_be_at : goal.returns-else-may_be_at
 returns-else-may_be_at g c = λ xs up stands gone h.

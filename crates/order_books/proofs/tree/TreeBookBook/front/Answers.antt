@@ -1,44 +1,16 @@
-use Rattle.std.proofs.Common.{◌≡◌, ◌==◌, true, false, List, Option, Some, None, ap, sym, ◌∙◌, subst, arith}
-use Rattle.std.specs.List.{find}
-use Rattle.std.proofs.lemmas.Bool.Decides.{nat_tests}
+use Rattle.std.proofs.Common.{Option, Some, None, sym, subst}
 use Rattle.spread_rules.specs.declared.order.Order.{Order}
-use Rattle.order_tables.specs.declared.queue_key.QueueKey.{QueueKey}
+use Rattle.order_tables.specs.declared.front_table.BestPrice.{BestPrice}
 use Rattle.order_books.specs.Queues.{IsFront}
-use Rattle.order_tables.specs.QueueKeys.{queue_number}
-use Rattle.order_tables.specs.Firsts.{IsFirstFrom}
-use Rattle.order_books.specs.code.Index.{queue_key_cmp, IsIndex}
-use Rattle.order_books.proofs.keys.TablesThroughChanges.{is_found}
-use Rattle.order_books.proofs.keys.FirstOfAQueue.{no_key, key_of_another, key_of_front}
+use Rattle.order_books.specs.code.FrontPrices.{IsBestPrice}
+use Rattle.order_books.proofs.fronts.TableHoldsFronts.{no_front, front_found}
 use Rattle.order_books.proofs.tree.TreeBookBook.front.Goals as goal
 
-pub returns-in_err-key : goal.returns-in_err-key
-returns-in_err-key g c =
-    let xs = c.args.self.now in
-    let now = subst (λ (ys : List Order). IsIndex ys c.self.inside.queues) c.self.view_is c.self.invariant in
-    let first = subst (λ (k : QueueKey). IsFirstFrom queue_key_cmp c.self.inside.queues k None) c.start-start.ensures.key (subst (λ (r : Option QueueKey). IsFirstFrom queue_key_cmp c.self.inside.queues c.start-start.result r) c.in_err-key.was c.first_from.ensures) in
-    subst (λ (r : Option Order). IsFront xs c.args.instrument c.args.side r) (sym c.from_residual.ensures) (no_key xs c.self.inside.queues now.in_range now.queued c.args.instrument c.args.side first)
+pub returns-in-None : goal.returns-in-None
+returns-in-None g c = no_front c.args.self.now c.args.instrument c.args.side (subst (λ (b : Option BestPrice). IsBestPrice c.args.self.now c.args.instrument c.args.side b) c.in-None.is c.best_price.ensures)
 
-pub returns-then-not-is_in_queue_of : goal.returns-then-not-is_in_queue_of
-returns-then-not-is_in_queue_of g c =
+pub returns-in-Some : goal.returns-in-Some
+returns-in-Some g c =
     let xs = c.args.self.now in
-    let now = subst (λ (ys : List Order). IsIndex ys c.self.inside.queues) c.self.view_is c.self.invariant in
-    let k = c.in_ok-key.key in
-    let first = subst (λ (f : QueueKey). IsFirstFrom queue_key_cmp c.self.inside.queues f (Some k)) c.start-start.ensures.key (subst (λ (r : Option QueueKey). IsFirstFrom queue_key_cmp c.self.inside.queues c.start-start.result r) c.in_ok-key.was c.first_from.ensures) in
-    let start = ap (λ (f : QueueKey). f.queue) c.start-start.ensures.key in
-    let other : (k.queue == c.start-start.result.queue) ≡ false = sym c.is_in_queue_of.ensures ∙ c.if-not-is_in_queue_of.true in
-    key_of_another xs c.self.inside.queues now.in_range now.queued c.args.instrument c.args.side k first (λ e. grind (arith, nat_tests))
-
-pub returns : goal.returns
-returns g c =
-    let xs = c.args.self.now in
-    let now = subst (λ (ys : List Order). IsIndex ys c.self.inside.queues) c.self.view_is c.self.invariant in
-    let k = c.in_ok-key.key in
-    let first = subst (λ (f : QueueKey). IsFirstFrom queue_key_cmp c.self.inside.queues f (Some k)) c.start-start.ensures.key (subst (λ (r : Option QueueKey). IsFirstFrom queue_key_cmp c.self.inside.queues c.start-start.result r) c.in_ok-key.was c.first_from.ensures) in
-    let start = ap (λ (f : QueueKey). f.queue) c.start-start.ensures.key in
-    let test : (k.queue == c.start-start.result.queue) ≡ true = sym c.is_in_queue_of.ensures ∙ c.if-not-is_in_queue_of.false in
-    let same : k.queue ≡ queue_number c.args.instrument c.args.side = grind (arith, nat_tests) in
-    let front = key_of_front xs c.self.inside.queues now.in_range now.queued c.args.instrument c.args.side k c.start-start.ensures.months first same in
-    let o = front.0 in
-    let place = ap (λ (f : QueueKey). f.place) front.1 ∙ sym c.place.ensures in
-    let found = subst (λ p. find (λ (q : Order). q.place == p) xs ≡ Some o) place (is_found xs o now.ordered front.2.0.stands) in
-    subst (λ (r : Option Order). IsFront xs c.args.instrument c.args.side r) (sym (c.order_at.ensures.value ∙ found)) front.2
+    subst (λ (r : Option Order). IsFront xs c.args.instrument c.args.side r) (sym c.order_at.ensures.value)
+    (front_found xs c.args.instrument c.args.side c.in-Some.best c.order_at.ensures.ordered (subst (λ (b : Option BestPrice). IsBestPrice xs c.args.instrument c.args.side b) c.in-Some.is c.best_price.ensures))
