@@ -16,8 +16,7 @@ use Rattle.spread_rules.specs.Clearing.{removed}
 use Rattle.spread_rulebook.proofs.lists.Membership.{not_in_nil, in_head, in_tail, in_cons_cases}
 use Rattle.order_tables.specs.Places.{Ascends}
 use Rattle.order_books.specs.code.Index.{HasKeys}
-use Rattle.order_tables.proofs.places.Ascending.{one_at_a_place, behind_first, others_ascend, removed_nobody, is_so}
-use Rattle.order_tables.proofs.places.ChangedAt.{changed, changed_nobody}
+use Rattle.order_tables.proofs.places.Ascending.{one_at_a_place, is_so}
 
 is_equal : (r : Ordering) → is_eq r ≡ true → r ≡ Equal
 is_equal Less h = cc

@@ -1,5 +1,5 @@
 -- the tables of a book through its changes
-use Rattle.std.proofs.Common.{◌≡◌, ℕ, ◌-◌, ◌<◌, ◌==◌, Bool, true, false, cond, List, [], ◌∷◌, ◌++◌, Contains, All, Some, Result, Ok, Err, OnOk, OnErr, refl, sym, ap, subst, inl, inr, arith}
+use Rattle.std.proofs.Common.{◌≡◌, ℕ, ◌<◌, ◌==◌, Bool, true, false, cond, List, [], ◌∷◌, ◌++◌, Contains, All, Some, Result, Ok, Err, OnOk, OnErr, refl, sym, ap, subst, inl, inr, arith}
 use Rattle.std.specs.Result.{is_err}
 use Rattle.std.specs.List.{list_any, find}
 use Rattle.std.specs.List.Sorted.{IsStrictlySortedBy}

@@ -1,14 +1,13 @@
 -- What the fronts of queues cost, and what is known of the cheapest pair after a front has changed.
 -- Words of the code alone.
-use Rattle.std.specs.Prelude.{◌≡◌, ℕ, ◌==◌, ℤ, ◌<◌, ◌≤◌, ◌+ℤ◌, ◌≤ℤ◌, nat_lt, int_lt, Bool, true, ◌&&◌, cond, List, Option, Some, None, IfSome, IsSomeAnd, ◌⊎◌}
+use Rattle.std.specs.Prelude.{◌≡◌, ℕ, ◌==◌, ℤ, int_lt, Bool, ◌&&◌, cond, List, Option, Some, None, ◌⊎◌}
 use Rattle.std.specs.Ordering.{nat_cmp, int_cmp, ordering_then, is_lt}
 use Rattle.spread_rules.specs.declared.order.Side.{Side}
 use Rattle.spread_rulebook.specs.declared.instrument.Instrument.{Instrument}
-use Rattle.spread_rulebook.specs.declared.instrument.Instrument.TheVariants.{Outright, Spread}
+use Rattle.spread_rulebook.specs.declared.instrument.Instrument.TheVariants.{Outright}
 use Rattle.spread_rules.specs.declared.order.Order.{Order}
 use Rattle.spread_rules.specs.Candidates.{Pairs, cost}
 use Rattle.spread_rules.specs.Quiet.{Rests}
-use Rattle.spread_rulebook.specs.Prices.{IsLegPrice}
 use Rattle.spread_rules.specs.Legs.{other_side}
 use Rattle.order_books.specs.Pairs.{IsPair, HasFronts, spread_of, spread_side}
 use Rattle.order_books.specs.Queues.{IsFront}

@@ -1,7 +1,5 @@
-use Rattle.std.proofs.Common.{◌≡◌, ℕ, List, ◌++◌, Option, Some, sym, ap, subst, ◌∙◌}
-use Rattle.std.specs.Option.{option_to_list}
+use Rattle.std.proofs.Common.{◌≡◌, ℕ, Some, sym, ap, subst, ◌∙◌}
 use Rattle.host_base.specs.declared.limits.TheConstants.{MAX_MONTHS}
-use Rattle.spread_rules.specs.declared.order.Order.{Order}
 use Rattle.spread_rulebook.specs.Rulebook.{Rules, implied}
 use Rattle.spread_books.specs.BookView.{BookView}
 use Rattle.order_books.specs.Pairs.{IsCheapest}

@@ -1,8 +1,5 @@
-use Rattle.std.proofs.Common.{◌≡◌, List, ◌++◌, Some, sym, ap, ◌∙◌}
-use Rattle.std.specs.List.{find}
-use Rattle.spread_rules.specs.declared.order.Order.{Order}
+use Rattle.std.proofs.Common.{◌++◌, sym, ap, ◌∙◌}
 use Rattle.spread_rules.specs.Meaning.{EntryMeaning, is_own}
-use Rattle.spread_match.specs.State.{MarketState}
 use Rattle.spread_match.specs.code.StateAfter.{meaning_in, state_after}
 use Rattle.row_index.proofs.Tables.{on_ok}
 use Rattle.spread_match.proofs.entries.FoundStands.{find_stands}
