@@ -7,8 +7,9 @@ use Rattle.spread_rules.specs.declared.event.Entry.{Entry}
 use Rattle.spread_rules.specs.Journal.{restricted}
 use Rattle.spread_rulebook.specs.Rulebook.{Rules}
 use Rattle.gate_link.proofs.links.SeveralCalls.{prefix_trans}
-use Rattle.gate_link.proofs.links.PartOfASession.{restricted-append, row_other, row_same}
+use Rattle.gate_link.proofs.links.PartOfASession.{row_other, row_same}
 use Rattle.gate_link.specs.Rows.{row}
+use Rattle.spread_rules.proofs.journals.SessionParts.{restricted-append}
 use Rattle.stage_rings.specs.Feeding.{Agrees}
 use Rattle.stage_rings.specs.Posting.{Finishes}
 use Rattle.day_apply.specs.Applied.{IsApplyFault}

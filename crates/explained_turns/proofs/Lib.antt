@@ -1,3 +1,2 @@
 pub mod ranks
-pub mod lists
 pub mod turns_told

@@ -4,7 +4,7 @@ use Rattle.std.proofs.lemmas.List.{take_more}
 use Rattle.std.specs.Char.{is_ascii_digit}
 use Rattle.std.specs.List.{list_all}
 use Rattle.std.proofs.lemmas.Bool.Decides.{nat_tests}
-use Rattle.std.proofs.lemmas.Bool.{false≢true}
+use Rattle.std.proofs.lemmas.Bool.{false≢true, and_parts}
 use Rattle.std.proofs.Math.Nat.{pow-suc}
 use Rattle.fix_values.specs.Digits.{number_after, number_of}
 
@@ -14,10 +14,6 @@ number_after_push n (x ∷ ds) d = number_after_push (10 * n + (x - 48)) ds d
 
 pub number_of_more : (xs : List ℕ) (i : ℕ) → i < length xs → number_of (take (i + 1) xs) ≡ 10 * number_of (take i xs) + (get_or xs i 0 - 48)
 number_of_more xs i h = ap number_of (take_more xs i 0 h) ∙ number_after_push 0 (take i xs) (get_or xs i 0)
-
-pub and_true : (a b : Bool) → (a && b) ≡ true → (a ≡ true) × (b ≡ true)
-and_true true b h = (refl, h)
-and_true false b h = absurd (false≢true h)
 
 digit_below : (d : ℕ) → is_ascii_digit d ≡ true → d - 48 ≤ 9
 digit_below d h = grind (arith, nat_tests)
@@ -36,7 +32,7 @@ pub number_after_below : (n : ℕ) (ds : List ℕ) (k : ℕ) → length ds ≤ k
 number_after_below n [] k l h = none_below n (10 ^ k) (ten_pos k)
 number_after_below n (d ∷ ds) zero l h = absurd (omega arith)
 number_after_below n (d ∷ ds) (suc k) l h =
-    let parts = and_true (is_ascii_digit d) (list_all is_ascii_digit ds) h in
+    let parts = and_parts (is_ascii_digit d) (list_all is_ascii_digit ds) h in
     let e = digit_below d parts.0 in
     let rest = number_after_below (10 * n + (d - 48)) ds k (omega arith) parts.1 in
     let step = step_below n (d - 48) (10 ^ k) e in

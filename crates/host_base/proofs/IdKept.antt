@@ -1,5 +1,6 @@
 -- A text with zeros behind it is kept as it has to be.
 use Rattle.std.proofs.Common.{◌≡◌, ℕ, Bool, ◌&&◌, nat_le, ◌-◌, ◌<◌, ◌≤◌, true, false, not, eqb, List, length, replicate, refl, ap, ◌∙◌, arith, length-append}
+use Rattle.std.proofs.lemmas.Bool.{and_parts}
 use Rattle.std.specs.List.{list_all}
 use Rattle.std.proofs.lemmas.List.{take_at, drop_at, length-replicate}
 use Rattle.std.proofs.lemmas.Bool.Decides.{nat_tests}
@@ -15,13 +16,9 @@ kept_new text some most plain = record {
   zeros = drop_at text (replicate (32 - length text) 0) (length text) refl;
 }
 
-both : (a b : Bool) → (a && b) ≡ true → (a ≡ true) × (b ≡ true)
-both true b h = (refl, h)
-both false b h = absurd (cc h)
-
 -- what is said of a text that is an id
 pub id_parts : (text : List ℕ) → is_id text ≡ true → (0 < length text) × (length text ≤ 32) × (list_all (λ b. not (eqb b 1)) text ≡ true)
 id_parts text is =
-    let all = both (nat_le 1 (length text) && nat_le (length text) 32) _ is in
-    let sizes = both (nat_le 1 (length text)) _ all.0 in
+    let all = and_parts (nat_le 1 (length text) && nat_le (length text) 32) _ is in
+    let sizes = and_parts (nat_le 1 (length text)) _ all.0 in
     (grind (arith, nat_tests, sizes.0), grind (arith, nat_tests, sizes.1), all.1)

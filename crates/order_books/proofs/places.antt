@@ -1,2 +1,1 @@
-pub mod InTurn
 pub mod LastOrder

@@ -86,7 +86,7 @@ pub first_new : (old new : IdKey → Option ℕ) (key : IdKey) (at : ℕ) → No
     → (q : IdKey) → new q ≡ option_or (old q) (cond (is_key key q) (Some at) None)
 first_new old new key at none put = kept_or_new old new key at (λ q. put q ∙ ap (λ (o : Option ℕ). cond (is_key key q) (option_or o (Some at)) (old q)) none)
 
-put_twice : (b : Bool) (x y z : Option ℕ) → cond b x (cond b y z) ≡ cond b x z
+pub put_twice : (b : Bool) (x y z : Option ℕ) → cond b x (cond b y z) ≡ cond b x z
 put_twice true x y z = refl
 put_twice false x y z = refl
 

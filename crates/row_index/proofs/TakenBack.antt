@@ -11,7 +11,7 @@ use Rattle.row_index.specs.Ids.{is_key}
 use Rattle.row_index.specs.Tables.{AreOfRows, numbers_of, named_row, line_for}
 use Rattle.row_index.specs.Notes.{lines_before, rest_before}
 use Rattle.row_index.specs.code.Seeks.{EndsAt, with_number}
-use Rattle.row_index.proofs.Keys.{key_is}
+use Rattle.row_index.proofs.Keys.{key_is, put_twice}
 use Rattle.row_index.proofs.Tables.{set_same}
 
 -- ---- lists
@@ -59,17 +59,13 @@ no_line lines line at h = sym (set_past lines line _ h)
 
 -- ---- behind the lines
 
-twice : (b : Bool) (x y z : Option ℕ) → cond b x (cond b y z) ≡ cond b x z
-twice true x y z = refl
-twice false x y z = refl
-
 -- a key that had a place, which is put back
 pub put_back : (old mid new : IdKey → Option ℕ) (key : IdKey) (at earlier : ℕ) → Some earlier ≡ old key → ((q : IdKey) → mid q ≡ cond (is_key key q) (Some at) (old q))
     → ((q : IdKey) → new q ≡ cond (is_key key q) (Some earlier) (mid q)) → (q : IdKey) → new q ≡ old q
 put_back old mid new key at earlier some put back q =
     back q
     ∙ (ap (λ (o : Option ℕ). cond (is_key key q) (Some earlier) o) (put q)
-    ∙ (twice (is_key key q) (Some earlier) (Some at) (old q) ∙ by_test (is_key key q) refl))
+    ∙ (put_twice (is_key key q) (Some earlier) (Some at) (old q) ∙ by_test (is_key key q) refl))
   where
     by_test : (b : Bool) → is_key key q ≡ b → cond b (Some earlier) (old q) ≡ old q
     by_test true e = some ∙ ap old (key_is key q e)

@@ -15,7 +15,7 @@ use Rattle.fix_frames.specs.Messages.{fields}
 use Rattle.fix_frames.specs.Fields.{TagValue, field_texts, prepended, with_first, field_of_text, field_with, is_tag, fields_of_texts, fields_of_body}
 use Rattle.fix_frames.specs.code.Scans.{first_field, field_up_to, value_of}
 
-prepended_first : (b : ℕ) (p : List ℕ) (o : Option (List (List ℕ))) → option_and_then (prepended b) (option_map (with_first p) o) ≡ option_map (with_first (b ∷ p)) o
+pub prepended_first : (b : ℕ) (p : List ℕ) (o : Option (List (List ℕ))) → option_and_then (prepended b) (option_map (with_first p) o) ≡ option_map (with_first (b ∷ p)) o
 prepended_first b p None = refl
 prepended_first b p (Some ps) = refl
 

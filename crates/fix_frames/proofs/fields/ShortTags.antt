@@ -8,7 +8,7 @@ use Rattle.fix_frames.specs.Fields.{field_of_text}
 use Rattle.fix_values.proofs.FirstPlace.{same}
 use Rattle.fix_frames.proofs.fields.RowOfFields.{field_found}
 
-digit_is_not_equals : (b : ℕ) → is_ascii_digit b ≡ true → eqb b 61 ≡ false
+pub digit_is_not_equals : (b : ℕ) → is_ascii_digit b ≡ true → eqb b 61 ≡ false
 digit_is_not_equals b d = grind (arith, nat_tests)
 
 pub one_digit : (text : List ℕ) (tag : ℕ) → 3 ≤ length text → is_ascii_digit (get_or text 0 0) ≡ true → get_or text 0 0 ≢ 48 → get_or text 1 0 ≡ 61 → tag ≡ get_or text 0 0 - 48 →

@@ -117,7 +117,7 @@ passed_over (b ∷ bs) k l = by_case (λ j h. passed_over bs j h) k l (front_cas
     by_case ih zero l (inr (inr p)) = p
     by_case ih (suc j) l (inr (inr p)) = let e = ap length (start_nothing b bs p.0 p.1) in ih j (omega (arith, e, l))
 
-start_shorter : (held : List ℕ) → length (from_first_start held) ≤ length held
+pub start_shorter : (held : List ℕ) → length (from_first_start held) ≤ length held
 start_shorter [] = omega arith
 start_shorter (b ∷ bs) = by_case (start_shorter bs) (front_case (b ∷ bs))
   where

@@ -1,19 +1,19 @@
 -- What stands at the front of a text stays what it is when the text goes on.
 use Rattle.std.proofs.Common.{◌≡◌, ℕ, zero, suc, ◌+◌, ◌-◌, ◌<◌, ◌≤◌, Bool, true, false, cond, ◌&&◌, ◌||◌, not, eqb, ltb, leb, List, [], ◌∷◌, ◌++◌, length, take, drop, Option, Some, None, option_map, option_and_then, refl, sym, ap, subst, ◌∙◌, arith, ◌⊎◌, inl, inr, length-append}
+use Rattle.std.proofs.Math.Bool.{and-false}
 use Rattle.std.specs.Char.{is_ascii_digit}
 use Rattle.std.specs.List.{position_or_len, list_all}
 use Rattle.std.proofs.lemmas.List.{take-append-le, drop-append-le, length-take-le, length-drop, take-append-drop}
 use Rattle.std.proofs.lemmas.List.Folds.{list_all-append, list_all_at}
 use Rattle.std.proofs.lemmas.List.Sums.{passes_at_first}
 use Rattle.std.proofs.lemmas.Option.{none-some, option_and_then_some, cond_some, same_Some}
-use Rattle.std.proofs.lemmas.Bool.{false≢true, cases_lt, eqb-true, leb-true, ltb-true, or_from, or_parts}
+use Rattle.std.proofs.lemmas.Bool.{false≢true, cases_lt, eqb-true, leb-true, ltb-true, or_from, or_parts, and_parts}
 use Rattle.std.proofs.lemmas.Bool.Decides.{nat_tests}
 use Rattle.fix_frames.specs.declared.frame.FrameHeader.{FrameHeader}
 use Rattle.fix_frames.specs.Texts.{strip_prefix, is_cut_short, is_soh}
 use Rattle.fix_values.specs.Digits.{number_of}
 use Rattle.fix_frames.specs.Frames.{begin_text, header, header_after, header_with, is_body_length, is_length_open, is_unfinished, is_intact, is_body, body_at, intact_length, frame_length, frame_at, may_begin}
 use Rattle.fix_frames.proofs.fields.RowOfFields.{place_within}
-use Rattle.fix_values.proofs.SpelledNumbers.{and_true}
 
 -- a word that stands stays
 pub prefix_stays : (word text more rest : List ℕ) → strip_prefix word text ≡ Some rest → strip_prefix word (text ++ more) ≡ Some (rest ++ more)
@@ -105,11 +105,7 @@ opened_or rest e = by_test (cases_lt 8 (length rest))
 
 not_opened : (rest : List ℕ) → (8 < length rest) ⊎ (list_all is_ascii_digit rest ≡ false) → is_length_open (Some rest) ≡ false
 not_opened rest (inl many) = let t : leb (length rest) 8 ≡ false = grind (arith, nat_tests) in ap (λ x. x && list_all is_ascii_digit rest) t
-not_opened rest (inr bad) = ap (λ x. leb (length rest) 8 && x) bad ∙ and_false (leb (length rest) 8)
-  where
-    and_false : (b : Bool) → (b && false) ≡ false
-    and_false true = refl
-    and_false false = refl
+not_opened rest (inr bad) = ap (λ x. leb (length rest) 8 && x) bad ∙ and-false (leb (length rest) 8)
 
 all_not : (rest more : List ℕ) → list_all is_ascii_digit rest ≡ false → list_all is_ascii_digit (rest ++ more) ≡ false
 all_not rest more e = list_all-append is_ascii_digit rest more ∙ ap (λ x. x && list_all is_ascii_digit more) e
@@ -119,11 +115,7 @@ opened_stays rest more (inl many) = inl (omega (arith, length-append rest more))
 opened_stays rest more (inr bad) = inr (all_not rest more bad)
 
 no_header : (k : ℕ) (rest : List ℕ) → is_body_length (take k rest) ≡ false → header_with k rest ≡ None
-no_header k rest e = ap (λ x. cond x (Some (record { body_start = k + 13; body_length = number_of (take k rest) })) None) (ap (λ x. ltb k (length rest) && x) e ∙ and_false (ltb k (length rest)))
-  where
-    and_false : (b : Bool) → (b && false) ≡ false
-    and_false true = refl
-    and_false false = refl
+no_header k rest e = ap (λ x. cond x (Some (record { body_start = k + 13; body_length = number_of (take k rest) })) None) (ap (λ x. ltb k (length rest) && x) e ∙ and-false (ltb k (length rest)))
 
 -- a text with no byte 1 that isn't up to 8 digits gets no size by more bytes
 no_length_later : (rest more : List ℕ) (k : ℕ) → length rest ≤ k → k ≤ length (rest ++ more) → (8 < length rest) ⊎ (list_all is_ascii_digit rest ≡ false) → header_with k (rest ++ more) ≡ None
@@ -201,7 +193,7 @@ pub frame_parts : {P : Type 0} (text : List ℕ) (n : ℕ) → frame_at text ≡
 frame_parts text n e then =
     option_and_then_some (intact_length text) (header text) n e (λ c claims keeps.
     let p = cond_some (is_intact text c) (frame_length c) n keeps in
-    let fits = and_true (leb (frame_length c) (length text)) (is_body (body_at text c)) (and_true _ _ p.0).0 in
+    let fits = and_parts (leb (frame_length c) (length text)) (is_body (body_at text c)) (and_parts _ _ p.0).0 in
     then c claims p.0 p.1 (leb-true (frame_length c) (length text) fits.0))
 
 -- a frame that stands stays, whatever follows
@@ -306,7 +298,7 @@ frame_alone text n e =
 cut_short : (word text : List ℕ) → is_cut_short word text ≡ true → length text < length word
 cut_short [] text e = cc
 cut_short (p ∷ ps) [] e = omega arith
-cut_short (p ∷ ps) (b ∷ bs) e = let t = and_true (eqb p b) (is_cut_short ps bs) e in omega (arith, cut_short ps bs t.1)
+cut_short (p ∷ ps) (b ∷ bs) e = let t = and_parts (eqb p b) (is_cut_short ps bs) e in omega (arith, cut_short ps bs t.1)
 
 behind_len : (word text rest : List ℕ) → strip_prefix word text ≡ Some rest → length text ≡ length word + length rest
 behind_len [] text rest e = let h = ap length (same_Some _ _ e) in omega (arith, h)
@@ -320,11 +312,11 @@ behind_len (p ∷ ps) (b ∷ bs) rest e = by_test (λ h. behind_len ps bs rest h
 header_bound : (k : ℕ) (rest : List ℕ) (c : FrameHeader) → header_with k rest ≡ Some c → frame_length c ≤ 4124
 header_bound k rest c e =
     let p = cond_some (ltb k (length rest) && is_body_length (take k rest)) (record { body_start = k + 13; body_length = number_of (take k rest) }) c e in
-    let tests = and_true (ltb k (length rest)) (is_body_length (take k rest)) p.0 in
+    let tests = and_parts (ltb k (length rest)) (is_body_length (take k rest)) p.0 in
     let digits = take k rest in
     let len = length-take-le k rest (omega (arith, header_within k rest c e)) in
-    let five = and_true (leb 1 (length digits) && leb (length digits) 8 && list_all is_ascii_digit digits && leb 5 (number_of digits)) (leb (number_of digits) 4096) tests.1 in
-    let few : k ≤ 8 = omega (arith, len, leb-true (length digits) 8 (and_true (leb 1 (length digits)) (leb (length digits) 8) (and_true _ _ (and_true _ _ five.0).0).0).1) in
+    let five = and_parts (leb 1 (length digits) && leb (length digits) 8 && list_all is_ascii_digit digits && leb 5 (number_of digits)) (leb (number_of digits) 4096) tests.1 in
+    let few : k ≤ 8 = omega (arith, len, leb-true (length digits) 8 (and_parts (leb 1 (length digits)) (leb (length digits) 8) (and_parts _ _ (and_parts _ _ five.0).0).0).1) in
     let size : number_of digits ≤ 4096 = leb-true (number_of digits) 4096 five.1 in
     subst (λ x. frame_length x ≤ 4124) p.1 (omega (arith, few, size))
 
@@ -349,7 +341,7 @@ begins_short text e = by_cut (is_cut_short begin_text text) refl
       where
         by_open : (v : Bool) → v ≡ is_length_open (Some rest) → length text < 4124
         by_open true v =
-            let t = leb-true (length rest) 8 (and_true (leb (length rest) 8) (list_all is_ascii_digit rest) (sym v)).0 in
+            let t = leb-true (length rest) 8 (and_parts (leb (length rest) 8) (list_all is_ascii_digit rest) (sym v)).0 in
             omega (arith, t, behind_len begin_text text rest (sym o))
         by_open false v = by_claim (header text) refl (sym (ap (λ x. x || is_unfinished text (header text)) (sym v)) ∙ s)
 

@@ -249,29 +249,7 @@ said_is (f ∷ fs) s =
 pub whole_lawful : (fs : List (List ℕ)) → All FitsEvent (events_said new_session fs ++ events_at_end (session_after new_session fs)) × (is_in_order (events_said new_session fs ++ events_at_end (session_after new_session fs)) ≡ true)
 whole_lawful fs = subst (λ es. All FitsEvent es × (is_in_order es ≡ true)) (sym (said_is fs new_session)) (said_lawful fs new_session tt)
 
--- ---- a beginning of what is in order is in order
-
-end_of : (xs ys : List Event) → is_end (xs ++ ys) ≡ true → is_end xs ≡ true
-end_of [] ys h = refl
-end_of (x ∷ xs) ys h = h
-
-running_of : (xs ys : List Event) → is_running (xs ++ ys) ≡ true → is_running xs ≡ true
-running_of [] ys h = refl
-running_of (x ∷ xs) ys h = by_kind (running_of xs ys) (is_logon x) (is_close x) h
-  where
-    by_kind : (is_running (xs ++ ys) ≡ true → is_running xs ≡ true) → (l c : Bool) → (not l && (if c then is_end (xs ++ ys) else is_running (xs ++ ys))) ≡ true → (not l && (if c then is_end xs else is_running xs)) ≡ true
-    by_kind ih true c e = e
-    by_kind ih false true e = end_of xs ys e
-    by_kind ih false false e = ih e
-
-pub in_order_of : (xs ys : List Event) → is_in_order (xs ++ ys) ≡ true → is_in_order xs ≡ true
-in_order_of [] ys h = refl
-in_order_of (x ∷ xs) ys h = by_kind (is_close x) (is_logon x) h
-  where
-    by_kind : (c l : Bool) → (if c then is_end (xs ++ ys) else l && is_running (xs ++ ys)) ≡ true → (if c then is_end xs else l && is_running xs) ≡ true
-    by_kind true l e = end_of xs ys e
-    by_kind false true e = running_of xs ys e
-    by_kind false false e = e
+-- ---- a beginning of what is in range is in range
 
 pub events_fit : (xs ys : List Event) → All FitsEvent (xs ++ ys) → All FitsEvent xs
 events_fit [] ys h = All-nil FitsEvent

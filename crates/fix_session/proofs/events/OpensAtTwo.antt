@@ -1,7 +1,7 @@
 -- After a lawful Logon the number 2 is due.
 use Rattle.std.proofs.Common.{◌≡◌, ℕ, ◌+◌, Bool, true, false, ◌&&◌, List, [], ◌∷◌, Some, None, option_map, refl, ap, ◌∙◌, arith}
 use Rattle.std.specs.Str.{bytes_eq}
-use Rattle.std.proofs.lemmas.Bool.{false≢true}
+use Rattle.std.proofs.lemmas.Bool.{false≢true, and_parts}
 use Rattle.std.proofs.lemmas.Bool.Decides.{nat_tests}
 use Rattle.std.proofs.lemmas.Slice.Eq.{bytes_eq-Decides}
 use Rattle.fix_frames.specs.Messages.{kind, number}
@@ -20,16 +20,12 @@ opening_of m n l e = by_test (is_opening m n) refl
     by_test true h = refl
     by_test false h = let none : None ≡ Some l = rw h at e in cc
 
-and_true : (a b : Bool) → (a && b) ≡ true → (a ≡ true) × (b ≡ true)
-and_true true b h = (refl, h)
-and_true false b h = absurd (false≢true h)
-
 same_bytes : (xs ys : List ℕ) → bytes_eq xs ys ≡ true → xs ≡ ys
 same_bytes xs ys e = (bytes_eq-Decides xs ys).0 e
 
 pub due_two : (m : List ℕ) (n : ℕ) (l : Logon) → logon_of m n ≡ Some l → due_after_accepted n (meaning_of_message m n) ≡ 2
 due_two m n l e =
-    let parts = and_true _ _ (and_true _ _ (and_true _ _ (opening_of m n l e)).0).0 in
+    let parts = and_parts _ _ (and_parts _ _ (and_parts _ _ (opening_of m n l e)).0).0 in
     let kind_is = same_bytes (kind m) (65 ∷ []) parts.0 in
     let one : n ≡ 1 = grind (arith, nat_tests) in
     ap (λ k. due_after_accepted n (meaning_of_kind_text k m n)) kind_is ∙ (let h : n + 1 ≡ 2 = omega (arith, one) in h)

@@ -2,7 +2,7 @@
 use Rattle.std.proofs.Common.{◌≡◌, ℕ, zero, suc, ◌+◌, ◌<◌, ◌≤◌, Bool, true, false, cond, ◌&&◌, ◌||◌, not, eqb, ltb, List, [], ◌∷◌, ◌++◌, Option, Some, None, is_some, option_map, length, take, drop, refl, sym, ap, ◌∙◌, subst, arith, ◌⊎◌, inl, inr}
 use Rattle.std.specs.Prelude.{slice_get, filter_map}
 use Rattle.std.specs.List.{list_any, cons_option}
-use Rattle.std.proofs.lemmas.Bool.{false≢true, cases_lt}
+use Rattle.std.proofs.lemmas.Bool.{false≢true, cases_lt, and_parts}
 use Rattle.std.proofs.Math.Bool.{or-false}
 use Rattle.std.proofs.lemmas.Bool.Decides.{nat_tests}
 use Rattle.std.proofs.lemmas.Option.{same_Some, slice_get_within}
@@ -28,10 +28,6 @@ runs_or (Some ids) d a = runs ids d a
 -- one step, with the verdict read as an event
 abbrev says : Session → MessageView → Option Event × Session
 says s m = (event_in (step s m).0, (step s m).1)
-
-and_true : (a b : Bool) → (a && b) ≡ true → (a ≡ true) × (b ≡ true)
-and_true true b h = (refl, h)
-and_true false b h = absurd (false≢true h)
 
 number_case : (n d : ℕ) → ((ltb n d ≡ true) × (ltb d n ≡ false) × (eqb n d ≡ false)) ⊎ (((ltb n d ≡ false) × (ltb d n ≡ true) × (eqb n d ≡ false)) ⊎ ((ltb n d ≡ false) × (ltb d n ≡ false) × (eqb n d ≡ true)))
 number_case n d = by_lt (cases_lt n d) (cases_lt d n)
@@ -110,7 +106,7 @@ opened_some m ms zero e = by_opens m.logon refl
     by_opens : (o : Option Logon) → m.logon ≡ o → (q : CompIds) × (session_comp_ids (m ∷ ms) ≡ Some q)
     by_opens (Some o) h = (logon_comp_ids o, ap (option_map logon_comp_ids) h)
     by_opens None h = absurd (false≢true (simp h at e))
-opened_some m ms (suc p) e = opened_some m ms p (and_true _ _ e).0
+opened_some m ms (suc p) e = opened_some m ms p (and_parts _ _ e).0
 
 last_below : (ms : List MessageView) (p : ℕ) → place_after (last_accepted_before ms p) ≤ p
 last_below ms zero = omega arith

@@ -6,7 +6,7 @@ use Rattle.fix_frames.specs.Frames.{frames, frame_at, may_begin}
 use Rattle.fix_frames.specs.Held.{first_frame, from_first_start, past_frame, after_first_frame}
 use Rattle.fix_wire.specs.Pieces.{SplitsInto, IsDrained, SameSplit}
 use Rattle.fix_frames.proofs.framing.FrontStays.{frame_within}
-use Rattle.fix_frames.proofs.framing.FramesHeld.{scan_start, start_frames, no_frames, pass_law}
+use Rattle.fix_frames.proofs.framing.FramesHeld.{scan_start, start_frames, no_frames, pass_law, start_shorter}
 
 pub no_first : (fs : List (List ℕ)) → first_frame fs ≡ None → fs ≡ []
 no_first [] e = refl
@@ -16,15 +16,6 @@ pub on_true : {P : Type 0} (b : Bool) → b ≡ true → OnTrue b P → P
 on_true true e p = p
 on_true false e p = cc
 
-pub start_len : (held : List ℕ) → length (from_first_start held) ≤ length held
-start_len [] = omega arith
-start_len (b ∷ bs) = by_look (frame_at (b ∷ bs)) (may_begin (b ∷ bs)) (start_len bs)
-  where
-    by_look : (o : Option ℕ) (m : Bool) → length (from_first_start bs) ≤ length bs → length {A = ℕ} (elim o [ Some n ↦ b ∷ bs | None ↦ cond m (b ∷ bs) (from_first_start bs) ]) ≤ suc (length bs)
-    by_look (Some n) m ih = omega arith
-    by_look None true ih = omega arith
-    by_look None false ih = omega (arith, ih)
-
 past_len : (held frame : List ℕ) → first_frame (frames held) ≡ Some frame → length (after_first_frame held) < length held
 past_len held frame e = by_frame (frame_at (from_first_start held)) refl
   where
@@ -33,7 +24,7 @@ past_len held frame e = by_frame (frame_at (from_first_start held)) refl
     by_frame (Some n) h =
         let within = frame_within (from_first_start held) n h in
         let len = length-drop n (from_first_start held) in
-        let start = start_len held in
+        let start = start_shorter held in
         omega (arith, within.0, within.1, len, start)
 
 pub need_leaves : (old mid : List ℕ) → mid ≡ from_first_start old → first_frame (frames old) ≡ None → length (from_first_start old) < 4124 → SplitsInto old [] mid × IsDrained mid
@@ -47,7 +38,7 @@ passed_leaves old mid new frame b e first stands passed =
     let first_mid : first_frame (frames mid) ≡ Some frame = ap (λ t. first_frame (frames t)) e ∙ ap first_frame (start_frames old) ∙ first in
     let new_is : new ≡ after_first_frame mid = on_true b (stands ∙ ap is_some first_mid) passed in
     let less = past_len mid frame first_mid in
-    let shorter : length mid ≤ length old = subst (λ t. length t ≤ length old) (sym e) (start_len old) in
+    let shorter : length mid ≤ length old = subst (λ t. length t ≤ length old) (sym e) (start_shorter old) in
     let same : length new ≡ length (after_first_frame mid) = ap length new_is in (
       (λ more. sym (scan_start old more) ∙ ap (λ t. frames (t ++ more)) (sym e) ∙ pass_law mid more frame first_mid ∙ ap (λ t. frame ∷ frames (t ++ more)) (sym new_is)),
       omega (arith, less, shorter, same),

@@ -3,16 +3,13 @@ use Rattle.std.proofs.Common.{◌≡◌, ℕ, suc, ◌+◌, Bool, true, false, c
 use Rattle.std.specs.Char.{is_ascii_digit}
 use Rattle.std.specs.List.{position_or_len, list_all, flat_map}
 use Rattle.std.proofs.lemmas.List.{take_at, append_assoc}
-use Rattle.std.proofs.lemmas.Bool.{false≢true}
+use Rattle.std.proofs.lemmas.Bool.{false≢true, and_parts, not-true}
 use Rattle.std.proofs.lemmas.Bool.Decides.{nat_tests}
 use Rattle.fix_frames.specs.Texts.{is_equals}
 use Rattle.fix_values.specs.Digits.{number_of}
 use Rattle.fix_frames.specs.Fields.{TagValue, field_texts, prepended, with_first, field_of_text, field_with, is_tag, fields_of_texts, fields_of_body}
-use Rattle.fix_values.proofs.SpelledNumbers.{and_true}
-
-grown_over : (b : ℕ) (p : List ℕ) (o : Option (List (List ℕ))) → option_and_then (prepended b) (option_map (with_first p) o) ≡ option_map (with_first (b ∷ p)) o
-grown_over b p None = refl
-grown_over b p (Some ps) = refl
+use Rattle.fix_frames.proofs.fields.RowOfFields.{prepended_first}
+use Rattle.fix_frames.proofs.fields.ShortTags.{digit_is_not_equals}
 
 -- no byte 1
 abbrev pub is_plain : List ℕ → Bool
@@ -21,24 +18,17 @@ is_plain text = list_all (λ b. not (eqb b 1)) text
 pub pieces_of : (p rest : List ℕ) → is_plain p ≡ true → field_texts (p ++ 1 ∷ rest) ≡ option_map (with_first p) (field_texts rest)
 pieces_of [] rest e = refl
 pieces_of (b ∷ p) rest e =
-    let parts = and_true (not (eqb b 1)) (is_plain p) e in
-    let apart : eqb b 1 ≡ false = not_is (eqb b 1) parts.0 in
+    let parts = and_parts (not (eqb b 1)) (is_plain p) e in
+    let apart : eqb b 1 ≡ false = not-true (eqb b 1) parts.0 in
     ap (λ x. cond x (option_map (with_first []) (field_texts (p ++ 1 ∷ rest))) (option_and_then (prepended b) (field_texts (p ++ 1 ∷ rest)))) apart
-    ∙ ap (option_and_then (prepended b)) (pieces_of p rest parts.1) ∙ grown_over b p (field_texts rest)
-  where
-    not_is : (v : Bool) → not v ≡ true → v ≡ false
-    not_is true h = absurd (false≢true h)
-    not_is false h = refl
+    ∙ ap (option_and_then (prepended b)) (pieces_of p rest parts.1) ∙ prepended_first b p (field_texts rest)
 
 place_at : (ds rest : List ℕ) → list_all is_ascii_digit ds ≡ true → position_or_len is_equals (ds ++ 61 ∷ rest) ≡ length ds
 place_at [] rest e = refl
 place_at (d ∷ ds) rest e =
-    let parts = and_true (is_ascii_digit d) (list_all is_ascii_digit ds) e in
-    let apart : eqb d 61 ≡ false = no_equals d parts.0 in
+    let parts = and_parts (is_ascii_digit d) (list_all is_ascii_digit ds) e in
+    let apart : eqb d 61 ≡ false = digit_is_not_equals d parts.0 in
     ap (λ x. cond (not x) (1 + position_or_len is_equals (ds ++ 61 ∷ rest)) 0) apart ∙ (let h = place_at ds rest parts.1 in omega (arith, h))
-  where
-    no_equals : (b : ℕ) → is_ascii_digit b ≡ true → eqb b 61 ≡ false
-    no_equals b h = grind (arith, nat_tests)
 
 -- a field, with the digits of its tag
 pub record Spelled : Type 0 where
@@ -80,7 +70,7 @@ field_with_is s =
         drop_suc (d ∷ ds) v = drop_suc ds v
 
 digits_of_tag : (ds : List ℕ) → is_tag ds ≡ true → list_all is_ascii_digit ds ≡ true
-digits_of_tag ds e = (and_true _ _ (and_true _ _ e).0).1
+digits_of_tag ds e = (and_parts _ _ (and_parts _ _ e).0).1
 
 pub field_is : (s : Spelled) → field_of_text (text_of s) ≡ Some (field_in s)
 field_is s = ap (λ k. field_with k (text_of s)) (place_at s.digits s.value (digits_of_tag s.digits s.tag)) ∙ field_with_is s

@@ -4,7 +4,7 @@ use Rattle.std.specs.Prelude.{decimal, slice_index, unsigned_abs, int_lt}
 use Rattle.std.specs.Char.{is_ascii_digit}
 use Rattle.std.specs.List.{list_all, position_or_len, flat_map, AllByRecursion}
 use Rattle.std.specs.Str.{bytes_eq}
-use Rattle.std.proofs.lemmas.Bool.{false≢true}
+use Rattle.std.proofs.lemmas.Bool.{false≢true, and_parts, and_from}
 use Rattle.std.proofs.lemmas.Bool.Decides.{nat_tests}
 use Rattle.std.proofs.lemmas.List.{take_at, drop_at, append_assoc, take_all, drop_all, take_more, flat_map_more}
 use Rattle.std.proofs.lemmas.List.Folds.{list_all-append}
@@ -23,7 +23,6 @@ use Rattle.fix_frames.specs.Frames.{begin_text, header, header_after, header_wit
 use Rattle.fix_frames.specs.Messages.{fields}
 use Rattle.host_base.specs.Ids.{is_plain}
 use Rattle.fix_wire.specs.Layout.{field, field_text, only_if, head_fields, field_of_given, all_fields, body_text, summed_text, message_text, value_text, FitsValue, FitsValueOf, FitsTags, FitsField, FitsHead, FitsMessage, IsReadBack}
-use Rattle.fix_values.proofs.SpelledNumbers.{and_true}
 use Rattle.fix_wire.proofs.writing.SpelledRow as spelled
 use Rattle.fix_frames.proofs.framing.FramesHeld.{scan_frame}
 
@@ -79,18 +78,14 @@ decimal_number n h = digits_value-decimal own n h
 digit_plain : (d : ℕ) → is_ascii_digit d ≡ true → not (eqb d 1) ≡ true
 digit_plain d h = grind (arith, nat_tests)
 
-both_true : (a b : Bool) → a ≡ true → b ≡ true → (a && b) ≡ true
-both_true true b e f = f
-both_true false b e f = absurd (false≢true e)
-
 digits_plain : (ds : List ℕ) → list_all is_ascii_digit ds ≡ true → is_plain ds ≡ true
 digits_plain [] e = refl
 digits_plain (d ∷ ds) e =
-    let parts = and_true (is_ascii_digit d) (list_all is_ascii_digit ds) e in
-    both_true (not (eqb d 1)) (is_plain ds) (digit_plain d parts.0) (digits_plain ds parts.1)
+    let parts = and_parts (is_ascii_digit d) (list_all is_ascii_digit ds) e in
+    and_from (not (eqb d 1)) (is_plain ds) (digit_plain d parts.0) (digits_plain ds parts.1)
 
 plain_two : (xs ys : List ℕ) → is_plain xs ≡ true → is_plain ys ≡ true → is_plain (xs ++ ys) ≡ true
-plain_two xs ys e f = list_all-append (λ b. not (eqb b 1)) xs ys ∙ both_true (is_plain xs) (is_plain ys) e f
+plain_two xs ys e f = list_all-append (λ b. not (eqb b 1)) xs ys ∙ and_from (is_plain xs) (is_plain ys) e f
 
 decimal_plain : (n : ℕ) → n < 2 ^ 64 → is_plain (decimal n) ≡ true
 decimal_plain n h = digits_plain (decimal n) (decimal_digits n h)
@@ -152,7 +147,7 @@ not_one : (x : ℕ) → not (eqb (48 + x) 1) ≡ true
 not_one x = grind (arith, nat_tests)
 
 two_plain : (n : ℕ) → is_plain (two_digits n) ≡ true
-two_plain n = both_true (not (eqb (48 + n / 10 % 10) 1)) (not (eqb (48 + n % 10) 1) && true) (not_one (n / 10 % 10)) (both_true (not (eqb (48 + n % 10) 1)) true (not_one (n % 10)) refl)
+two_plain n = and_from (not (eqb (48 + n / 10 % 10) 1)) (not (eqb (48 + n % 10) 1) && true) (not_one (n / 10 % 10)) (and_from (not (eqb (48 + n % 10) 1)) true (not_one (n % 10)) refl)
 
 size_small : (n : ℕ) → n < 2 ^ 64 → n / 100 < 2 ^ 64
 size_small n h = grind arith
@@ -188,7 +183,7 @@ small_tag : (t : ℕ) (v : List ℕ) → 1 ≤ t → t < 1000 → is_plain v ≡
 small_tag t v low high plain = record { low = low; high = omega (arith, high); plain = plain }
 
 kind_plain : (k : ℕ) → k ≢ 1 → is_plain (k ∷ []) ≡ true
-kind_plain k h = both_true (not (eqb k 1)) true (grind (arith, nat_tests)) refl
+kind_plain k h = and_from (not (eqb k 1)) true (grind (arith, nat_tests)) refl
 
 head_fit : (h : Head) → FitsHead h → AllByRecursion Fits (head_fields h)
 head_fit h (kind, (number, sender, target, stamp)) = (
@@ -227,7 +222,7 @@ body_row h fs fits = row_written (all_fields h fs) (all_fit h fs fits.0 fits.1)
 
 body_lawful : (h : Head) (fs : List given.Field) → FitsMessage h fs → is_body (body_text h fs) ≡ true
 body_lawful h fs fits =
-    both_true (is_some (strip_prefix (51 ∷ 53 ∷ 61 ∷ []) (body_text h fs))) (is_some (fields_of_body (body_text h fs)))
+    and_from (is_some (strip_prefix (51 ∷ 53 ∷ 61 ∷ []) (body_text h fs))) (is_some (fields_of_body (body_text h fs)))
     (ap (λ t. is_some (strip_prefix (51 ∷ 53 ∷ 61 ∷ []) t)) (body_front h fs)) (ap is_some (body_row h fs fits))
 
 body_long : (h : Head) (fs : List given.Field) → 5 ≤ length (body_text h fs)
@@ -238,7 +233,7 @@ body_long h fs = let e = ap length (body_front h fs) in omega (arith, e)
 place_one : (ds rest : List ℕ) → is_plain ds ≡ true → position_or_len is_soh (ds ++ 1 ∷ rest) ≡ length ds
 place_one [] rest e = refl
 place_one (d ∷ ds) rest e =
-    let parts = and_true (not (eqb d 1)) (is_plain ds) e in
+    let parts = and_parts (not (eqb d 1)) (is_plain ds) e in
     ap (λ x. cond x (1 + position_or_len is_soh (ds ++ 1 ∷ rest)) 0) parts.0 ∙ (let h = place_one ds rest parts.1 in omega (arith, h))
 
 size_tests : (ds : List ℕ) (n : ℕ) → 0 < length ds → length ds ≤ 8 → list_all is_ascii_digit ds ≡ true → number_of ds ≡ n → 5 ≤ n → n ≤ 4096 → is_body_length ds ≡ true
@@ -303,7 +298,7 @@ intact_plain front t body c size tail at lawful =
     let behind_it = drop_at front t (c.body_start + c.body_length) size in
     let sums : bytes_eq (take 7 (drop (c.body_start + c.body_length) (front ++ t))) (checksum_field (sum (take (c.body_start + c.body_length) (front ++ t)) % 256)) ≡ true =
     bytes_same _ _ (ap (take 7) (behind_it ∙ tail) ∙ ap (λ x. checksum_field (sum x % 256)) (sym before)) in
-    both_true _ _ (both_true _ _ fits (ap is_body at ∙ lawful)) sums
+    and_from _ _ (and_from _ _ fits (ap is_body at ∙ lawful)) sums
 
 framed_kept : (ds body : List ℕ) → is_body body ≡ true → is_intact (framed ds body) (header_of ds body) ≡ true
 framed_kept ds body lawful =

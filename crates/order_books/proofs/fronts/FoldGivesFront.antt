@@ -1,5 +1,6 @@
 -- the fold over a list gives the front of a queue
 use Rattle.std.proofs.Common.{◌≡◌, List, refl, subst, Option, Some, None, Bool, true, false, ◌&&◌, cond, fold, arith}
+use Rattle.std.proofs.lemmas.Bool.{and_parts}
 use Rattle.std.proofs.lemmas.Bool.Decides.{nat_tests}
 use Rattle.std.specs.Cmp.{IsTotalOrder, IsStrictWeakOrder}
 use Rattle.std.proofs.lemmas.Cmp.{then_total, on_total, int_cmp_total, nat_cmp_total}
@@ -14,18 +15,13 @@ use Rattle.spread_rules.specs.Quiet.{Rests}
 use Rattle.spread_rules.proofs.ranks.FirstOfAFold.{IsFirst, fold_first}
 use Rattle.order_books.specs.Queues.{is_in, is_ahead, queue_cmp, IsFront, front_step}
 use Rattle.spread_rules.specs.Legs.{is_side, other_side}
+use Rattle.spread_rules.proofs.clearings.BoughtIsSold.{same_instrument_is}
 
 pub queue_total : (side : Side) → IsTotalOrder (queue_cmp side)
 queue_total side = then_total (on_total (λ (o : Order). cost (other_side side) o.price) int_cmp_total) (on_total (λ (o : Order). o.place) nat_cmp_total)
 
 pub queues : (side : Side) → IsStrictWeakOrder (is_ahead side)
 queues side = ranks_by (queue_total side) (λ (o : Order). o)
-
-pub same_instrument_is : (a b : Instrument) → same_instrument a b ≡ true → a ≡ b
-same_instrument_is (Outright m) (Outright n) h = grind (arith, nat_tests)
-same_instrument_is (Outright m) (Spread k l) h = cc
-same_instrument_is (Spread i j) (Outright n) h = cc
-same_instrument_is (Spread i j) (Spread k l) h = grind (arith, nat_tests)
 
 pub same_instrument_itself : (a : Instrument) → same_instrument a a ≡ true
 same_instrument_itself (Outright m) = grind (arith, nat_tests)
@@ -41,16 +37,12 @@ pub same_side_itself : (a : Side) → is_side a a ≡ true
 same_side_itself Buy = refl
 same_side_itself Sell = refl
 
-both : (a b : Bool) → (a && b) ≡ true → (a ≡ true) × (b ≡ true)
-both true b h = (refl, h)
-both false b h = cc
-
 pub in_queue : (xs : List Order) (instrument : Instrument) (side : Side) (o : Order) → Rests xs instrument side o → is_in instrument side o ≡ true
 in_queue xs instrument side o r = rw (r.instrument_is, r.side_is, same_instrument_itself instrument) (same_side_itself side)
 
 pub from_queue : (instrument : Instrument) (side : Side) (o : Order) → is_in instrument side o ≡ true → (o.instrument ≡ instrument) × (o.side ≡ side)
 from_queue instrument side o h =
-    let b = both (same_instrument o.instrument instrument) (is_side o.side side) h in
+    let b = and_parts (same_instrument o.instrument instrument) (is_side o.side side) h in
     (same_instrument_is o.instrument instrument b.0, same_side_is o.side side b.1)
 
 -- what an order gives to the queue

@@ -1,5 +1,6 @@
 -- the table of best prices through the changes of a book
 use Rattle.std.proofs.Common.{◌≡◌, ℕ, zero, suc, ◌<◌, ◌==◌, nat_lt, Bool, true, false, ◌&&◌, cond, List, [], ◌∷◌, ◌++◌, length, replicate, Contains, Option, Some, None, option_map, refl, sym, ap, ◌∙◌, subst, arith, inl, inr, ◌⊎◌, slice_set, slice_get}
+use Rattle.std.proofs.lemmas.Bool.{and_parts}
 use Rattle.std.specs.List.{find}
 use Rattle.std.proofs.lemmas.Bool.Decides.{nat_tests}
 use Rattle.spread_rules.specs.declared.order.Side.{Side}
@@ -12,21 +13,18 @@ use Rattle.spread_rules.specs.Clearing.{removed}
 use Rattle.spread_rulebook.proofs.lists.Membership.{not_in_nil, in_head, in_tail, in_cons_cases}
 use Rattle.order_books.specs.Queues.{IsFront, IsFrontLevel, is_ahead}
 use Rattle.spread_rules.specs.Legs.{is_side}
+use Rattle.spread_rules.proofs.clearings.BoughtIsSold.{same_instrument_is}
 use Rattle.order_tables.specs.Places.{Ascends}
 use Rattle.order_tables.specs.FrontTable.{has_slot, slot_number, slot_of, slot_in, put_in, known_price, with_known_price, best_price_of, level_at}
 use Rattle.order_books.specs.code.FrontPrices.{IsBestPrice, HoldsPrices, becomes_front, may_be_at}
 use Rattle.order_tables.specs.declared.front_table.BestPrice.{BestPrice}
-use Rattle.order_books.proofs.fronts.FoldGivesFront.{same_instrument_is, same_instrument_itself, same_side_is, same_side_itself}
+use Rattle.order_books.proofs.fronts.FoldGivesFront.{same_instrument_itself, same_side_is, same_side_itself}
 use Rattle.order_tables.proofs.places.Ascending.{is_so}
 use Rattle.order_tables.proofs.places.ChangedAt.{changed_at, changed, key_kept}
 use Rattle.order_books.proofs.keys.TablesThroughChanges.{is_found}
 use Rattle.order_books.proofs.fronts.Changes.{front_of_others, front_of_own, front_removed, any_front_changed, KeepsQueue, of_another}
 
 -- ---- slots
-
-both : (a b : Bool) → (a && b) ≡ true → (a ≡ true) × (b ≡ true)
-both true b h = (refl, h)
-both false b h = cc
 
 slot_is : (a b : Instrument) (s t : Side) → has_slot a ≡ true → has_slot b ≡ true → slot_number a s ≡ slot_number b t → (a ≡ b) × (s ≡ t)
 slot_is (Outright m) (Outright n) Buy Buy x y e = let k : m ≡ n = omega arith in (ap Outright k, refl)
@@ -44,14 +42,14 @@ slot_is (Spread i j) (Outright n) Sell Buy x y e = absurd (omega arith)
 slot_is (Spread i j) (Spread k l) Buy Sell x y e = absurd (omega arith)
 slot_is (Spread i j) (Spread k l) Sell Buy x y e = absurd (omega arith)
 slot_is (Spread i j) (Spread k l) Buy Buy x y e =
-    let a = both (nat_lt i 24) (nat_lt j 24) x in
-    let b = both (nat_lt k 24) (nat_lt l 24) y in
+    let a = and_parts (nat_lt i 24) (nat_lt j 24) x in
+    let b = and_parts (nat_lt k 24) (nat_lt l 24) y in
     let u : j < 24 = let h = a.1 in grind (arith, nat_tests) in
     let v : l < 24 = let h = b.1 in grind (arith, nat_tests) in
     let p : i ≡ k = omega arith in let q : j ≡ l = omega arith in (cc, refl)
 slot_is (Spread i j) (Spread k l) Sell Sell x y e =
-    let a = both (nat_lt i 24) (nat_lt j 24) x in
-    let b = both (nat_lt k 24) (nat_lt l 24) y in
+    let a = and_parts (nat_lt i 24) (nat_lt j 24) x in
+    let b = and_parts (nat_lt k 24) (nat_lt l 24) y in
     let u : j < 24 = let h = a.1 in grind (arith, nat_tests) in
     let v : l < 24 = let h = b.1 in grind (arith, nat_tests) in
     let p : i ≡ k = omega arith in let q : j ≡ l = omega arith in (cc, refl)

@@ -16,8 +16,8 @@ use Rattle.spread_rules.proofs.ranks.PlainIsLeast.{candidate_is}
 use Rattle.order_books.specs.Queues.{IsFront}
 use Rattle.spread_rules.specs.Legs.{other_side}
 use Rattle.spread_books.specs.code.Best.{IsFair, CoversOne, CoversTwo}
-use Rattle.spread_books.proofs.fronts.PairCost.{implied_price_sum, implied_price_again, within_cost, behind, rank_after, pair_le, pair_same, so_is, so_again}
-use Rattle.spread_rules.proofs.clearings.BoughtIsSold.{on_price}
+use Rattle.spread_books.proofs.fronts.PairCost.{implied_price_sum, implied_price_again, within_cost, behind, rank_after, pair_le, pair_same, so_again}
+use Rattle.spread_rules.proofs.clearings.BoughtIsSold.{on_price, so_is}
 use Rattle.spread_rules.proofs.ranks.PairsSwitched.{all_take_part}
 
 -- what has a price takes part

@@ -1,5 +1,6 @@
 -- the fronts of the month that costs the least beat every pair
 use Rattle.std.proofs.Common.{◌≡◌, ℕ, ◌+◌, ◌<◌, ◌==◌, ℤ, ◌+ℤ◌, ◌≤ℤ◌, ◌<ℤ◌, Bool, true, false, ◌&&◌, cond, nat_lt, List, All, Option, Some, None, IfSome, inl, inr, refl, subst, sym, ap, ◌∙◌, arith, Equal, Less, Greater, FitsSigned, to_z, of_z, w64}
+use Rattle.std.proofs.lemmas.Bool.{and_parts}
 use Rattle.std.specs.Prelude.{int_lt}
 use Rattle.std.proofs.lemmas.Bool.Decides.{nat_tests}
 use Rattle.std.proofs.lemmas.Int.{ints, to_z-of_z}
@@ -19,7 +20,7 @@ use Rattle.spread_rulebook.specs.Instruments.{month_of}
 use Rattle.spread_rulebook.specs.Prices.{IsOrderPrice, IsLegPrice}
 use Rattle.spread_rules.specs.Legs.{other_side}
 use Rattle.spread_rules.proofs.ranks.PlainIsLeast.{ranks}
-use Rattle.spread_rules.proofs.clearings.BoughtIsSold.{on_price}
+use Rattle.spread_rules.proofs.clearings.BoughtIsSold.{on_price, is_less, is_not_less, so_true}
 use Rattle.spread_books.specs.Listed.{IsNearBeforeFar, IsNearFirst}
 use Rattle.order_books.specs.declared.pair.PairCost.{PairCost}
 use Rattle.spread_books.specs.code.Best.{Beats, CoversTwo, CoversBelow}
@@ -40,28 +41,13 @@ record IsMonthPair (side : Side) (m k : ℕ) (sa : Side) (A : Instrument) (sb : 
   and : B ≡ Outright k
   and_on : sb ≡ other_side side
 
-holds : (b : Bool) (v p : ℤ) → price_if b v ≡ Some p → b ≡ true
-holds true v p h = refl
-holds false v p h = cc
-
-both : (a b : Bool) → (a && b) ≡ true → (a ≡ true) × (b ≡ true)
-both true true h = (refl, refl)
-both true false h = cc
-both false b h = cc
-
 number_is : (m n : ℕ) → (m == n) ≡ true → m ≡ n
 number_is m n e = grind (arith, nat_tests, e)
 
 months_are : (m i l j : ℕ) → (m == i && l == j) ≡ true → (m ≡ i) × (l ≡ j)
 months_are m i l j h =
-    let t = both (m == i) (l == j) h in
+    let t = and_parts (m == i) (l == j) h in
     (number_is m i t.0, number_is l j t.1)
-
-is_less : (m k : ℕ) → m < k → nat_lt m k ≡ true
-is_less m k h = grind (arith, nat_tests)
-
-is_not_less : (m k : ℕ) → k < m → nat_lt m k ≡ false
-is_not_less m k h = grind (arith, nat_tests)
 
 -- of two months that are in that order
 pair_of : (s : Side) (m k l : ℕ) (in_order : Bool) → nat_lt m k ≡ in_order → l ≡ k →
@@ -81,10 +67,10 @@ far_pair s m k i j l h near at =
     subst (λ (A : Instrument). IsMonthPair s m k s A (other_side s) (Outright l)) of (pair_of s m k l false (is_not_less m k (omega (arith, t.0, t.1))) at)
 
 month_pair : (s : Side) (m k : ℕ) (sa : Side) (A : Instrument) (sb : Side) (B : Instrument) (x y p : ℤ) → implied_price s (Outright m) sa A sb B x y ≡ Some p → IsNearBeforeFar A → month_of B ≡ k → IsMonthPair s m k sa A sb B
-month_pair Buy m k Sell (Spread i j) Sell (Outright l) x y p h near at = near_pair Buy m k i j l (holds _ _ p h) near at
-month_pair Sell m k Buy (Spread i j) Buy (Outright l) x y p h near at = near_pair Sell m k i j l (holds _ _ p h) near at
-month_pair Buy m k Buy (Spread i j) Sell (Outright l) x y p h near at = far_pair Buy m k i j l (holds _ _ p h) near at
-month_pair Sell m k Sell (Spread i j) Buy (Outright l) x y p h near at = far_pair Sell m k i j l (holds _ _ p h) near at
+month_pair Buy m k Sell (Spread i j) Sell (Outright l) x y p h near at = near_pair Buy m k i j l (so_true _ _ p h) near at
+month_pair Sell m k Buy (Spread i j) Buy (Outright l) x y p h near at = near_pair Sell m k i j l (so_true _ _ p h) near at
+month_pair Buy m k Buy (Spread i j) Sell (Outright l) x y p h near at = far_pair Buy m k i j l (so_true _ _ p h) near at
+month_pair Sell m k Sell (Spread i j) Buy (Outright l) x y p h near at = far_pair Sell m k i j l (so_true _ _ p h) near at
 month_pair _ m k _ _ _ _ x y p h near at = cc
 
 itself : (m k : ℕ) (v : ℤ) → price_if (m == m && k == k) v ≡ Some v

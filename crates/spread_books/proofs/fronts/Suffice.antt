@@ -1,5 +1,6 @@
 -- who is eligible stands in one of the queues
 use Rattle.std.proofs.Common.{◌≡◌, ℕ, ◌+◌, ◌<◌, ℤ, Bool, true, false, ◌&&◌, List, Option, Some, None, ◌⊎◌, inl, inr, refl, sym, arith, nat_lt}
+use Rattle.std.proofs.lemmas.Bool.{and_parts}
 use Rattle.std.proofs.lemmas.Bool.Decides.{nat_tests}
 use Rattle.spread_rules.specs.declared.order.Side.{Side}
 use Rattle.spread_rules.specs.declared.order.Side.TheVariants.{Buy, Sell}
@@ -13,7 +14,7 @@ use Rattle.spread_rules.specs.Candidates.{price_if, implied_price, are_opposite,
 use Rattle.spread_rulebook.specs.Instruments.{month_of}
 use Rattle.spread_rules.specs.Quiet.{Rests}
 use Rattle.spread_rules.specs.Legs.{other_side}
-use Rattle.order_books.proofs.fronts.FoldGivesFront.{same_instrument_is}
+use Rattle.spread_rules.proofs.clearings.BoughtIsSold.{same_instrument_is, so_true}
 use Rattle.spread_books.specs.Listed.{IsInMonths}
 use Rattle.spread_books.specs.code.Best.{IsFair, Beats, CoversOne}
 
@@ -25,18 +26,6 @@ module _ (on : Pairs) where
   pub less_or_same : (m k : ℕ) → m < k + 1 → (m < k) ⊎ (m ≡ k)
   less_or_same m k h = below_or_at m k (nat_lt m k) refl h
 
-  so_true : (b : Bool) (v p : ℤ) → price_if b v ≡ Some p → b ≡ true
-  so_true true v p h = refl
-  so_true false v p h = cc
-
-  and_left : (a b : Bool) → (a && b) ≡ true → a ≡ true
-  and_left true b h = refl
-  and_left false b h = cc
-
-  and_right : (a b : Bool) → (a && b) ≡ true → b ≡ true
-  and_right true b h = h
-  and_right false b h = cc
-
   opposite_is : (a b : Side) → are_opposite a b ≡ true → b ≡ other_side a
   opposite_is Buy Sell h = refl
   opposite_is Sell Buy h = refl
@@ -47,7 +36,7 @@ module _ (on : Pairs) where
   pub single_rests : (n : Order) (xs : List Order) (o : Order) (price : ℤ) → IsEligible on n xs (record { price = price; counterparty = Direct o }) → Rests xs n.instrument (other_side n.side) o
   single_rests n xs o price e =
       let t = so_true _ _ _ e.meets in
-      record { stands = e.stands; instrument_is = sym (same_instrument_is _ _ (and_left _ _ t)); side_is = opposite_is _ _ (and_right _ _ t) }
+      record { stands = e.stands; instrument_is = sym (same_instrument_is _ _ (and_parts _ _ t).0); side_is = opposite_is _ _ (and_parts _ _ t).1 }
 
   -- the pairs of a spread
   pub record IsSpreadPair (i j : ℕ) (s sa : Side) (A : Instrument) (sb : Side) (B : Instrument) : Type 0 where

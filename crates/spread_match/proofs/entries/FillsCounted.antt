@@ -13,28 +13,26 @@ use Rattle.spread_rules.specs.declared.candidate.Counterparty.TheVariants.{Direc
 use Rattle.spread_rules.specs.Candidates.{least_left, AllStandIn, is_within_limit, PlacesDiffer, Pairs}
 use Rattle.spread_rules.specs.Clearing.{Trading, next_candidate, turn, turns, after_match, after_fill, removed, reduced, with_less_left, fills_of, fill_of, members, leg_prices}
 use Rattle.spread_rulebook.proofs.lists.Membership.{in_cons_cases, not_in_nil, from_map}
-use Rattle.spread_rules.proofs.clearings.TurnsEnd.{members_rest, next_meets, next_left, next_least}
+use Rattle.spread_rules.proofs.clearings.TurnsEnd.{members_rest, next_meets, next_left, next_least, from_filter, less_place}
 use Rattle.spread_match.specs.Trade.{IsTradable}
 use Rattle.spread_match.specs.code.Turns.{AreApart}
 use Rattle.spread_match.specs.Sound.{IsCounted, IsNamed, KeepsLimit}
 use Rattle.spread_match.proofs.turns.NotAgainstItself.{are_apart}
 use Rattle.spread_match.proofs.turns.StaysTradable.{still_tradable}
 use Rattle.spread_match.proofs.turns.OneTurn.{least_some}
-use Rattle.spread_match.proofs.turns.StaysAfterAFill.{still_there, still_differ, from_filter}
+use Rattle.spread_match.proofs.turns.StaysAfterAFill.{still_there, still_differ}
+use Rattle.spread_match.proofs.status_rows.MarkedRows.{same_number}
 use Rattle.spread_rules.specs.Meaning.{PastTicket, filled}
 
 pub filled_push : (place : ℕ) (fs : List Fill) (f : Fill) → filled place (fs ++ f ∷ []) ≡ filled place fs + cond (f.order == place) f.quantity 0
 filled_push place [] f = omega arith
 filled_push place (g ∷ fs) f = omega (arith, filled_push place fs f)
 
-test_same : (a b : ℕ) → a ≡ b → (a == b) ≡ true
+pub test_same : (a b : ℕ) → a ≡ b → (a == b) ≡ true
 test_same a b h = grind (arith, nat_tests)
 
 test_other : (a b : ℕ) → a ≢ b → (a == b) ≡ false
 test_other a b h = grind (arith, nat_tests)
-
-same_test : (a b : ℕ) → (a == b) ≡ true → a ≡ b
-same_test a b h = grind (arith, nat_tests)
 
 pub filled_own : (fs : List Fill) (f : Fill) → filled f.order (fs ++ f ∷ []) ≡ filled f.order fs + f.quantity
 filled_own fs f = filled_push f.order fs f ∙ ap (λ (t : Bool). filled f.order fs + cond t f.quantity 0) (test_same f.order f.order refl)
@@ -96,7 +94,7 @@ more_before n made f h k = λ g c. elim (Contains-push_cases made f g c) [ inl d
 
 within_at : (fs : List Fill) (f g : Fill) (done quantity : ℕ) (b : Bool) → (f.order == g.order) ≡ b → filled g.order fs ≤ g.total → filled f.order (fs ++ f ∷ []) ≤ quantity → (f.order ≡ g.order → quantity ≤ g.total) → filled g.order (fs ++ f ∷ []) ≤ g.total
 within_at fs f g done quantity true e h k t =
-    let same = same_test f.order g.order e in
+    let same = same_number f.order g.order e in
     let total = t same in
     let l = subst (λ (x : ℕ). filled x (fs ++ f ∷ []) ≤ quantity) same k in omega arith
 within_at fs f g done quantity false e h k t =
@@ -166,14 +164,10 @@ pub kept_other : (place : ℕ) (xs : List Order) (o : Order) → Contains (remov
 kept_other place [] o c = absurd (not_in_nil o c)
 kept_other place (x ∷ xs) o c = kept_at place x (removed place xs) o (x.place == place) refl (kept_other place xs o) c
 
-less_place : (place by : ℕ) (o : Order) (b : Bool) → (cond b (record o { leaves = o.leaves - by }) o).place ≡ o.place
-less_place place by o true = refl
-less_place place by o false = refl
-
 less_cases : (P Q : Order → Type 0) (m o : Order) (q : ℕ) (b : Bool) → (o.place == m.place) ≡ b → (o.place ≡ m.place → o ≡ m) → (P m → Q (record m { leaves = m.leaves - q })) → (o.place ≢ m.place → P o → Q o) → P o →
     Q (cond b (record o { leaves = o.leaves - q }) o)
 less_cases P Q m o q true e d less other k =
-    let same = d (same_test o.place m.place e) in subst (λ (w : Order). Q (record w { leaves = w.leaves - q })) (sym same) (less (subst P same k))
+    let same = d (same_number o.place m.place e) in subst (λ (w : Order). Q (record w { leaves = w.leaves - q })) (sym same) (less (subst P same k))
 less_cases P Q m o q false e d less other k = other (no_place m.place o e) k
 
 -- what then holds of each order that rests: of the member, and of every other

@@ -1,5 +1,6 @@
 -- the order of a session's id is the one at the place that the status of that id names
 use Rattle.std.proofs.Common.{◌≡◌, ℕ, ◌==◌, true, false, List, Contains, Option, Some, None, refl, subst, sym, ap, ◌∙◌, arith}
+use Rattle.std.proofs.lemmas.Bool.{and_parts}
 use Rattle.std.specs.Prelude.{option_map}
 use Rattle.std.specs.List.{find}
 use Rattle.std.specs.Str.{bytes_eq}
@@ -13,12 +14,12 @@ use Rattle.spread_rules.specs.Meaning.{has_id, is_own}
 use Rattle.order_tables.proofs.places.Ascending.{unfound, unfound_by}
 use Rattle.spread_match.specs.code.StateAfter.{AreKnown, place_of_id}
 use Rattle.spread_match.proofs.entries.FoundStands.{find_holds, find_none, find_stands}
-use Rattle.spread_match.proofs.status_rows.MarkedRows.{both_are, same_number}
+use Rattle.spread_match.proofs.status_rows.MarkedRows.{same_number}
 
 -- an order of that session and id stands at the place that their status names
 known_own : (xs : List Order) (ss : List OrderStatus) (session : ℕ) (id : List ℕ) (o : Order) → AreKnown ss xs → Contains xs o → is_own session id o ≡ true → place_of_id ss session id ≡ Some o.place
 known_own xs ss session id o known c e =
-    let k = both_are (o.session == session) (bytes_eq o.id id) e in
+    let k = and_parts (o.session == session) (bytes_eq o.id id) e in
     let at = All-contains (λ (w : Order). place_of_id ss w.session w.id ≡ Some w.place) xs o known c in
     subst (λ (n : ℕ). place_of_id ss n id ≡ Some o.place) (same_number o.session session k.0) (subst (λ (i : List ℕ). place_of_id ss o.session i ≡ Some o.place) ((bytes_eq-Decides o.id id).0 k.1) at)
 

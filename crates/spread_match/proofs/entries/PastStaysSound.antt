@@ -9,7 +9,7 @@ use Rattle.spread_rules.specs.declared.fill.Fill.{Fill}
 use Rattle.spread_rules.specs.Candidates.{HasOrderPrice, Pairs}
 use Rattle.spread_rules.specs.Clearing.{Trading, begin, clear, removed}
 use Rattle.spread_rulebook.proofs.lists.Membership.{in_head, in_tail, not_in_nil}
-use Rattle.spread_rules.proofs.clearings.TurnsEnd.{keeps_turns}
+use Rattle.spread_rules.proofs.clearings.TurnsEnd.{keeps_turns, from_filter}
 use Rattle.spread_rules.specs.declared.outcome.OrderStatus.{OrderStatus}
 use Rattle.spread_rules.specs.declared.event.Ticket.{Ticket}
 use Rattle.spread_rules.specs.declared.event.Entry.{Entry}
@@ -32,7 +32,6 @@ use Rattle.spread_match.proofs.entries.Replaces.{IsOwn, accepted_unused, amended
 use Rattle.spread_match.proofs.status_rows.StatusesOfThePast.{statuses_more, unused}
 use Rattle.spread_rulebook.specs.Rulebook.{Rules, month_count, references_of, find_symbol, implied}
 use Rattle.spread_match.specs.State.{MarketState}
-use Rattle.spread_match.proofs.turns.StaysAfterAFill.{from_filter}
 
 -- the past after an entry of that meaning, and what is kept of it
 pub record IsKept (months : ℕ) (past : JournalState) (place : ℕ) (e : Entry) (m : EntryMeaning) : Type 0 where

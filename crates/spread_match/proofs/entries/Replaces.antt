@@ -1,5 +1,6 @@
 -- what a replace request comes to, case by case, and the orders that rest after it
 use Rattle.std.proofs.Common.{◌≡◌, ◌≢◌, ℕ, ◌==◌, ◌-◌, ◌<◌, ◌≤◌, Bool, true, false, not, ◌&&◌, cond, List, get_or, Contains, All, Option, Some, None, Result, Ok, Err, ◌⊎◌, inl, inr, refl, subst, sym, ap, ◌∙◌, arith}
+use Rattle.std.proofs.lemmas.Bool.{and_parts, not-true}
 use Rattle.std.specs.Prelude.{nat_le}
 use Rattle.std.specs.List.{find}
 use Rattle.std.specs.Str.{bytes_eq}
@@ -21,13 +22,13 @@ use Rattle.spread_rules.specs.Candidates.{HasOrderPrice, same_instrument}
 use Rattle.spread_rules.specs.Clearing.{clear, removed}
 use Rattle.spread_rules.specs.Legs.{is_side}
 use Rattle.spread_rules.specs.Meaning.{EntryMeaning, JournalState, cancel_of_nothing_resting, has_id, is_own, is_refused, keeping_means, keeps_place, may_replace, meaning_of, moved_to, moving_means, new_order_means, refusal_or_instrument, replace_means, replace_of_resting, replace_refused, statuses_of, ticket_of}
+use Rattle.spread_rules.proofs.clearings.BoughtIsSold.{same_instrument_is}
 use Rattle.spread_rulebook.specs.Rulebook.{Rules, find_symbol, references_of, implied}
 use Rattle.spread_rulebook.proofs.lists.Membership.{from_map}
 use Rattle.spread_books.specs.Listed.{IsNearFirst, IsInMonths}
-use Rattle.order_books.proofs.fronts.FoldGivesFront.{same_instrument_is}
 use Rattle.spread_match.specs.Trade.{IsTradable}
 use Rattle.spread_match.proofs.entries.FoundStands.{find_holds}
-use Rattle.spread_match.proofs.status_rows.MarkedRows.{both_are, same_number}
+use Rattle.spread_match.proofs.status_rows.MarkedRows.{same_number}
 
 -- ---- the order that is named
 
@@ -37,7 +38,7 @@ pub record IsOwn (session : ℕ) (id : List ℕ) (o : Order) : Type 0 where
 
 pub own_is : (xs : List Order) (session : ℕ) (id : List ℕ) (o : Order) → find (is_own session id) xs ≡ Some o → IsOwn session id o
 own_is xs session id o e =
-    let k = both_are (o.session == session) (bytes_eq o.id id) (find_holds (is_own session id) xs o e) in
+    let k = and_parts (o.session == session) (bytes_eq o.id id) (find_holds (is_own session id) xs o e) in
     record { session_is = same_number o.session session k.0; id_is = (bytes_eq-Decides o.id id).0 k.1 }
 
 -- ---- the cases of a request
@@ -59,28 +60,24 @@ same_side Sell Sell e = refl
 same_side Buy Sell e = cc
 same_side Sell Buy e = cc
 
-not_true : (b : Bool) → not b ≡ true → b ≡ false
-not_true true e = cc
-not_true false e = refl
-
 more_than : (a b : ℕ) → nat_le a b ≡ false → b < a
 more_than a b e = grind (arith, nat_tests, e)
 
 can_replace : (t : Ticket) (r : Order) (instrument : Result Instrument ℕ) → may_replace t r instrument ≡ true → nat_le t.quantity (done r) ≡ false → CanReplace t r instrument
 can_replace t r (Err reason) e m = cc
 can_replace t r (Ok i) e m =
-    let a = both_are (same_instrument i r.instrument && is_side t.side r.side) (not t.immediate) e in
-    let b = both_are (same_instrument i r.instrument) (is_side t.side r.side) a.0 in
+    let a = and_parts (same_instrument i r.instrument && is_side t.side r.side) (not t.immediate) e in
+    let b = and_parts (same_instrument i r.instrument) (is_side t.side r.side) a.0 in
     record {
       fits = ap (λ (j : Instrument). Ok j) (same_instrument_is i r.instrument b.0);
       side = same_side t.side r.side b.1;
-      day = not_true t.immediate a.1;
+      day = not-true t.immediate a.1;
       more = more_than t.quantity (done r) m;
     }
 
 can_keep : (t : Ticket) (r : Order) → keeps_place t r ≡ true → CanKeepPlace t r
 can_keep t r e =
-    let a = both_are (int_eq t.price r.price) (nat_le t.quantity r.quantity) e in
+    let a = and_parts (int_eq t.price r.price) (nat_le t.quantity r.quantity) e in
     let p = a.0 in let q = a.1 in
     record { price = grind (arith, ints, p); most = grind (arith, nat_tests, q) }
 

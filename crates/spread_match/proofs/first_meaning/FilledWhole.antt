@@ -1,5 +1,7 @@
 -- where nothing was replaced, a ticket's session and id have a fill that leaves nothing just where the fills of its place make its quantity
 use Rattle.std.proofs.Common.{◌≡◌, ◌≢◌, ℕ, zero, suc, ◌==◌, ◌+◌, ◌-◌, ◌<◌, ◌≤◌, ℤ, Bool, true, false, ◌&&◌, ◌||◌, List, [], ◌∷◌, ◌++◌, Contains, Option, Some, None, refl, subst, sym, ap, ◌∙◌, arith, append_assoc}
+use Rattle.std.proofs.Math.Bool.{or-false}
+use Rattle.std.proofs.lemmas.Bool.{and_parts}
 use Rattle.std.specs.Str.{bytes_eq}
 use Rattle.std.proofs.lemmas.Bool.Decides.{nat_tests}
 use Rattle.std.proofs.lemmas.Slice.Eq.{bytes_eq-Decides}
@@ -9,8 +11,8 @@ use Rattle.spread_rules.specs.declared.candidate.Candidate.{Candidate}
 use Rattle.spread_rules.specs.Clearing.{Trading, after_fill, after_match, next_candidate, turn, turns}
 use Rattle.spread_rules.specs.Meaning.{PastTicket, filled, is_filled, is_refused}
 use Rattle.spread_rules.proofs.clearings.TurnsEnd.{members_rest, next_left, next_least, next_meets}
-use Rattle.spread_match.proofs.entries.FillsCounted.{AreCounted, IsFill, IsRunning, each_after, filled_other, filled_own, member_filled, own_filled, running_with, turn_keeps}
-use Rattle.spread_match.proofs.status_rows.MarkedRows.{both_are, same_number}
+use Rattle.spread_match.proofs.entries.FillsCounted.{AreCounted, IsFill, IsRunning, each_after, filled_other, filled_own, member_filled, own_filled, running_with, turn_keeps, test_same}
+use Rattle.spread_match.proofs.status_rows.MarkedRows.{same_number}
 use Rattle.spread_match.proofs.status_rows.StatusesOfThePast.{any_more}
 use Rattle.spread_match.proofs.turns.NotAgainstItself.{are_apart}
 use Rattle.spread_match.proofs.turns.OneTurn.{least_some}
@@ -52,9 +54,6 @@ made_whole done quantity left q false e s h = let t : ((done + q) == quantity) �
 not_whole : (done quantity left : ℕ) → 0 < left → done + left ≡ quantity → (done == quantity) ≡ false
 not_whole done quantity left s h = grind (arith, nat_tests)
 
-same_test : (a b : ℕ) → a ≡ b → (a == b) ≡ true
-same_test a b h = grind (arith, nat_tests)
-
 -- the ticket's own fill
 marked_own : (fs : List Fill) (f : Fill) (o : Order) (q : ℕ) (p : PastTicket) → IsFill f o q → q ≤ o.leaves → 0 < q → filled o.place fs + o.leaves ≡ o.quantity → IsTicketOf o p → p.place ≡ o.place → IsMarked fs p → IsMarked (fs ++ f ∷ []) p
 marked_own fs f o q p is l s counts t at m =
@@ -63,7 +62,7 @@ marked_own fs f o q p is l s counts t at m =
     let more : filled p.place (fs ++ f ∷ []) ≡ filled p.place fs + f.quantity = subst (λ (k : ℕ). filled k (fs ++ f ∷ []) ≡ filled k fs + f.quantity) (is.order ∙ sym at) (filled_own fs f) in
     any_more (λ (g : Fill). g.session == p.session && bytes_eq g.id p.ticket.id && g.leaves == 0) fs f
     ∙ (ap (λ (b : Bool). b || (f.session == p.session && bytes_eq f.id p.ticket.id && f.leaves == 0)) (m ∙ not_whole (filled p.place fs) p.ticket.quantity o.leaves (omega arith) (omega arith))
-    ∙ (ap (λ (b : Bool). (b && bytes_eq f.id p.ticket.id) && f.leaves == 0) (same_test f.session p.session (is.session ∙ sym t.session))
+    ∙ (ap (λ (b : Bool). (b && bytes_eq f.id p.ticket.id) && f.leaves == 0) (test_same f.session p.session (is.session ∙ sym t.session))
     ∙ (ap (λ (b : Bool). b && f.leaves == 0) ((bytes_eq-Decides f.id p.ticket.id).1 (is.id ∙ sym t.id))
     ∙ (made_whole (filled p.place fs) p.ticket.quantity f.leaves f.quantity (f.leaves == 0) refl (omega arith) (omega arith)
     ∙ ap (λ (k : ℕ). k == p.ticket.quantity) (sym more)))))
@@ -72,19 +71,15 @@ marked_own fs f o q p is l s counts t at m =
 marked_other : (fs : List Fill) (f : Fill) (o : Order) (q : ℕ) (p : PastTicket) → IsFill f o q → p.place ≢ o.place → (p.session ≡ o.session → p.ticket.id ≡ o.id → p.place ≡ o.place) → IsMarked fs p → IsMarked (fs ++ f ∷ []) p
 marked_other fs f o q p is n only m = by_test (f.session == p.session && bytes_eq f.id p.ticket.id && f.leaves == 0) refl
   where
-    or_false : (b : Bool) → (b || false) ≡ b
-    or_false true = refl
-    or_false false = refl
-
     by_test : (b : Bool) → (f.session == p.session && bytes_eq f.id p.ticket.id && f.leaves == 0) ≡ b → IsMarked (fs ++ f ∷ []) p
     by_test true e =
-        let k = both_are (f.session == p.session && bytes_eq f.id p.ticket.id) (f.leaves == 0) e in
-        let i = both_are (f.session == p.session) (bytes_eq f.id p.ticket.id) k.0 in
+        let k = and_parts (f.session == p.session && bytes_eq f.id p.ticket.id) (f.leaves == 0) e in
+        let i = and_parts (f.session == p.session) (bytes_eq f.id p.ticket.id) k.0 in
         absurd (n (only (sym (same_number f.session p.session i.0) ∙ is.session) (sym ((bytes_eq-Decides f.id p.ticket.id).0 i.1) ∙ is.id)))
     by_test false e =
         any_more (λ (g : Fill). g.session == p.session && bytes_eq g.id p.ticket.id && g.leaves == 0) fs f
         ∙ (ap (λ (b : Bool). is_filled p.session p.ticket.id fs || b) e
-        ∙ (or_false (is_filled p.session p.ticket.id fs)
+        ∙ (or-false (is_filled p.session p.ticket.id fs)
         ∙ (m ∙ ap (λ (k : ℕ). k == p.ticket.quantity) (sym (filled_other p.place fs f (λ j. n (sym j ∙ is.order)))))))
 
 marked_more : (ps : List PastTicket) (fs : List Fill) (f : Fill) (o : Order) (q : ℕ) → IsFill f o q → q ≤ o.leaves → 0 < q → IsExact ps fs o → (p : PastTicket) → Contains ps p → is_refused p.outcome ≡ false → IsMarked fs p → IsMarked (fs ++ f ∷ []) p
@@ -92,7 +87,7 @@ marked_more ps fs f o q is l s x p c a m = by_test (p.place == o.place) refl
   where
     by_test : (b : Bool) → (p.place == o.place) ≡ b → IsMarked (fs ++ f ∷ []) p
     by_test true e = let at = same_number p.place o.place e in marked_own fs f o q p is l s x.counts (x.at p c a at) at m
-    by_test false e = marked_other fs f o q p is (λ k. (let t = same_test p.place o.place k in let no : true ≡ false = sym t ∙ e in cc)) (x.only p c a) m
+    by_test false e = marked_other fs f o q p is (λ k. (let t = test_same p.place o.place k in let no : true ≡ false = sym t ∙ e in cc)) (x.only p c a) m
 
 -- ---- a turn
 

@@ -24,7 +24,7 @@ use Rattle.spread_match.proofs.entries.PastStaysSound.{filled_none, new_asks, re
 use Rattle.spread_match.proofs.first_meaning.FilledWhole.{AreExact, IsExact, IsMarked, IsTicketOf, exact_turns}
 use Rattle.spread_match.proofs.status_rows.StatusesOfThePast.{not_named, not_named_at, unused}
 use Rattle.spread_rules.specs.Candidates.{Pairs}
-use Rattle.spread_match.proofs.turns.StaysAfterAFill.{from_filter}
+use Rattle.spread_rules.proofs.clearings.TurnsEnd.{from_filter}
 
 -- the ticket of a New entry, which was traded or refused
 pub record IsOfNew (p : PastTicket) : Type 0 where

@@ -24,12 +24,11 @@ use Rattle.spread_rules.specs.Clearing.{Trading, next_candidate, turn, turns, af
 use Rattle.spread_rules.specs.Meaning.{EntryMeaning, JournalState, PastTicket, after_entries, after_entry, cancel_means, has_id, is_own, meaning_of, meaning_of_journal, moved_to, new_order_means, no_entries, order_of, refusal_or_instrument, replace_means, resting, statuses_of}
 use Rattle.spread_rulebook.specs.Rulebook.{Rules, IsRules, IsListed, month_count, references_of, find_symbol, implied}
 use Rattle.spread_rulebook.proofs.lists.Membership.{in_cons_cases, in_head, in_tail, not_in_nil}
-use Rattle.spread_rules.proofs.clearings.TurnsEnd.{members_rest, next_meets}
-use Rattle.spread_rules.proofs.clearings.BoughtIsSold.{on_price}
+use Rattle.spread_rules.proofs.clearings.TurnsEnd.{members_rest, next_meets, from_filter}
+use Rattle.spread_rules.proofs.clearings.BoughtIsSold.{on_price, so_is}
 use Rattle.spread_match.specs.Sound.{IsSound, IsCounted, IsFillWithinLimits}
 use Rattle.spread_match.specs.Trade.{IsPriced, IsTradable, ArePriced}
 use Rattle.spread_match.proofs.entries.FillsCounted.{IsRunning, running_with}
-use Rattle.spread_books.proofs.fronts.PairCost.{so_is}
 use Rattle.spread_match.proofs.entries.NewOrder.{taken_is, traded_all}
 use Rattle.spread_match.proofs.entries.NamedInstrument.{listed_found, small_references}
 use Rattle.spread_match.proofs.entries.PastStaysSound.{AsksFor, started, entry_kept, moved_asks, new_asks, removed_tradable, rests_all}
@@ -38,7 +37,6 @@ use Rattle.spread_match.proofs.entries.Replaces.{all_amended, by_replace, own_is
 use Rattle.spread_rules.specs.Amended.{amended}
 use Rattle.spread_rules.specs.declared.outcome.Outcome.TheVariants.{Rested}
 use Rattle.spread_match.proofs.journals.AfterEveryEntry.{none_sound}
-use Rattle.spread_match.proofs.turns.StaysAfterAFill.{from_filter}
 
 -- ---- prices
 

@@ -1,5 +1,6 @@
 -- one status is marked, that of the one order of a session and id that was not refused
 use Rattle.std.proofs.Common.{◌≡◌, ℕ, zero, suc, ◌==◌, ◌<◌, Bool, true, false, not, ◌&&◌, cond, List, [], ◌∷◌, ◌++◌, map, length, get_or, set, All, Option, Some, None, refl, ap, ◌∙◌, sym, subst, arith}
+use Rattle.std.proofs.lemmas.Bool.{and_parts}
 use Rattle.std.specs.Prelude.{slice_get, option_and_then, nat_lt}
 use Rattle.std.proofs.lemmas.Option.{slice_get_read}
 use Rattle.std.specs.List.{find}
@@ -21,19 +22,14 @@ use Rattle.spread_match.proofs.status_rows.ByClOrdId.{find_is}
 
 -- ---- whose a status is
 
-pub both_are : (a b : Bool) → (a && b) ≡ true → (a ≡ true) × (b ≡ true)
-both_are true true e = (refl, refl)
-both_are true false e = cc
-both_are false b e = cc
-
 pub same_number : (a b : ℕ) → (a == b) ≡ true → a ≡ b
 same_number a b e = grind (arith, nat_tests, e)
 
 pub session_is : (session : ℕ) (id : List ℕ) (s : OrderStatus) → has_id session id s ≡ true → s.session ≡ session
-session_is session id s h = same_number s.session session (both_are (s.session == session) (bytes_eq s.id id) h).0
+session_is session id s h = same_number s.session session (and_parts (s.session == session) (bytes_eq s.id id) h).0
 
 pub id_is : (session : ℕ) (id : List ℕ) (s : OrderStatus) → has_id session id s ≡ true → s.id ≡ id
-id_is session id s h = (bytes_eq-Decides s.id id).0 (both_are (s.session == session) (bytes_eq s.id id) h).1
+id_is session id s h = (bytes_eq-Decides s.id id).0 (and_parts (s.session == session) (bytes_eq s.id id) h).1
 
 number_self : (n : ℕ) → (n == n) ≡ true
 number_self n = grind (arith, nat_tests)
@@ -62,7 +58,7 @@ closed_if session id s true e h = ap (λ (b : Bool). b && not (s.status == 8)) e
 closed_if session id s false e h = ap (λ (b : Bool). b && not (s.status == 8)) e
 
 open_has_id : (session : ℕ) (id : List ℕ) (s : OrderStatus) → is_open session id s ≡ true → has_id session id s ≡ true
-open_has_id session id s h = (both_are (has_id session id s) (not (s.status == 8)) h).0
+open_has_id session id s h = (and_parts (has_id session id s) (not (s.status == 8)) h).0
 
 -- behind the first of a session and id none is open
 closed_later : (session : ℕ) (id : List ℕ) (s : OrderStatus) (ss : List OrderStatus) → AreRefusedLater (s ∷ ss) → has_id session id s ≡ true → All (IsClosed session id) ss

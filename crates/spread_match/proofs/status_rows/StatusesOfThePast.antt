@@ -1,5 +1,7 @@
 -- the statuses that a past gives, after one entry more
 use Rattle.std.proofs.Common.{◌≡◌, ℕ, ◌==◌, Bool, true, false, not, ◌&&◌, ◌||◌, cond, List, [], ◌∷◌, ◌++◌, map, Contains, Option, Some, None, inl, inr, refl, ap, ◌∙◌, sym, append-nil, append_assoc, arith}
+use Rattle.std.proofs.Math.Bool.{or-false}
+use Rattle.std.proofs.lemmas.Bool.{and_parts}
 use Rattle.std.specs.List.{list_any, find}
 use Rattle.std.specs.Str.{bytes_eq}
 use Rattle.std.proofs.lemmas.Bool.Decides.{nat_tests}
@@ -16,7 +18,7 @@ use Rattle.spread_rules.specs.Meaning.{EntryMeaning, JournalState, PastTicket, h
 use Rattle.spread_rulebook.proofs.lists.Membership.{in_head, in_tail, in_cons_cases, not_in_nil}
 use Rattle.spread_match.specs.code.StateAfter.{first_status, is_open, status_after_fill, status_after_replace, statuses_after, statuses_after_replace}
 use Rattle.spread_match.specs.Sound.{IsNamed, IsOriginalNamed}
-use Rattle.spread_match.proofs.status_rows.MarkedRows.{both_are, same_number}
+use Rattle.spread_match.proofs.status_rows.MarkedRows.{same_number}
 
 -- ---- tests
 
@@ -39,11 +41,7 @@ bytes_turned a b = by_test (bytes_eq a b) refl (bytes_eq b a) refl
     by_test false e true f = let k = (bytes_eq-Decides a b).1 (sym ((bytes_eq-Decides b a).0 f)) in cc
 
 pub any_more : {X : Type 0} (p : X → Bool) (xs : List X) (x : X) → list_any p (xs ++ x ∷ []) ≡ (list_any p xs || p x)
-any_more p [] x = or_false (p x)
-  where
-    or_false : (b : Bool) → (b || false) ≡ b
-    or_false true = refl
-    or_false false = refl
+any_more p [] x = or-false (p x)
 any_more p (y ∷ xs) x = ap (λ (b : Bool). p y || b) (any_more p xs x) ∙ assoc (p y) (list_any p xs) (p x)
   where
     assoc : (a b c : Bool) → (a || (b || c)) ≡ ((a || b) || c)
@@ -145,11 +143,7 @@ with_replaced fills entered q p b e =
 none_replaced : (fills : List Fill) (entered : List PastTicket) (q p : PastTicket) → replaces q p.session p.ticket.id ≡ false → status_with fills (entered ++ q ∷ []) p ≡ status_with fills entered p
 none_replaced fills entered q p e =
     with_replaced fills entered q p false e
-    ∙ ap (λ (c : Bool). record (status_with fills entered p) { status = status_at (is_refused p.outcome) (is_filled p.session p.ticket.id fills) c }) (or_false (is_replaced p.session p.ticket.id entered))
-  where
-    or_false : (b : Bool) → (b || false) ≡ b
-    or_false true = refl
-    or_false false = refl
+    ∙ ap (λ (c : Bool). record (status_with fills entered p) { status = status_at (is_refused p.outcome) (is_filled p.session p.ticket.id fills) c }) (or-false (is_replaced p.session p.ticket.id entered))
 
 one_replaced : (fills : List Fill) (entered : List PastTicket) (q p : PastTicket) (original : List ℕ) → q.original ≡ Some original → is_refused q.outcome ≡ false →
     status_after_replace q.session original (status_with fills entered p) ≡ status_with fills (entered ++ q ∷ []) p
@@ -287,13 +281,13 @@ pub unused : (past : JournalState) (session : ℕ) (id : List ℕ) → find (has
 unused past session id none named originals = record {
   filled = none_is (λ (f : Fill). f.session == session && bytes_eq f.id id && f.leaves == 0) past.fills
       (λ f c e.
-      let k = both_are (f.session == session && bytes_eq f.id id) (f.leaves == 0) e in
-      let i = both_are (f.session == session) (bytes_eq f.id id) k.0 in
+      let k = and_parts (f.session == session && bytes_eq f.id id) (f.leaves == 0) e in
+      let i = and_parts (f.session == session) (bytes_eq f.id id) k.0 in
       not_named past session f.session id f.id none (named f c) (same_number f.session session i.0) ((bytes_eq-Decides f.id id).0 i.1));
   replaced = none_is (λ (p : PastTicket). replaces p session id) past.entered
       (λ p c e.
-      let k = both_are (p.session == session && names id p.original) (not (is_refused p.outcome)) e in
-      let i = both_are (p.session == session) (names id p.original) k.0 in
+      let k = and_parts (p.session == session && names id p.original) (not (is_refused p.outcome)) e in
+      let i = and_parts (p.session == session) (names id p.original) k.0 in
       not_original p c i.0 p.original refl i.1 (is_refused p.outcome) refl k.1);
 }
   where

@@ -1,5 +1,6 @@
 -- the new order is never a candidate against itself, and stays as it was added while the others trade
 use Rattle.std.proofs.Common.{◌≡◌, ◌≢◌, ℕ, ◌==◌, ◌-◌, ℤ, Bool, true, false, not, ◌&&◌, cond, List, [], ◌∷◌, ◌++◌, map, Option, Some, None, inl, inr, refl, subst, sym, ap, ◌∙◌, arith}
+use Rattle.std.proofs.lemmas.Bool.{and_parts}
 use Rattle.std.proofs.lemmas.Bool.Decides.{nat_tests}
 use Rattle.std.proofs.lemmas.List.Elements.{Contains-push_cases, Contains-append_left, filter-append}
 use Rattle.spread_rules.specs.declared.order.Side.{Side}
@@ -13,7 +14,8 @@ use Rattle.spread_rules.specs.declared.candidate.Counterparty.TheVariants.{Direc
 use Rattle.spread_rules.specs.Candidates.{price_if, implied_price, are_opposite, price_of, IsEligible, AllStandIn, PlacesDiffer, IsBest, Pairs}
 use Rattle.spread_rules.specs.Clearing.{removed, reduced, with_less_left}
 use Rattle.spread_match.specs.code.Turns.{AreApart}
-use Rattle.spread_rules.proofs.clearings.BoughtIsSold.{on_price}
+use Rattle.spread_rules.proofs.clearings.BoughtIsSold.{on_price, so_true}
+use Rattle.spread_match.proofs.turns.StaysAfterAFill.{other_place}
 
 not_first : (s : Side) (I : Instrument) (sb : Side) (B : Instrument) (x y p : ℤ) → implied_price s I s I sb B x y ≡ Some p → ⊥
 not_first Buy (Outright m) sb B x y p h = cc
@@ -62,14 +64,6 @@ not_opposite : (s : Side) → are_opposite s s ≡ true → ⊥
 not_opposite Buy h = cc
 not_opposite Sell h = cc
 
-so_true : (b : Bool) (v p : ℤ) → price_if b v ≡ Some p → b ≡ true
-so_true true v p h = refl
-so_true false v p h = cc
-
-and_right : (a b : Bool) → (a && b) ≡ true → b ≡ true
-and_right true b h = h
-and_right false b h = cc
-
 -- of the instrument and side of the new order
 pub record IsLike (n own : Order) : Type 0 where
   pub instrument : own.instrument ≡ n.instrument
@@ -80,9 +74,6 @@ with_own own xs (Direct o) c = Contains-append_left xs (own ∷ []) o c
 with_own own xs (Implied a b) c = (Contains-append_left xs (own ∷ []) a c.0, Contains-append_left xs (own ∷ []) b c.1)
 
 -- ---- the new order stays
-
-other_place : (a b : ℕ) → b ≢ a → (b == a) ≡ false
-other_place a b h = grind (arith, nat_tests)
 
 pub map_push : (f : Order → Order) (xs : List Order) (y : Order) → map f (xs ++ y ∷ []) ≡ map f xs ++ f y ∷ []
 map_push f [] y = refl
@@ -101,7 +92,7 @@ module _ (on : Pairs) where
   -- own is in no candidate
   pub own_single : (n own o : Order) (p : ℤ) → IsLike n own → own ≡ o → price_of on n (Direct o) ≡ Some p → ⊥
   own_single n own o p l e h =
-      let t = and_right _ _ (so_true _ _ p h) in
+      let t = (and_parts _ _ (so_true _ _ p h)).1 in
       let s : o.side ≡ n.side = sym (ap (λ (w : Order). w.side) e) ∙ l.side in
       not_opposite n.side (subst (λ (x : Side). are_opposite n.side x ≡ true) s t)
 

@@ -5,8 +5,9 @@ use Rattle.spread_rules.specs.declared.order.Order.{Order}
 use Rattle.spread_rules.specs.Clearing.{removed, reduced, with_less_left}
 use Rattle.spread_rulebook.proofs.lists.Membership.{not_in_nil, in_head, in_tail, in_cons_cases, in_map, from_map}
 use Rattle.spread_rules.specs.Candidates.{PlacesDiffer}
+use Rattle.spread_rules.proofs.clearings.TurnsEnd.{from_filter, less_place}
 
-other_place : (a b : ℕ) → b ≢ a → (b == a) ≡ false
+pub other_place : (a b : ℕ) → b ≢ a → (b == a) ≡ false
 other_place a b h = grind (arith, nat_tests)
 
 stays_at : (x : Order) (ys : List Order) (b : Order) (t : Bool) → Contains (x ∷ []) b ⊎ Contains ys b → (Contains (x ∷ []) b → t ≡ true) → Contains (cond t (x ∷ ys) ys) b
@@ -21,18 +22,6 @@ in_filtered p (x ∷ xs) b h c =
     stays_at x (filter p xs) b (p x)
     (elim (in_cons_cases x xs b c) [ inl e ↦ inl (subst (Contains (x ∷ [])) e (in_head x [])) | inr d ↦ inr (in_filtered p xs b h d) ])
     (λ d. elim (in_cons_cases x [] b d) [ inl e ↦ ap p e ∙ h | inr z ↦ absurd (not_in_nil b z) ])
-
-from_head : (x : Order) (ys xs : List Order) (o : Order) (b : Bool) → (Contains ys o → Contains xs o) → Contains (cond b (x ∷ ys) ys) o → Contains (x ∷ xs) o
-from_head x ys xs o true h c = elim (in_cons_cases x ys o c) [ inl e ↦ subst (Contains (x ∷ xs)) e (in_head x xs) | inr d ↦ in_tail x xs o (h d) ]
-from_head x ys xs o false h c = in_tail x xs o (h c)
-
-pub from_filter : (p : Order → Bool) (xs : List Order) (o : Order) → Contains (filter p xs) o → Contains xs o
-from_filter p [] o c = c
-from_filter p (x ∷ xs) o c = from_head x (filter p xs) xs o (p x) (from_filter p xs o) c
-
-less_place : (place by : ℕ) (o : Order) (t : Bool) → (cond t (record o { leaves = o.leaves - by }) o).place ≡ o.place
-less_place place by o true = refl
-less_place place by o false = refl
 
 -- another order stays as it is
 pub still_there : (q : ℕ) (xs : List Order) (a b : Order) (t : Bool) → a.place ≢ b.place → Contains xs b → Contains (cond t (removed a.place xs) (reduced a.place q xs)) b

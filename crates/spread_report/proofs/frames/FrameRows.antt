@@ -3,7 +3,7 @@ use Rattle.std.proofs.Common.{◌≡◌, ◌≢◌, ℕ, ◌+◌, ◌*◌, ◌�
 use Rattle.std.specs.Prelude.{nat_le}
 use Rattle.std.specs.List.{AllByRecursion, concat, list_all}
 use Rattle.std.proofs.lemmas.List.Folds.{concat-append}
-use Rattle.std.proofs.lemmas.Bool.{leb-true}
+use Rattle.std.proofs.lemmas.Bool.{leb-true, and_parts}
 use Rattle.fix_wire.specs.declared.writer.Field.{Field}
 use Rattle.fix_wire.specs.declared.writer.Head.{Head}
 use Rattle.fix_wire.specs.Layout.{message_text, body_text, FitsKind, FitsTags, FitsBody, IsReadBack}
@@ -31,21 +31,13 @@ pub message_row : (h : Head) (fs : List Field) → IsFrame (message_text h fs) �
     → IsRow (as_message (message_text h fs)) (message_text h fs)
 message_row h fs lawful first = record { joined = append-nil (message_text h fs); whole = (lawful, tt); read = first }
 
-and_first : (a b : Bool) → a && b ≡ true → a ≡ true
-and_first true b e = refl
-and_first false b e = e
-
-and_second : (a b : Bool) → a && b ≡ true → b ≡ true
-and_second true b e = e
-and_second false b e = cc
-
 tags_of : (fs : List Field) → list_all has_tag fs ≡ true → FitsTags fs
 tags_of [] e = tt
 tags_of (f ∷ fs) e =
-    let here : has_tag f ≡ true = and_first (has_tag f) (list_all has_tag fs) e in
-    let low : 1 ≤ f.tag = leb-true 1 f.tag (and_first (nat_le 1 f.tag) (nat_le f.tag 999999999) here) in
-    let high : f.tag ≤ 999999999 = leb-true f.tag 999999999 (and_second (nat_le 1 f.tag) (nat_le f.tag 999999999) here) in
-    ((low, omega (arith, high)), tags_of fs (and_second (has_tag f) (list_all has_tag fs) e))
+    let here : has_tag f ≡ true = (and_parts (has_tag f) (list_all has_tag fs) e).0 in
+    let low : 1 ≤ f.tag = leb-true 1 f.tag (and_parts (nat_le 1 f.tag) (nat_le f.tag 999999999) here).0 in
+    let high : f.tag ≤ 999999999 = leb-true f.tag 999999999 (and_parts (nat_le 1 f.tag) (nat_le f.tag 999999999) here).1 in
+    ((low, omega (arith, high)), tags_of fs (and_parts (has_tag f) (list_all has_tag fs) e).1)
 
 -- what the writer wrote is one frame
 pub written_row : (h : Head) (fs : List Field) → h.kind ≢ 1 → list_all has_tag fs ≡ true → length fs ≤ 18 → length (body_text h fs) ≤ 64 * length fs + 180

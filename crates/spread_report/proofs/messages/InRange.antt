@@ -2,7 +2,7 @@
 use Rattle.std.proofs.Common.{◌≡◌, ◌≢◌, ℕ, ◌+◌, ◌*◌, ◌<◌, ◌≤◌, ◌^◌, ◌==◌, Bool, true, false, ◌&&◌, if◌then◌else◌, ◌||◌, List, [], ◌∷◌, ◌++◌, length, get_or, codes, refl, arith, length-append, Option, Some, None}
 use Rattle.std.specs.Prelude.{ℤ, unsigned_abs, nat_le}
 use Rattle.std.specs.List.{AllByRecursion}
-use Rattle.std.proofs.lemmas.Bool.{leb-true}
+use Rattle.std.proofs.lemmas.Bool.{leb-true, and_parts}
 use Rattle.std.proofs.lemmas.Bool.Decides.{nat_tests}
 use Rattle.fix_wire.specs.declared.writer.Field.{Field}
 use Rattle.host_base.specs.Ids.{is_id, is_plain}
@@ -33,19 +33,11 @@ use Rattle.spread_report.proofs.messages.SymbolIds.{joined_id}
 
 -- ---- ids
 
-and_first : (a b : Bool) → a && b ≡ true → a ≡ true
-and_first true b e = refl
-and_first false b e = e
-
-and_second : (a b : Bool) → a && b ≡ true → b ≡ true
-and_second true b e = e
-and_second false b e = cc
-
 pub id_plain : (t : List ℕ) → is_id t ≡ true → is_plain t ≡ true
-id_plain t e = and_second (nat_le 1 (length t) && nat_le (length t) 32) (is_plain t) e
+id_plain t e = (and_parts (nat_le 1 (length t) && nat_le (length t) 32) (is_plain t) e).1
 
 pub id_short : (t : List ℕ) → is_id t ≡ true → length t ≤ 32
-id_short t e = leb-true (length t) 32 (and_second (nat_le 1 (length t)) (nat_le (length t) 32) (and_first (nat_le 1 (length t) && nat_le (length t) 32) (is_plain t) e))
+id_short t e = leb-true (length t) 32 (and_parts (nat_le 1 (length t)) (nat_le (length t) 32) (and_parts (nat_le 1 (length t) && nat_le (length t) 32) (is_plain t) e).0).1
 
 -- ---- contents
 

@@ -1,5 +1,6 @@
 -- Messages, and more messages after them.
 use Rattle.std.proofs.Common.{◌≡◌, ℕ, ◌≤◌, ◌==◌, Bool, true, false, List, [], ◌∷◌, ◌++◌, ◌||◌, length, take, subst, refl, sym, ap, ◌∙◌, arith, append_assoc, length-append, Ok, Err, Result}
+use Rattle.std.proofs.Math.Bool.{or_assoc}
 use Rattle.std.proofs.Math.Seq.{take-append_seam}
 use Rattle.std.proofs.lemmas.List.{take-take}
 use Rattle.std.specs.declared.vec.Vec.{Vec}
@@ -48,15 +49,11 @@ row-append stamp s l k xs ys e p q =
     let after : IsRow (texts_to stamp s (outbound_after s l xs) ys) (messages_bytes stamp s (outbound_after s l xs) ys) = subst (λ (j : OutboundSession). IsRow (texts_to stamp s j ys) (messages_bytes stamp s j ys)) e q in
     rw (texts_to-append stamp s l xs ys, messages_bytes-append stamp s l xs ys) (rows_both (texts_to stamp s l xs) (texts_to stamp s (outbound_after s l xs) ys) (messages_bytes stamp s l xs) (messages_bytes stamp s (outbound_after s l xs) ys) p after)
 
-or_assoc : (a b d : Bool) → a || (b || d) ≡ (a || b) || d
-or_assoc true b d = refl
-or_assoc false b d = refl
-
 pub spends-append : (s : ℕ) (l : OutboundSession) (xs ys : List AddressedMessage) → spends s l (xs ++ ys) ≡ spends s l xs || spends s (outbound_after s l xs) ys
 spends-append s l [] ys = refl
 spends-append s l (m ∷ ms) ys =
     ap (λ (t : Bool). needs_number_for s l m || t) (spends-append s (outbound_for s l m) ms ys)
-    ∙ or_assoc (needs_number_for s l m) (spends s (outbound_for s l m) ms) (spends s (outbound_after s (outbound_for s l m) ms) ys)
+    ∙ sym (or_assoc (needs_number_for s l m) (spends s (outbound_for s l m) ms) (spends s (outbound_after s (outbound_for s l m) ms) ys))
 
 or_left : (a b : Bool) → a ≡ true → a || b ≡ true
 or_left a b e = rw e refl

@@ -1,5 +1,6 @@
 -- One message of one session.
 use Rattle.std.proofs.Common.{◌≡◌, ◌≢◌, ℕ, ◌<◌, nat_lt, codes, subst, Bool, true, false, List, [], ◌∷◌, ◌++◌, ◌||◌, map, length, get_or, refl, sym, ap, ◌∙◌, inl, inr, arith, append-nil, Option, Some, None, Result}
+use Rattle.std.proofs.Math.Bool.{or-false}
 use Rattle.std.proofs.Math.ListN.{set}
 use Rattle.std.proofs.lemmas.List.{map-set, get_or-set_other, get_or-set_same, length-map, length-set, take_all, get_or_default, get_or-map, set-get_or}
 use Rattle.std.proofs.lemmas.Bool.{cases_eq, eq-eqb, ne_eqb}
@@ -33,10 +34,6 @@ module _ {A : Type 0} (x : List (Vec ℕ A)) (i : ℕ) where
       ap (λ (ys : List (List ℕ)). get_or ys s []) (map-set (λ (w : Vec ℕ A). w.items) x i v)
       ∙ get_or-set_other (map (λ (w : Vec ℕ A). w.items) x) i s v.items [] apart
 
-or_false : (b : Bool) → b || false ≡ b
-or_false true = refl
-or_false false = refl
-
 -- what one message does to its own session, and to another
 module _ (stamp : List ℕ) (l : OutboundSession) (content : MessageContent) where
   pub bytes_same : (i : ℕ) → messages_bytes stamp i l (one i content) ≡ message_bytes stamp l.comp_ids l.next content
@@ -58,7 +55,7 @@ module _ (stamp : List ℕ) (l : OutboundSession) (content : MessageContent) whe
   line_other i s apart = rw (ne_eqb i s (λ h. apart (sym h))) refl
 
   pub spends_same : (i : ℕ) → spends i l (one i content) ≡ needs_number_above_limit l.comp_ids l.next content
-  spends_same i = rw (eq-eqb i i refl) (or_false (needs_number_above_limit l.comp_ids l.next content))
+  spends_same i = rw (eq-eqb i i refl) (or-false (needs_number_above_limit l.comp_ids l.next content))
 
   pub spends_other : (i s : ℕ) → s ≢ i → spends s l (one i content) ≡ false
   spends_other i s apart = rw (ne_eqb i s (λ h. apart (sym h))) refl

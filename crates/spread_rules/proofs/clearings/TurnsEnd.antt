@@ -13,19 +13,25 @@ use Rattle.spread_rules.proofs.ranks.PlainIsLeast.{first_is_least}
 use Rattle.spread_rules.proofs.clearings.StaysQuiet.{NoneFor, ComeFrom, come_itself, come_on, quiet_less, quiet_with}
 use Rattle.spread_rules.specs.Candidates.{Pairs}
 
+-- ---- one order of a list
+
+kept_in : (x : Order) (ys xs : List Order) (o : Order) (b : Bool) → (Contains ys o → Contains xs o) → Contains (cond b (x ∷ ys) ys) o → Contains (x ∷ xs) o
+kept_in x ys xs o true on c = elim (in_cons_cases x ys o c) [ inl e ↦ subst (Contains (x ∷ xs)) e (in_head x xs) | inr d ↦ in_tail x xs o (on d) ]
+kept_in x ys xs o false on c = in_tail x xs o (on c)
+
+pub from_filter : (p : Order → Bool) (xs : List Order) (o : Order) → Contains (filter p xs) o → Contains xs o
+from_filter p [] o c = c
+from_filter p (x ∷ xs) o c = kept_in x (filter p xs) xs o (p x) (from_filter p xs o) c
+
+pub less_place : (place by : ℕ) (o : Order) (b : Bool) → (cond b (record o { leaves = o.leaves - by }) o).place ≡ o.place
+less_place place by o true = refl
+less_place place by o false = refl
+
 module _ (on : Pairs) where
   -- ---- where orders come from
 
-  kept_in : (x : Order) (ys xs : List Order) (o : Order) (b : Bool) → (Contains ys o → Contains xs o) → Contains (cond b (x ∷ ys) ys) o → Contains (x ∷ xs) o
-  kept_in x ys xs o true on c = elim (in_cons_cases x ys o c) [ inl e ↦ subst (Contains (x ∷ xs)) e (in_head x xs) | inr d ↦ in_tail x xs o (on d) ]
-  kept_in x ys xs o false on c = in_tail x xs o (on c)
-
-  pub in_filter : (p : Order → Bool) (xs : List Order) (o : Order) → Contains (filter p xs) o → Contains xs o
-  in_filter p [] o c = c
-  in_filter p (x ∷ xs) o c = kept_in x (filter p xs) xs o (p x) (in_filter p xs o) c
-
   pub come_removed : (place : ℕ) (xs : List Order) → ComeFrom on xs (removed place xs)
-  come_removed place xs = record { each = λ of side o r. (o, record { stands = in_filter (λ (p : Order). not (p.place == place)) xs o r.stands; instrument_is = r.instrument_is; side_is = r.side_is }, refl) }
+  come_removed place xs = record { each = λ of side o r. (o, record { stands = from_filter (λ (p : Order). not (p.place == place)) xs o r.stands; instrument_is = r.instrument_is; side_is = r.side_is }, refl) }
 
   -- what loses some keeps the rest
   less_instrument : (place by : ℕ) (o : Order) (b : Bool) → (cond b (record o { leaves = o.leaves - by }) o).instrument ≡ o.instrument
@@ -155,10 +161,6 @@ module _ (on : Pairs) where
   spent_shorter q xs m false e h = cc
 
   -- whoever rests still has its place there, or the list is shorter already
-  less_place : (place by : ℕ) (o : Order) (b : Bool) → (cond b (record o { leaves = o.leaves - by }) o).place ≡ o.place
-  less_place place by o true = refl
-  less_place place by o false = refl
-
   still_at : (q : ℕ) (xs : List Order) (a b : Order) (t : Bool) → Contains xs a → Contains xs b → (length (cond t (removed a.place xs) (reduced a.place q xs)) < length xs) ⊎ HasAt (cond t (removed a.place xs) (reduced a.place q xs)) b.place
   still_at q xs a b true ca cb = inl (spent_shorter q xs a true refl (record { order = a; stands = ca; at = refl }))
   still_at q xs a b false ca cb = inr (record { order = with_less_left a.place q b; stands = in_map (with_less_left a.place q) xs b cb; at = less_place a.place q b (b.place == a.place) })

@@ -1,5 +1,5 @@
 use Rattle.spread_rules.specs.Clearing.{with_less_left}
-use Rattle.explained_turns.proofs.lists.InTurn.{next}
+use Rattle.spread_rules.proofs.lists.InTurn.{next}
 use Rattle.explained_turns.proofs.one_turn.reduce_all.Goals as goal
 
 pub loop-order-preserved : goal.loop-order-preserved

@@ -4,8 +4,9 @@ use Rattle.spread_rules.specs.Journal.{FitsEvent, is_in_order}
 use Rattle.fix_frames.specs.Frames.{frames}
 use Rattle.fix_session.specs.Streams.{events, whole}
 use Rattle.fix_session.proofs.events.StateOfPlaces.{whole_law}
-use Rattle.fix_session.proofs.events.InRangeAndOrder.{whole_lawful, events_fit, in_order_of}
+use Rattle.fix_session.proofs.events.InRangeAndOrder.{whole_lawful, events_fit}
 use Rattle.fix_session.proofs.laws.lawful.Goals as goal
+use Rattle.spread_rules.proofs.journals.SessionParts.{in_order_of}
 
 fits : (stream : _) → All FitsEvent (whole stream)
 fits stream = subst (All FitsEvent) (whole_law (frames stream)) (whole_lawful (frames stream)).0

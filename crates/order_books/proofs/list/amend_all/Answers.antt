@@ -1,5 +1,5 @@
 use Rattle.spread_rules.specs.Amended.{amended_at}
-use Rattle.order_books.proofs.places.InTurn.{next}
+use Rattle.spread_rules.proofs.lists.InTurn.{next}
 use Rattle.order_books.proofs.list.amend_all.Goals as goal
 
 pub loop-order-preserved : goal.loop-order-preserved

@@ -1,7 +1,7 @@
 use Rattle.std.proofs.Common.{◌≡◌, ◌<◌, subst, sym}
 use Rattle.spread_rules.specs.declared.order.Order.{Order}
 use Rattle.spread_rules.specs.Clearing.{with_less_left}
-use Rattle.order_books.proofs.places.InTurn.{still, next}
+use Rattle.spread_rules.proofs.lists.InTurn.{still, next}
 use Rattle.order_books.proofs.list.reduce_all.Goals as goal
 
 pub reduce_one-requires : goal.reduce_one-requires
