@@ -1,5 +1,5 @@
 -- A text with zeros behind it is kept as it has to be.
-use Rattle.std.proofs.Common.{◌≡◌, ℕ, Bool, ◌&&◌, nat_le, ◌-◌, ◌<◌, ◌≤◌, true, false, not, eqb, List, length, replicate, refl, ap, ◌∙◌, arith, length-append}
+use Rattle.std.proofs.Common.{◌≡◌, ℕ, ◌&&◌, nat_le, ◌-◌, ◌<◌, ◌≤◌, true, not, eqb, List, length, replicate, refl, ap, ◌∙◌, arith, length-append}
 use Rattle.std.proofs.lemmas.Bool.{and_parts}
 use Rattle.std.specs.List.{list_all}
 use Rattle.std.proofs.lemmas.List.{take_at, drop_at, length-replicate}

@@ -15,7 +15,7 @@ use Rattle.fix_session.specs.declared.session.Session.{Session}
 use Rattle.fix_session.specs.View.{CompIds, MessageView, are_same, view, logon_comp_ids}
 use Rattle.fix_session.specs.Places.{next_after, session_comp_ids, due_after, closing_later, is_next, closes_at, accepts_at, live, last_accepted_before, due, place_after, has_open_gap, closed_or, event, events_from, message_events, message_events_and_close}
 use Rattle.fix_session.specs.Steps as steps
-use Rattle.fix_session.specs.Steps.{step, judge, event_in, events_said, session_after, events_at_end, ended, new_session, closed}
+use Rattle.fix_session.specs.Steps.{step, judge, event_in, events_said, session_after, events_at_end, new_session, closed}
 
 -- a running session, by what it is between, the due number, and whether a gap was asked
 abbrev runs : CompIds → ℕ → Bool → Session

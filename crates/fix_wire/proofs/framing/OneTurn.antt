@@ -1,8 +1,8 @@
 -- What one turn over a framer leaves.
-use Rattle.std.proofs.Common.{◌≡◌, ℕ, suc, ◌<◌, ◌≤◌, Bool, true, false, cond, List, [], ◌∷◌, ◌++◌, length, take, drop, Option, Some, None, is_some, refl, sym, ap, ◌∙◌, subst, arith}
+use Rattle.std.proofs.Common.{◌≡◌, ℕ, ◌<◌, ◌≤◌, Bool, true, false, List, [], ◌∷◌, ◌++◌, length, take, drop, Option, Some, None, is_some, refl, sym, ap, ◌∙◌, subst, arith}
 use Rattle.std.specs.Bool.{OnTrue}
 use Rattle.std.proofs.lemmas.List.{append-nil, append_assoc, length-drop, take-append-drop}
-use Rattle.fix_frames.specs.Frames.{frames, frame_at, may_begin}
+use Rattle.fix_frames.specs.Frames.{frames, frame_at}
 use Rattle.fix_frames.specs.Held.{first_frame, from_first_start, past_frame, after_first_frame}
 use Rattle.fix_wire.specs.Pieces.{SplitsInto, IsDrained, SameSplit}
 use Rattle.fix_frames.proofs.framing.FrontStays.{frame_within}

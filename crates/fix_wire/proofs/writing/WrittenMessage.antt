@@ -4,7 +4,7 @@ use Rattle.std.specs.Prelude.{decimal, slice_index, unsigned_abs, int_lt}
 use Rattle.std.specs.Char.{is_ascii_digit}
 use Rattle.std.specs.List.{list_all, position_or_len, flat_map, AllByRecursion}
 use Rattle.std.specs.Str.{bytes_eq}
-use Rattle.std.proofs.lemmas.Bool.{false≢true, and_parts, and_from}
+use Rattle.std.proofs.lemmas.Bool.{and_parts, and_from}
 use Rattle.std.proofs.lemmas.Bool.Decides.{nat_tests}
 use Rattle.std.proofs.lemmas.List.{take_at, drop_at, append_assoc, take_all, drop_all, take_more, flat_map_more}
 use Rattle.std.proofs.lemmas.List.Folds.{list_all-append}

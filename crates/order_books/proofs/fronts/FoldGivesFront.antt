@@ -1,5 +1,5 @@
 -- the fold over a list gives the front of a queue
-use Rattle.std.proofs.Common.{◌≡◌, List, refl, subst, Option, Some, None, Bool, true, false, ◌&&◌, cond, fold, arith}
+use Rattle.std.proofs.Common.{◌≡◌, List, refl, subst, Option, Some, None, Bool, true, false, cond, fold, arith}
 use Rattle.std.proofs.lemmas.Bool.{and_parts}
 use Rattle.std.proofs.lemmas.Bool.Decides.{nat_tests}
 use Rattle.std.specs.Cmp.{IsTotalOrder, IsStrictWeakOrder}

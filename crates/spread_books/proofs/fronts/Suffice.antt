@@ -1,5 +1,5 @@
 -- who is eligible stands in one of the queues
-use Rattle.std.proofs.Common.{◌≡◌, ℕ, ◌+◌, ◌<◌, ℤ, Bool, true, false, ◌&&◌, List, Option, Some, None, ◌⊎◌, inl, inr, refl, sym, arith, nat_lt}
+use Rattle.std.proofs.Common.{◌≡◌, ℕ, ◌+◌, ◌<◌, ℤ, Bool, true, false, List, Option, Some, None, ◌⊎◌, inl, inr, refl, sym, arith, nat_lt}
 use Rattle.std.proofs.lemmas.Bool.{and_parts}
 use Rattle.std.proofs.lemmas.Bool.Decides.{nat_tests}
 use Rattle.spread_rules.specs.declared.order.Side.{Side}
@@ -10,7 +10,7 @@ use Rattle.spread_rules.specs.declared.order.Order.{Order}
 use Rattle.spread_rules.specs.declared.candidate.Counterparty.{Counterparty}
 use Rattle.spread_rules.specs.declared.candidate.Counterparty.TheVariants.{Direct, Implied}
 use Rattle.spread_rules.specs.declared.candidate.Candidate.{Candidate}
-use Rattle.spread_rules.specs.Candidates.{price_if, implied_price, are_opposite, IsEligible, Pairs, IsBest}
+use Rattle.spread_rules.specs.Candidates.{implied_price, are_opposite, IsEligible, Pairs, IsBest}
 use Rattle.spread_rulebook.specs.Instruments.{month_of}
 use Rattle.spread_rules.specs.Quiet.{Rests}
 use Rattle.spread_rules.specs.Legs.{other_side}

@@ -1,5 +1,5 @@
 -- One message of one session.
-use Rattle.std.proofs.Common.{◌≡◌, ◌≢◌, ℕ, ◌<◌, nat_lt, codes, subst, Bool, true, false, List, [], ◌∷◌, ◌++◌, ◌||◌, map, length, get_or, refl, sym, ap, ◌∙◌, inl, inr, arith, append-nil, Option, Some, None, Result}
+use Rattle.std.proofs.Common.{◌≡◌, ◌≢◌, ℕ, ◌<◌, nat_lt, codes, subst, true, false, List, [], ◌∷◌, ◌++◌, map, length, get_or, refl, sym, ap, ◌∙◌, inl, inr, arith, append-nil, Option, Some, None, Result}
 use Rattle.std.proofs.Math.Bool.{or-false}
 use Rattle.std.proofs.Math.ListN.{set}
 use Rattle.std.proofs.lemmas.List.{map-set, get_or-set_other, get_or-set_same, length-map, length-set, take_all, get_or_default, get_or-map, set-get_or}
