@@ -5,3 +5,4 @@ pub mod SentAndOwed
 pub mod SequencedJournal
 pub mod StartedWorkers
 pub mod Writers
+pub mod Joined

@@ -3,6 +3,7 @@
 #![tactic(auto)]
 
 mod idle;
+mod joining;
 mod sequencing;
 mod turns;
 mod worker;

@@ -5,6 +5,7 @@ ghost use Rattle.gate_link.specs.declared.gateway.Gateway.{Gateway};
 ghost use Rattle.gate_link.specs.Opening.{AreFresh};
 ghost use Rattle.session_threads.specs.code.Handing.{AreStarted, AreKept};
 
+use crate::joining::join_each;
 use crate::worker::{Gate, WorkerPromise, start};
 use gate_link::Gateway;
 use std::alloc::Allocator;
@@ -90,9 +91,5 @@ pub fn join_all<R: Threads, A: Allocator>(rt: &R, workers: Workers<A>) -> Vec<Ga
     ensures kept { AreKept workers.handles.items result.items }
 {
     let Workers { handles, room } = workers;
-    let mut joined = room;
-    for handle in handles {
-        joined.push_reserved(handle.join(rt));
-    }
-    joined
+    join_each(rt, handles, room)
 }

@@ -6,6 +6,7 @@ ghost use Rattle.stage_rings.specs.Posting.{SameWriter};
 ghost use Rattle.session_threads.specs.code.Writing.{AreWriting, AreWritten};
 
 use crate::idle::{found, rest};
+use crate::joining::join_each;
 use crate::worker::Gate;
 use gate_link::{Writer, Wrote};
 use std::alloc::Allocator;
@@ -160,9 +161,5 @@ pub fn join_writers<R: Threads, A: Allocator>(rt: &R, writing: Writing<A>) -> Ve
     ensures kept { AreWritten writing.handles.items result.items }
 {
     let Writing { handles, room } = writing;
-    let mut joined = room;
-    for handle in handles {
-        joined.push_reserved(handle.join(rt));
-    }
-    joined
+    join_each(rt, handles, room)
 }
