@@ -52,7 +52,9 @@ impl<A: Allocator + Copy> Hints<A> {
         }
         let from = place.saturating_sub(self.base);
         if let (Ok(n), Ok(row)) = (usize::try_from(from), u32::try_from(at)) {
-            if n < self.rows.len() {
+            if n == self.rows.len() {
+                let _ = self.rows.push(row);
+            } else if n < self.rows.len() {
                 self.rows[n] = row;
             } else if n < self.rows.len().saturating_mul(2).saturating_add(GAP) {
                 let _ = self.rows.resize(n.saturating_add(1), row);
