@@ -2,9 +2,12 @@
 ghost use Rattle.std.specs.Prelude.{◌≡◌};
 
 use crate::books::rows::is;
-use order_tables::{BestPrice, FrontTable, PlaceRows, QueueKey, first_from, is_own, with_quantity};
+use order_tables::{
+    BestPrice, FrontTable, PlaceRows, QueueHeaps, QueueRank, is_own, queue_number, with_quantity,
+};
 use spread_rules::{Instrument, Order, Side};
-use std::collections::BTreeSet;
+use std::alloc::Global;
+use std::process::Abort;
 use test_support::id;
 
 /// Two of its five lots are filled.
@@ -44,8 +47,8 @@ fn rows_are_found(rt: HostRuntime) {
     let first = seller();
     rows.push(first).expect(&rt, "memory");
     assert!(rt; rows.count() == 1);
-    assert!(rt; is(rows.get(7), &first));
-    assert!(rt; rows.get(8) == None);
+    assert!(rt; is(rows.get(7).copied(), &first));
+    assert!(rt; rows.get(8).is_none());
     assert!(rt; is(rows.reduce(7, 2), &first));
     let left = Order { leaves: 1, ..first };
     assert!(rt; is(rows.nth(0), &left));
@@ -56,34 +59,79 @@ fn rows_are_found(rt: HostRuntime) {
         leaves: 2,
         ..first
     };
-    assert!(rt; is(rows.get(7), &amended));
+    assert!(rt; is(rows.get(7).copied(), &amended));
     assert!(rt; is(rows.remove(7), &amended));
     assert!(rt; rows.nth(0) == None);
     assert!(rt; rows.count() == 0);
 }
 
-#[test]
-fn keys_of_a_queue(rt: HostRuntime) {
-    let better = seller();
-    let worse = Order {
-        price: 10000,
-        place: 3,
-        ..better
-    };
-    let mut keys = BTreeSet::new(rt.alloc());
-    keys.insert(QueueKey::new(&worse)).expect(&rt, "memory");
-    keys.insert(QueueKey::new(&better)).expect(&rt, "memory");
-    let start = QueueKey::start(better.instrument, better.side);
-    match first_from(&keys, start) {
-        Some(key) => {
-            let best = key.best_price(better.side);
-            assert!(rt; key.is_in_queue_of(&start));
-            assert!(rt; best.price == 9900 && best.place == 7);
+/// The best price of that queue.
+fn expect_best(rt: &impl Abort, queues: &QueueHeaps<Global>, queue: u32, price: i64, place: u64) {
+    match queues.least(queue) {
+        Some(rank) => {
+            let best = rank.best_price(Side::Sell);
+            assert!(rt; best.price == price && best.place == place);
         }
         None => assert!(rt; false),
     }
-    let other = QueueKey::start(better.instrument, Side::Buy);
-    assert!(rt; !start.is_in_queue_of(&other));
+}
+
+#[test]
+fn ranks_of_a_queue(rt: HostRuntime) {
+    let rests = seller();
+    let left = Order {
+        price: 9800,
+        place: 8,
+        ..rests
+    };
+    let mut rows = PlaceRows::new(rt.alloc());
+    rows.push(rests).expect(&rt, "memory");
+    let queue = queue_number(rests.instrument, rests.side);
+    let mut queues = QueueHeaps::new(rt.alloc());
+    assert!(rt; queues.least(queue).is_none());
+    queues
+        .add(queue, QueueRank::new(&rests))
+        .expect(&rt, "memory");
+    queues
+        .add(queue, QueueRank::new(&left))
+        .expect(&rt, "memory");
+    expect_best(&rt, &queues, queue, 9800, 8);
+    queues.settle(&rows, queue);
+    expect_best(&rt, &queues, queue, 9900, 7);
+    assert!(rt;
+        queues
+            .least(queue_number(rests.instrument, Side::Buy))
+            .is_none()
+    );
+    assert!(rt; is(rows.remove(7), &rests));
+    queues.settle(&rows, queue);
+    assert!(rt; queues.least(queue).is_none());
+}
+
+#[test]
+fn ranks_of_many_that_left(rt: HostRuntime) {
+    let rests = seller();
+    let mut rows = PlaceRows::new(rt.alloc());
+    rows.push(rests).expect(&rt, "memory");
+    let queue = queue_number(rests.instrument, rests.side);
+    let mut queues = QueueHeaps::new(rt.alloc());
+    queues
+        .add(queue, QueueRank::new(&rests))
+        .expect(&rt, "memory");
+    for place in 8..74 {
+        let left = Order {
+            price: 9800,
+            place,
+            ..rests
+        };
+        queues.thin(&rows, queue);
+        queues
+            .add(queue, QueueRank::new(&left))
+            .expect(&rt, "memory");
+    }
+    expect_best(&rt, &queues, queue, 9800, 8);
+    queues.thin(&rows, queue);
+    expect_best(&rt, &queues, queue, 9900, 7);
 }
 
 #[test]

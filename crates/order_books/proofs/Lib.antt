@@ -1,3 +1,3 @@
 pub mod places
 pub mod fronts
-pub mod keys
+pub mod ranks

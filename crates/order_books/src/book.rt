@@ -46,8 +46,8 @@ pub trait Book {
         None
     }
 
-    /// The session's resting order with that id. Takes no memory, and time for all orders before it: who knows its place
-    /// asks `at`.
+    /// The session's resting order with that id. Takes no memory, and time for all orders before it: who knows its
+    /// place asks `at`.
     fn find(&self, session: u8, id: &Id) -> Option<Order>
         ensures { result ≡ find (is_own session id.now) (orders self.now) };
 

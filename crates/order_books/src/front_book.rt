@@ -7,7 +7,7 @@ ghost use Rattle.order_tables.specs.Places.{HasPlace, Ascends};
 ghost use Rattle.order_books.specs.code.FrontPrices.{may_be_at, becomes_front, is_ahead_of, HoldsPrices};
 
 use crate::book::Book;
-use crate::tree::TreeBook;
+use crate::heap_book::HeapBook;
 use host_base::{Id, NoMemory};
 use order_tables::{BestPrice, FrontTable};
 use spread_rules::{Instrument, Level, Order, Side};
@@ -17,7 +17,7 @@ use std::marker::Model;
 /// Resting orders in ordered tables, and the best prices of the queues of early months.
 #[derive(Drop)]
 pub struct FrontBook<A: Allocator + Copy> {
-    tables: TreeBook<A>,
+    tables: HeapBook<A>,
     fronts: FrontTable<A>,
 }
 
@@ -35,7 +35,7 @@ impl<A: Allocator + Copy> Model for FrontBook<A> {
 
 /// Before the first order of a book its table gets its slots.
 fn make_room<A: Allocator + Copy>(
-    tables: &TreeBook<A>,
+    tables: &HeapBook<A>,
     fronts: &mut FrontTable<A>,
 ) -> Result<(), NoMemory>
     requires { HoldsPrices tables.now fronts.old }
@@ -91,7 +91,7 @@ fn may_be_at(best: Option<BestPrice>, place: u64) -> bool
 }
 
 /// After that order left the tables.
-fn renew_front<A: Allocator + Copy>(fronts: &mut FrontTable<A>, tables: &TreeBook<A>, order: &Order)
+fn renew_front<A: Allocator + Copy>(fronts: &mut FrontTable<A>, tables: &HeapBook<A>, order: &Order)
     ensures { (xs : List Order)
         → Ascends xs → Contains xs order.now → tables.now ≡ removed order.now.place xs
         → HoldsPrices xs fronts.old → HoldsPrices tables.now fronts.new }
@@ -110,7 +110,7 @@ impl<A: Allocator + Copy> FrontBook<A> {
         ensures { result ≡ [] }
     {
         FrontBook {
-            tables: TreeBook::new(alloc),
+            tables: HeapBook::new(alloc),
             fronts: FrontTable::new(alloc),
         }
     }
@@ -144,7 +144,7 @@ impl<A: Allocator + Copy> Book for FrontBook<A> {
             None => self.tables.front(instrument, side),
             Some(known) => match known {
                 None => None,
-                Some(best) => self.tables.order_at(best.place),
+                Some(best) => self.tables.order_at(best.place).copied(),
             },
         }
     }

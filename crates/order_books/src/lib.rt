@@ -3,14 +3,14 @@
 
 mod book;
 mod front_book;
+mod heap_book;
 mod list;
 mod pair;
 mod queue;
-mod tree;
 
 pub use book::Book;
 pub use front_book::FrontBook;
+pub use heap_book::HeapBook;
 pub use list::ListBook;
 pub use pair::PairCost;
 pub use queue::{front_with, is_in};
-pub use tree::TreeBook;

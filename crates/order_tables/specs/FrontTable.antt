@@ -7,7 +7,7 @@ use Rattle.spread_rules.specs.declared.order.Order.{Order}
 use Rattle.spread_rules.specs.declared.order.Level.{Level}
 use Rattle.order_tables.specs.declared.front_table.TheConstants.{MONTHS}
 use Rattle.order_tables.specs.declared.front_table.BestPrice.{BestPrice}
-use Rattle.order_tables.specs.QueueKeys.{side_index}
+use Rattle.order_tables.specs.QueueRanks.{side_index}
 
 -- the early months have slots
 abbrev pub has_slot : Instrument → Bool

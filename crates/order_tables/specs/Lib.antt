@@ -1,5 +1,4 @@
 pub mod Places
 pub mod FrontTable
-pub mod Firsts
-pub mod QueueKeys
+pub mod QueueRanks
 pub mod code

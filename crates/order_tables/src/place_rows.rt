@@ -5,6 +5,7 @@
 //! once for as many changes.
 ghost use Rattle.std.specs.Prelude.{◌≡◌, ◌≢◌, ◌<◌, ◌≤◌, ◌==◌, ◌++◌, ◌∷◌, [], ℕ, List, All, IfSome, IfNone, OnOk, OnErr, length, true, ◌^◌, map, slice_get, slice_index_or};
 ghost use Rattle.std.specs.List.{find};
+ghost use Rattle.std.specs.Option.{option_copied};
 ghost use Rattle.spread_rules.specs.declared.order.Order.{Order};
 ghost use Rattle.spread_rules.specs.Clearing.{reduced, removed};
 ghost use Rattle.order_tables.specs.declared.row.Row.{Row};
@@ -146,12 +147,13 @@ impl<A: Allocator + Copy> PlaceRows<A> {
     }
 
     /// The order of that place.
-    pub fn get(&self, place: u64) -> Option<Order>
-        ensures { result ≡ find (λ o. o.place == place) self.now }
+    pub fn get(&self, place: u64) -> Option<&Order>
+        ensures found { option_copied result ≡ find (λ o. o.place == place) self.now }
+        ensures ordered { Ascends self.now }
     {
         let at = row_at(&self.rows, &self.hints, place)?;
-        let row = self.rows[at];
-        if row.rests { Some(row.order) } else { None }
+        let row = &self.rows[at];
+        if row.rests { Some(&row.order) } else { None }
     }
 
     /// One more order, whose place is above all others. After NoMemory the orders are as before.

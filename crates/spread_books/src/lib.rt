@@ -11,4 +11,4 @@ mod quoted_book;
 
 pub use best::best_candidate;
 pub use index::IndexBook;
-pub use order_books::{Book, FrontBook, ListBook, TreeBook};
+pub use order_books::{Book, FrontBook, HeapBook, ListBook, PairCost};

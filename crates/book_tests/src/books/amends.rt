@@ -3,7 +3,7 @@ use super::checked::{add, amend, reduce, remove};
 use super::rows::Step::{Add, Amend, At, Count, Found, Front, NotAmend, NotFound, Reduce};
 use super::rows::{Lot, Row, expect_over_each, is};
 use host_base::{Id, NoMemory};
-use spread_books::{Book, FrontBook, IndexBook, ListBook, TreeBook};
+use spread_books::{Book, FrontBook, HeapBook, IndexBook, ListBook};
 use spread_rules::Side::Sell;
 use spread_rules::{Instrument, Order, Rulebook, Side};
 use std::alloc::Global;
@@ -207,8 +207,8 @@ fn run<B: Book + Drop>(rt: &impl Abort, book: B, alloc: Global, seed: u64) -> us
 fn every_kind_of_book_at_random(rt: HostRuntime) {
     let rules = Rulebook::read(THREE_MONTHS).expect(&rt, "a rulebook");
     for seed in 0..6 {
-        let tree = TreeBook::new(rt.alloc());
-        assert!(rt; run(&rt, tree, rt.alloc(), seed) > 5);
+        let heaps = HeapBook::new(rt.alloc());
+        assert!(rt; run(&rt, heaps, rt.alloc(), seed) > 5);
         let front = FrontBook::new(rt.alloc());
         assert!(rt; run(&rt, front, rt.alloc(), seed) > 5);
         let index = IndexBook::new(rt.alloc(), &rules).expect(&rt, "memory");
@@ -220,7 +220,7 @@ fn every_kind_of_book_at_random(rt: HostRuntime) {
 fn tree_book_without_memory(rt: HostRuntime) {
     for number in 1..20 {
         let heap = Refusing::new(rt.alloc(), number);
-        let _ = run(&rt, TreeBook::new(&heap), rt.alloc(), number);
+        let _ = run(&rt, HeapBook::new(&heap), rt.alloc(), number);
     }
 }
 

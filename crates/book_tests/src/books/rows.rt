@@ -1,6 +1,6 @@
 //! Rows: steps of one book after another, and what the book must answer.
 use super::checked::{add, amend, clear, reduce, remove};
-use spread_books::{Book, FrontBook, IndexBook, ListBook, TreeBook};
+use spread_books::{Book, FrontBook, HeapBook, IndexBook, ListBook};
 use spread_rules::{Instrument, Order, Rulebook, Side};
 use std::alloc::Global;
 use std::process::Abort;
@@ -133,7 +133,7 @@ fn expect_over_index(rt: &impl Abort, alloc: Global, rules: &Rulebook, rows: &[R
 /// The rows in each kind of book in turn.
 pub(super) fn expect_over_each(rt: &impl Abort, alloc: Global, rows: &[Row]) {
     expect_rows(rt, &mut ListBook::new(alloc), rows);
-    expect_rows(rt, &mut TreeBook::new(alloc), rows);
+    expect_rows(rt, &mut HeapBook::new(alloc), rows);
     expect_rows(rt, &mut FrontBook::new(alloc), rows);
     let rules = Rulebook::read(THREE_MONTHS).expect(rt, "a rulebook");
     expect_over_index(rt, alloc, &rules, rows)

@@ -3,7 +3,7 @@ ghost use Rattle.std.specs.Prelude.{◌≡◌, []};
 ghost use Rattle.spread_match.specs.State.{empty_state};
 
 use super::{append_resting, cancel, day, is_priced, replace};
-use spread_books::{Book, FrontBook, IndexBook, ListBook, TreeBook};
+use spread_books::{Book, FrontBook, HeapBook, IndexBook, ListBook};
 use spread_match::Market;
 use spread_rules::{Entry, Event, Fill, Order, Outcome, Rulebook, Side, Ticket};
 use std::alloc::Global;
@@ -233,8 +233,8 @@ fn expect_run<B: Book + Drop>(
 
 /// A run over every other book comes to the same.
 fn expect_runs(rt: &impl Abort, alloc: Global, rules: &Rulebook, journal: &[Entry], wanted: &Run) {
-    let tree = TreeBook::new(alloc);
-    expect_run(rt, alloc, rules, tree, journal, wanted);
+    let heaps = HeapBook::new(alloc);
+    expect_run(rt, alloc, rules, heaps, journal, wanted);
     let front = FrontBook::new(alloc);
     expect_run(rt, alloc, rules, front, journal, wanted);
     let index = IndexBook::new(alloc, rules).expect(rt, "memory");

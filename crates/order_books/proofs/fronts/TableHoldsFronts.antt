@@ -19,9 +19,8 @@ use Rattle.order_tables.specs.FrontTable.{has_slot, slot_number, slot_of, slot_i
 use Rattle.order_books.specs.code.FrontPrices.{IsBestPrice, HoldsPrices, becomes_front, may_be_at}
 use Rattle.order_tables.specs.declared.front_table.BestPrice.{BestPrice}
 use Rattle.order_books.proofs.fronts.FoldGivesFront.{same_instrument_itself, same_side_is, same_side_itself}
-use Rattle.order_tables.proofs.places.Ascending.{is_so}
+use Rattle.order_tables.proofs.places.Ascending.{is_so, is_found}
 use Rattle.order_tables.proofs.places.ChangedAt.{changed_at, changed, key_kept}
-use Rattle.order_books.proofs.keys.TablesThroughChanges.{is_found}
 use Rattle.order_books.proofs.fronts.Changes.{front_of_others, front_of_own, front_removed, any_front_changed, KeepsQueue, of_another}
 
 -- ---- slots

@@ -14,8 +14,7 @@ use Rattle.order_books.specs.Queues.{CanAmend}
 use Rattle.spread_rulebook.proofs.lists.Membership.{not_in_nil, in_cons_cases}
 use Rattle.order_tables.specs.Places.{HasMore, HasPlace, Ascends}
 use Rattle.order_tables.proofs.places.ChangedAt.{changed_at, changed, changed_nobody}
-use Rattle.order_tables.proofs.places.Ascending.{all_of, ascends_cons, behind_first, others_ascend, find_none, unfound, removed_nobody, is_so}
-use Rattle.order_books.proofs.keys.SetOfKeys.{from_removed}
+use Rattle.order_tables.proofs.places.Ascending.{all_of, ascends_cons, behind_first, others_ascend, find_none, unfound, removed_nobody, is_so, from_removed}
 
 -- ---- places that rise
 

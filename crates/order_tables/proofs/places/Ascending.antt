@@ -1,5 +1,5 @@
 -- lists of orders in order of place
-use Rattle.std.proofs.Common.{◌≡◌, ℕ, ◌<◌, ◌≤◌, ◌==◌, Bool, true, false, List, [], ◌∷◌, map, Some, None, Contains, All, refl, sym, ap, ◌∙◌, subst, arith, inl, inr, ◌⊎◌}
+use Rattle.std.proofs.Common.{◌≡◌, ℕ, ◌<◌, ◌≤◌, ◌==◌, Bool, true, false, not, cond, List, [], ◌∷◌, map, Some, None, Contains, All, refl, sym, ap, ◌∙◌, subst, arith, inl, inr, ◌⊎◌}
 use Rattle.std.specs.Ordering.{nat_cmp}
 use Rattle.std.specs.declared.cmp.Ordering.TheVariants.{Less, Equal, Greater}
 use Rattle.std.specs.List.{find}
@@ -73,6 +73,34 @@ pub removed_nobody : (xs : List Order) (place : ℕ) → ((o : Order) → Contai
 removed_nobody [] place h = refl
 removed_nobody (x ∷ xs) place h = rw (h x (in_head x xs)) (ap (λ (ys : List Order). x ∷ ys) (removed_nobody xs place (λ o c. h o (in_tail x xs o c))))
 
+-- what is left after a removal stood in the list, at another place
+pub from_removed : (place : ℕ) (xs : List Order) (o : Order) → Contains (removed place xs) o → Contains xs o × ((o.place == place) ≡ false)
+from_removed place [] o c = absurd (not_in_nil o c)
+from_removed place (x ∷ xs) o c =
+    let at = λ (b : Bool). Contains (cond (not b) (x ∷ removed place xs) (removed place xs)) o in
+    elim (is_so (x.place == place)) [
+      | inl k ↦ let r = from_removed place xs o (subst at k c) in (in_tail x xs o r.0, r.1)
+      | inr k ↦ elim (in_cons_cases x (removed place xs) o (subst at k c)) [
+        | inl h ↦ (subst (λ (p : Order). Contains (x ∷ xs) p) h (in_head x xs), subst (λ (p : Order). (p.place == place) ≡ false) h k)
+        | inr h ↦ let r = from_removed place xs o h in (in_tail x xs o r.0, r.1)
+      ]
+    ]
+
+-- and what stood at another place is left
+pub in_removed : (place : ℕ) (xs : List Order) (o : Order) → Contains xs o → (o.place == place) ≡ false → Contains (removed place xs) o
+in_removed place [] o c n = absurd (not_in_nil o c)
+in_removed place (x ∷ xs) o c n =
+    let at = λ (b : Bool). Contains (cond (not b) (x ∷ removed place xs) (removed place xs)) o in
+    elim (in_cons_cases x xs o c) [
+      | inl h ↦
+          let k : (x.place == place) ≡ false = ap (λ (p : Order). p.place == place) h ∙ n in
+          subst at (sym k) (subst (λ (p : Order). Contains (x ∷ removed place xs) p) h (in_head x (removed place xs)))
+      | inr h ↦ elim (is_so (x.place == place)) [
+        | inl k ↦ subst at (sym k) (in_removed place xs o h n)
+        | inr k ↦ subst at (sym k) (in_tail x (removed place xs) o (in_removed place xs o h n))
+      ]
+    ]
+
 -- ---- the first that passes a test
 pub find_none : (test : Order → Bool) (xs : List Order) → ((o : Order) → Contains xs o → test o ≡ false) → find test xs ≡ None
 find_none test [] h = refl
@@ -104,6 +132,20 @@ unfound_by test (x ∷ xs) h o c =
 -- a place that no order of the list has
 pub unfound : (xs : List Order) (place : ℕ) → find (λ o. o.place == place) xs ≡ None → (o : Order) → Contains xs o → (o.place == place) ≡ false
 unfound xs place h o c = unfound_by (λ (p : Order). p.place == place) xs h o c
+
+-- what is found at a place is the order of that place
+pub at_place : (xs : List Order) (place : ℕ) (o : Order) → find (λ p. p.place == place) xs ≡ Some o → Contains xs o × (o.place ≡ place)
+at_place [] place o e = cc
+at_place (x ∷ xs) place o e =
+    elim (is_so (x.place == place)) [
+      | inl k ↦ let f : x ≡ o = let g = rw k at e in cc in (subst (λ (p : Order). Contains (x ∷ xs) p) f (in_head x xs), subst (λ (p : Order). p.place ≡ place) f (grind (arith, nat_tests, k)))
+      | inr k ↦ let r = at_place xs place o (rw k at e) in (in_tail x xs o r.0, r.1)
+    ]
+
+-- one that rests is found
+pub is_found : (xs : List Order) (o : Order) → Ascends xs → Contains xs o → find (λ p. p.place == o.place) xs ≡ Some o
+is_found xs o s c =
+    find_first (λ (p : Order). p.place == o.place) xs o s c (grind (arith, nat_tests)) (λ p d t. grind (arith, nat_tests, t))
 
 pub ascends_changed : (f : Order → Order) (keeps : (o : Order) → (f o).place ≡ o.place) (place : ℕ) (xs : List Order) → Ascends xs → Ascends (changed f place xs)
 ascends_changed f keeps place xs s = subst (λ (ps : List ℕ). IsStrictlySortedBy nat_cmp ps) (sym (keys_kept (λ (o : Order). o.place) f keeps place xs)) s

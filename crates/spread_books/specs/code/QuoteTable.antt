@@ -10,7 +10,7 @@ use Rattle.spread_rules.specs.Candidates.{Pairs, cost, HasOrderPrice}
 use Rattle.spread_rules.specs.Clearing.{removed}
 use Rattle.spread_rules.specs.Legs.{other_side}
 use Rattle.order_tables.specs.Places.{Ascends}
-use Rattle.order_tables.specs.QueueKeys.{side_index}
+use Rattle.order_tables.specs.QueueRanks.{side_index}
 use Rattle.order_books.specs.Queues.{IsFrontLevel}
 use Rattle.spread_books.specs.Listed.{IsInMonths}
 use Rattle.order_books.specs.Pairs.{IsCheapest}

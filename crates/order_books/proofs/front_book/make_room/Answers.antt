@@ -3,7 +3,7 @@ use Rattle.spread_rules.specs.declared.order.Order.{Order}
 use Rattle.order_tables.specs.declared.front_table.BestPrice.{BestPrice}
 use Rattle.order_books.specs.code.FrontPrices.{HoldsPrices}
 use Rattle.order_books.proofs.fronts.TableHoldsFronts.{empty_slots, is_nil}
-use Rattle.order_books.proofs.keys.TablesThroughChanges.{from_both}
+use Rattle.order_books.proofs.ranks.TablesThroughChanges.{from_both}
 use Rattle.order_books.proofs.front_book.make_room.Goals as goal
 
 pub returns-then-is_empty : goal.returns-then-is_empty

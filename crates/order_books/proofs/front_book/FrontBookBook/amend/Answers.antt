@@ -3,7 +3,7 @@ use Rattle.spread_rules.specs.declared.order.Order.{Order}
 use Rattle.spread_rules.specs.Amended.{with_quantity}
 use Rattle.order_books.specs.code.FrontPrices.{HoldsPrices}
 use Rattle.order_books.proofs.fronts.TableHoldsFronts.{prices_changed}
-use Rattle.order_books.proofs.keys.TablesThroughChanges.{from_both}
+use Rattle.order_books.proofs.ranks.TablesThroughChanges.{from_both}
 use Rattle.order_books.proofs.front_book.FrontBookBook.amend.Goals as goal
 
 pub invariant_of-self : goal.invariant_of-self

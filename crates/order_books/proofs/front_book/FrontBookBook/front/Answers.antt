@@ -13,6 +13,6 @@ returns-in-None-known g c =
 pub returns-in-Some-known : goal.returns-in-Some-known
 returns-in-Some-known g c =
     let b = c.in-Some-known.best in
-    subst (λ (ys : List Order). IsFront ys c.args.instrument c.args.side c.order_at.result) c.self.view_is
-    (subst (λ (r : Option Order). IsFront c.self.inside.tables c.args.instrument c.args.side r) (sym c.order_at.ensures.value)
+    subst (λ (ys : List Order). IsFront ys c.args.instrument c.args.side c.copied.result) c.self.view_is
+    (subst (λ (r : Option Order). IsFront c.self.inside.tables c.args.instrument c.args.side r) (sym (c.copied.ensures ∙ c.order_at.ensures.value))
     (front_found c.self.inside.tables c.args.instrument c.args.side b c.order_at.ensures.ordered (c.self.invariant c.args.instrument c.args.side (Some b) (sym c.known_price.ensures ∙ c.in-Some.is ∙ ap (λ (b : Option BestPrice). Some b) c.in-Some-known.is))))

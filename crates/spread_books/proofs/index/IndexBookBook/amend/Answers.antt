@@ -5,7 +5,7 @@ use Rattle.spread_rules.specs.Amended.{amended, with_quantity}
 use Rattle.order_tables.specs.Places.{Ascends}
 use Rattle.order_tables.proofs.places.Ascending.{ascends_changed}
 use Rattle.order_books.specs.Queues.{CanAmend}
-use Rattle.order_books.proofs.keys.TablesThroughChanges.{from_both}
+use Rattle.order_books.proofs.ranks.TablesThroughChanges.{from_both}
 use Rattle.order_books.proofs.places.LastOrder.{changed_newest, changed_before, amend_before}
 use Rattle.spread_books.specs.BookView.{BookView}
 use Rattle.spread_books.proofs.index.IndexBookBook.amend.Goals as goal

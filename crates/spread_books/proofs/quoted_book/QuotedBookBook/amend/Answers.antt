@@ -1,7 +1,7 @@
 use Rattle.std.proofs.Common.{List, refl, sym, subst}
 use Rattle.spread_rules.specs.declared.order.Order.{Order}
 use Rattle.spread_rules.specs.Amended.{with_quantity}
-use Rattle.order_books.proofs.keys.TablesThroughChanges.{from_both}
+use Rattle.order_books.proofs.ranks.TablesThroughChanges.{from_both}
 use Rattle.spread_rulebook.specs.Rulebook.{implied}
 use Rattle.spread_books.specs.code.QuoteTable.{KeepsTable}
 use Rattle.spread_books.proofs.quotes.Tables.{changed_table}

@@ -1,4 +1,0 @@
-pub mod TablesThroughChanges
-pub mod TotalOrders
-pub mod SetOfKeys
-pub mod FirstOfAQueue

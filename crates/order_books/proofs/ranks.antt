@@ -1,0 +1,3 @@
+pub mod TotalOrder
+pub mod FrontOfAQueue
+pub mod TablesThroughChanges
