@@ -7,10 +7,9 @@ use Rattle.spread_books.specs.BookView.{BookView}
 use Rattle.spread_books.proofs.quotes.AtHand.{kept_by_newest}
 use Rattle.spread_books.proofs.index.IndexBook.others_pair.Goals as goal
 
-pub returns-else-is_some : goal.returns-else-is_some
-returns-else-is_some g c =
+pub returns : goal.returns
+returns g c =
     let xs = c.self.inside.others.orders in
-    let zs = c.args.self.now.orders in
-    kept_by_newest (implied c.args.self.now.rules) xs zs c.self.inside.newest c.in-Some.newest c.args.side c.args.month c.in_ok-held.held c.in-Some.is (ap (λ (v : BookView). v.orders) c.self.view_is)
-    (λ k at. let no : false ≡ true = sym c.if-is_some.false ∙ (c.is_some.ensures ∙ ap (λ (r : Option _). is_some r) (c.other_month_of.ensures k at)) in cc)
+    kept_by_newest (implied c.args.self.now.rules) xs c.args.self.now.orders c.self.inside.newest c.args.side c.args.month c.in_ok-held.held (ap (λ (v : BookView). v.orders) c.self.view_is)
+    (λ k at. let no : false ≡ true = sym c.if-is_some.false ∙ (c.is_some.ensures ∙ ap (λ (r : Option _). is_some r) (c.newest_via.ensures k at)) in cc)
     (subst (λ (r : Rules). IsCheapest (implied r) xs c.args.side c.args.month MAX_MONTHS c.in_ok-held.held) (ap (λ (v : BookView). v.rules) c.self.view_is) c.in_ok-held.ensures)
