@@ -1,5 +1,6 @@
 pub mod RowOfFrames
 pub mod IntactFrame
 pub mod FrontStays
+pub mod HeaderDigits
 pub mod FramesHeld
 pub mod FrameStarts

@@ -1,20 +1,19 @@
 //! What stands at the front of a text.
-ghost use Rattle.std.specs.Prelude.{◌≡◌, ℕ, ◌+◌, ◌%◌, ◌≤◌, ◌<◌, ◌^◌, length, take, drop, sum, option_map, option_and_then, is_some, Some, true, IfSome, nat_eq, nat_le, ◌&&◌};
+ghost use Rattle.std.specs.Prelude.{◌≡◌, ℕ, ◌+◌, ◌%◌, ◌≤◌, ◌<◌, length, take, drop, sum, option_map, is_some, Some, true, IfSome, nat_eq, ◌&&◌};
 ghost use Rattle.std.specs.List.{position_or_len, starts_with};
 ghost use Rattle.std.specs.Str.{bytes_eq};
 ghost use Rattle.memchr.specs.Find.{is_byte};
-ghost use Rattle.fix_frames.specs.Texts.{is_soh, strip_prefix, is_cut_short};
-ghost use Rattle.fix_frames.specs.Frames.{begin_text, header, header_after, body_at, is_body, is_intact, is_length_open, checksum_field, frame_length};
+ghost use Rattle.fix_frames.specs.Frames.{header, header_after, body_at, is_body, is_intact, checksum_field, frame_length};
 ghost use Rattle.fix_frames.specs.Fields.{field_of_text};
 ghost use Rattle.fix_frames.specs.Held.{from_first_start};
 ghost use Rattle.fix_frames.specs.code.Marked.{IsMarked};
 ghost use Rattle.fix_frames.specs.code.Tabled.{IsTable, IsTableOf};
 ghost use Rattle.fix_frames.specs.declared.frame.Scan.TheVariants.{Frame};
 ghost use Rattle.std.specs.Bool.{OnTrue};
-ghost use Rattle.fix_frames.specs.code.Scans.{scan_front, first_field, leading_field_view, tag_view, is_header_open};
+ghost use Rattle.fix_frames.specs.code.Scans.{scan_front, first_field, leading_field_view, tag_view, is_header_open, header_read};
 
 use crate::marks::{Marks, next_soh};
-use crate::table::{FieldTable, are_fields};
+use crate::table::{FieldTable, FrameTable, are_fields};
 use fix_values::limited_digits;
 use host_base::bytes::SOH;
 use host_base::limits::{MAX_BODY_LENGTH, MIN_BODY_LENGTH};
@@ -78,18 +77,6 @@ fn place_of(byte: u8, text: &[u8]) -> usize
     }
 }
 
-/// The same, byte by byte, which is quicker where the byte is near, as within a field.
-fn near_place_of(byte: u8, text: &[u8]) -> usize
-    ensures { result ≡ position_or_len (is_byte byte) text.now }
-{
-    for i in 0..text.len() {
-        if text[i] == byte {
-            return i;
-        }
-    }
-    text.len()
-}
-
 /// Whether the text begins with that word. A word of known length is compared without a loop or a call.
 #[inline(always)]
 fn has_front(text: &[u8], word: &[u8]) -> bool
@@ -106,33 +93,42 @@ fn has_front(text: &[u8], word: &[u8]) -> bool
     true
 }
 
-/// Whether a body may have this length.
-fn is_body_length(length: usize) -> bool
-    ensures { result ≡ nat_le MIN_BODY_LENGTH length && nat_le length MAX_BODY_LENGTH }
+/// The header whose BodyLength says that number in so many digits.
+fn header_read(digits: usize, number: usize) -> Option<FrameHeader>
+    requires { digits ≤ MAX_LENGTH_DIGITS }
+    ensures { result ≡ header_read digits number }
 {
-    MIN_BODY_LENGTH <= length && length <= MAX_BODY_LENGTH
+    if 1 <= digits && MIN_BODY_LENGTH <= number && number <= MAX_BODY_LENGTH {
+        Some(FrameHeader {
+            body_start: digits + BEGIN_BYTES + 1,
+            body_length: number,
+        })
+    } else {
+        None
+    }
 }
 
+/// The header of a text that begins as a frame does, from BodyLength on: byte by byte.
 fn header_after(rest: &[u8]) -> Option<FrameHeader>
-    requires { length rest.now < 2 ^ 32 }
     ensures { result ≡ header_after rest.now }
 {
-    let digits = near_place_of(SOH, rest);
-    if digits == rest.len() || digits == 0 || digits > MAX_LENGTH_DIGITS {
-        return None;
+    let mut number: usize = 0;
+    for i in 0..rest.len() {
+        if rest[i] == SOH {
+            return header_read(i, number);
+        }
+        if i == MAX_LENGTH_DIGITS || !rest[i].is_ascii_digit() {
+            return None;
+        }
+        number = number * 10 + usize::from(rest[i] - b'0');
     }
-    match limited_digits(&rest[..digits]) {
-        Some(length) if is_body_length(length as usize) => Some(FrameHeader {
-            body_start: digits + BEGIN_BYTES + 1,
-            body_length: length as usize,
-        }),
-        _ => None,
-    }
+    None
 }
 
-/// The header of a text, where it has one.
+/// The header of a text, where it has one. A call of its own, since within `scan_front` it would take registers from the
+/// look at the fields.
+#[inline(never)]
 pub(crate) fn header_of(text: &[u8]) -> Option<FrameHeader>
-    requires { length text.now < 2 ^ 32 }
     ensures { result ≡ header text.now }
 {
     if has_front(text, &BEGIN_TEXT) {
@@ -319,8 +315,7 @@ fn is_intact(text: &[u8], header: FrameHeader, table: &mut FieldTable) -> bool
 }
 
 /// What stands at the front of a text, and the table of a frame that does.
-pub fn scan_front(text: &[u8], table: &mut FieldTable) -> Scan
-    requires { length text.now < 2 ^ 32 }
+pub fn scan_front(text: &[u8], table: &mut FrameTable) -> Scan
     ensures front { result ≡ scan_front text.now }
     ensures table { (n : ℕ) → result ≡ Frame n → IsTableOf text.now table.new }
 {
@@ -329,7 +324,8 @@ pub fn scan_front(text: &[u8], table: &mut FieldTable) -> Scan
             let whole = header.body_start + header.body_length + CHECKSUM_BYTES;
             if text.len() < whole {
                 Scan::Incomplete
-            } else if is_intact(text, header, table) {
+            } else if is_intact(text, header, &mut table.fields) {
+                table.header = header;
                 Scan::Frame(whole)
             } else {
                 Scan::Garbled

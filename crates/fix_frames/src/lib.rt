@@ -17,4 +17,4 @@ pub use frame::{
 };
 pub use message::{MAX_FRAME_BYTES, Message};
 pub use row::first_of_row;
-pub use table::FieldTable;
+pub use table::FrameTable;

@@ -1,13 +1,13 @@
 //! A message, which is a lawful frame.
-ghost use Rattle.std.specs.Prelude.{◌≡◌, ℕ, ◌+◌, ◌<◌, ◌≤◌, ◌^◌, length, List, Option, IsSome, IfSome, ◌↔◌, option_map, Some, is_some, true};
+ghost use Rattle.std.specs.Prelude.{◌≡◌, ◌+◌, ◌<◌, length, Option, IsSome, IfSome, ◌↔◌, Some, is_some, true};
 ghost use Rattle.std.specs.Option.{option_copied};
 ghost use Rattle.fix_frames.specs.Frames.{IsFrame, header, body_at, is_body};
 ghost use Rattle.fix_frames.specs.Fields.{fields_of_body};
-ghost use Rattle.fix_frames.specs.code.Tabled.{IsTable, IsTableOf};
+ghost use Rattle.fix_frames.specs.code.Tabled.{IsTableOf};
 ghost use Rattle.fix_frames.specs.Messages.{kind, get, number};
 
-use crate::frame::{FrameHeader, Scan, header_of, scan_front};
-use crate::table::{FieldTable, first_value, value_of};
+use crate::frame::{Scan, scan_front};
+use crate::table::{FrameTable, first_value, value_of};
 use crate::tags;
 use fix_values::read_number;
 
@@ -18,11 +18,9 @@ pub const MAX_FRAME_BYTES: usize = 4_124;
 #[derive(Clone, Copy)]
 pub struct Message<'a> {
     frame: &'a [u8],
-    head: FrameHeader,
-    table: FieldTable,
+    table: FrameTable,
     pub ghost lawful: { IsFrame frame.now },
-    pub ghost claimed: { header frame.now ≡ Some head },
-    pub ghost tabled: { IsTable (body_at frame.now head) table },
+    pub ghost tabled: { IsTableOf frame.now table },
 }
 
 impl<'a> Message<'a> {
@@ -34,7 +32,7 @@ impl<'a> Message<'a> {
         if bytes.len() > MAX_FRAME_BYTES {
             return None;
         }
-        let mut table = FieldTable::empty();
+        let mut table = FrameTable::empty();
         match scan_front(bytes, &mut table) {
             Scan::Frame(n) if n == bytes.len() => Some(Message::of_frame(bytes, &table)),
             _ => None,
@@ -50,25 +48,26 @@ impl<'a> Message<'a> {
     }
 
     fn body(&self) -> &'a [u8]
-        ensures value { result.now ≡ body_at self.now.frame.now self.now.head }
+        ensures value { result.now ≡ body_at self.now.frame.now self.now.table.header }
         ensures body { is_body result.now ≡ true }
         ensures fields_of_body { is_some (fields_of_body result.now) ≡ true }
     {
-        &self.frame[self.head.body_start..self.head.body_start + self.head.body_length]
+        let header = self.table.header;
+        &self.frame[header.body_start..header.body_start + header.body_length]
     }
 
     /// The value of its first field.
     pub fn kind(&self) -> &'a [u8]
         ensures { result.now ≡ kind self.now.frame.now }
     {
-        first_value(self.body(), &self.table)
+        first_value(self.body(), &self.table.fields)
     }
 
     /// The value of the first field with that tag.
     pub fn get(&self, tag: u32) -> Option<&'a [u8]>
         ensures { option_copied result ≡ get tag self.now.frame.now }
     {
-        value_of(self.body(), &self.table, tag)
+        value_of(self.body(), &self.table.fields, tag)
     }
 
     /// Its number, where it can be read and is at least 1.
@@ -82,16 +81,13 @@ impl<'a> Message<'a> {
     }
 
     /// The message of a lawful frame, whose table is known.
-    pub fn of_frame(frame: &'a [u8], table: &FieldTable) -> Message<'a>
-        requires short { length frame.now < 2 ^ 32 }
+    pub fn of_frame(frame: &'a [u8], table: &FrameTable) -> Message<'a>
         requires lawful { IsFrame frame.now }
         requires tabled { IsTableOf frame.now table.now }
         ensures { result.frame.now ≡ frame.now }
     {
-        let head = header_of(frame).unwrap();
         Message {
             frame,
-            head,
             table: *table,
         }
     }

@@ -1,5 +1,5 @@
 //! Where the first field of each tag that a session reads stands in a body, so that it is found without a walk.
-ghost use Rattle.std.specs.Prelude.{◌≡◌, ℕ, ◌≤◌, ◌<◌, ◌^◌, length, take, drop, ◌+◌, is_some, true, unwrap_or, []};
+ghost use Rattle.std.specs.Prelude.{◌≡◌, ◌≤◌, ◌<◌, ◌^◌, length, take, ◌+◌, is_some, true, unwrap_or, []};
 ghost use Rattle.std.specs.Bool.{OnTrue};
 ghost use Rattle.std.specs.Option.{option_copied};
 ghost use Rattle.fix_frames.specs.Fields.{fields_of_body};
@@ -8,7 +8,7 @@ ghost use Rattle.fix_frames.specs.Messages.{first_value};
 ghost use Rattle.fix_frames.specs.code.Scans.{value_of};
 ghost use Rattle.fix_frames.specs.code.Tabled.{IsTable, index_of, with_field};
 
-use crate::frame::{LeadingField, next_field};
+use crate::frame::{FrameHeader, LeadingField, next_field};
 use crate::marks::NO_MARKS;
 use crate::tags;
 use host_base::limits::MAX_BODY_LENGTH;
@@ -46,12 +46,34 @@ pub struct FieldTable {
 
 impl FieldTable {
     /// A table of no field, to be filled.
-    pub fn empty() -> FieldTable
+    fn empty() -> FieldTable
         ensures { result.present ≡ 0 }
     {
         FieldTable {
             places: [FieldPlace { start: 0, end: 0 }; PLACES],
             present: 0,
+        }
+    }
+}
+
+/// The header of a frame, and the table of its body.
+#[derive(Clone, Copy)]
+pub struct FrameTable {
+    pub header: FrameHeader,
+    pub fields: FieldTable,
+}
+
+impl FrameTable {
+    /// That of no frame, to be filled.
+    pub fn empty() -> FrameTable
+        ensures { result.fields.present ≡ 0 }
+    {
+        FrameTable {
+            header: FrameHeader {
+                body_start: 0,
+                body_length: 0,
+            },
+            fields: FieldTable::empty(),
         }
     }
 }

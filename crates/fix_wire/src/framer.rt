@@ -11,7 +11,7 @@ ghost use denote.Follow.{follows_so};
 ghost use mathlib.Core.Option.{none};
 ghost use Rattle.fix_wire.specs.contracts.framer.Framer.{the_row};
 
-use fix_frames::{FieldTable, MAX_FRAME_BYTES, Message, Scan, next_begin, scan_front};
+use fix_frames::{FrameTable, MAX_FRAME_BYTES, Message, Scan, next_begin, scan_front};
 use std::marker::Model;
 
 /// How many bytes a framer holds at most.
@@ -26,7 +26,7 @@ pub struct Framer {
     // The length of the frame at the front, once it is found; else 0.
     front_length: usize,
     // Its table, once it is found.
-    table: FieldTable,
+    table: FrameTable,
 }
 
 impl Model for Framer {
@@ -64,7 +64,7 @@ impl Framer {
             start: 0,
             end: 0,
             front_length: 0,
-            table: FieldTable::empty(),
+            table: FrameTable::empty(),
         }
     }
 
@@ -104,7 +104,7 @@ impl Framer {
         if self.front_length > 0 {
             (0, Some(self.front_length))
         } else {
-            first_start(&self.buffer[self.start..self.end], &mut FieldTable::empty())
+            first_start(&self.buffer[self.start..self.end], &mut FrameTable::empty())
         }
     }
 
@@ -226,7 +226,7 @@ fn first_start_in(
     buffer: &[u8; BUFFER_BYTES],
     start: usize,
     end: usize,
-    table: &mut FieldTable,
+    table: &mut FrameTable,
 ) -> (usize, Option<usize>)
     requires order { start ≤ end }
     requires fits { end ≤ BUFFER_BYTES }
@@ -246,7 +246,7 @@ fn first_message(held: &[u8]) -> Look<'_>
     ensures first { frame_from result ≡ first_frame (frames held.now) }
     ensures after { (n : ℕ) → place_after result ≡ Some n → EndsFirst held.now 0 n }
 {
-    let mut table = FieldTable::empty();
+    let mut table = FrameTable::empty();
     let (skip, length) = first_start(held, &mut table);
     match length {
         Some(length) => {
@@ -258,7 +258,7 @@ fn first_message(held: &[u8]) -> Look<'_>
 }
 
 /// The first place at which a frame stands or may still begin, and the length and the table of the frame that stands there.
-fn first_start(held: &[u8], table: &mut FieldTable) -> (usize, Option<usize>)
+fn first_start(held: &[u8], table: &mut FrameTable) -> (usize, Option<usize>)
     requires { length held.now ≤ BUFFER_BYTES }
     ensures within { result.0 ≤ length held.now }
     ensures kept { drop result.0 held.now ≡ from_first_start held.now }

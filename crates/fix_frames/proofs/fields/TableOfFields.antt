@@ -1,7 +1,7 @@
 -- A table of fields, one field after another.
 use Rattle.std.proofs.Common.{is_some, true, false, cond, eqb, subst, unwrap_or, ◌≡◌, ◌≢◌, ℕ, ◌+◌, ◌*◌, ◌%◌, ◌^◌, ◌<◌, ◌≤◌, w64, Bool, List, ◌++◌, Option, Some, None, set, get_or, length, take, drop, refl, sym, ap, ◌∙◌, arith}
 use Rattle.std.specs.Prelude.{slice_range}
-use Rattle.std.proofs.lemmas.List.{drop_all, drop-take, take-take, length-drop, length-set, get_or-set_same, get_or-set_other, drop-append-le, take-append-le, take-append-drop}
+use Rattle.std.proofs.lemmas.List.{drop_all, drop-take, take-take, length-drop, length-set, get_or-set_same, get_or-set_other, drop-append-le, take-append-le}
 use Rattle.std.proofs.lemmas.List.Sums.{passes_at_first}
 use Rattle.std.proofs.lemmas.Nat.Bits.{bit_at-zero, bit_at_set_same, bit_at_set_other}
 use Rattle.std.specs.Int.{bit_at}
@@ -12,13 +12,14 @@ use Rattle.std.proofs.lemmas.Bool.{eqb-true, eqb-false, false≢true}
 use Rattle.fix_frames.specs.declared.frame.LeadingField.{LeadingField}
 use Rattle.fix_frames.specs.declared.table.FieldPlace.{FieldPlace}
 use Rattle.fix_frames.specs.declared.table.FieldTable.{FieldTable}
+use Rattle.fix_frames.specs.declared.table.FrameTable.{FrameTable}
 use Rattle.fix_frames.specs.Fields.{fields_of_body}
 use Rattle.fix_frames.proofs.fields.RowOfFields.{row_some, value_step, first_some}
 use Rattle.fix_values.proofs.FirstPlace.{same, differs}
 use Rattle.fix_frames.specs.code.Scans.{value_of, first_field, leading_field_view}
 use Rattle.fix_frames.specs.code.Tabled.{tabled_tags, is_same, index_of, nowhere, place_at, has_place, value_at, with_field, IsWithin, IsTable, IsTableOf}
-use Rattle.fix_frames.specs.Frames.{frame_at, header, frame_length}
-use Rattle.fix_frames.proofs.framing.FrontStays.{frame_parts, header_stays}
+use Rattle.fix_frames.specs.Frames.{frame_at, frame_length}
+use Rattle.fix_frames.proofs.framing.FrontStays.{frame_parts, header_stays, header_alone}
 
 -- a tag that is tabled stands at its index
 tag_at : (tag : ℕ) → index_of tag < 23 → get_or tabled_tags (index_of tag) 0 ≡ tag
@@ -157,24 +158,31 @@ all_tabled body t rest tabled past =
     )
 
 -- the table of a text is that of the frame at its front
-pub table_alone : (text : List ℕ) (n : ℕ) (t : FieldTable) → frame_at text ≡ Some n → IsTableOf text t → IsTableOf (take n text) t
-table_alone text n t e known h claims =
+pub table_alone : (text : List ℕ) (n : ℕ) (t : FrameTable) → frame_at text ≡ Some n → IsTableOf text t → IsTableOf (take n text) t
+table_alone text n t e known =
+    let h = t.header in
     frame_parts text n e (λ c head keeps len fits.
-    let at = subst (λ (x : List ℕ). header x ≡ Some h) (take-append-drop n text) (header_stays (take n text) (drop n text) h claims) in
-    let same : c ≡ h = ap (λ o. unwrap_or o c) (sym head ∙ at) in
+    let same : c ≡ h = ap (λ o. unwrap_or o c) (sym head ∙ known.header) in
     let size : h.body_start + (h.body_length + 7) ≡ n = omega (arith, ap frame_length (sym same) ∙ len) in
     let body = ap (λ k. take h.body_length (drop h.body_start (take k text))) (sym size)
     ∙ ap (λ x. take h.body_length x) (drop-take h.body_start (h.body_length + 7) text)
     ∙ take-take h.body_length (h.body_length + 7) (drop h.body_start text) (omega arith) in
-    subst (λ (x : List ℕ). IsTable x t) (sym body) (known h at))
+    record {
+      header = header_alone text n h known.header (omega (arith, size)) (omega (arith, size, ap frame_length (sym same), fits));
+      fields = subst (λ (x : List ℕ). IsTable x t.fields) (sym body) known.fields;
+    })
 
 -- bytes that follow change nothing in the table of a frame
-pub table_stays : (text more : List ℕ) (n : ℕ) (t : FieldTable) → frame_at text ≡ Some n → IsTableOf text t → IsTableOf (text ++ more) t
-table_stays text more n t e known h claims =
+pub table_stays : (text more : List ℕ) (n : ℕ) (t : FrameTable) → frame_at text ≡ Some n → IsTableOf text t → IsTableOf (text ++ more) t
+table_stays text more n t e known =
+    let h = t.header in
     frame_parts text n e (λ c head keeps len fits.
-    let same : c ≡ h = ap (λ o. unwrap_or o c) (sym (header_stays text more c head) ∙ claims) in
+    let same : c ≡ h = ap (λ o. unwrap_or o c) (sym head ∙ known.header) in
     let size : h.body_start + (h.body_length + 7) ≤ length text = omega (arith, ap frame_length (sym same), fits) in
     let left = length-drop h.body_start text in
     let body = ap (λ x. take h.body_length x) (drop-append-le h.body_start text more (omega (arith, size)))
     ∙ take-append-le h.body_length (drop h.body_start text) more (omega (arith, size, left)) in
-    subst (λ (x : List ℕ). IsTable x t) (sym body) (known h (head ∙ ap Some same)))
+    record {
+      header = header_stays text more h known.header;
+      fields = subst (λ (x : List ℕ). IsTable x t.fields) (sym body) known.fields;
+    })

@@ -75,7 +75,8 @@ header_at_stays k rest more l =
     let front = take_front k rest more l in
     rw (there, front, here)
 
-not_a_length : (digits : List ℕ) → (8 < length digits) ⊎ (list_all is_ascii_digit digits ≡ false) → is_body_length digits ≡ false
+-- more than eight digits, or another byte among them, are no BodyLength
+pub not_a_length : (digits : List ℕ) → (8 < length digits) ⊎ (list_all is_ascii_digit digits ≡ false) → is_body_length digits ≡ false
 not_a_length digits (inl many) =
     let few : leb (length digits) 8 ≡ false = grind (arith, nat_tests) in
     rw few (by_test (leb 1 (length digits)))
@@ -114,7 +115,7 @@ opened_stays : (rest more : List ℕ) → (8 < length rest) ⊎ (list_all is_asc
 opened_stays rest more (inl many) = inl (omega (arith, length-append rest more))
 opened_stays rest more (inr bad) = inr (all_not rest more bad)
 
-no_header : (k : ℕ) (rest : List ℕ) → is_body_length (take k rest) ≡ false → header_with k rest ≡ None
+pub no_header : (k : ℕ) (rest : List ℕ) → is_body_length (take k rest) ≡ false → header_with k rest ≡ None
 no_header k rest e = ap (λ x. cond x (Some (record { body_start = k + 13; body_length = number_of (take k rest) })) None) (ap (λ x. ltb k (length rest) && x) e ∙ and-false (ltb k (length rest)))
 
 -- a text with no byte 1 that isn't up to 8 digits gets no size by more bytes
@@ -283,16 +284,20 @@ header_front text more c e l twelve =
     let says2 : header_after (drop 12 text ++ more) ≡ Some c = sym (ap header_after parts.1) ∙ says in
     ap (option_and_then header_after) parts.0 ∙ header_after_front (drop 12 text) more c says2 (omega (arith, length-drop 12 text)))
 
+-- the header of a text is that of a front which has the frame
+pub header_alone : (text : List ℕ) (n : ℕ) (c : FrameHeader) → header text ≡ Some c → frame_length c ≤ n → n ≤ length text → header (take n text) ≡ Some c
+header_alone text n c claims fits within =
+    let size = length-take-le n text within in
+    let begins : 13 ≤ c.body_start = option_and_then_some header_after (strip_prefix begin_text text) c claims (λ rest stands says. let s = header_start (position_or_len is_soh rest) rest c says in omega (arith, s)) in
+    header_front (take n text) (drop n text) c (ap header (take-append-drop n text) ∙ claims) (omega (arith, size)) (omega (arith, size))
+
 -- a frame at the front of a text is a frame alone
 pub frame_alone : (text : List ℕ) (n : ℕ) → frame_at text ≡ Some n → frame_at (take n text) ≡ Some (length (take n text))
 frame_alone text n e =
     frame_parts text n e (λ c claims keeps len fits.
-    let front = take n text in
     let size = length-take-le n text (omega arith) in
-    let whole = take-append-drop n text in
-    let begins : 13 ≤ c.body_start = option_and_then_some header_after (strip_prefix begin_text text) c claims (λ rest stands says. let s = header_start (position_or_len is_soh rest) rest c says in omega (arith, s)) in
-    let claims2 = header_front (take n text) (drop n text) c (ap header whole ∙ claims) (omega (arith, size)) (omega (arith, size)) in
-    let keeps2 = sym (intact_stays (take n text) (drop n text) c (omega (arith, size))) ∙ ap (λ t. is_intact t c) whole ∙ keeps in
+    let claims2 = header_alone text n c claims (omega (arith, len)) (omega (arith, len, fits)) in
+    let keeps2 = sym (intact_stays (take n text) (drop n text) c (omega (arith, size))) ∙ ap (λ t. is_intact t c) (take-append-drop n text) ∙ keeps in
     ap (option_and_then (intact_length (take n text))) claims2 ∙ ap (λ x. cond x (Some (frame_length c)) None) keeps2 ∙ ap Some (len ∙ sym size))
 
 cut_short : (word text : List ℕ) → is_cut_short word text ≡ true → length text < length word

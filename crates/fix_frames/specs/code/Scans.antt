@@ -1,7 +1,10 @@
 -- What the code finds at the front of a text.
 -- Words of the code alone.
-use Rattle.std.specs.Prelude.{ℕ, ◌+◌, Bool, ◌||◌, nat_lt, if◌then◌else◌, List, Option, Some, None, option_map, length, take, drop, find, unwrap_or, ◌==◌, [], slice_range}
+use Rattle.std.specs.Prelude.{ℕ, ◌+◌, Bool, ◌&&◌, ◌||◌, nat_le, nat_lt, if◌then◌else◌, List, Option, Some, None, option_map, length, take, drop, find, unwrap_or, ◌==◌, [], slice_range}
 use Rattle.std.specs.List.{position_or_len}
+use Rattle.host_base.specs.declared.limits.TheConstants.{MIN_BODY_LENGTH, MAX_BODY_LENGTH}
+use Rattle.fix_frames.specs.declared.frame.FrameHeader.{FrameHeader}
+use Rattle.fix_frames.specs.declared.frame.TheConstants.{BEGIN_BYTES}
 use Rattle.fix_frames.specs.declared.frame.Scan.{Scan}
 use Rattle.fix_frames.specs.declared.frame.Scan.TheVariants.{Frame, Incomplete, Garbled}
 use Rattle.fix_frames.specs.declared.frame.LeadingField.{LeadingField}
@@ -17,6 +20,13 @@ scan_with may None = if may then Incomplete else Garbled
 -- a lawful frame, what may still begin one, or neither
 abbrev pub scan_front : List ℕ → Scan
 scan_front text = scan_with (may_begin text) (frame_at text)
+
+-- the header that so many digits of BodyLength give, which say that number
+abbrev pub header_read : ℕ → ℕ → Option FrameHeader
+header_read digits number =
+    if nat_le 1 digits && nat_le MIN_BODY_LENGTH number && nat_le number MAX_BODY_LENGTH
+    then Some (record { body_start = digits + (BEGIN_BYTES + 1); body_length = number })
+    else None
 
 -- a text without a header may still begin a frame
 abbrev pub is_header_open : List ℕ → Bool

@@ -4,11 +4,11 @@ use Rattle.std.specs.Prelude.{Bool, ◌==◌, ◌≡◌, ℕ, ◌<◌, ◌≤◌
 use Rattle.std.specs.Int.{bit_at}
 use Rattle.std.specs.Int.RustNames.{bit_or}
 use Rattle.std.specs.List.{position_or_len}
-use Rattle.fix_frames.specs.declared.frame.FrameHeader.{FrameHeader}
 use Rattle.fix_frames.specs.declared.frame.LeadingField.{LeadingField}
 use Rattle.fix_frames.specs.declared.table.TheConstants.{PLACES, TABLED_TAGS}
 use Rattle.fix_frames.specs.declared.table.FieldPlace.{FieldPlace}
 use Rattle.fix_frames.specs.declared.table.FieldTable.{FieldTable}
+use Rattle.fix_frames.specs.declared.table.FrameTable.{FrameTable}
 use Rattle.fix_frames.specs.declared.tags.TheConstants as tags
 use Rattle.fix_frames.specs.Frames.{header, body_at}
 use Rattle.fix_frames.specs.code.Scans.{value_of}
@@ -67,6 +67,7 @@ pub record IsTable (body : List ℕ) (t : FieldTable) : Type 0 where
   pub value : (tag : ℕ) → index_of tag < TABLED_TAGS
       → value_at body t (index_of tag) ≡ value_of tag body
 
--- A table of the body of a text that has a header.
-abbrev pub IsTableOf : List ℕ → FieldTable → Type 0
-IsTableOf text t = (h : FrameHeader) → header text ≡ Some h → IsTable (body_at text h) t
+-- the header of a text, and the table of the body that it announces
+pub record IsTableOf (text : List ℕ) (t : FrameTable) : Type 0 where
+  pub header : header text ≡ Some t.header
+  pub fields : IsTable (body_at text t.header) t.fields

@@ -1,14 +1,16 @@
 -- What a framer knows of the frame at its front.
-use Rattle.std.proofs.Common.{◌≡◌, ◌≢◌, ℕ, ◌+◌, ◌-◌, ◌≤◌, List, ◌++◌, length, drop, Option, Some, None, sym, ap, subst, ◌∙◌, arith}
+use Rattle.std.proofs.Common.{◌≡◌, ◌≢◌, ℕ, ◌+◌, ◌-◌, ◌<◌, ◌≤◌, List, ◌++◌, length, drop, Option, Some, None, sym, ap, subst, ◌∙◌, arith}
 use Rattle.std.specs.Prelude.{slice_range, unwrap_or}
 use Rattle.std.specs.List.{between}
 use Rattle.std.proofs.lemmas.List.{length-take-le, length-drop}
 use Rattle.fix_wire.specs.declared.framer.Framer.TheInside.{Inside}
 use Rattle.fix_wire.specs.code.FramerFields.{held_of, IsKept}
 use Rattle.fix_frames.specs.Frames.{frame_at}
-use Rattle.fix_frames.specs.declared.table.FieldTable.{FieldTable}
+use Rattle.fix_frames.specs.Held.{from_first_start}
+use Rattle.fix_frames.specs.declared.table.FrameTable.{FrameTable}
 use Rattle.fix_frames.specs.code.Tabled.{IsTableOf}
 use Rattle.fix_frames.proofs.framing.FrontStays.{frame_stays}
+use Rattle.fix_frames.proofs.framing.FramesHeld.{start_frame}
 use Rattle.fix_frames.proofs.fields.TableOfFields.{table_stays}
 
 -- it still knows it when bytes were put
@@ -20,8 +22,14 @@ pub knows_found : (o : Option ℕ) (found : ℕ) (text : List ℕ) → found ≡
 knows_found None found text e f some = absurd (some e)
 knows_found (Some n) found text e f some = sym f ∙ ap Some (sym e)
 
+-- nothing is skipped before it
+pub front_known : (f : Inside) (held : List ℕ) → IsKept f → held_of f ≡ held → 0 < f.front_length → Some f.front_length ≡ frame_at (from_first_start held)
+front_known f held kept e some =
+    let known = ap frame_at (sym e) ∙ kept.known (λ none. absurd (omega (arith, none, some))) in
+    sym (ap frame_at (start_frame held f.front_length known) ∙ known)
+
 -- and its table too
-table_put : (text held : List ℕ) (found : ℕ) (t : FieldTable) (now : List ℕ) → now ≡ held ++ text → (found ≢ 0 → frame_at held ≡ Some found) → (found ≢ 0 → IsTableOf held t) → found ≢ 0 → IsTableOf now t
+table_put : (text held : List ℕ) (found : ℕ) (t : FrameTable) (now : List ℕ) → now ≡ held ++ text → (found ≢ 0 → frame_at held ≡ Some found) → (found ≢ 0 → IsTableOf held t) → found ≢ 0 → IsTableOf now t
 table_put text held found t now e known tabled some = subst (λ (x : List ℕ). IsTableOf x t) (sym e) (table_stays held text found t (known some) (tabled some))
 
 -- bytes are put behind those that are held, wherever these were moved to
@@ -34,7 +42,7 @@ put_kept f i buffer text taken kept order room same table held len put =
       order = omega (arith, order);
       room = room;
       known = knows_put text (held_of f) i.front_length _ now known;
-      tabled = table_put text (held_of f) i.front_length i.table _ now known (λ some. subst (λ (t : FieldTable). IsTableOf (held_of f) t) (sym table) (kept.tabled (λ none. some (same ∙ none))));
+      tabled = table_put text (held_of f) i.front_length i.table _ now known (λ some. subst (λ (t : FrameTable). IsTableOf (held_of f) t) (sym table) (kept.tabled (λ none. some (same ∙ none))));
     }
 
 range_length : (xs : List ℕ) (start end : ℕ) → end ≤ length xs → length (between start end xs) ≡ end - start

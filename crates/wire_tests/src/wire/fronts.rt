@@ -1,13 +1,13 @@
 //! What stands at the front of a text, and its CheckSum.
 use crate::day::SELL;
 use fix_frames::{
-    BEGIN_TEXT, FieldTable, Message, Scan, checksum, checksum_digits, next_begin, scan_front,
+    BEGIN_TEXT, FrameTable, Message, Scan, checksum, checksum_digits, next_begin, scan_front,
 };
 
 /// A lawful frame in front, what may begin one, and neither.
 #[test]
 fn fronts_of_texts(rt: HostRuntime) {
-    let mut table = FieldTable::empty();
+    let mut table = FrameTable::empty();
     assert!(rt; matches!(scan_front(&SELL[..20], &mut table), Scan::Incomplete));
     assert!(rt; matches!(scan_front(&BEGIN_TEXT, &mut table), Scan::Incomplete));
     assert!(rt; matches!(scan_front(b"9=5", &mut table), Scan::Garbled));

@@ -55,3 +55,11 @@ returns-in-None-whole c =
 
 pub returns-in_default : goal.returns-in_default
 returns-in_default c = sym (ap first_frame (no_frames c.args.self.now (ap frame_at c.requires.settled ∙ sym c.requires.front ∙ c.in_default.is)))
+
+pub slice_bounds-frame-end : goal.slice_bounds-frame-end
+slice_bounds-frame-end c =
+    let f = c.self.inside in
+    let len = c.in-Some.length in
+    let within = (frame_within c.args.self.now len (sym c.requires.front ∙ c.in-Some.is)).1 in
+    let fits = skip_within f len c.args.self.now c.self.told c.self.invariant c.self.view_is within in
+    omega (arith, fits, c.self.invariant.room)

@@ -4,7 +4,7 @@ use Rattle.fix_frames.specs.Frames.{frame_at}
 use Rattle.fix_frames.specs.Held.{from_first_start}
 use Rattle.fix_frames.specs.code.Tabled.{IsTableOf}
 use Rattle.fix_wire.proofs.framing.HeldPart.{range_drop}
-use Rattle.fix_wire.proofs.framing.FrontFrame.{skip_within}
+use Rattle.fix_wire.proofs.framing.FrontFrame.{skip_within, front_known}
 use Rattle.fix_wire.proofs.framer.Framer.skip_garbled.Goals as goal
 
 pub invariant_of-self : goal.invariant_of-self
@@ -19,6 +19,9 @@ invariant_of-self c =
       known = λ some. ap frame_at now_is ∙ found;
       tabled = λ some. subst (λ (t : List ℕ). IsTableOf t c.first_start_in-skip.new.table) (sym now_is) (c.first_start_in-skip.ensures.table c.in-Some.length c.in-Some.is);
     }
+
+pub returns-then-self-gt0-clause-found : goal.returns-then-self-gt0-clause-found
+returns-then-self-gt0-clause-found c = front_known c.self.inside c.args.self.now c.self.invariant c.self.view_is c.if-self-gt0.true
 
 pub returns-in-Some-clause-kept : goal.returns-in-Some-clause-kept
 returns-in-Some-clause-kept c =
