@@ -141,6 +141,7 @@ impl<A: Allocator + Copy> PlaceRows<A> {
     pub fn count(&self) -> usize
         ensures count { result ≡ length self.now }
         ensures small { result < 2 ^ 63 }
+        ensures ordered { Ascends self.now }
     {
         let _ = self.rows.len();
         self.count

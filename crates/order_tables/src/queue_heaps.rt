@@ -3,14 +3,15 @@
 //! A rank that comes takes the logarithm of the ranks of its queue. The rank of an order that leaves stays while another
 //! rank of its queue is less, and goes when it comes to be the least, or when a queue has many such: each goes once, in
 //! the logarithm.
-ghost use Rattle.std.specs.Prelude.{◌≡◌, ◌<◌, [], All, OnOk, OnErr, IfSome, IfNone, MatchBool, length, map};
+ghost use Rattle.std.specs.Prelude.{◌≡◌, ◌<◌, [], All, OnOk, OnErr, IfSome, IfNone, length, map};
 ghost use Rattle.std.specs.BinaryHeap.{heap_items};
-ghost use Rattle.order_tables.specs.code.Heaps.{IsRankHeap, ranks_in, ranks_at, Joins, SameRanks, IsLeast, IsRanked, IsUnranked, is_ranked, HasSettled, Settles, HasThinned, Thins};
+ghost use Rattle.order_tables.specs.code.Heaps.{IsRankHeap, ranks_in, ranks_at, Joins, SameRanks, IsLeast, is_of_rank, is_ranked, HasSettled, Settles, HasThinned, Thins};
 ghost use Rattle.order_tables.specs.Places.{Ascends};
 
 use crate::place_rows::PlaceRows;
 use crate::queue_rank::{QueueRank, queue_number};
 use host_base::NoMemory;
+use spread_rules::Order;
 use std::alloc::Allocator;
 use std::cmp::Reverse;
 use std::collections::BinaryHeap;
@@ -51,17 +52,21 @@ fn make_room<A: Allocator + Copy>(
     Ok(())
 }
 
+/// Whether an order is of that queue and has that rank.
+fn is_of_rank(order: &Order, queue: u32, rank: &QueueRank) -> bool
+    ensures { result ≡ is_of_rank queue rank.now order.now }
+{
+    queue_number(order.instrument, order.side) == queue && QueueRank::new(order).is(rank)
+}
+
 /// Whether an order of that queue and rank rests.
 fn rests<A: Allocator + Copy>(rows: &PlaceRows<A>, queue: u32, rank: QueueRank) -> bool
     ensures value { result ≡ is_ranked rows.now queue rank }
-    ensures ranked { MatchBool result
-        (IsRanked rows.now queue rank) (IsUnranked rows.now queue rank) }
+    ensures ordered { Ascends rows.now }
 {
     match rows.get(rank.place()) {
         None => false,
-        Some(order) => {
-            queue_number(order.instrument, order.side) == queue && QueueRank::new(order).is(&rank)
-        }
+        Some(order) => is_of_rank(order, queue, &rank),
     }
 }
 
@@ -129,7 +134,6 @@ impl<A: Allocator + Copy> QueueHeaps<A> {
 
     /// Where a queue has many more ranks than orders rest, those of orders that left go. Takes no memory.
     pub fn thin(&mut self, rows: &PlaceRows<A>, queue: u32)
-        requires { Ascends rows.now }
         ensures { Thins rows.now queue self.old self.new }
     {
         let n = queue as usize;

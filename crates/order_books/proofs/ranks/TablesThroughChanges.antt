@@ -13,7 +13,7 @@ use Rattle.spread_rulebook.proofs.lists.Membership.{not_in_nil, in_map, from_map
 use Rattle.spread_rules.specs.Amended.{amended, with_quantity}
 use Rattle.order_tables.specs.declared.queue_rank.QueueRank.{QueueRank}
 use Rattle.order_tables.specs.QueueRanks.{queue_of, rank_of, rank_cmp, HasMonths}
-use Rattle.order_tables.specs.code.Heaps.{ranks_at, Joins, SameRanks, IsLed, Settles, Thins}
+use Rattle.order_tables.specs.code.Heaps.{ranks_at, Joins, SameRanks, IsLed, KeepsRanks, HasSettled, HasThinned, ChangesQueue, Settles, Thins}
 use Rattle.order_tables.proofs.places.Ascending.{ascends_changed, is_so, one_at_a_place, from_removed, in_removed}
 use Rattle.order_tables.proofs.places.ChangedAt.{changed, changed_at, less, key_kept}
 use Rattle.order_books.specs.code.Index.{IsIndex}
@@ -87,7 +87,7 @@ pub index_amended : (xs : List Order) (ranks : List (List QueueRank)) (place : �
 index_amended xs ranks place id quantity h =
     index_changed (with_quantity id quantity) (record { queue = λ o. refl; rank = λ o. refl; instrument = λ o. refl; place = λ o. refl }) place xs ranks h
 
--- ---- where the ranks of one queue settled
+-- ---- where the ranks of one queue changed
 
 is_queue : (m n : ℕ) → (m == n) ≡ true → m ≡ n
 is_queue m n k = grind (arith, nat_tests, k)
@@ -95,47 +95,43 @@ is_queue m n k = grind (arith, nat_tests, k)
 is_another : (m n : ℕ) → (m == n) ≡ false → m ≡ n → ⊥
 is_another m n k e = grind (arith, nat_tests, k, e)
 
-module _ (xs : List Order) (queue : ℕ) (old new : List (List QueueRank)) (settled : Settles xs queue old new) where
-  ranked_settled : (o : Order) → Contains xs o → Contains (ranks_at old (queue_of o)) (rank_of o) → Contains (ranks_at new (queue_of o)) (rank_of o)
-  ranked_settled o c had =
+module _ (xs : List Order) (queue : ℕ) (So : List QueueRank → List QueueRank → Type 0) (old new : List (List QueueRank)) (change : ChangesQueue queue So old new) where
+  ranked_still_at : KeepsRanks xs queue (ranks_at old queue) (ranks_at new queue) → (o : Order) → Contains xs o → Contains (ranks_at old (queue_of o)) (rank_of o) → Contains (ranks_at new (queue_of o)) (rank_of o)
+  ranked_still_at kept o c had =
       elim (is_so (queue_of o == queue)) [
         | inl k ↦
             let e = is_queue (queue_of o) queue k in
-            subst (λ (n : ℕ). Contains (ranks_at new n) (rank_of o)) (sym e) (settled.own.kept o c e (subst (λ (n : ℕ). Contains (ranks_at old n) (rank_of o)) e had))
-        | inr k ↦ subst (λ (rs : List QueueRank). Contains rs (rank_of o)) (sym (settled.others (queue_of o) (is_another (queue_of o) queue k))) had
+            subst (λ (n : ℕ). Contains (ranks_at new n) (rank_of o)) (sym e) (kept o c e (subst (λ (n : ℕ). Contains (ranks_at old n) (rank_of o)) e had))
+        | inr k ↦ subst (λ (rs : List QueueRank). Contains rs (rank_of o)) (sym (change.others (queue_of o) (is_another (queue_of o) queue k))) had
       ]
 
-  led_settled : ((n : ℕ) (r : QueueRank) → (n ≡ queue → ⊥) → Contains (ranks_at old n) r → IsLed xs n r) → (n : ℕ) (r : QueueRank) → Contains (ranks_at new n) r → IsLed xs n r
-  led_settled others n r c =
+  led_still_at : ((r : QueueRank) → Contains (ranks_at new queue) r → IsLed xs queue r) → ((n : ℕ) (r : QueueRank) → (n ≡ queue → ⊥) → Contains (ranks_at old n) r → IsLed xs n r)
+      → (n : ℕ) (r : QueueRank) → Contains (ranks_at new n) r → IsLed xs n r
+  led_still_at own others n r c =
       elim (is_so (n == queue)) [
         | inl k ↦
             let e = is_queue n queue k in
-            subst (λ (m : ℕ). IsLed xs m r) (sym e) (settled.own.led r (subst (λ (m : ℕ). Contains (ranks_at new m) r) e c))
+            subst (λ (m : ℕ). IsLed xs m r) (sym e) (own r (subst (λ (m : ℕ). Contains (ranks_at new m) r) e c))
         | inr k ↦
             let other = is_another n queue k in
-            others n r other (subst (λ (rs : List QueueRank). Contains rs r) (settled.others n other) c)
+            others n r other (subst (λ (rs : List QueueRank). Contains rs r) (change.others n other) c)
       ]
 
 -- where ranks of one queue went, and none of an order that rests
 pub index_thinned : (xs : List Order) (queue : ℕ) (old new : List (List QueueRank)) → IsIndex xs old → Thins xs queue old new → IsIndex xs new
 index_thinned xs queue old new h thinned = record {
   ordered = h.ordered;
-  ranked = λ o c.
-      elim (is_so (queue_of o == queue)) [
-        | inl k ↦
-            let e = is_queue (queue_of o) queue k in
-            subst (λ (n : ℕ). Contains (ranks_at new n) (rank_of o)) (sym e) (thinned.own.kept o c e (subst (λ (n : ℕ). Contains (ranks_at old n) (rank_of o)) e (h.ranked o c)))
-        | inr k ↦ subst (λ (rs : List QueueRank). Contains rs (rank_of o)) (sym (thinned.others (queue_of o) (is_another (queue_of o) queue k))) (h.ranked o c)
-      ];
-  led = λ n r c.
-      elim (is_so (n == queue)) [
-        | inl k ↦
-            let e = is_queue n queue k in
-            h.led n r (subst (λ (m : ℕ). Contains (ranks_at old m) r) (sym e) (thinned.own.only r (subst (λ (m : ℕ). Contains (ranks_at new m) r) e c)))
-        | inr k ↦ h.led n r (subst (λ (rs : List QueueRank). Contains rs r) (thinned.others n (is_another n queue k)) c)
-      ];
+  ranked = λ o c. ranked_still_at xs queue (HasThinned xs queue) old new thinned thinned.changed.kept o c (h.ranked o c);
+  led = led_still_at xs queue (HasThinned xs queue) old new thinned (λ r c. h.led queue r (thinned.changed.only r c)) (λ n r other c. h.led n r c);
   months = h.months;
 }
+
+module _ (xs : List Order) (queue : ℕ) (old new : List (List QueueRank)) (settled : Settles xs queue old new) where
+  ranked_settled : (o : Order) → Contains xs o → Contains (ranks_at old (queue_of o)) (rank_of o) → Contains (ranks_at new (queue_of o)) (rank_of o)
+  ranked_settled = ranked_still_at xs queue (HasSettled xs queue) old new settled settled.changed.kept
+
+  led_settled : ((n : ℕ) (r : QueueRank) → (n ≡ queue → ⊥) → Contains (ranks_at old n) r → IsLed xs n r) → (n : ℕ) (r : QueueRank) → Contains (ranks_at new n) r → IsLed xs n r
+  led_settled = led_still_at xs queue (HasSettled xs queue) old new settled settled.changed.led
 
 -- after one order left
 pub index_removed : (xs : List Order) (old new : List (List QueueRank)) (o : Order) → IsIndex xs old → Contains xs o → Settles (removed o.place xs) (queue_of o) old new → IsIndex (removed o.place xs) new

@@ -1,5 +1,5 @@
 -- ranks by queue: which there are after one came, or some went
-use Rattle.std.proofs.Common.{◌≡◌, ℕ, ℤ, ◌<◌, ◌==◌, Bool, true, false, List, [], ◌∷◌, map, filter, length, get_or, set, Contains, Option, Some, None, MatchBool, refl, sym, ap, ◌∙◌, subst, arith, inl, inr, ◌⊎◌}
+use Rattle.std.proofs.Common.{unwrap_or, option_map, ◌≡◌, ℕ, ℤ, ◌<◌, ◌==◌, Bool, true, false, List, [], ◌∷◌, map, filter, length, get_or, set, Contains, Option, Some, None, refl, sym, ap, ◌∙◌, subst, arith, inl, inr, ◌⊎◌}
 use Rattle.std.specs.List.{find}
 use Rattle.std.specs.List.Sorted.{IsPermutation}
 use Rattle.std.specs.Ordering.{is_lt, int_eq}
@@ -19,8 +19,8 @@ use Rattle.spread_rulebook.proofs.lists.Membership.{not_in_nil, in_head, in_tail
 use Rattle.order_tables.specs.declared.queue_rank.QueueRank.{QueueRank}
 use Rattle.order_tables.specs.Places.{Ascends}
 use Rattle.order_tables.specs.QueueRanks.{queue_of, rank_of, rank_cmp, is_rank}
-use Rattle.order_tables.specs.code.Heaps.{top_cmp, ranks_in, ranks_at, Joins, SameRanks, IsLeast, IsRanked, IsUnranked, is_of_rank, is_ranked, IsLed, HasSettled, Settles, HasThinned, Thins}
-use Rattle.order_tables.proofs.places.Ascending.{is_so, unfound, at_place, is_found, one_at_a_place}
+use Rattle.order_tables.specs.code.Heaps.{top_cmp, ranks_in, ranks_at, Joins, SameRanks, IsLeast, IsRanked, is_of_rank, is_ranked, IsLed, HasThinned, ChangesQueue}
+use Rattle.order_tables.proofs.places.Ascending.{is_so, at_place, is_found}
 
 -- ---- one heap, whose least rank is at the top
 
@@ -135,16 +135,10 @@ module _ (heaps : List (List QueueRank)) (i : ℕ) (own : List QueueRank) (withi
     | inr k ↦ other_at n (is_another n i k)
   ]
 
-  pub thins : (xs : List Order) → HasThinned xs i (ranks_at heaps i) own → Thins xs i heaps (set heaps i own)
-  thins xs h = record {
+  pub queue_changes : (So : List QueueRank → List QueueRank → Type 0) → So (ranks_at heaps i) own → ChangesQueue i So heaps (set heaps i own)
+  queue_changes So h = record {
     others = λ n other. other_at n other;
-    own = subst (λ (q : List QueueRank). HasThinned xs i (ranks_at heaps i) q) (sym (own_at i refl)) h;
-  }
-
-  pub settles : (xs : List Order) → HasSettled xs i (ranks_at heaps i) own → Settles xs i heaps (set heaps i own)
-  settles xs h = record {
-    others = λ n other. other_at n other;
-    own = subst (λ (q : List QueueRank). HasSettled xs i (ranks_at heaps i) q) (sym (own_at i refl)) h;
+    changed = subst (λ (q : List QueueRank). So (ranks_at heaps i) q) (sym (own_at i refl)) h;
   }
 
 module _ {Z : Type 0} (heaps : List (BinaryHeap (Reverse QueueRank) Z)) (i : ℕ) (was : BinaryHeap (Reverse QueueRank) Z) (within : i < length heaps) (at : was ≡ get_or heaps i was) where
@@ -176,15 +170,10 @@ module _ {Z : Type 0} (heaps : List (BinaryHeap (Reverse QueueRank) Z)) (i : ℕ
     pub heap_same : heap_items own ≡ heap_items was → SameRanks (map ranks_in heaps) (map ranks_in (set heaps i own))
     heap_same e = subst (λ (q : List (List QueueRank)). SameRanks (map ranks_in heaps) q) (sym changed) (same_ranks (map ranks_in heaps) i (ranks_in own) ranks_within (ap ranks e ∙ sym ranks_was))
 
-    pub heap_thins : (xs : List Order) → HasThinned xs i (ranks_in was) (ranks_in own) → Thins xs i (map ranks_in heaps) (map ranks_in (set heaps i own))
-    heap_thins xs h =
-        subst (λ (q : List (List QueueRank)). Thins xs i (map ranks_in heaps) q) (sym changed) (thins (map ranks_in heaps) i (ranks_in own) ranks_within xs
-        (subst (λ (q : List QueueRank). HasThinned xs i q (ranks_in own)) (sym ranks_was) h))
-
-    pub heap_settles : (xs : List Order) → HasSettled xs i (ranks_in was) (ranks_in own) → Settles xs i (map ranks_in heaps) (map ranks_in (set heaps i own))
-    heap_settles xs h =
-        subst (λ (q : List (List QueueRank)). Settles xs i (map ranks_in heaps) q) (sym changed) (settles (map ranks_in heaps) i (ranks_in own) ranks_within xs
-        (subst (λ (q : List QueueRank). HasSettled xs i q (ranks_in own)) (sym ranks_was) h))
+    pub heap_changes : (So : List QueueRank → List QueueRank → Type 0) → So (ranks_in was) (ranks_in own) → ChangesQueue i So (map ranks_in heaps) (map ranks_in (set heaps i own))
+    heap_changes So h =
+        subst (λ (q : List (List QueueRank)). ChangesQueue i So (map ranks_in heaps) q) (sym changed) (queue_changes (map ranks_in heaps) i (ranks_in own) ranks_within So
+        (subst (λ (q : List QueueRank). So q (ranks_in own)) (sym ranks_was) h))
 
 -- ---- whether an order has a rank
 
@@ -206,30 +195,29 @@ rank_itself a =
     let place : (a.place == a.place) ≡ true = grind (arith, nat_tests) in
     rw (cost, place)
 
-module _ (xs : List Order) (queue : ℕ) (rank : QueueRank) where
-  pub none_ranked : find (λ o. o.place == rank.place) xs ≡ None → IsUnranked xs queue rank
-  none_ranked none o c q r =
-      let k = unfound xs rank.place none o c in
-      let e = ap (λ (x : QueueRank). x.place) r in
-      grind (arith, nat_tests, k, e)
+module _ (xs : List Order) (queue : ℕ) where
+  ranked_itself : (o : Order) → Ascends xs → Contains xs o → queue_of o ≡ queue → is_ranked xs queue (rank_of o) ≡ true
+  ranked_itself o up stands own =
+      let q : (queue_of o == queue) ≡ true = grind (arith, nat_tests, own) in
+      let r = rank_itself (rank_of o) in
+      ap (λ (f : Option Order). unwrap_or (option_map (is_of_rank queue (rank_of o)) f) false) (is_found xs o up stands) ∙ rw (q, r)
 
-  module _ (f : Order) (found : find (λ o. o.place == rank.place) xs ≡ Some f) where
-    pub found_ranked : queue_of f ≡ queue → is_rank (rank_of f) rank ≡ true → IsRanked xs queue rank
-    found_ranked q e = let a = at_place xs rank.place f found in (f, a.0, q, same_rank (rank_of f) rank e)
+  pub ranked_by_test : (rank : QueueRank) → is_ranked xs queue rank ≡ true → IsRanked xs queue rank
+  ranked_by_test rank h = of_found (find (λ o. o.place == rank.place) xs) refl h
+    where
+      of_found : (f : Option Order) → find (λ o. o.place == rank.place) xs ≡ f → unwrap_or (option_map (is_of_rank queue rank) f) false ≡ true → IsRanked xs queue rank
+      of_found None e t = cc
+      of_found (Some o) e t =
+          let p = and_parts (queue_of o == queue) (is_rank (rank_of o) rank) t in
+          let here = p.0 in
+          let own : queue_of o ≡ queue = grind (arith, nat_tests, here) in
+          (o, (at_place xs rank.place o e).0, own, same_rank (rank_of o) rank p.1)
 
-    module _ (up : Ascends xs) where
-      it_is : (o : Order) → Contains xs o → rank_of o ≡ rank → o ≡ f
-      it_is o c r = let a = at_place xs rank.place f found in one_at_a_place xs o f up c a.0 (ap (λ (x : QueueRank). x.place) r ∙ sym a.1)
-
-      pub of_another_queue : (queue_of f ≡ queue → ⊥) → IsUnranked xs queue rank
-      of_another_queue other o c q r = other (ap queue_of (sym (it_is o c r)) ∙ q)
-
-      pub of_another_rank : is_rank (rank_of f) rank ≡ false → IsUnranked xs queue rank
-      of_another_rank e o c q r =
-          let same : rank_of f ≡ rank = ap rank_of (sym (it_is o c r)) ∙ r in
-          let k : is_rank rank rank ≡ false = subst (λ (x : QueueRank). is_rank x rank ≡ false) same e in
-          let t = rank_itself rank in
-          cc
+  -- where no order is found by a rank, none has it
+  pub of_nobody : (rank : QueueRank) → Ascends xs → is_ranked xs queue rank ≡ false → (o : Order) → Contains xs o → queue_of o ≡ queue → rank_of o ≡ rank → ⊥
+  of_nobody rank up h o stands own same =
+      let t : is_ranked xs queue rank ≡ true = subst (λ (r : QueueRank). is_ranked xs queue r ≡ true) same (ranked_itself o up stands own) in
+      cc
 
 -- ---- of all ranks those whose orders rest
 
@@ -255,12 +243,6 @@ module _ (test : Reverse QueueRank → Bool) where
         | inr k ↦ let d : Contains (filter test ys) x = rw k at c in in_tail y ys x (from_kept ys x d)
       ]
 
-ranked_itself : (xs : List Order) (queue : ℕ) (o : Order) → Ascends xs → Contains xs o → queue_of o ≡ queue → is_ranked xs queue (rank_of o) ≡ true
-ranked_itself xs queue o up stands own =
-    let q : (queue_of o == queue) ≡ true = grind (arith, nat_tests, own) in
-    let r = rank_itself (rank_of o) in
-    ap (is_of_rank queue (rank_of o)) (is_found xs o up stands) ∙ rw (q, r)
-
 pub thinned : (xs : List Order) (queue : ℕ) (old kept new : List (Reverse QueueRank)) → Ascends xs → kept ≡ filter (λ r. is_ranked xs queue r.0) old → IsPermutation kept new → HasThinned xs queue (ranks old) (ranks new)
 thinned xs queue old kept new up e moved =
     let test : Reverse QueueRank → Bool = λ r. is_ranked xs queue r.0 in
@@ -275,7 +257,3 @@ thinned xs queue old kept new up e moved =
           let was : Contains (filter test old) m.0 = subst (λ (ys : List (Reverse QueueRank)). Contains ys m.0) e (Contains-permutation new kept m.0 (IsPermutation-sym kept new moved) m.1) in
           subst (λ (q : QueueRank). Contains (ranks old) q) m.2 (in_map (λ (x : Reverse QueueRank). x.0) old m.0 (from_kept test old m.0 was));
     }
-
-pub by_answer : (b : Bool) (P Q : Type 0) → (b ≡ true → P) → (b ≡ false → Q) → MatchBool b P Q
-by_answer true P Q p q = p refl
-by_answer false P Q p q = q refl

@@ -1,6 +1,6 @@
 -- The ranks of orders by queue, among which ranks of orders that left may still stand.
 -- Words of the code alone.
-use Rattle.std.specs.Prelude.{◌≡◌, ◌⊎◌, ◌==◌, ◌&&◌, ℕ, Bool, false, List, [], map, Contains, get_or, Option, Some, None}
+use Rattle.std.specs.Prelude.{◌≡◌, ◌⊎◌, ◌==◌, ◌&&◌, ℕ, Bool, false, List, [], map, Contains, get_or, option_map, unwrap_or}
 use Rattle.std.specs.declared.cmp.Ordering.{Ordering}
 use Rattle.std.specs.declared.cmp.Reverse.{Reverse}
 use Rattle.std.specs.Ordering.{is_lt}
@@ -40,43 +40,45 @@ pub record Joins (queue : ℕ) (rank : QueueRank) (old new : List (List QueueRan
   pub only : (n : ℕ) (r : QueueRank)
       → Contains (ranks_at new n) r → Contains (ranks_at old n) r ⊎ ((n ≡ queue) × (r ≡ rank))
 
--- an order of that queue and rank rests, or none
+-- an order of that queue and rank rests
 abbrev pub IsRanked : List Order → ℕ → QueueRank → Type 0
 IsRanked xs queue rank = (o : Order) × Contains xs o × (queue_of o ≡ queue) × (rank_of o ≡ rank)
 
-abbrev pub IsUnranked : List Order → ℕ → QueueRank → Type 0
-IsUnranked xs queue rank = (o : Order) → Contains xs o → queue_of o ≡ queue → rank_of o ≡ rank → ⊥
-
--- the order that was found is of that queue and has that rank
-abbrev pub is_of_rank : ℕ → QueueRank → Option Order → Bool
-is_of_rank queue rank None = false
-is_of_rank queue rank (Some o) = queue_of o == queue && is_rank (rank_of o) rank
+abbrev pub is_of_rank : ℕ → QueueRank → Order → Bool
+is_of_rank queue rank o = queue_of o == queue && is_rank (rank_of o) rank
 
 -- whether one does: the order of the rank's place
 abbrev pub is_ranked : List Order → ℕ → QueueRank → Bool
-is_ranked xs queue rank = is_of_rank queue rank (find (λ o. o.place == rank.place) xs)
+is_ranked xs queue rank =
+    unwrap_or (option_map (is_of_rank queue rank) (find (λ o. o.place == rank.place) xs)) false
 
 -- an order of that queue rests that has the rank, or stands ahead of it
 abbrev pub IsLed : List Order → ℕ → QueueRank → Type 0
 IsLed xs queue r =
     (o : Order) × Contains xs o × (queue_of o ≡ queue) × (is_lt (rank_cmp r (rank_of o)) ≡ false)
 
--- orders that rest keep their ranks, and each rank that stays is led by one of them
+-- orders that rest keep their ranks in a queue
+abbrev pub KeepsRanks : List Order → ℕ → List QueueRank → List QueueRank → Type 0
+KeepsRanks xs queue old new =
+    (o : Order) → Contains xs o → queue_of o ≡ queue → Contains old (rank_of o) → Contains new (rank_of o)
+
+-- and each rank that stays is led by one of them
 pub record HasSettled (xs : List Order) (queue : ℕ) (old new : List QueueRank) : Type 0 where
-  pub kept : (o : Order) → Contains xs o → queue_of o ≡ queue
-      → Contains old (rank_of o) → Contains new (rank_of o)
+  pub kept : KeepsRanks xs queue old new
   pub led : (r : QueueRank) → Contains new r → IsLed xs queue r
 
-pub record Settles (xs : List Order) (queue : ℕ) (old new : List (List QueueRank)) : Type 0 where
-  pub others : (n : ℕ) → (n ≡ queue → ⊥) → ranks_at new n ≡ ranks_at old n
-  pub own : HasSettled xs queue (ranks_at old queue) (ranks_at new queue)
-
--- orders that rest keep their ranks, and no rank comes
+-- and no rank comes
 pub record HasThinned (xs : List Order) (queue : ℕ) (old new : List QueueRank) : Type 0 where
-  pub kept : (o : Order) → Contains xs o → queue_of o ≡ queue
-      → Contains old (rank_of o) → Contains new (rank_of o)
+  pub kept : KeepsRanks xs queue old new
   pub only : (r : QueueRank) → Contains new r → Contains old r
 
-pub record Thins (xs : List Order) (queue : ℕ) (old new : List (List QueueRank)) : Type 0 where
+-- the ranks of one queue changed so
+pub record ChangesQueue (queue : ℕ) (So : List QueueRank → List QueueRank → Type 0) (old new : List (List QueueRank)) : Type 0 where
   pub others : (n : ℕ) → (n ≡ queue → ⊥) → ranks_at new n ≡ ranks_at old n
-  pub own : HasThinned xs queue (ranks_at old queue) (ranks_at new queue)
+  pub changed : So (ranks_at old queue) (ranks_at new queue)
+
+abbrev pub Settles : List Order → ℕ → List (List QueueRank) → List (List QueueRank) → Type 0
+Settles xs queue = ChangesQueue queue (HasSettled xs queue)
+
+abbrev pub Thins : List Order → ℕ → List (List QueueRank) → List (List QueueRank) → Type 0
+Thins xs queue = ChangesQueue queue (HasThinned xs queue)
