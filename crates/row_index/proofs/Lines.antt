@@ -1,8 +1,10 @@
 -- one number more in a line
-use Rattle.std.proofs.Common.{◌≡◌, ℕ, zero, suc, ◌+◌, ◌<◌, ◌/◌, ◌%◌, ◌==◌, Bool, true, false, ◌&&◌, cond, List, [], ◌∷◌, ◌++◌, length, get_or, set, take, drop, All, Option, Some, None, refl, ap, ◌∙◌, sym, subst, arith, add-one, drop-cons}
+use Rattle.std.proofs.Common.{◌≡◌, ℕ, zero, suc, ◌+◌, ◌<◌, ◌/◌, ◌%◌, ◌==◌, Bool, true, false, ◌&&◌, cond, List, [], ◌∷◌, ◌++◌, ◌≤◌, length, get_or, set, take, drop, All, Option, Some, None, refl, ap, ◌∙◌, sym, subst, arith, add-one, drop-cons, ◌⊎◌, inl, inr}
 use Rattle.std.specs.Prelude.{◌≢◌, slice_get, option_map}
 use Rattle.std.specs.Option.{option_or}
+use Rattle.std.proofs.lemmas.Bool.{cases_lt}
 use Rattle.std.proofs.lemmas.Bool.Decides.{nat_tests}
+use Rattle.std.proofs.lemmas.List.{get_or_default}
 use Rattle.host_base.specs.declared.id_key.IdKey.{IdKey}
 use Rattle.row_index.specs.declared.id_table.TheConstants.{ROWS}
 use Rattle.row_index.specs.Ids.{is_key, first_row}
@@ -197,6 +199,72 @@ end_here ks key es at lt z named ended h =
       sym named ∙ (ap (named_row ks key) d ∙ end_names_none ks key (get_or es at 0) (drop (at + 1) es) (subst HasEnd d ended) z),
       subst (EndsAt es) same (h 0 (subst (λ (ds : List ℕ). EndsAt ds 0) (sym d) z)),
     )
+
+-- ---- all numbers of a line looked at
+
+other_tag : (ks : List IdKey) (key : IdKey) (e : ℕ) → e / ROWS ≢ tag_of key → names_key ks key e ≡ false
+other_tag ks key e other = and_false (e / ROWS == tag_of key) _ (differs (e / ROWS) (tag_of key) other)
+  where
+    differs : (m n : ℕ) → m ≢ n → (m == n) ≡ false
+    differs m n h = grind (arith, nat_tests, h)
+
+-- where no number has the tag of a key, none names a row of it
+pub other_tags_name_none : (ks : List IdKey) (key : IdKey) (es : List ℕ) → All (λ (e : ℕ). e / ROWS ≢ tag_of key) es → named_row ks key es ≡ None
+other_tags_name_none ks key [] h = refl
+other_tags_name_none ks key (e ∷ es) h =
+    ap (λ (b : Bool). cond b (Some (e % ROWS)) (named_row ks key es)) (other_tag ks key e (head_of (λ (d : ℕ). d / ROWS ≢ tag_of key) e es h))
+    ∙ other_tags_name_none ks key es (tail_of (λ (d : ℕ). d / ROWS ≢ tag_of key) e es h)
+
+-- behind the end all numbers are 0
+zero_behind : (es : List ℕ) (at i : ℕ) → EndsAt es at → HasEnd es → at ≤ i → i < length es → get_or es i 0 ≡ 0
+zero_behind [] at i z h l m = absurd z
+zero_behind (e ∷ es) zero zero z h l m = z
+zero_behind (e ∷ es) zero (suc i) z h l m = h.0 z i 0 (omega arith)
+zero_behind (e ∷ es) (suc at) zero z h l m = absurd (omega arith)
+zero_behind (e ∷ es) (suc at) (suc i) z h l m = zero_behind es at i z.1 h.1 (omega arith) (omega arith)
+
+ends_here : (es : List ℕ) (at : ℕ) → at < length es → ((j d : ℕ) → j < at → get_or es j d ≢ 0) → get_or es at 0 ≡ 0 → EndsAt es at
+ends_here [] at l before z = absurd (omega arith)
+ends_here (e ∷ es) zero l before z = z
+ends_here (e ∷ es) (suc at) l before z = (before 0 0 (omega arith), ends_here es at (omega arith) (λ j d m. before (suc j) d (omega arith)) z)
+
+-- of the numbers before a place, so many stand: all of them, or those before the end
+pub record Counts (es : List ℕ) (at count : ℕ) : Type 0 where
+  pub most : count ≤ at
+  pub stand : count ≡ at → (j d : ℕ) → j < at → get_or es j d ≢ 0
+  pub end : count < at → EndsAt es count
+
+pub counts_none : (es : List ℕ) → Counts es 0 0
+counts_none es = record { most = omega arith; stand = λ e j d l. absurd (omega (arith, l)); end = λ l. absurd (omega (arith, l)) }
+
+pub counts_more : (es : List ℕ) (at count : ℕ) → at < length es → HasEnd es → Counts es at count → get_or es at 0 ≢ 0 → Counts es (at + 1) (count + 1)
+counts_more es at count l h c some = record {
+  most = omega (arith, c.most);
+  stand = λ e j d m. by_place (c.stand (omega (arith, e))) j d m (cases_lt j at);
+  end = λ m. absurd (some (zero_behind es count at (c.end (omega (arith, m))) h c.most l));
+}
+  where
+    by_place : ((j d : ℕ) → j < at → get_or es j d ≢ 0) → (j d : ℕ) → j < at + 1 → (j < at) ⊎ (at ≤ j) → get_or es j d ≢ 0
+    by_place before j d m (inl n) = before j d n
+    by_place before j d m (inr n) =
+        let same : at ≡ j = omega (arith, m, n) in
+        λ z. some (get_or_default es at 0 d l ∙ ap (λ (k : ℕ). get_or es k d) same ∙ z)
+
+pub counts_same : (es : List ℕ) (at count : ℕ) → at < length es → Counts es at count → get_or es at 0 ≡ 0 → Counts es (at + 1) count
+counts_same es at count l c z = record {
+  most = omega (arith, c.most);
+  stand = λ e. absurd (omega (arith, e, c.most));
+  end = λ m. by_place (cases_lt count at);
+}
+  where
+    by_place : (count < at) ⊎ (at ≤ count) → EndsAt es count
+    by_place (inl n) = c.end n
+    by_place (inr n) =
+        let same : at ≡ count = omega (arith, n, c.most) in
+        subst (EndsAt es) same (ends_here es at l (c.stand (sym same)) z)
+
+pub counts_all : (es : List ℕ) (n : ℕ) → n ≡ length es → Counts es n n → All (λ (e : ℕ). e ≢ 0) es
+counts_all es n e c = λ k d l. c.stand refl k d (omega (arith, e, l))
 
 -- ---- a line of zeros
 

@@ -47,23 +47,35 @@ impl<A: Allocator + Copy> Hints<A> {
     /// The row of that place stands there. A guess that finds no memory is left out. Behind a gap that is longer than
     /// all guesses together they begin anew, so that one place far away takes no more memory than all before it.
     pub fn note(&mut self, place: u64, at: usize) {
-        if self.rows.is_empty() {
-            self.base = place;
-        }
         let from = place.saturating_sub(self.base);
         if let (Ok(n), Ok(row)) = (usize::try_from(from), u32::try_from(at)) {
-            if n == self.rows.len() {
-                let _ = self.rows.push(row);
-            } else if n < self.rows.len() {
+            if n < self.rows.len() {
                 self.rows[n] = row;
-            } else if n < self.rows.len().saturating_mul(2).saturating_add(GAP) {
-                let _ = self.rows.resize(n.saturating_add(1), row);
             } else {
-                self.rows.clear();
-                self.base = place;
-                let _ = self.rows.push(row);
+                self.note_behind(place, n, row);
             }
         }
+    }
+
+    /// The same of a place that is so many places behind the first one, where there is no guess yet.
+    #[inline(never)]
+    fn note_behind(&mut self, place: u64, n: usize, row: u32) {
+        if self.rows.is_empty() {
+            self.begin_at(place, row);
+        } else if n == self.rows.len() {
+            let _ = self.rows.push(row);
+        } else if n < self.rows.len().saturating_mul(2).saturating_add(GAP) {
+            let _ = self.rows.resize(n.saturating_add(1), row);
+        } else {
+            self.rows.clear();
+            self.begin_at(place, row);
+        }
+    }
+
+    /// The first guess of all.
+    fn begin_at(&mut self, place: u64, row: u32) {
+        self.base = place;
+        let _ = self.rows.push(row);
     }
 
     /// Forgets all guesses.

@@ -1,5 +1,5 @@
 //! Where the rows of ids stand: a hash table of short lines, and an ordered table for what finds its line full.
-ghost use Rattle.std.specs.Prelude.{◌≡◌, ℕ, ◌+◌, ◌*◌, ◌<◌, ◌≤◌, List, All, length, slice_get, set, take, Some, None, [], ◌∷◌, ◌++◌, cond, is_some, IfOk, OnOk, OnErr};
+ghost use Rattle.std.specs.Prelude.{◌≡◌, ◌≢◌, ℕ, ◌+◌, ◌*◌, ◌/◌, ◌<◌, ◌≤◌, false, List, All, length, slice_get, set, take, Some, None, [], ◌∷◌, ◌++◌, cond, is_some, IfOk, OnOk, OnErr};
 ghost use Rattle.std.specs.BTreeMap.{get};
 ghost use Rattle.std.specs.Option.{option_or};
 ghost use Rattle.host_base.specs.declared.id_key.IdKey.{IdKey};
@@ -8,7 +8,7 @@ ghost use Rattle.row_index.specs.Ids.{is_key, first_row};
 ghost use Rattle.row_index.specs.Tables.{line_of, line_for, tag_of, is_row_of, names_key, named_row, HasEnd, IsTableOf};
 ghost use Rattle.row_index.specs.declared.id_table.Line.{Line};
 ghost use Rattle.row_index.specs.Notes.{is_known, lines_before, rest_before, CanTakeBack};
-ghost use Rattle.row_index.specs.code.Seeks.{IsSeek, with_number};
+ghost use Rattle.row_index.specs.code.Seeks.{EndsAt, IsSeek, with_number};
 
 use crate::rows::IdRows;
 use crate::spot::{Spot, spot_of};
@@ -102,9 +102,9 @@ fn names_key<R: IdRows>(number: u32, tag: u32, rows: &R, key: &IdKey) -> bool
     number as usize / ROWS == tag as usize && has_key(rows, number as usize % ROWS, key)
 }
 
-/// Looks for the key among the rows that a line names.
-#[inline(always)]
-fn seek_in<R: IdRows>(line: &Line, tag: u32, rows: &R, key: &IdKey) -> Seek
+/// Looks for the key among the rows that a line names, one after the other.
+#[inline(never)]
+fn seek_each<R: IdRows>(line: &Line, tag: u32, rows: &R, key: &IdKey) -> Seek
     requires tag { tag ≡ tag_of key.now }
     requires ended { HasEnd line.now.numbers }
     ensures { IsSeek (named_row (R.keys rows.now) key.now line.now.numbers)
@@ -120,6 +120,56 @@ fn seek_in<R: IdRows>(line: &Line, tag: u32, rows: &R, key: &IdKey) -> Seek
         }
     }
     Seek::Full
+}
+
+/// Whether a number of a line has that tag. All numbers are looked at at once: a walk that ends with them is a branch that
+/// a processor predicts wrong at most new keys.
+#[inline(always)]
+fn has_tag(line: &Line, tag: u32) -> bool
+    ensures { result ≡ false → All (λ e. e / ROWS ≢ tag) line.now.numbers }
+{
+    let mut any = false;
+    for at in 0..WIDTH {
+        if line.numbers[at] / 1_048_576 == tag {
+            any = true;
+        }
+    }
+    any
+}
+
+/// How many numbers stand in a line.
+#[inline(always)]
+fn count_of(line: &Line) -> usize
+    requires { HasEnd line.now.numbers }
+    ensures end { result < WIDTH → EndsAt line.now.numbers result }
+    ensures full { WIDTH ≤ result → All (λ e. e ≢ 0) line.now.numbers }
+{
+    let mut count = 0;
+    for at in 0..WIDTH {
+        if line.numbers[at] != 0 {
+            count += 1;
+        }
+    }
+    count
+}
+
+/// Looks for the key among the rows that a line names. Most keys are new: then no number of the line has their tag.
+#[inline(always)]
+fn seek_in<R: IdRows>(line: &Line, tag: u32, rows: &R, key: &IdKey) -> Seek
+    requires tag { tag ≡ tag_of key.now }
+    requires ended { HasEnd line.now.numbers }
+    ensures { IsSeek (named_row (R.keys rows.now) key.now line.now.numbers)
+        line.now.numbers result }
+{
+    if has_tag(line, tag) {
+        return seek_each(line, tag, rows, key);
+    }
+    let at = count_of(line);
+    if at < WIDTH {
+        Seek::Open(at)
+    } else {
+        Seek::Full
+    }
 }
 
 /// The number of a row that can be named.

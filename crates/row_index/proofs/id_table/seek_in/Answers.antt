@@ -1,27 +1,22 @@
-use Rattle.std.proofs.Common.{◌<◌, length, sym, ◌∙◌, arith}
-use Rattle.row_index.proofs.Lines.{next_named, next_ended, next_ends, next_full, end_here}
+use Rattle.std.proofs.Common.{ℕ, ◌/◌, All, subst}
+use Rattle.std.specs.Prelude.{◌≢◌}
+use Rattle.row_index.specs.declared.id_table.TheConstants.{ROWS}
+use Rattle.row_index.proofs.Lines.{other_tags_name_none}
 use Rattle.row_index.proofs.id_table.seek_in.Goals as goal
 
-pub returns-then-number-eq0 : goal.returns-then-number-eq0
-returns-then-number-eq0 g c =
+pub returns-then-at-lt-WIDTH : goal.returns-then-at-lt-WIDTH
+returns-then-at-lt-WIDTH g c =
     let es = c.args.line.now.numbers in
-    let at = c.loop-at.at in
-    let within : at < length es = omega arith in
-    let inv = c.loop-at.invariant in
-    let here = end_here (g.R.IdRows.keys c.args.rows.now) c.args.key.now es at within c.if-number-eq0.true inv.named inv.ended inv.ends in
-    (here.0, here.1, c.loop-at-test.true)
+    let others = subst (λ (t : ℕ). All (λ (e : ℕ). e / ROWS ≢ t) es) c.requires.tag (c.has_tag.ensures c.if-has_tag.false) in (
+      other_tags_name_none (g.R.IdRows.keys c.args.rows.now) c.args.key.now es others,
+      c.count_of-at.ensures.end c.if-at-lt-WIDTH.true,
+      c.if-at-lt-WIDTH.true,
+    )
 
-pub loop-at-preserved : goal.loop-at-preserved
-loop-at-preserved g c =
-    let ks = g.R.IdRows.keys c.args.rows.now in
+pub returns-else-at-lt-WIDTH : goal.returns-else-at-lt-WIDTH
+returns-else-at-lt-WIDTH g c =
     let es = c.args.line.now.numbers in
-    let at = c.loop-at.at in
-    let within : at < length es = omega arith in
-    let inv = c.loop-at.invariant in
-    let some = c.if-number-eq0.false in
-    record {
-      named = next_named ks c.args.key.now es at within (sym c.names_key.ensures ∙ c.if-names_key.false) inv.named;
-      ended = next_ended es at within inv.ended;
-      ends = next_ends es at within some inv.ends;
-      full = next_full es at within some inv.full;
-    }
+    let others = subst (λ (t : ℕ). All (λ (e : ℕ). e / ROWS ≢ t) es) c.requires.tag (c.has_tag.ensures c.if-has_tag.false) in (
+      other_tags_name_none (g.R.IdRows.keys c.args.rows.now) c.args.key.now es others,
+      c.count_of-at.ensures.full c.if-at-lt-WIDTH.false,
+    )

@@ -2,7 +2,7 @@ use Rattle.std.proofs.Common.{◌≡◌, ℕ, ◌+◌, All, drop}
 use Rattle.std.specs.Prelude.{◌≢◌}
 use Rattle.row_index.specs.Tables.{named_row, HasEnd}
 use Rattle.row_index.specs.code.Seeks.{EndsAt}
-use Rattle.row_index.proofs.id_table.seek_in.Given as goal
+use Rattle.row_index.proofs.id_table.seek_each.Given as goal
 
 abbrev pub invariant-loop-at : goal.invariant-loop-at
 invariant-loop-at g l =
