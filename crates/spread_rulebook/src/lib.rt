@@ -3,6 +3,7 @@
 
 mod instrument;
 pub mod laws;
+mod name_guesses;
 mod pair_line;
 mod rule_fault;
 mod rulebook;

@@ -17,7 +17,7 @@ pub struct PairLine {
 }
 
 /// The name of a month.
-fn name_in(months: &[Month], month: u8) -> &[u8]
+pub fn name_in(months: &[Month], month: u8) -> &[u8]
     requires { month < length months.now }
     ensures { result.now ≡ get_or (names_in months.now) month [] }
 {

@@ -7,7 +7,8 @@ ghost use Rattle.spread_rulebook.specs.declared.instrument.Instrument.{Instrumen
 ghost use Rattle.spread_rulebook.specs.declared.rule_fault.RuleFault.{RuleFault};
 
 use crate::instrument::Instrument;
-use crate::pair_line::month_named;
+use crate::name_guesses::NameGuesses;
+use crate::pair_line::{month_named, name_in};
 use crate::rule_fault::RuleFault;
 use crate::rulebook_text::{MonthList, read_lines};
 use crate::switches::Switches;
@@ -29,6 +30,7 @@ pub struct Rulebook {
     tick: i64,
     list: MonthList,
     switches: Switches,
+    guesses: NameGuesses,
 }
 
 impl Model for Rulebook {
@@ -63,10 +65,12 @@ impl Rulebook {
         if draft.list.count == 0 {
             return Err(RuleFault::NoMonth);
         }
+        let guesses = NameGuesses::new(&draft.list.slots[..draft.list.count]);
         Ok(Rulebook {
             tick,
             list: draft.list,
             switches: draft.switches,
+            guesses,
         })
     }
 
@@ -114,14 +118,19 @@ impl Rulebook {
         self.switches.is_on(near, far)
     }
 
-    /// The number of the month with this name.
+    /// The number of the month with this name: the one that is guessed, or one that is looked for.
     fn month_named(&self, name: &[u8]) -> Option<u8>
         ensures found { IfSome result (λ m.
             (m < month_count self.now) × (get_or (names_of self.now) m [] ≡ name.now)) }
         ensures none { IfNone result ((m : ℕ)
             → m < month_count self.now → get_or (names_of self.now) m [] ≢ name.now) }
     {
-        month_named(&self.list.slots[..self.list.count], name)
+        let months = &self.list.slots[..self.list.count];
+        let guess = self.guesses.month(name);
+        if usize::from(guess) < months.len() && name_in(months, guess) == name {
+            return Some(guess);
+        }
+        month_named(months, name)
     }
 
     /// The spread with this symbol.

@@ -134,6 +134,19 @@ fn pairs_are_switched(rt: HostRuntime) -> Result<(), Fail> {
     Ok(())
 }
 
+/// Months of one first and one last letter are told apart.
+#[test]
+fn names_alike(rt: HostRuntime) -> Result<(), Fail> {
+    let rules = Rulebook::read(b"tick 1\nmonth JAN6 3\nmonth JUN6 2\nmonth JUL6 1\n")?;
+    assert!(rt; rules.find(b"JAN6") == Some(Instrument::Outright(0)));
+    assert!(rt; rules.find(b"JUN6") == Some(Instrument::Outright(1)));
+    assert!(rt; rules.find(b"JUL6") == Some(Instrument::Outright(2)));
+    assert!(rt; rules.find(b"JAN6-JUL6") == Some(Instrument::Spread(0, 2)));
+    assert!(rt; rules.find(b"JUL6-JAN6").is_none());
+    assert!(rt; rules.find(b"JXX6").is_none());
+    Ok(())
+}
+
 #[test]
 fn twenty_four_months(rt: HostRuntime) -> Result<(), Fail> {
     let text =

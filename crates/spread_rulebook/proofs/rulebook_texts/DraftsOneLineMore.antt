@@ -7,6 +7,7 @@ use Rattle.std.proofs.lemmas.List.Elements.{All-push}
 use Rattle.std.proofs.lemmas.Bool.{eqb-true}
 use Rattle.std.proofs.lemmas.Bool.Decides.{nat_tests}
 use Rattle.spread_rulebook.specs.declared.rulebook.Month.{Month}
+use Rattle.spread_rulebook.specs.declared.name_guesses.NameGuesses.{NameGuesses}
 use Rattle.spread_rulebook.specs.declared.rulebook_text.Draft.{Draft}
 use Rattle.std.proofs.lemmas.List.{length-map}
 use Rattle.spread_rulebook.specs.Rulebook.{Rules, IsRules, IsMonth, IsTick}
@@ -149,8 +150,8 @@ finished d t k is some_month =
       names = λ i j a b e. k.names i j (omega arith) (omega arith) e;
     }
 
-pub kept_rulebook : (d : Draft) (t : ℤ) → IsDraft d → d.tick ≡ Some t → d.list.count ≢ 0 → IsRulebook (record { tick = to_z w64 (of_z w64 t); list = d.list; switches = d.switches })
-kept_rulebook d t k is some_month =
+pub kept_rulebook : (d : Draft) (t : ℤ) (guesses : NameGuesses) → IsDraft d → d.tick ≡ Some t → d.list.count ≢ 0 → IsRulebook (record { tick = to_z w64 (of_z w64 t); list = d.list; switches = d.switches; guesses = guesses })
+kept_rulebook d t guesses k is some_month =
     let e = same_tick t (k.tick t is).0 in
     record {
       slots = k.slots;
