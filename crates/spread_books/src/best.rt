@@ -33,23 +33,38 @@ fn front_is_within<B: Book>(book: &B, new: &Order, side: Side) -> bool
     }
 }
 
-/// The best with the direct candidates, whichever pairs take part.
-fn with_direct<B: Book>(book: &B, new: &Order) -> Option<Candidate>
-    requires { All HasOrderPrice (B.orders book.now) }
+/// The best is the direct candidate of the front that the new order meets. A call of its own, since most new orders meet
+/// none.
+#[inline(never)]
+fn with_front<B: Book>(book: &B, new: &Order, best: &mut Option<Candidate>)
+    requires small { All HasOrderPrice (B.orders book.now) }
+    requires none { best.old ≡ None }
     ensures fair { (trades_implied : Pairs)
-        → IsFair trades_implied new.now (B.orders book.now) result }
-    ensures small { IfSome result HasLegPrice }
+        → IsFair trades_implied new.now (B.orders book.now) best.new }
+    ensures small { IfSome best.new HasLegPrice }
     ensures covers { (trades_implied : Pairs)
         → CoversOne trades_implied new.now (B.orders book.now)
-        new.now.instrument (other_side new.now.side) result }
+        new.now.instrument (other_side new.now.side) best.new }
 {
     let side = new.side.opposite();
-    if !front_is_within(book, new, side) {
-        return None;
+    if let Some(order) = book.front(new.instrument, side) {
+        *best = candidate_for(new, Counterparty::Direct(order));
     }
-    match book.front(new.instrument, side) {
-        None => None,
-        Some(order) => candidate_for(new, Counterparty::Direct(order)),
+}
+
+/// The best with the direct candidates, whichever pairs take part.
+fn with_direct<B: Book>(book: &B, new: &Order, best: &mut Option<Candidate>)
+    requires small { All HasOrderPrice (B.orders book.now) }
+    requires none { best.old ≡ None }
+    ensures fair { (trades_implied : Pairs)
+        → IsFair trades_implied new.now (B.orders book.now) best.new }
+    ensures small { IfSome best.new HasLegPrice }
+    ensures covers { (trades_implied : Pairs)
+        → CoversOne trades_implied new.now (B.orders book.now)
+        new.now.instrument (other_side new.now.side) best.new }
+{
+    if front_is_within(book, new, new.side.opposite()) {
+        with_front(book, new, best);
     }
 }
 
@@ -200,7 +215,8 @@ pub fn best_candidate<B: Book>(book: &B, rules: &Rulebook, new: &Order) -> Optio
     ensures best { IsBest (implied rules.now) new.now (B.orders book.now) result }
     ensures small { IfSome result HasLegPrice }
 {
-    let mut best = with_direct(book, new);
+    let mut best = None;
+    with_direct(book, new, &mut best);
     match new.instrument {
         Instrument::Outright(month) => with_months(book, rules, new, &mut best, month),
         Instrument::Spread(near, far) => {

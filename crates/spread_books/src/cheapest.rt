@@ -142,6 +142,7 @@ pub fn cheaper(least: Option<PairCost>, cost: Option<i64>, other_month: u64) -> 
 
 /// What costs the least among the fronts of all other months whose pair with that month takes part, and the earliest
 /// month where several cost the same.
+#[inline(never)]
 pub fn cheapest_pair<B: Book>(
     book: &B,
     pairs: &MonthPairs<'_>,

@@ -108,6 +108,7 @@ impl<A: Allocator + Copy> QuoteTable<A> {
     }
 
     /// Renews the cell of that month, where it has to be.
+    #[inline(always)]
     fn renew_cell<B: Book>(
         &mut self,
         book: &B,

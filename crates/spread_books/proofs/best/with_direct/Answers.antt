@@ -1,35 +1,18 @@
-use Rattle.std.proofs.Common.{◌≡◌, false, rules, subst, sym, Some, None}
+use Rattle.std.proofs.Common.{subst, sym}
+use Rattle.std.specs.declared.option.Option.{Option}
 use Rattle.spread_rules.specs.declared.order.Side.{Side}
-use Rattle.spread_rules.specs.declared.candidate.Counterparty.TheVariants.{Direct}
-use Rattle.order_books.specs.Queues.{IsFront}
+use Rattle.spread_rules.specs.declared.candidate.Candidate.{Candidate}
 use Rattle.spread_rules.specs.Legs.{other_side}
-use Rattle.spread_books.specs.code.Best.{IsFair, IsBeyond, CoversOne}
-use Rattle.spread_books.proofs.fronts.BeatAnyPair.{front_beats, candidate_fair}
+use Rattle.spread_books.specs.code.Best.{IsBeyond, CoversOne}
 use Rattle.spread_books.proofs.fronts.Levels.{none_direct}
 use Rattle.spread_books.proofs.best.with_direct.Goals as goal
 
-pub returns-in-None-clause-covers : goal.returns-in-None-clause-covers
-returns-in-None-clause-covers g c =
-    let xs = g.B.Book.orders c.args.book.now in
-    let front = subst (λ (side : Side). IsFront xs c.args.new.now.instrument side None) c.opposite-side.ensures (subst (IsFront xs c.args.new.now.instrument c.opposite-side.result) c.in-None.is c.front.ensures) in
-    λ on o price r e. front o r
+pub returns-then-front_is_within-clause-covers : goal.returns-then-front_is_within-clause-covers
+returns-then-front_is_within-clause-covers g c = c.with_front.ensures.covers
 
-pub returns-in-Some-clause-fair : goal.returns-in-Some-clause-fair
-returns-in-Some-clause-fair g c =
-    let xs = g.B.Book.orders c.args.book.now in
-    let front = subst (IsFront xs c.args.new.now.instrument c.opposite-side.result) c.in-Some.is c.front.ensures in
-    λ on. subst (IsFair on c.args.new.now xs) (sym c.candidate_for.ensures.value) (candidate_fair on c.args.new.now xs (Direct c.in-Some.order) front.0.stands)
-
-pub returns-in-Some-clause-covers : goal.returns-in-Some-clause-covers
-returns-in-Some-clause-covers g c =
+pub returns-else-front_is_within-clause-covers : goal.returns-else-front_is_within-clause-covers
+returns-else-front_is_within-clause-covers g c =
     let xs = g.B.Book.orders c.args.book.now in
     let n = c.args.new.now in
-    let front = subst (λ (side : Side). IsFront xs n.instrument side (Some c.in-Some.order)) c.opposite-side.ensures (subst (IsFront xs n.instrument c.opposite-side.result) c.in-Some.is c.front.ensures) in
-    λ on. subst (CoversOne on n xs n.instrument (other_side n.side)) (sym c.candidate_for.ensures.value) (front_beats on n xs n.instrument c.in-Some.order front)
-
-pub returns-then-not-front_is_within-clause-covers : goal.returns-then-not-front_is_within-clause-covers
-returns-then-not-front_is_within-clause-covers g c =
-    let xs = g.B.Book.orders c.args.book.now in
-    let n = c.args.new.now in
-    let beyond : c.front_is_within.result ≡ false = search rules in
-    λ on. none_direct on n xs (subst (λ (side : Side). IsBeyond xs n.instrument side n) c.opposite-side.ensures (c.front_is_within.ensures beyond))
+    λ on. subst (λ (best : Option Candidate). CoversOne on n xs n.instrument (other_side n.side) best) (sym c.requires.none)
+    (none_direct on n xs (subst (λ (side : Side). IsBeyond xs n.instrument side n) c.opposite.ensures (c.front_is_within.ensures c.if-front_is_within.false)))
