@@ -11,7 +11,7 @@ use crate::source::{Failed, Source};
 use std::alloc::{AllocError, Allocator};
 
 /// How many bytes one read takes at most.
-pub const CHUNK_BYTES: usize = 4_096;
+pub const CHUNK_BYTES: usize = 65_536;
 
 /// Why a source could not be read whole.
 #[derive(Clone, Copy, Debug, PartialEq, Eq)]
