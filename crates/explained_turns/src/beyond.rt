@@ -1,8 +1,7 @@
 //! The best candidate beyond a new order's limit.
-ghost use Rattle.std.specs.Prelude.{◌≡◌, ◌<◌, All, IfSome, neg_ℤ};
-ghost use Rattle.spread_rules.specs.Candidates.{HasOrderPrice, HasLegPrice, IsBest};
+ghost use Rattle.std.specs.Prelude.{◌≡◌, ◌<◌, All, IfSome};
+ghost use Rattle.spread_rules.specs.Candidates.{HasOrderPrice, HasLegPrice};
 ghost use Rattle.spread_rulebook.specs.Prices.{IsLegPrice, IsOrderPrice};
-ghost use Rattle.spread_rulebook.specs.Rulebook.{implied};
 ghost use Rattle.explained_turns.specs.Explained.{IsBeyond, ticks_between, without_limit};
 
 use crate::next::plain_next;

@@ -1,52 +1,15 @@
 //! One turn of a new order over a list of orders.
-ghost use Rattle.std.specs.Prelude.{◌≡◌, ◌-◌, All, IfSome, IfNone, None, Some, fold, get_or, pos, ℤ};
-ghost use Rattle.spread_rules.specs.Candidates.{HasOrderPrice, HasLegPrice, least_candidate, counterparties, least_left};
+ghost use Rattle.std.specs.Prelude.{◌≡◌, ◌-◌, All, IfSome, None, Some, fold};
+ghost use Rattle.spread_rules.specs.Candidates.{HasOrderPrice, HasLegPrice};
 ghost use Rattle.spread_rules.specs.Clearing.{after_fill, leg_prices, members, reduced, removed, with_less_left};
-ghost use Rattle.spread_rulebook.specs.Prices.{IsOrderPrice};
-ghost use Rattle.spread_rulebook.specs.Rulebook.{implied, references_of};
+ghost use Rattle.spread_rulebook.specs.Rulebook.{implied};
 ghost use Rattle.explained_turns.specs.Explained.{AreNext, Follows, HaveLegPrices};
 ghost use Rattle.explained_turns.specs.code.Turns.{IsNextTurn};
 
 use crate::next::plain_next;
 use crate::turn::Turn;
-use spread_rules::{Candidate, Counterparty, Instrument, Order, Rulebook, quantity_with};
+use spread_rules::{Candidate, Counterparty, Order, Rulebook, leg_prices, quantity_with};
 use std::alloc::Allocator;
-
-/// The month's reference price.
-fn reference(rules: &Rulebook, month: u8) -> i64
-    ensures { result ≡ get_or (references_of rules.now) month (pos 0) }
-{
-    if month < rules.months() {
-        rules.reference(month)
-    } else {
-        0
-    }
-}
-
-/// The near and the far price of the spread that takes part.
-fn legs(rules: &Rulebook, new: &Order, candidate: &Candidate) -> (i64, i64)
-    requires references { All IsOrderPrice (references_of rules.now) }
-    requires small { HasLegPrice candidate.now }
-    ensures { result
-        ≡ leg_prices (references_of rules.now) new.now.instrument
-        candidate.now.price candidate.now.counterparty }
-{
-    match (new.instrument, candidate.counterparty) {
-        (Instrument::Outright(_), Counterparty::Direct(_)) => (candidate.price, candidate.price),
-        (Instrument::Spread(near, _), Counterparty::Direct(_)) => {
-            let near = reference(rules, near);
-            (near, near - candidate.price)
-        }
-        (Instrument::Spread(_, _), Counterparty::Implied(a, b)) => (a.price, b.price),
-        (Instrument::Outright(month), Counterparty::Implied(_, b)) => {
-            if month < b.instrument.far_month() {
-                (candidate.price, b.price)
-            } else {
-                (b.price, candidate.price)
-            }
-        }
-    }
-}
 
 /// The next candidate behind that one, and none behind none.
 fn follows(
@@ -90,7 +53,6 @@ fn five_next(
 /// left.
 pub fn next_turn(rules: &Rulebook, orders: &[Order], left: &Order) -> Option<Turn>
     requires small { All HasOrderPrice orders.now }
-    requires references { All IsOrderPrice (references_of rules.now) }
     ensures turn { IsNextTurn rules.now left.now orders.now result }
     ensures small { IfSome result HaveLegPrices }
 {
@@ -104,7 +66,7 @@ pub fn next_turn(rules: &Rulebook, orders: &[Order], left: &Order) -> Option<Tur
             left: left.leaves,
             taken: *taken,
             quantity: quantity_with(left, &taken.counterparty),
-            legs: legs(rules, left, taken),
+            legs: leg_prices(rules, left, taken),
             next: five_next(rules, orders, left, &best),
         }),
     }

@@ -1,8 +1,7 @@
 //! The turns of a new order, one after another.
-ghost use Rattle.std.specs.Prelude.{◌≡◌, ◌-◌, All, IfOk, IfSome, fold};
-ghost use Rattle.spread_rules.specs.Candidates.{HasOrderPrice, HasLegPrice};
+ghost use Rattle.std.specs.Prelude.{◌≡◌, ◌-◌, All, IfOk, fold};
+ghost use Rattle.spread_rules.specs.Candidates.{HasOrderPrice};
 ghost use Rattle.spread_rules.specs.Clearing.{after_fill, clear, members};
-ghost use Rattle.spread_rulebook.specs.Prices.{IsOrderPrice};
 ghost use Rattle.spread_rulebook.specs.Rulebook.{implied, references_of};
 ghost use Rattle.explained_turns.specs.Explained.{AreTurns, HaveLegPrices, IsBeyond};
 ghost use Rattle.explained_turns.specs.code.Turns.{IsAfter};
@@ -42,7 +41,6 @@ fn tell_turns<A: Allocator + Copy>(
     new: &Order,
 ) -> Result<Told<A>, AllocError>
     requires small { All HasOrderPrice orders.old.items }
-    requires references { All IsOrderPrice (references_of rules.now) }
     ensures turns { IfOk result (λ told.
         AreTurns rules.now new.now orders.old.items told.turns.items) }
     ensures after { IfOk result (λ told. IsAfter rules.now new.now orders.old.items
@@ -82,8 +80,6 @@ pub fn explain_order<A: Allocator + Copy>(
         (clear (implied rules.now) (references_of rules.now) new.now orders.items).orders
         e.beyond) }
 {
-    // Cites that a rulebook is lawful.
-    rules.months();
     let mut orders = orders;
     let told = tell_turns(alloc, rules, &mut orders, new)?;
     let beyond = beyond_limit(rules, &orders, &told.left);

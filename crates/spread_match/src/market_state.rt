@@ -1,5 +1,5 @@
 //! The state of a market, and what each kind of entry does to it.
-ghost use Rattle.std.specs.Prelude.{◌≡◌, ℕ, ℤ, pos, ◌<ℤ◌, ◌<◌, ◌≤◌, ◌+◌, ◌*◌, min, List, All, Contains, OnOk, OnErr, IfOk, ◌++◌, ◌∷◌, [], drop, length, cond, is_some, Option, None, true, false};
+ghost use Rattle.std.specs.Prelude.{◌≡◌, ℕ, ◌<◌, ◌≤◌, ◌+◌, ◌*◌, min, List, All, Contains, OnOk, OnErr, IfOk, ◌++◌, [], drop, length, cond, is_some, Option, None, true, false};
 ghost use Rattle.std.specs.List.{find};
 ghost use Rattle.std.specs.Vec.{vec_len, vec_capacity};
 ghost use Rattle.host_base.specs.declared.limits.TheConstants.{MAX_ORDER_QTY};
@@ -12,8 +12,8 @@ ghost use Rattle.spread_rules.specs.Amended.{done};
 ghost use Rattle.spread_rules.specs.Candidates.{PlacesDiffer};
 ghost use Rattle.spread_rules.specs.Clearing.{removed};
 ghost use Rattle.spread_rulebook.specs.Prices.{IsOrderPrice};
-ghost use Rattle.spread_rules.specs.Meaning.{has_id, is_own, is_refused, refusal_or_instrument, outcome_of, order_of, resting, resting_status, may_replace, keeps_place, moved_to, keeping_means, cancel_of_nothing_resting, unchanged_with};
-ghost use Rattle.spread_rulebook.specs.Rulebook.{month_count, find_symbol};
+ghost use Rattle.spread_rules.specs.Meaning.{has_id, is_own, is_refused, outcome_of, order_of, resting, resting_status, keeps_place, keeping_means, cancel_of_nothing_resting, unchanged_with};
+ghost use Rattle.spread_rulebook.specs.Rulebook.{month_count};
 ghost use Rattle.spread_match.specs.State.{empty_state};
 ghost use Rattle.spread_books.specs.Listed.{IsInMonths, IsNearBeforeFar};
 ghost use Rattle.spread_match.specs.Trade.{IsPriced, IsTradable};
@@ -211,8 +211,6 @@ impl<B: Book, A: Allocator + Copy> MarketState<B, A> {
             ≡ statuses_after (trading_in rules.now self.old order.now).fills self.old.statuses }
         ensures last { self.new.last ≡ self.old.last }
     {
-        // Cites that the reference prices are within the limits of prices.
-        rules.months();
         let before = fills.len();
         let left = trade(&mut self.book, rules, *order, fills);
         rest_or_remove(&mut self.book, immediate, order, left.leaves);

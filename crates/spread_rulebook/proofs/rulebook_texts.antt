@@ -6,3 +6,4 @@ pub mod OneRulebook
 pub mod SymbolsNameOne
 pub mod PairLinesReadOnce
 pub mod TwelveMonths
+pub mod OrderPrices

@@ -8,9 +8,7 @@ use Rattle.spread_rules.specs.declared.candidate.Counterparty.{Counterparty}
 use Rattle.spread_rules.specs.declared.candidate.Counterparty.TheVariants.{Direct, Implied}
 use Rattle.spread_rules.specs.Candidates.{Pairs, HasOrderPrice}
 use Rattle.spread_rules.specs.Clearing.{Trading, after_fill, after_match, begin, clear, members, next_candidate, reduced, removed, turn, turns, with_less_left}
-use Rattle.spread_rulebook.specs.Rulebook.{Rules, IsMonth, IsRules, implied, references_of}
-use Rattle.spread_rulebook.specs.Prices.{IsOrderPrice}
-use Rattle.spread_rulebook.specs.declared.rulebook.Month.{Month}
+use Rattle.spread_rulebook.specs.Rulebook.{Rules, implied, references_of}
 use Rattle.spread_rules.proofs.clearings.TurnsEnd.{enough, one_end}
 use Rattle.explained_turns.specs.declared.turn.Turn.{Turn}
 use Rattle.explained_turns.specs.Explained.{AreTurns, IsTurn, after_turns}
@@ -33,9 +31,6 @@ fill_all q xs m false h = All-map HasOrderPrice (with_less_left m.place q) xs (A
 pub members_all : (q : ℕ) (xs : List Order) (p : Counterparty) → All HasOrderPrice xs → All HasOrderPrice (fold (after_fill q) xs (members p))
 members_all q xs (Direct o) h = fill_all q xs o (o.leaves == q) h
 members_all q xs (Implied a b) h = fill_all q (after_fill q xs a) b (b.leaves == q) (fill_all q xs a (a.leaves == q) h)
-
-pub small_references : (rules : Rules) → IsRules rules → All IsOrderPrice (references_of rules)
-small_references rules r = All-map IsOrderPrice (λ (m : Month). m.reference) rules.months (All-weaker (IsMonth rules.tick) (λ (m : Month). IsOrderPrice m.reference) (λ m k. k.reference.price) rules.months r.months)
 
 -- ---- one turn more
 

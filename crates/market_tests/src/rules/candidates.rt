@@ -1,8 +1,8 @@
 //! Candidates and their rank.
 use super::{H6, M6, THREE_MONTHS, order};
 use spread_rules::{
-    Choice, Counterparty, Instrument, Level, Members, Rank, Rulebook, Side, better, candidate_for,
-    chosen, is_within, levels_meet, plain_candidate, price_at, ranking,
+    Candidate, Choice, Counterparty, Instrument, Level, Members, Rank, Rulebook, Side, better,
+    candidate_for, chosen, is_within, leg_prices, levels_meet, plain_candidate, price_at, ranking,
 };
 use std::test::Fail;
 
@@ -53,5 +53,32 @@ fn candidates_ranked(rt: HostRuntime) -> Result<(), Fail> {
         None => assert!(rt; false, "no candidate"),
         Some(found) => assert!(rt; found.price == 10000),
     }
+    Ok(())
+}
+
+/// The reference prices are 100.00, 98.00 and 95.00.
+#[test]
+fn legs_priced(rt: HostRuntime) -> Result<(), Fail> {
+    let rules = Rulebook::read(THREE_MONTHS)?;
+    let spread = Instrument::Spread(0, 1);
+    let buy = order(5, spread, Side::Buy, 6, 150);
+    let direct = Candidate {
+        price: 150,
+        counterparty: Counterparty::Direct(order(2, spread, Side::Sell, 2, 150)),
+    };
+    assert!(rt; leg_prices(&rules, &buy, &direct) == (10000, 9850));
+    let near = order(2, H6, Side::Sell, 2, 9990);
+    let far = order(3, M6, Side::Buy, 2, 9840);
+    let implied = Candidate {
+        price: 150,
+        counterparty: Counterparty::Implied(near, far),
+    };
+    assert!(rt; leg_prices(&rules, &buy, &implied) == (9990, 9840));
+    let outright = order(6, M6, Side::Sell, 6, 9700);
+    let met = Candidate {
+        price: 9790,
+        counterparty: Counterparty::Implied(order(4, spread, Side::Sell, 1, 200), near),
+    };
+    assert!(rt; leg_prices(&rules, &outright, &met) == (9990, 9790));
     Ok(())
 }

@@ -4,6 +4,7 @@ use Rattle.std.proofs.lemmas.Bool.{and_parts}
 use Rattle.std.specs.Prelude.{int_lt}
 use Rattle.std.proofs.lemmas.Bool.Decides.{nat_tests}
 use Rattle.std.proofs.lemmas.Int.{ints, to_z-of_z}
+use Rattle.spread_rulebook.proofs.rulebook_texts.OrderPrices.{order_is}
 use Rattle.std.proofs.lemmas.List.Elements.{All-contains}
 use Rattle.std.specs.Ordering.{nat_cmp, int_cmp, ordering_then, is_lt}
 use Rattle.std.specs.declared.cmp.Ordering.{Ordering}
@@ -294,13 +295,6 @@ fronts_cost on xs side m k c d part f s = record {
 
 pub leg_is : (z : ℤ) → IsLegPrice z → to_z w64 (of_z w64 z) ≡ z
 leg_is z h =
-    let low = h.low in
-    let high = h.high in
-    let fits : FitsSigned w64 z = omega (arith, ints) in
-    to_z-of_z w64 z fits
-
-pub order_is : (z : ℤ) → IsOrderPrice z → to_z w64 (of_z w64 z) ≡ z
-order_is z h =
     let low = h.low in
     let high = h.high in
     let fits : FitsSigned w64 z = omega (arith, ints) in

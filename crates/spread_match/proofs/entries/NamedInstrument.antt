@@ -1,12 +1,9 @@
 -- the instrument that a symbol names is one of the rulebook's
-use Rattle.std.proofs.Common.{◌≡◌, ℕ, List, All, Some}
+use Rattle.std.proofs.Common.{◌≡◌, ℕ, List, Some}
 use Rattle.std.specs.Str.{bytes_eq}
-use Rattle.std.proofs.lemmas.List.Elements.{All-map, All-weaker}
-use Rattle.spread_rulebook.specs.declared.rulebook.Month.{Month}
-use Rattle.spread_rulebook.specs.Prices.{IsOrderPrice}
 use Rattle.spread_rulebook.specs.declared.instrument.Instrument.{Instrument}
 use Rattle.spread_rulebook.specs.declared.instrument.Instrument.TheVariants.{Outright, Spread}
-use Rattle.spread_rulebook.specs.Rulebook.{Rules, month_count, instruments_of, IsListed, symbol_of, find_symbol, references_of, IsRules, IsMonth}
+use Rattle.spread_rulebook.specs.Rulebook.{Rules, month_count, instruments_of, IsListed, symbol_of, find_symbol}
 use Rattle.spread_rulebook.proofs.rulebook_texts.SymbolsNameOne.{from_instruments}
 use Rattle.spread_books.specs.Listed.{IsInMonths, IsNearBeforeFar}
 use Rattle.spread_match.proofs.entries.FoundStands.{find_stands}
@@ -21,6 +18,3 @@ near_of rules (Spread k m) l = l.0
 pub months_of : (rules : Rules) (i : Instrument) → IsListed rules i → IsInMonths (month_count rules) i
 months_of rules (Outright m) l = l
 months_of rules (Spread k m) l = l.1
-
-pub small_references : (rules : Rules) → IsRules rules → All IsOrderPrice (references_of rules)
-small_references rules r = All-map IsOrderPrice (λ (m : Month). m.reference) rules.months (All-weaker (IsMonth rules.tick) (λ (m : Month). IsOrderPrice m.reference) (λ m k. k.reference.price) rules.months r.months)

@@ -30,7 +30,8 @@ use Rattle.spread_match.specs.Sound.{IsSound, IsCounted, IsFillWithinLimits}
 use Rattle.spread_match.specs.Trade.{IsPriced, IsTradable, ArePriced}
 use Rattle.spread_match.proofs.entries.FillsCounted.{IsRunning, running_with}
 use Rattle.spread_match.proofs.entries.NewOrder.{taken_is, traded_all}
-use Rattle.spread_match.proofs.entries.NamedInstrument.{listed_found, small_references}
+use Rattle.spread_rulebook.proofs.rulebook_texts.OrderPrices.{small_references}
+use Rattle.spread_match.proofs.entries.NamedInstrument.{listed_found}
 use Rattle.spread_match.proofs.entries.PastStaysSound.{AsksFor, started, entry_kept, moved_asks, new_asks, removed_tradable, rests_all}
 use Rattle.spread_match.proofs.entries.FoundStands.{find_stands}
 use Rattle.spread_match.proofs.entries.Replaces.{all_amended, by_replace, own_is}

@@ -4,11 +4,8 @@ use Rattle.spread_rules.specs.Clearing.{clear}
 use Rattle.spread_rulebook.specs.Prices.{IsOrderPrice}
 use Rattle.spread_rulebook.specs.Rulebook.{implied, references_of}
 use Rattle.explained_turns.specs.Explained.{IsBeyond}
-use Rattle.explained_turns.proofs.turns_told.TurnsTold.{left_is, orders_are, small_references}
+use Rattle.explained_turns.proofs.turns_told.TurnsTold.{left_is, orders_are}
 use Rattle.explained_turns.proofs.turns.explain_order.Goals as goal
-
-pub tell_turns-requires-clause-references : goal.tell_turns-requires-clause-references
-tell_turns-requires-clause-references g c = small_references c.args.rules.now c.months.ensures.lawful
 
 pub beyond_limit-beyond-requires-clause-limit : goal.beyond_limit-beyond-requires-clause-limit
 beyond_limit-beyond-requires-clause-limit g c = subst IsOrderPrice (sym c.in_ok-told.ensures.after.price) c.requires.limit

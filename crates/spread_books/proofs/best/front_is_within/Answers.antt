@@ -2,7 +2,8 @@ use Rattle.std.proofs.Common.{Some, subst, sym, ap, ◌∙◌}
 use Rattle.order_books.specs.Queues.{IsFrontLevel}
 use Rattle.spread_books.proofs.fronts.Levels.{level_beyond, no_level_beyond}
 use Rattle.spread_rules.specs.Candidates.{is_within_limit}
-use Rattle.spread_books.proofs.fronts.MonthPairs.{level_small, order_is}
+use Rattle.spread_rulebook.proofs.rulebook_texts.OrderPrices.{order_is}
+use Rattle.spread_books.proofs.fronts.MonthPairs.{level_small}
 use Rattle.spread_books.proofs.best.front_is_within.Goals as goal
 
 pub returns-in-None : goal.returns-in-None

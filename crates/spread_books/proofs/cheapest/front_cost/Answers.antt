@@ -4,7 +4,8 @@ use Rattle.spread_rules.specs.Legs.{other_side}
 use Rattle.order_books.specs.Queues.{IsFrontLevel}
 use Rattle.spread_books.specs.code.Cheapest.{HasFront}
 use Rattle.spread_books.proofs.fronts.Levels.{none_without_level}
-use Rattle.spread_books.proofs.fronts.MonthPairs.{level_costs, level_small, order_is}
+use Rattle.spread_rulebook.proofs.rulebook_texts.OrderPrices.{order_is}
+use Rattle.spread_books.proofs.fronts.MonthPairs.{level_costs, level_small}
 use Rattle.spread_books.proofs.cheapest.front_cost.Goals as goal
 
 pub returns-in-None-clause-cost : goal.returns-in-None-clause-cost

@@ -8,7 +8,6 @@ use Rattle.spread_match.specs.State.{MarketState}
 use Rattle.spread_match.specs.Trade.{IsTradable}
 use Rattle.spread_match.specs.code.StateAfter.{orders_after_trading}
 use Rattle.spread_match.specs.code.Turns.{IsNewest}
-use Rattle.spread_match.proofs.entries.NamedInstrument.{small_references}
 use Rattle.spread_match.proofs.entries.NewOrder.{newest_after, removed_newest, settled_is, turns_most}
 use Rattle.spread_match.proofs.market_state.MarketState.trade_newest.Goals as goal
 
@@ -33,10 +32,7 @@ trade-left-requires g c κs within =
           (same ∙ w.ends) ∙ ap (λ (ys : List Order). ys ++ n ∷ []) (sym (rest_is n xs book same w)),
           (
             subst (IsTradable (month_count c.args.rules.now)) (sym same) c.requires.tradable,
-            (
-              small_references c.args.rules.now c.months.ensures.lawful,
-              subst (λ (ys : List Order). vec_len c.args.fills.now + 3 * min n.leaves (length (removed n.place ys)) ≤ vec_capacity c.args.fills.now) (sym same) c.requires.room,
-            ),
+            subst (λ (ys : List Order). vec_len c.args.fills.now + 3 * min n.leaves (length (removed n.place ys)) ≤ vec_capacity c.args.fills.now) (sym same) c.requires.room,
           ),
         ),
       ),

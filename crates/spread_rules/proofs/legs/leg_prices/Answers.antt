@@ -1,5 +1,5 @@
 use Rattle.std.proofs.Common.{rules}
-use Rattle.spread_match.proofs.trade.legs.Goals as goal
+use Rattle.spread_rules.proofs.legs.leg_prices.Goals as goal
 
 pub returns-in-Outright-Direct : goal.returns-in-Outright-Direct
 returns-in-Outright-Direct c = rw (c.in-Outright-Direct.is-0, c.in-Outright-Direct.is-1) (search rules)
