@@ -67,18 +67,22 @@ fn legs_priced(rt: HostRuntime) -> Result<(), Fail> {
         counterparty: Counterparty::Direct(order(2, spread, Side::Sell, 2, 150)),
     };
     assert!(rt; leg_prices(&rules, &buy, &direct) == (10000, 9850));
-    let near = order(2, H6, Side::Sell, 2, 9990);
-    let far = order(3, M6, Side::Buy, 2, 9840);
-    let implied = Candidate {
+    let outrights = Candidate {
         price: 150,
-        counterparty: Counterparty::Implied(near, far),
+        counterparty: Counterparty::Implied(
+            order(2, H6, Side::Sell, 2, 9990),
+            order(3, M6, Side::Buy, 2, 9840),
+        ),
     };
-    assert!(rt; leg_prices(&rules, &buy, &implied) == (9990, 9840));
-    let outright = order(6, M6, Side::Sell, 6, 9700);
-    let met = Candidate {
+    assert!(rt; leg_prices(&rules, &buy, &outrights) == (9990, 9840));
+    let sell = order(6, M6, Side::Sell, 6, 9700);
+    let spread_and_outright = Candidate {
         price: 9790,
-        counterparty: Counterparty::Implied(order(4, spread, Side::Sell, 1, 200), near),
+        counterparty: Counterparty::Implied(
+            order(4, spread, Side::Sell, 1, 200),
+            order(2, H6, Side::Buy, 2, 9990),
+        ),
     };
-    assert!(rt; leg_prices(&rules, &outright, &met) == (9990, 9790));
+    assert!(rt; leg_prices(&rules, &sell, &spread_and_outright) == (9990, 9790));
     Ok(())
 }
