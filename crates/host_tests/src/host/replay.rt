@@ -136,9 +136,9 @@ static REPLAYS: [Replay; 21] = [
         fault: Some(HostFault::DayLine(4)),
         written: Written::Whole(b""),
     },
-    // Three reads of bytes and one of none: a comment of 9,000 bytes.
+    // Three reads of bytes and one of none: a comment of 150,000 bytes.
     Replay {
-        lines: &[Piece::Bytes(b"#"), Piece::Fill(b' ', 8999)],
+        lines: &[Piece::Bytes(b"#"), Piece::Fill(b' ', 149_999)],
         fails: (1, 0),
         room: 4096,
         journal_only: false,
@@ -146,7 +146,7 @@ static REPLAYS: [Replay; 21] = [
         written: Written::Whole(b""),
     },
     Replay {
-        lines: &[Piece::Bytes(b"#"), Piece::Fill(b' ', 8999)],
+        lines: &[Piece::Bytes(b"#"), Piece::Fill(b' ', 149_999)],
         fails: (2, 0),
         room: 4096,
         journal_only: false,
@@ -154,7 +154,7 @@ static REPLAYS: [Replay; 21] = [
         written: Written::Whole(b""),
     },
     Replay {
-        lines: &[Piece::Bytes(b"#"), Piece::Fill(b' ', 8999)],
+        lines: &[Piece::Bytes(b"#"), Piece::Fill(b' ', 149_999)],
         fails: (3, 0),
         room: 4096,
         journal_only: false,
@@ -162,7 +162,7 @@ static REPLAYS: [Replay; 21] = [
         written: Written::Whole(b""),
     },
     Replay {
-        lines: &[Piece::Bytes(b"#"), Piece::Fill(b' ', 8999)],
+        lines: &[Piece::Bytes(b"#"), Piece::Fill(b' ', 149_999)],
         fails: (4, 0),
         room: 4096,
         journal_only: false,
@@ -170,7 +170,7 @@ static REPLAYS: [Replay; 21] = [
         written: Written::Whole(b""),
     },
     Replay {
-        lines: &[Piece::Bytes(b"#"), Piece::Fill(b' ', 8999)],
+        lines: &[Piece::Bytes(b"#"), Piece::Fill(b' ', 149_999)],
         fails: (5, 0),
         room: 4096,
         journal_only: false,
