@@ -122,8 +122,8 @@ fn seek_each<R: IdRows>(line: &Line, tag: u32, rows: &R, key: &IdKey) -> Seek
     Seek::Full
 }
 
-/// Whether a number of a line has that tag. All numbers are looked at at once: a walk that ends with them is a branch that
-/// a processor predicts wrong at most new keys.
+/// Whether a number of a line has that tag. All numbers are looked at: where a walk ends with them, a processor predicts
+/// the end wrong at most new keys.
 #[inline(always)]
 fn has_tag(line: &Line, tag: u32) -> bool
     ensures { result ≡ false → All (λ e. e / ROWS ≢ tag) line.now.numbers }

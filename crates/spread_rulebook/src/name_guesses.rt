@@ -15,7 +15,7 @@ pub struct NameGuesses {
 }
 
 /// The place of a name. Names of a letter and the last digit of a year, as futures months have, do not meet within four
-/// years.
+/// years of one decade.
 fn place_of(name: &[u8]) -> usize
     ensures { result < GUESSES }
 {
