@@ -8,7 +8,7 @@ ghost use Rattle.spread_rules.specs.declared.candidate.Counterparty.TheVariants.
 ghost use Rattle.spread_rules.specs.Legs.{other_side};
 ghost use Rattle.spread_rulebook.specs.declared.instrument.Instrument.TheVariants.{Outright};
 ghost use Rattle.spread_books.specs.Listed.{IsInMonths, IsNearFirst};
-ghost use Rattle.spread_books.specs.code.Best.{IsFair, IsBeyond, Offers, CoversOne, CoversTwo, CoversBelow};
+ghost use Rattle.spread_books.specs.code.Best.{IsFair, IsBeyond, IsBestDirect, Offers, CoversTwo, CoversBelow};
 ghost use Rattle.order_books.specs.Pairs.{spread_of, spread_side, IsCheapest};
 ghost use Rattle.spread_books.specs.code.Cheapest.{CostsOfFront, CostsOfFronts, cheaper_of};
 
@@ -33,18 +33,12 @@ fn front_is_within<B: Book>(book: &B, new: &Order, side: Side) -> bool
     }
 }
 
-/// The best is the direct candidate of the front that the new order meets. A call of its own, since most new orders meet
-/// none.
+/// The best is the direct candidate of the front that the new order meets. A call of its own: most new orders meet none.
 #[inline(never)]
 fn with_front<B: Book>(book: &B, new: &Order, best: &mut Option<Candidate>)
     requires small { All HasOrderPrice (B.orders book.now) }
     requires none { best.old ≡ None }
-    ensures fair { (trades_implied : Pairs)
-        → IsFair trades_implied new.now (B.orders book.now) best.new }
-    ensures small { IfSome best.new HasLegPrice }
-    ensures covers { (trades_implied : Pairs)
-        → CoversOne trades_implied new.now (B.orders book.now)
-        new.now.instrument (other_side new.now.side) best.new }
+    ensures { IsBestDirect new.now (B.orders book.now) best.new }
 {
     let side = new.side.opposite();
     if let Some(order) = book.front(new.instrument, side) {
@@ -56,12 +50,7 @@ fn with_front<B: Book>(book: &B, new: &Order, best: &mut Option<Candidate>)
 fn with_direct<B: Book>(book: &B, new: &Order, best: &mut Option<Candidate>)
     requires small { All HasOrderPrice (B.orders book.now) }
     requires none { best.old ≡ None }
-    ensures fair { (trades_implied : Pairs)
-        → IsFair trades_implied new.now (B.orders book.now) best.new }
-    ensures small { IfSome best.new HasLegPrice }
-    ensures covers { (trades_implied : Pairs)
-        → CoversOne trades_implied new.now (B.orders book.now)
-        new.now.instrument (other_side new.now.side) best.new }
+    ensures { IsBestDirect new.now (B.orders book.now) best.new }
 {
     if front_is_within(book, new, new.side.opposite()) {
         with_front(book, new, best);

@@ -217,7 +217,7 @@ fn every_kind_of_book_at_random(rt: HostRuntime) {
 }
 
 #[test]
-fn tree_book_without_memory(rt: HostRuntime) {
+fn heap_book_without_memory(rt: HostRuntime) {
     for number in 1..20 {
         let heap = Refusing::new(rt.alloc(), number);
         let _ = run(&rt, HeapBook::new(&heap), rt.alloc(), number);

@@ -9,6 +9,7 @@ use Rattle.spread_rules.specs.declared.candidate.Candidate.{Candidate}
 use Rattle.spread_rules.specs.Candidates.{Pairs, HasLegPrice, is_within_limit, is_before, IsEligible}
 use Rattle.spread_rulebook.specs.Instruments.{month_of}
 use Rattle.spread_rules.specs.Quiet.{Rests}
+use Rattle.spread_rules.specs.Legs.{other_side}
 use Rattle.order_books.specs.Queues.{IsFront}
 
 -- the best so far is an eligible candidate
@@ -45,6 +46,13 @@ CoversOne trades_implied n xs instrument side best =
     → Rests xs instrument side o
     → IsEligible trades_implied n xs (record { price = price; counterparty = Direct o })
     → Beats n best (record { price = price; counterparty = Direct o })
+
+-- whichever pairs take part: the best is fair, and beats each eligible single of the order's own instrument
+pub record IsBestDirect (n : Order) (xs : List Order) (best : Option Candidate) : Type 0 where
+  pub fair : (trades_implied : Pairs) → IsFair trades_implied n xs best
+  pub small : IfSome best HasLegPrice
+  pub covers : (trades_implied : Pairs)
+      → CoversOne trades_implied n xs n.instrument (other_side n.side) best
 
 -- each eligible pair of the two queues is beaten
 abbrev pub CoversTwo :
