@@ -3,3 +3,4 @@ pub mod BeatAnyPair
 pub mod Levels
 pub mod Suffice
 pub mod MonthPairs
+pub mod DirectFirst

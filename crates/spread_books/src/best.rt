@@ -8,7 +8,7 @@ ghost use Rattle.spread_rules.specs.declared.candidate.Counterparty.TheVariants.
 ghost use Rattle.spread_rules.specs.Legs.{other_side};
 ghost use Rattle.spread_rulebook.specs.declared.instrument.Instrument.TheVariants.{Outright};
 ghost use Rattle.spread_books.specs.Listed.{IsInMonths, IsNearFirst};
-ghost use Rattle.spread_books.specs.code.Best.{IsFair, IsBeyond, IsBestDirect, Offers, CoversTwo, CoversBelow};
+ghost use Rattle.spread_books.specs.code.Best.{IsFair, IsBeyond, IsDirect, IsBestDirect, is_better, Offers, CoversTwo, CoversBelow};
 ghost use Rattle.order_books.specs.Pairs.{spread_of, spread_side, IsCheapest};
 ghost use Rattle.spread_books.specs.code.Cheapest.{CostsOfFront, CostsOfFronts, cheaper_of};
 
@@ -136,6 +136,21 @@ fn with_queues<B: Book>(
     }
 }
 
+/// Whether a pair at that price would rank before the best so far, a direct candidate: it costs less. Where there is no
+/// best so far, whether it stands within the order's limit.
+#[inline(always)]
+fn is_better(new: &Order, best: &Option<Candidate>, price: i64) -> bool
+    ensures { result ≡ is_better new.now best.now price }
+{
+    match best {
+        None => is_within(new, price),
+        Some(direct) => match new.side {
+            Side::Buy => price < direct.price,
+            Side::Sell => direct.price < price,
+        },
+    }
+}
+
 /// The price at which who trades on that side pays so much.
 fn price_for(side: Side, paid: i64) -> i64
     requires { IsLegPrice paid }
@@ -164,7 +179,8 @@ fn least_pair<B: Book>(book: &B, rules: &Rulebook, side: Side, month: u8) -> Opt
     }
 }
 
-/// The best with the pairs of all other months that take part. Whole orders are read of one month alone.
+/// The best with the pairs of all other months that take part, where it is a direct candidate or none. Whole orders are
+/// read of one month alone, and only where its pair ranks first.
 fn with_months<B: Book>(
     book: &B,
     rules: &Rulebook,
@@ -179,11 +195,12 @@ fn with_months<B: Book>(
     requires new { new.now.instrument ≡ Outright month }
     requires fair { IsFair (implied rules.now) new.now (B.orders book.now) best.old }
     requires best { IfSome best.old HasLegPrice }
+    requires direct { IfSome best.old IsDirect }
     ensures { Offers (implied rules.now) new.now (B.orders book.now) best.old best.new
         (CoversBelow (implied rules.now) new.now (B.orders book.now) (month_count rules.now)) }
 {
     if let Some(pair) = least_pair(book, rules, new.side, month) {
-        if is_within(new, price_for(new.side, pair.cost)) {
+        if is_better(new, best, price_for(new.side, pair.cost)) {
             let other_month = pair.other_month as u8;
             let spreads = spreads_with(new.side, month, other_month);
             let outrights = Queue {

@@ -102,7 +102,7 @@ beats_too : (n : Order) (r : Option Candidate) (p q : Candidate) → Beats n r q
 beats_too n None p q h e = absurd h
 beats_too n (Some o) p q h e = (ranks all_on n).chain p q o e h
 
-cost_twice : (side : Side) (c : ℤ) → cost side (cost side c) ≡ c
+pub cost_twice : (side : Side) (c : ℤ) → cost side (cost side c) ≡ c
 cost_twice Buy c = refl
 cost_twice Sell c = omega (arith, ints)
 
@@ -136,7 +136,7 @@ module _ (on : Pairs) where
       let r = queues_meet n.side m k a.price b.price in
       (r.0, on_again _ _ r.0 (pair_takes_part n m k a.instrument is p.first.instrument_is ∙ p.on) (rw (is, p.first.side_is, p.first.instrument_is, p.second.side_is, p.second.instrument_is) r.1))
 
-  price_costs : (n : Order) (m k : ℕ) (xs : List Order) (a b : Order) (price : ℤ) → IsPair on xs n.side m k a b → price_of on n (Implied a b) ≡ Some price → cost n.side price ≡ cost_of_pair n.side m k a b
+  pub price_costs : (n : Order) (m k : ℕ) (xs : List Order) (a b : Order) (price : ℤ) → IsPair on xs n.side m k a b → price_of on n (Implied a b) ≡ Some price → cost n.side price ≡ cost_of_pair n.side m k a b
   price_costs n m k xs a b price p e = pair_cost on n xs (spread_of m k) (spread_side n.side m k) (Outright k) (other_side n.side) a b price p.first p.second e
 
   -- ---- one other month more
@@ -307,7 +307,8 @@ cost_leg : (s : Side) (c : ℤ) → IsLegPrice c → IsLegPrice (cost s c)
 cost_leg Buy c h = h
 cost_leg Sell c h = let low = h.low in let high = h.high in record { low = omega (arith, ints); high = omega (arith, ints) }
 
-pub price_passed : (s : Side) (limit c r : ℤ) (b : Bool) → IsLegPrice c → r ≡ cost s (to_z w64 (of_z w64 c)) → b ≡ is_within_limit s limit (to_z w64 (of_z w64 r)) → b ≡ is_within_limit s limit (cost s c)
-price_passed s limit c r b h e k =
+-- what is asked of a price that was passed is asked of the price
+pub price_passed : (s : Side) (asked : ℤ → Bool) (c r : ℤ) (b : Bool) → IsLegPrice c → r ≡ cost s (to_z w64 (of_z w64 c)) → b ≡ asked (to_z w64 (of_z w64 r)) → b ≡ asked (cost s c)
+price_passed s asked c r b h e k =
     let is : r ≡ cost s c = e ∙ ap (cost s) (leg_is c h) in
-    k ∙ (ap (λ (v : ℤ). is_within_limit s limit (to_z w64 (of_z w64 v))) is ∙ ap (is_within_limit s limit) (leg_is (cost s c) (cost_leg s c h)))
+    k ∙ (ap (λ (v : ℤ). asked (to_z w64 (of_z w64 v))) is ∙ ap asked (leg_is (cost s c) (cost_leg s c h)))

@@ -1,12 +1,12 @@
 -- How the least candidate is found over the fronts of queues alone: what each step keeps.
 -- Words of the code alone.
-use Rattle.std.specs.Prelude.{◌≡◌, ℕ, ℤ, ◌<◌, false, List, Option, IfSome, IsSomeAnd}
+use Rattle.std.specs.Prelude.{◌≡◌, ℕ, ℤ, int_lt, ◌<◌, Bool, false, List, Option, Some, None, IfSome, IsSomeAnd}
 use Rattle.spread_rules.specs.declared.order.Side.{Side}
 use Rattle.spread_rulebook.specs.declared.instrument.Instrument.{Instrument}
 use Rattle.spread_rules.specs.declared.order.Order.{Order}
 use Rattle.spread_rules.specs.declared.candidate.Counterparty.TheVariants.{Direct, Implied}
 use Rattle.spread_rules.specs.declared.candidate.Candidate.{Candidate}
-use Rattle.spread_rules.specs.Candidates.{Pairs, HasLegPrice, is_within_limit, is_before, IsEligible}
+use Rattle.spread_rules.specs.Candidates.{Pairs, HasLegPrice, cost, is_within_limit, is_before, IsEligible}
 use Rattle.spread_rulebook.specs.Instruments.{month_of}
 use Rattle.spread_rules.specs.Quiet.{Rests}
 use Rattle.spread_rules.specs.Legs.{other_side}
@@ -47,10 +47,20 @@ CoversOne trades_implied n xs instrument side best =
     → IsEligible trades_implied n xs (record { price = price; counterparty = Direct o })
     → Beats n best (record { price = price; counterparty = Direct o })
 
--- whichever pairs take part: the best is fair, and beats each eligible single of the order's own instrument
+-- one order meets the new one
+abbrev pub IsDirect : Candidate → Type 0
+IsDirect o = (order : Order) × (o.counterparty ≡ Direct order)
+
+-- whether a pair at that price costs less than the best, a direct candidate, or, where there is none, is within the limit
+abbrev pub is_better : Order → Option Candidate → ℤ → Bool
+is_better n None price = is_within_limit n.side n.price price
+is_better n (Some direct) price = int_lt (cost n.side price) (cost n.side direct.price)
+
+-- whichever pairs take part: the best is a fair direct one, and beats each eligible single of the order's own instrument
 pub record IsBestDirect (n : Order) (xs : List Order) (best : Option Candidate) : Type 0 where
   pub fair : (trades_implied : Pairs) → IsFair trades_implied n xs best
   pub small : IfSome best HasLegPrice
+  pub direct : IfSome best IsDirect
   pub covers : (trades_implied : Pairs)
       → CoversOne trades_implied n xs n.instrument (other_side n.side) best
 

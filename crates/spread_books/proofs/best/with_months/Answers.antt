@@ -4,13 +4,14 @@ use Rattle.spread_rulebook.specs.declared.instrument.Instrument.{Instrument}
 use Rattle.spread_rulebook.specs.declared.instrument.Instrument.TheVariants.{Outright}
 use Rattle.spread_rulebook.specs.Rulebook.{implied, month_count}
 use Rattle.spread_rules.specs.Legs.{other_side}
-use Rattle.spread_books.specs.code.Best.{CoversTwo}
+use Rattle.spread_books.specs.code.Best.{CoversTwo, is_better}
 use Rattle.order_books.specs.Pairs.{IsCheapest, spread_of, spread_side}
-use Rattle.spread_books.proofs.fronts.MonthPairs.{pair_takes_part, cheapest_beats, none_beats, too_dear, price_passed}
+use Rattle.spread_books.proofs.fronts.MonthPairs.{pair_takes_part, cheapest_beats, none_beats, price_passed}
+use Rattle.spread_books.proofs.fronts.DirectFirst.{not_better}
 use Rattle.spread_books.proofs.best.with_months.Goals as goal
 
-pub returns-then-is_within : goal.returns-then-is_within
-returns-then-is_within g c =
+pub returns-then-is_better : goal.returns-then-is_better
+returns-then-is_better g c =
     let xs = g.B.Book.orders c.args.book.now in
     let n = c.args.new.now in
     let on = implied c.args.rules.now in
@@ -32,8 +33,8 @@ returns-then-is_within g c =
       covers = cheapest_beats on n xs m (month_count c.args.rules.now) l r c.requires.new c.requires.listed cheapest covers;
     }
 
-pub returns-else-is_within : goal.returns-else-is_within
-returns-else-is_within g c =
+pub returns-else-is_better : goal.returns-else-is_better
+returns-else-is_better g c =
     let xs = g.B.Book.orders c.args.book.now in
     let n = c.args.new.now in
     let on = implied c.args.rules.now in
@@ -43,7 +44,7 @@ returns-else-is_within g c =
       fair = c.requires.fair;
       small = c.requires.best;
       keeps = λ q h. h;
-      covers = too_dear on n xs c.args.month (month_count c.args.rules.now) l c.args.best.now c.requires.new c.requires.listed cheapest (sym (price_passed n.side n.price l.cost c.price_for.result false cheapest.small c.price_for.ensures (sym c.if-is_within.false ∙ c.is_within.ensures)));
+      covers = not_better on n xs c.args.month (month_count c.args.rules.now) l c.requires.new c.requires.listed cheapest c.args.best.now c.requires.direct (sym (price_passed n.side (is_better n c.args.best.now) l.cost c.price_for.result false cheapest.small c.price_for.ensures (sym c.if-is_better.false ∙ c.is_better.ensures)));
     }
 
 pub returns-in_default : goal.returns-in_default
