@@ -51,19 +51,19 @@ impl<A: Allocator + Copy> Hints<A> {
         if let (Ok(n), Ok(row)) = (usize::try_from(from), u32::try_from(at)) {
             if n < self.rows.len() {
                 self.rows[n] = row;
+            } else if n == self.rows.len() && n > 0 {
+                let _ = self.rows.push(row);
             } else {
                 self.note_behind(place, n, row);
             }
         }
     }
 
-    /// The same of a place that is so many places behind the first one, where there is no guess yet.
+    /// The same of a place that is so many places behind the first one, and not the next one behind all guesses.
     #[inline(never)]
     fn note_behind(&mut self, place: u64, n: usize, row: u32) {
         if self.rows.is_empty() {
             self.begin_at(place, row);
-        } else if n == self.rows.len() {
-            let _ = self.rows.push(row);
         } else if n < self.rows.len().saturating_mul(2).saturating_add(GAP) {
             let _ = self.rows.resize(n.saturating_add(1), row);
         } else {

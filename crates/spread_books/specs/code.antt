@@ -1,5 +1,1 @@
-pub mod Best
-pub mod Cheapest
-pub mod QuoteTable
 pub mod PairQuote
-pub mod PairsOn

@@ -15,7 +15,7 @@ ghost use Rattle.spread_rulebook.specs.Prices.{IsOrderPrice};
 ghost use Rattle.spread_rules.specs.Meaning.{has_id, is_own, is_refused, outcome_of, order_of, resting, resting_status, keeps_place, keeping_means, cancel_of_nothing_resting, unchanged_with};
 ghost use Rattle.spread_rulebook.specs.Rulebook.{month_count};
 ghost use Rattle.spread_match.specs.State.{empty_state};
-ghost use Rattle.spread_books.specs.Listed.{IsInMonths, IsNearBeforeFar};
+ghost use Rattle.quoted_books.specs.Listed.{IsInMonths, IsNearBeforeFar};
 ghost use Rattle.spread_match.specs.Trade.{IsPriced, IsTradable};
 ghost use Rattle.spread_match.specs.code.StateAfter.{statuses_after, with_order, with_refusal, refusal_in, matched_in, cancel_in, replace_refusal, replaced_in, moved_in, trading_in, meaning_in, state_after, state_with, orders_after_trading, AreKnown, IsReady};
 ghost use Rattle.spread_match.specs.code.Turns.{IsNewest};

@@ -18,7 +18,7 @@ use Rattle.spread_rules.specs.Meaning.{EntryMeaning, cancel_means, has_id, is_ow
 use Rattle.spread_rulebook.specs.Rulebook.{Rules, month_count, references_of, find_symbol, implied}
 use Rattle.spread_rules.proofs.clearings.TurnsEnd.{keeps_turns, members_rest, next_meets}
 use Rattle.spread_match.specs.State.{MarketState}
-use Rattle.spread_books.specs.Listed.{IsNearFirst, IsInMonths}
+use Rattle.quoted_books.specs.Listed.{IsNearFirst, IsInMonths}
 use Rattle.spread_match.specs.Trade.{IsTradable, IsPriced}
 use Rattle.spread_match.specs.code.StateAfter.{AreKnown, IsReady, place_of_id, first_status, meaning_in, state_after, state_with, status_after_fill, status_after_replace, statuses_after, statuses_after_replace}
 use Rattle.spread_match.proofs.status_rows.MarkedRows.{KeepsName, has_id_kept, has_own_id}

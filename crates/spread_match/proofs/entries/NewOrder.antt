@@ -8,7 +8,7 @@ use Rattle.spread_rules.specs.Candidates.{least_left, HasOrderPrice, Pairs, Plac
 use Rattle.spread_rules.specs.Clearing.{Trading, next_candidate, turn, turns, after_match, begin, clear, removed, reduced, with_less_left}
 use Rattle.spread_rulebook.proofs.lists.Membership.{in_head, in_tail}
 use Rattle.spread_rules.proofs.clearings.TurnsEnd.{keeps_turns}
-use Rattle.spread_books.specs.Listed.{IsNearFirst, IsInMonths}
+use Rattle.quoted_books.specs.Listed.{IsNearFirst, IsInMonths}
 use Rattle.spread_match.specs.Trade.{IsTradable}
 use Rattle.spread_match.specs.code.StateAfter.{orders_after_trading}
 use Rattle.spread_match.specs.code.Turns.{IsNewest}

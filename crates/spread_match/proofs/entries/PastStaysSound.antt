@@ -17,7 +17,7 @@ use Rattle.spread_rules.specs.declared.event.Event.{Event}
 use Rattle.spread_rules.specs.declared.event.Event.TheVariants.{Logon, New, Cancel, Replace, TestReply, Gap, Resend, Reject, Close}
 use Rattle.spread_rules.specs.declared.outcome.Outcome.{Outcome}
 use Rattle.spread_rules.specs.declared.outcome.Outcome.TheVariants.{Refused, Replaced}
-use Rattle.spread_books.specs.Listed.{IsNearFirst, IsInMonths, IsNearBeforeFar}
+use Rattle.quoted_books.specs.Listed.{IsNearFirst, IsInMonths, IsNearBeforeFar}
 use Rattle.spread_match.specs.Trade.{IsTradable, IsPriced}
 use Rattle.spread_match.specs.code.StateAfter.{statuses_after, statuses_after_replace, first_status, meaning_in, state_after}
 use Rattle.spread_match.specs.Sound.{HasEntry, IsCounted, IsEntryApplied, IsNamed, IsOriginalNamed, IsSound, IsStateOf, KeepsLimit}

@@ -25,7 +25,7 @@ use Rattle.spread_rules.specs.Meaning.{EntryMeaning, JournalState, cancel_of_not
 use Rattle.spread_rules.proofs.clearings.BoughtIsSold.{same_instrument_is}
 use Rattle.spread_rulebook.specs.Rulebook.{Rules, find_symbol, references_of, implied}
 use Rattle.spread_rulebook.proofs.lists.Membership.{from_map}
-use Rattle.spread_books.specs.Listed.{IsNearFirst, IsInMonths}
+use Rattle.quoted_books.specs.Listed.{IsNearFirst, IsInMonths}
 use Rattle.spread_match.specs.Trade.{IsTradable}
 use Rattle.spread_match.proofs.entries.FoundStands.{find_holds}
 use Rattle.spread_match.proofs.status_rows.MarkedRows.{same_number}

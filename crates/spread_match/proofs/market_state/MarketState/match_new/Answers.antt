@@ -10,7 +10,7 @@ use Rattle.spread_rules.specs.Candidates.{HasOrderPrice}
 use Rattle.spread_rules.specs.Clearing.{clear, removed, Trading}
 use Rattle.spread_rules.specs.Meaning.{EntryMeaning, clearing_means, has_id, order_of, outcome_of, resting}
 use Rattle.spread_rulebook.specs.Rulebook.{Rules, month_count, references_of, implied}
-use Rattle.spread_books.specs.Listed.{IsNearFirst, IsInMonths}
+use Rattle.quoted_books.specs.Listed.{IsNearFirst, IsInMonths}
 use Rattle.spread_match.specs.State.{MarketState}
 use Rattle.spread_match.specs.Trade.{IsTradable}
 use Rattle.spread_match.specs.code.StateAfter.{entered_status, matched_in, state_with, statuses_after, trading_in, with_order}

@@ -1,0 +1,2 @@
+pub mod fronts
+pub mod quotes

@@ -1,0 +1,52 @@
+-- a direct candidate that costs no more than the cheapest pair beats every pair
+use Rattle.std.proofs.Common.{◌≡◌, ℕ, ℤ, ◌≤ℤ◌, Bool, true, false, cond, List, All, Option, Some, None, IfSome, refl, subst, sym, arith}
+use Rattle.std.proofs.lemmas.Int.{ints}
+use Rattle.std.specs.Prelude.{int_lt}
+use Rattle.std.specs.Ordering.{int_cmp, is_lt}
+use Rattle.spread_rulebook.specs.declared.instrument.Instrument.TheVariants.{Outright}
+use Rattle.spread_rules.specs.declared.order.Order.{Order}
+use Rattle.spread_rules.specs.declared.candidate.Candidate.{Candidate}
+use Rattle.spread_rules.specs.declared.candidate.Counterparty.{Counterparty}
+use Rattle.spread_rules.specs.declared.candidate.Counterparty.TheVariants.{Direct, Implied}
+use Rattle.spread_rules.specs.Candidates.{Pairs, all_on, cost, price_of, candidate_at, candidate_of, is_within_limit, rank_at, rank_cmp}
+use Rattle.spread_rulebook.specs.Instruments.{month_of}
+use Rattle.quoted_books.specs.Listed.{IsNearFirst}
+use Rattle.quoted_books.specs.code.Best.{IsDirect, is_better, CoversBelow}
+use Rattle.order_books.specs.declared.pair.PairCost.{PairCost}
+use Rattle.order_books.specs.Pairs.{IsCheapest}
+use Rattle.quoted_books.proofs.fronts.PairCost.{after_cost}
+use Rattle.quoted_books.proofs.fronts.MonthPairs.{cost_twice, eligible_pair, price_costs, too_dear}
+
+direct_if : (o : Order) (price : ℤ) (b : Bool) → IfSome (cond b (Some (record { price = price; counterparty = Direct o })) None) IsDirect
+direct_if o price true = (o, refl)
+direct_if o price false = tt
+
+direct_at : (n o : Order) (price : Option ℤ) → IfSome (candidate_at n (Direct o) price) IsDirect
+direct_at n o None = tt
+direct_at n o (Some price) = direct_if o price (is_within_limit n.side n.price price)
+
+-- what one order makes is a direct candidate
+pub is_direct : (n o : Order) → IfSome (candidate_of all_on n (Direct o)) IsDirect
+is_direct n o = direct_at n o (price_of all_on n (Direct o))
+
+-- a pair that costs no less than one order does not rank before it
+behind_direct : (n o a b : Order) (price at : ℤ) (p : Counterparty) → p ≡ Direct o → cost n.side at ≤ℤ cost n.side price →
+    is_lt (rank_cmp (rank_at n.side price (Implied a b)) (rank_at n.side at p)) ≡ false
+behind_direct n o a b price at p is low =
+    subst (λ (q : Counterparty). is_lt (rank_cmp (rank_at n.side price (Implied a b)) (rank_at n.side at q)) ≡ false) (sym is)
+    (after_cost (cost n.side price) (cost n.side at) (int_cmp (cost n.side price) (cost n.side at)) _ refl low (λ e. refl))
+
+module _ (on : Pairs) (n : Order) (xs : List Order) (m months : ℕ) (l : PairCost) (is : n.instrument ≡ Outright m) (near : All IsNearFirst xs) (cheapest : IsCheapest on xs n.side m months (Some l)) where
+  direct_beats : (d : Candidate) → IsDirect d → int_lt l.cost (cost n.side d.price) ≡ false → CoversBelow on n xs months (Some d)
+  direct_beats d direct no_less = λ a b price e lt.
+      let k = month_of b.instrument in
+      let pair = eligible_pair on n m k xs a b price is near e refl in
+      let low = (cheapest.covers k a b lt pair).no_less in
+      let over : cost n.side d.price ≤ℤ l.cost = grind (arith, ints, no_less) in
+      let under : cost n.side d.price ≤ℤ cost n.side price = rw (price_costs on n m k xs a b price pair e.meets) (omega (arith, ints, over, low)) in
+      behind_direct n direct.0 a b price d.price d.counterparty direct.1 under
+
+  -- where the cheapest pair is not better, no pair ranks first
+  pub not_better : (best : Option Candidate) → IfSome best IsDirect → is_better n best (cost n.side l.cost) ≡ false → CoversBelow on n xs months best
+  not_better None direct h = too_dear on n xs m months l None is near cheapest h
+  not_better (Some d) direct h = direct_beats d direct (rw (cost_twice n.side l.cost) at h)

@@ -1,0 +1,45 @@
+use Rattle.std.proofs.Common.{sym, subst, ◌∙◌}
+use Rattle.spread_rulebook.specs.Rulebook.{implied}
+use Rattle.quoted_books.specs.code.QuoteTable.{NoneCame, AreQuotes}
+use Rattle.quoted_books.specs.declared.quote_table.Change.{Change}
+use Rattle.quoted_books.proofs.quotes.Tables.{come_one, left_one, come_kept, left_kept, none_came, all_kept}
+use Rattle.quoted_books.proofs.quotes.CostRows.{kept_costs}
+use Rattle.quoted_books.proofs.kept_quotes.Quotes.renew_for.Goals as goal
+
+pub returns-then-not-is_as_good-clause-came : goal.returns-then-not-is_as_good-clause-came
+returns-then-not-is_as_good-clause-came g c = λ is xs come h.
+    let ys = g.B.Book.orders c.args.book.now in
+    let one = come_one xs ys c.args.order.now c.args.others come in
+    let was = subst (AreQuotes (implied c.args.pairs.now.rules.now) c.args.pairs.now.months xs) (sym c.self.view_is) h in
+    let costs = c.note.ensures xs one was.costs in
+    record {
+      costs = costs;
+      cheapest = c.renew.ensures (implied c.args.pairs.now.rules.now) xs ys costs (subst (λ (w : Change). NoneCame w xs ys) (sym is) tt) one was.cheapest;
+    }
+
+pub returns-then-not-is_as_good-clause-left : goal.returns-then-not-is_as_good-clause-left
+returns-then-not-is_as_good-clause-left g c = λ xs left h.
+    let ys = g.B.Book.orders c.args.book.now in
+    let one = left_one xs ys c.args.order.now c.args.others left in
+    let was = subst (AreQuotes (implied c.args.pairs.now.rules.now) c.args.pairs.now.months xs) (sym c.self.view_is) h in
+    let costs = c.note.ensures xs one was.costs in
+    record {
+      costs = costs;
+      cheapest = c.renew.ensures (implied c.args.pairs.now.rules.now) xs ys costs (none_came xs ys c.args.order.now c.args.others left c.args.change) one was.cheapest;
+    }
+
+pub returns-else-not-is_as_good-clause-came : goal.returns-else-not-is_as_good-clause-came
+returns-else-not-is_as_good-clause-came g c = λ is xs come h.
+    let ys = g.B.Book.orders c.args.book.now in
+    let on = implied c.args.pairs.now.rules.now in
+    let months = c.args.pairs.now.months in
+    let keep = come_kept xs ys c.args.order.now c.args.others come (sym c.is_as_good.ensures ∙ c.if-not-is_as_good.false) in
+    record { costs = kept_costs on months c.requires.most xs ys c.args.self.now.costs keep h.costs; cheapest = all_kept on months xs ys c.args.self.now.cells keep h.cheapest }
+
+pub returns-else-not-is_as_good-clause-left : goal.returns-else-not-is_as_good-clause-left
+returns-else-not-is_as_good-clause-left g c = λ xs left h.
+    let ys = g.B.Book.orders c.args.book.now in
+    let on = implied c.args.pairs.now.rules.now in
+    let months = c.args.pairs.now.months in
+    let keep = left_kept xs ys c.args.order.now c.args.others left (sym c.is_as_good.ensures ∙ c.if-not-is_as_good.false) in
+    record { costs = kept_costs on months c.requires.most xs ys c.args.self.now.costs keep h.costs; cheapest = all_kept on months xs ys c.args.self.now.cells keep h.cheapest }

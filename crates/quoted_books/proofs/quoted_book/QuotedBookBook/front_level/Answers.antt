@@ -1,0 +1,7 @@
+use Rattle.std.proofs.Common.{subst}
+use Rattle.order_books.specs.Queues.{IsFrontLevel}
+use Rattle.quoted_books.specs.BookView.{BookView}
+use Rattle.quoted_books.proofs.quoted_book.QuotedBookBook.front_level.Goals as goal
+
+pub returns : goal.returns
+returns g c = subst (λ (v : BookView). IsFrontLevel v.orders c.args.instrument c.args.side c.front_level.result) c.self.view_is c.front_level.ensures

@@ -1,0 +1,5 @@
+pub mod Costs
+pub mod QueueColumns
+pub mod CostRows
+pub mod Columns
+pub mod Tables

@@ -1,0 +1,93 @@
+//! What is kept of the fronts of a book: what they cost, and the pairs of them that cost the least.
+ghost use Rattle.std.specs.Prelude.{◌≡◌, ◌≤◌, List, All, IfOk};
+ghost use Rattle.host_base.specs.declared.limits.TheConstants.{MAX_MONTHS};
+ghost use Rattle.spread_rules.specs.Candidates.{HasOrderPrice};
+ghost use Rattle.spread_rulebook.specs.Rulebook.{implied};
+ghost use Rattle.spread_rules.specs.declared.order.Order.{Order};
+ghost use Rattle.quoted_books.specs.Listed.{IsInMonths};
+ghost use Rattle.quoted_books.specs.code.QuoteTable.{known_pair, no_quotes, AreQuotes, HasCome, HasLeft, is_as_good};
+ghost use Rattle.quoted_books.specs.declared.quote_table.Change.TheVariants.{Came};
+
+use crate::cheapest::MonthPairs;
+use crate::front_costs::FrontCosts;
+use crate::quote_table::{Change, QuoteTable};
+use host_base::NoMemory;
+use order_books::{Book, PairCost};
+use spread_rules::{Level, Order, Side};
+use std::alloc::Allocator;
+use std::marker::Model;
+
+/// What the fronts cost, and which pairs of them cost the least.
+#[derive(Drop)]
+pub struct Quotes<A: Allocator + Copy> {
+    costs: FrontCosts<A>,
+    cells: QuoteTable<A>,
+}
+
+impl<A: Allocator + Copy> Model for Quotes<A> {
+    ghost use Rattle.quoted_books.specs.code.QuoteTable.{QuotesView};
+
+    ghost Value = { QuotesView };
+
+    ghost view = { λ q. record { costs = q.costs; cells = q.cells } };
+}
+
+/// Whether an order at that level is as good as this one for who meets it.
+fn is_as_good(level: Option<Level>, order: &Order) -> bool
+    ensures { result ≡ is_as_good level order.now }
+{
+    match level {
+        None => false,
+        Some(level) => match order.side {
+            Side::Sell => level.price <= order.price,
+            Side::Buy => order.price <= level.price,
+        },
+    }
+}
+
+impl<A: Allocator + Copy> Quotes<A> {
+    /// The quotes of so many months, where no order rests.
+    pub fn new(alloc: A, months: u8) -> Result<Self, NoMemory>
+        ensures { IfOk result (λ q. q ≡ no_quotes months) }
+    {
+        Ok(Quotes {
+            costs: FrontCosts::new(alloc, months)?,
+            cells: QuoteTable::new(alloc, months)?,
+        })
+    }
+
+    /// What costs an order of that side and month the least. None where there is no such month.
+    pub fn known_pair(&self, side: Side, month: u8) -> Option<Option<PairCost>>
+        ensures { result ≡ known_pair self.now.cells side month }
+    {
+        self.cells.known_pair(side, month)
+    }
+
+    /// Renews what has to be, after that order came or left, where the front of the others in its queue stands at that
+    /// level.
+    pub fn renew_for<B: Book>(
+        &mut self,
+        book: &B,
+        pairs: &MonthPairs<'_>,
+        order: &Order,
+        others: Option<Level>,
+        change: Change,
+    )
+        requires small { All HasOrderPrice (B.orders book.now) }
+        requires within { IsInMonths pairs.now.months order.now.instrument }
+        requires most { pairs.now.months ≤ MAX_MONTHS }
+        ensures came { change ≡ Came → (xs : List Order)
+            → HasCome xs (B.orders book.now) order.now others
+            → AreQuotes (implied pairs.now.rules.now) pairs.now.months xs self.old
+            → AreQuotes (implied pairs.now.rules.now) pairs.now.months (B.orders book.now) self.new }
+        ensures left { (xs : List Order)
+            → HasLeft xs (B.orders book.now) order.now others
+            → AreQuotes (implied pairs.now.rules.now) pairs.now.months xs self.old
+            → AreQuotes (implied pairs.now.rules.now) pairs.now.months (B.orders book.now) self.new }
+    {
+        if !is_as_good(others, order) {
+            self.costs.note(book, pairs, order);
+            self.cells.renew(&self.costs, pairs.months, order, change);
+        }
+    }
+}

@@ -1,7 +1,0 @@
-use Rattle.std.proofs.Common.{subst}
-use Rattle.order_books.specs.Queues.{IsFront}
-use Rattle.spread_books.specs.BookView.{BookView}
-use Rattle.spread_books.proofs.quoted_book.QuotedBookBook.front.Goals as goal
-
-pub returns : goal.returns
-returns g c = subst (λ (v : BookView). IsFront v.orders c.args.instrument c.args.side c.front.result) c.self.view_is c.front.ensures
