@@ -1,5 +1,5 @@
 //! The lines of outgoing messages, written in pieces.
-ghost use Rattle.std.specs.Prelude.{◌≡◌, ◌<◌, ◌≤◌, ◌+◌, ◌++◌, [], All, map, length, OnOk, OnErr, vec_len, vec_capacity, true, false};
+ghost use Rattle.std.specs.Prelude.{◌≡◌, ◌<◌, ◌≤◌, ◌+◌, ◌++◌, ◌∷◌, [], All, map, length, OnOk, OnErr, vec_len, vec_capacity, true, false};
 ghost use Rattle.std.specs.Io.KnownBytes.{Appends};
 ghost use Rattle.host_base.specs.Ends.{AppendsPrefix};
 ghost use Rattle.fix_frames.specs.Frames.{IsFrameRow};
@@ -32,6 +32,7 @@ fn shown_byte(byte: u8) -> u8
 fn append_shown<A: Allocator>(piece: &mut Vec<u8, A>, bytes: &[u8])
     requires { vec_len piece.old + length bytes.now ≤ vec_capacity piece.old }
     ensures items { piece.new.items ≡ piece.old.items ++ map shown_byte bytes.now }
+    ensures len { vec_len piece.new ≡ vec_len piece.old + length bytes.now }
     ensures room { vec_capacity piece.old ≤ vec_capacity piece.new }
 {
     let start = piece.len();
@@ -93,8 +94,9 @@ fn lead(session: u8) -> &'static [u8]
     }
 }
 
-/// One message's line.
-fn put_message<K: Sink, A: Allocator>(
+/// The line of a message that a whole piece has no room for. It is cut.
+#[inline(never)]
+fn put_long_message<K: Sink, A: Allocator>(
     piece: &mut Vec<u8, A>,
     sink: &mut K,
     session: u8,
@@ -116,6 +118,48 @@ fn put_message<K: Sink, A: Allocator>(
     put_shown(piece, sink, lead(session))?;
     put_shown(piece, sink, message)?;
     put_shown(piece, sink, b"\n")
+}
+
+/// Appends one message's line, for which there is room.
+fn append_line<A: Allocator>(piece: &mut Vec<u8, A>, lead: &[u8], message: &[u8])
+    requires { vec_len piece.old + length lead.now + length message.now + 1 ≤ vec_capacity piece.old }
+    ensures items { piece.new.items
+        ≡ piece.old.items ++ (lead.now ++ map shown_byte message.now ++ 10 ∷ []) }
+    ensures room { vec_capacity piece.old ≤ vec_capacity piece.new }
+{
+    append(piece, lead);
+    append_shown(piece, message);
+    append(piece, b"\n");
+}
+
+/// One message's line. The piece is written first where it has no room for the line.
+fn put_message<K: Sink, A: Allocator>(
+    piece: &mut Vec<u8, A>,
+    sink: &mut K,
+    session: u8,
+    message: &[u8],
+) -> Result<(), Failed>
+    requires works { K.has_failed sink.old ≡ false }
+    requires some { 0 < vec_capacity piece.old }
+    requires session { session < SESSIONS }
+    ensures put { OnOk result
+        (IsPut (K.written sink.old) (K.written sink.new) piece.new.items
+        (piece.old.items ++ outgoing_line session message.now)) }
+    ensures some { OnOk result (0 < vec_capacity piece.new) }
+    ensures sound { OnOk result (K.has_failed sink.new ≡ false) }
+    ensures failed { OnErr result (K.has_failed sink.new ≡ true) }
+    ensures front { OnErr result
+        (AppendsPrefix (K.written sink.old) (K.written sink.new)
+        (piece.old.items ++ outgoing_line session message.now)) }
+{
+    let lead = lead(session);
+    let line = lead.len().saturating_add(message.len()).saturating_add(1);
+    if line > piece.capacity() {
+        return put_long_message(piece, sink, session, message);
+    }
+    make_room(piece, sink, line)?;
+    append_line(piece, lead, message);
+    Ok(())
 }
 
 /// A line for each message of these bytes, which this session is sent. They are whole frames.

@@ -54,6 +54,7 @@ pub fn make_room<K: Sink, A: Allocator>(
 pub fn append<A: Allocator>(piece: &mut Vec<u8, A>, bytes: &[u8])
     requires { vec_len piece.old + length bytes.now ≤ vec_capacity piece.old }
     ensures items { piece.new.items ≡ piece.old.items ++ bytes.now }
+    ensures len { vec_len piece.new ≡ vec_len piece.old + length bytes.now }
     ensures room { vec_capacity piece.old ≤ vec_capacity piece.new }
 {
     match piece.extend_from_slice(bytes) {

@@ -2,7 +2,7 @@ use Rattle.std.proofs.Common.{◌≡◌, ◌++◌, ◌∷◌, [], List, map, sub
 use Rattle.day_text.specs.Messages.{shown_byte, outgoing_line}
 use Rattle.day_text.specs.code.Pieces.{IsPut}
 use Rattle.day_text.proofs.PiecesInTurn.{put_none, put_after, put_fails, on_err_any, on_err, on_ok, line_of_three}
-use Rattle.day_text.proofs.messages.put_message.Goals as goal
+use Rattle.day_text.proofs.messages.put_long_message.Goals as goal
 
 pub returns-in_err-put_shown-clause-front : goal.returns-in_err-put_shown-clause-front
 returns-in_err-put_shown-clause-front g c =
