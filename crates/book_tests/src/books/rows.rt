@@ -1,5 +1,6 @@
 //! Rows: steps of one book after another, and what the book must answer.
 use super::checked::{add, amend, clear, reduce, remove};
+use quoted_books::QuotedBook;
 use spread_books::{Book, FrontBook, HeapBook, IndexBook, ListBook};
 use spread_rules::{Instrument, Order, Rulebook, Side};
 use std::alloc::Global;
@@ -125,6 +126,11 @@ fn expect_rows<B: Book>(rt: &impl Abort, book: &mut B, rows: &[Row]) {
     }
 }
 
+fn expect_over_quoted(rt: &impl Abort, alloc: Global, rules: &Rulebook, rows: &[Row]) {
+    let mut book = QuotedBook::new(alloc, rules).expect(rt, "memory");
+    expect_rows(rt, &mut book, rows)
+}
+
 fn expect_over_index(rt: &impl Abort, alloc: Global, rules: &Rulebook, rows: &[Row]) {
     let mut book = IndexBook::new(alloc, rules).expect(rt, "memory");
     expect_rows(rt, &mut book, rows)
@@ -136,5 +142,6 @@ pub(super) fn expect_over_each(rt: &impl Abort, alloc: Global, rows: &[Row]) {
     expect_rows(rt, &mut HeapBook::new(alloc), rows);
     expect_rows(rt, &mut FrontBook::new(alloc), rows);
     let rules = Rulebook::read(THREE_MONTHS).expect(rt, "a rulebook");
+    expect_over_quoted(rt, alloc, &rules, rows);
     expect_over_index(rt, alloc, &rules, rows)
 }

@@ -1,0 +1,111 @@
+//! The pair of fronts that costs the least: at hand, and searched for.
+ghost use Rattle.std.specs.Prelude.{◌≡◌, true, Some, All, slice_get};
+ghost use Rattle.spread_rules.specs.declared.order.Order.{Order};
+ghost use Rattle.spread_rules.specs.Candidates.{HasOrderPrice};
+
+use super::checked::{add, remove};
+use host_base::NoMemory;
+use host_base::limits::MAX_PRICE;
+use quoted_books::{MonthPairs, QuotedBook, cheapest_pair, is_pair_on, spreads_with};
+use spread_books::{Book, PairCost};
+use spread_rules::Side::{Buy, Sell};
+use spread_rules::{Instrument, Order, Rulebook, Side};
+use std::alloc::Global;
+use std::process::Abort;
+use test_support::{THREE_MONTHS, id};
+
+/// Whether the n-th order, if there is one, is at a price of orders.
+fn is_priced_at<B: Book>(book: &B, n: usize) -> bool
+    ensures { result ≡ true
+        → (o : Order) → slice_get (B.orders book.now) n ≡ Some o → HasOrderPrice o }
+{
+    match book.walk(n) {
+        None => true,
+        Some(order) => -MAX_PRICE <= order.price && order.price <= MAX_PRICE,
+    }
+}
+
+fn are_priced<B: Book>(book: &B) -> bool
+    ensures { result ≡ true → All HasOrderPrice (B.orders book.now) }
+{
+    for n in 0..book.len() {
+        if !is_priced_at(book, n) {
+            return false;
+        }
+    }
+    true
+}
+
+/// Whether the pair costs that, with that other month.
+fn is_pair(pair: Option<PairCost>, cost: i64, other_month: u64) -> bool {
+    match pair {
+        None => false,
+        Some(pair) => pair.cost == cost && pair.other_month == other_month,
+    }
+}
+
+/// Five lots at that place and price.
+fn sell(place: u64, instrument: Instrument, price: i64) -> Order {
+    Order {
+        place,
+        session: 1,
+        id: id(b"a"),
+        instrument,
+        side: Sell,
+        price,
+        quantity: 5,
+        leaves: 5,
+    }
+}
+
+/// Whether the pair that a buyer of the first month meets costs that, at hand and searched for.
+fn costs(book: &QuotedBook<'_, Global>, cost: i64, other_month: u64) -> bool {
+    let pairs = MonthPairs {
+        rules: book.rules(),
+        months: 3,
+    };
+    match book.known_pair(Buy, 0) {
+        None => false,
+        Some(known) => {
+            are_priced(book)
+                && is_pair(known, cost, other_month)
+                && is_pair(cheapest_pair(book, &pairs, Buy, 0), cost, other_month)
+        }
+    }
+}
+
+/// A seller of the spread of the first month and each later one, and a seller of that later month.
+fn offered<'r>(rules: &'r Rulebook, alloc: Global) -> Result<QuotedBook<'r, Global>, NoMemory> {
+    let mut book = QuotedBook::new(alloc, rules)?;
+    add(&mut book, sell(1, Instrument::Spread(0, 1), 100))?;
+    add(&mut book, sell(2, Instrument::Outright(1), 9900))?;
+    add(&mut book, sell(3, Instrument::Spread(0, 2), 150))?;
+    add(&mut book, sell(4, Instrument::Outright(2), 9800))?;
+    Ok(book)
+}
+
+// 150 and 9800 are 9950; without the last order 100 and 9900 are 10000.
+#[test]
+fn cheapest_of_two_months(rt: HostRuntime) {
+    let rules = Rulebook::read(THREE_MONTHS).expect(&rt, "a rulebook");
+    let mut book = offered(&rules, rt.alloc()).expect(&rt, "memory");
+    assert!(&rt; book.is_all_on() && book.count() == 4);
+    assert!(&rt; costs(&book, 9950, 2));
+    assert!(&rt; remove(&mut book, 3));
+    assert!(&rt; costs(&book, 10000, 1));
+    assert!(&rt; book.known_pair(Buy, 3).is_none());
+}
+
+fn is_queue(side: Side, month: u8, other_month: u8, instrument: Instrument, of: Side) -> bool {
+    let queue = spreads_with(side, month, other_month);
+    queue.instrument == instrument && queue.side == of
+}
+
+// Who buys a month meets who sells its spread with a later month, and who buys that with an earlier one.
+#[test]
+fn spreads_of_a_month(rt: HostRuntime) {
+    let rules = Rulebook::read(THREE_MONTHS).expect(&rt, "a rulebook");
+    assert!(&rt; is_queue(Buy, 1, 2, Instrument::Spread(1, 2), Sell));
+    assert!(&rt; is_queue(Buy, 1, 0, Instrument::Spread(0, 1), Buy));
+    assert!(&rt; is_pair_on(&rules, 1, 0) && is_pair_on(&rules, 0, 1));
+}
