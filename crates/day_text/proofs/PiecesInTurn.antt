@@ -3,7 +3,7 @@ use Rattle.std.proofs.Common.{◌≡◌, ℕ, ◌+◌, ◌/◌, ◌%◌, ◌<◌
 use Rattle.std.proofs.KnownBytes.{Appends-trans, Appends-nil}
 use Rattle.std.proofs.Math.Seq.{take-append-add}
 use Rattle.std.proofs.lemmas.Fmt.{decimal_step, decimal_digit}
-use Rattle.std.proofs.lemmas.List.{take-append-le}
+use Rattle.std.proofs.lemmas.List.{map-append, take-append-le}
 use Rattle.std.specs.Io.KnownBytes.{Appends}
 use Rattle.host_base.specs.Ends.{AppendsPrefix}
 use Rattle.day_text.specs.Messages.{shown_byte, line_lead, outgoing_line}
@@ -100,3 +100,7 @@ lead_of_two session d is h =
 -- a line is its lead, the message and its end
 pub line_of_three : (session : ℕ) (message text : List ℕ) → text ≡ line_lead session → outgoing_line session message ≡ text ++ (map shown_byte message ++ 10 ∷ [])
 line_of_three session message text is = append_assoc (line_lead session) (map shown_byte message) (10 ∷ []) ∙ ap (λ (t : List ℕ). t ++ (map shown_byte message ++ 10 ∷ [])) (sym is)
+
+-- bytes that stand behind those of a piece are shown behind them
+pub shown_more : (old new bytes : List ℕ) → new ≡ old ++ bytes → map shown_byte new ≡ map shown_byte old ++ map shown_byte bytes
+shown_more old new bytes is = ap (λ (t : List ℕ). map shown_byte t) is ∙ map-append shown_byte old bytes

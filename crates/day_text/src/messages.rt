@@ -1,4 +1,4 @@
-//! The lines of outgoing messages, written in pieces.
+//! The lines of outgoing messages, written in pieces. What stands in a piece is shown when the piece is written.
 ghost use Rattle.std.specs.Prelude.{◌≡◌, ◌<◌, ◌≤◌, ◌+◌, ◌++◌, ◌∷◌, [], All, map, length, OnOk, OnErr, vec_len, vec_capacity, true, false};
 ghost use Rattle.std.specs.Io.KnownBytes.{Appends};
 ghost use Rattle.host_base.specs.Ends.{AppendsPrefix};
@@ -7,7 +7,7 @@ ghost use Rattle.day_text.specs.DayText.{texts_of};
 ghost use Rattle.day_text.specs.Messages.{shown_byte, line_lead, outgoing_line, outgoing_lines, outgoing_lines_from};
 ghost use Rattle.day_text.specs.code.Pieces.{IsPut};
 
-use crate::pieces::{append, make_room, write_out};
+use crate::pieces::{append, write_out};
 use fix_wire::first_of_row;
 use host_base::limits::SESSIONS;
 use host_base::{Failed, Sink};
@@ -28,20 +28,52 @@ fn shown_byte(byte: u8) -> u8
     if byte == 1 { b'|' } else { byte }
 }
 
-/// Appends bytes for which there is room, as they are shown.
-fn append_shown<A: Allocator>(piece: &mut Vec<u8, A>, bytes: &[u8])
-    requires { vec_len piece.old + length bytes.now ≤ vec_capacity piece.old }
-    ensures items { piece.new.items ≡ piece.old.items ++ map shown_byte bytes.now }
-    ensures len { vec_len piece.new ≡ vec_len piece.old + length bytes.now }
-    ensures room { vec_capacity piece.old ≤ vec_capacity piece.new }
+/// Shows what stands in the piece, and writes it. The whole piece at once: a loop over each message alone would spend
+/// most of its time on its last few bytes.
+fn write_shown<K: Sink, A: Allocator>(piece: &mut Vec<u8, A>, sink: &mut K) -> Result<(), Failed>
+    requires works { K.has_failed sink.old ≡ false }
+    ensures ok { OnOk result
+        (Appends (K.written sink.old) (K.written sink.new) (map shown_byte piece.old.items)) }
+    ensures items { OnOk result (piece.new.items ≡ []) }
+    ensures len { OnOk result (vec_len piece.new ≡ 0) }
+    ensures room { vec_capacity piece.new ≡ vec_capacity piece.old }
+    ensures sound { OnOk result (K.has_failed sink.new ≡ false) }
+    ensures failed { OnErr result (K.has_failed sink.new ≡ true) }
+    ensures front { OnErr result
+        (AppendsPrefix (K.written sink.old) (K.written sink.new)
+        (map shown_byte piece.old.items)) }
 {
-    let start = piece.len();
-    append(piece, bytes);
-    show_field_ends(&mut piece[start..]);
+    show_field_ends(&mut piece[..]);
+    write_out(piece, sink)
 }
 
-/// Puts bytes behind those of the piece, as they are shown. The piece is written each time that it is full.
-fn put_shown<K: Sink, A: Allocator>(
+/// Writes what stands in the piece, as it is shown, if it has no room for so many bytes more.
+fn make_room_shown<K: Sink, A: Allocator>(
+    piece: &mut Vec<u8, A>,
+    sink: &mut K,
+    bytes: usize,
+) -> Result<(), Failed>
+    requires works { K.has_failed sink.old ≡ false }
+    requires most { bytes ≤ vec_capacity piece.old }
+    ensures put { OnOk result
+        (IsPut (K.written sink.old) (K.written sink.new) (map shown_byte piece.new.items)
+        (map shown_byte piece.old.items)) }
+    ensures room { OnOk result (vec_len piece.new + bytes ≤ vec_capacity piece.new) }
+    ensures capacity { vec_capacity piece.new ≡ vec_capacity piece.old }
+    ensures sound { OnOk result (K.has_failed sink.new ≡ false) }
+    ensures failed { OnErr result (K.has_failed sink.new ≡ true) }
+    ensures front { OnErr result
+        (AppendsPrefix (K.written sink.old) (K.written sink.new)
+        (map shown_byte piece.old.items)) }
+{
+    if piece.capacity() - piece.len() < bytes {
+        return write_shown(piece, sink);
+    }
+    Ok(())
+}
+
+/// Puts bytes behind those of the piece, which are shown and written each time that it is full.
+fn put_part<K: Sink, A: Allocator>(
     piece: &mut Vec<u8, A>,
     sink: &mut K,
     bytes: &[u8],
@@ -49,20 +81,20 @@ fn put_shown<K: Sink, A: Allocator>(
     requires works { K.has_failed sink.old ≡ false }
     requires some { 0 < vec_capacity piece.old }
     ensures put { OnOk result
-        (IsPut (K.written sink.old) (K.written sink.new) piece.new.items
-        (piece.old.items ++ map shown_byte bytes.now)) }
+        (IsPut (K.written sink.old) (K.written sink.new) (map shown_byte piece.new.items)
+        (map shown_byte piece.old.items ++ map shown_byte bytes.now)) }
     ensures some { OnOk result (0 < vec_capacity piece.new) }
     ensures sound { OnOk result (K.has_failed sink.new ≡ false) }
     ensures failed { OnErr result (K.has_failed sink.new ≡ true) }
     ensures front { OnErr result
         (AppendsPrefix (K.written sink.old) (K.written sink.new)
-        (piece.old.items ++ map shown_byte bytes.now)) }
+        (map shown_byte piece.old.items ++ map shown_byte bytes.now)) }
 {
     let mut rest = bytes;
     while !rest.is_empty() {
-        make_room(piece, sink, 1)?;
+        make_room_shown(piece, sink, 1)?;
         let (now, later) = rest.split_at(rest.len().min(piece.capacity() - piece.len()));
-        append_shown(piece, now);
+        append(piece, now);
         rest = later;
     }
     Ok(())
@@ -106,29 +138,28 @@ fn put_long_message<K: Sink, A: Allocator>(
     requires some { 0 < vec_capacity piece.old }
     requires session { session < SESSIONS }
     ensures put { OnOk result
-        (IsPut (K.written sink.old) (K.written sink.new) piece.new.items
-        (piece.old.items ++ outgoing_line session message.now)) }
+        (IsPut (K.written sink.old) (K.written sink.new) (map shown_byte piece.new.items)
+        (map shown_byte piece.old.items ++ outgoing_line session message.now)) }
     ensures some { OnOk result (0 < vec_capacity piece.new) }
     ensures sound { OnOk result (K.has_failed sink.new ≡ false) }
     ensures failed { OnErr result (K.has_failed sink.new ≡ true) }
     ensures front { OnErr result
         (AppendsPrefix (K.written sink.old) (K.written sink.new)
-        (piece.old.items ++ outgoing_line session message.now)) }
+        (map shown_byte piece.old.items ++ outgoing_line session message.now)) }
 {
-    put_shown(piece, sink, lead(session))?;
-    put_shown(piece, sink, message)?;
-    put_shown(piece, sink, b"\n")
+    put_part(piece, sink, lead(session))?;
+    put_part(piece, sink, message)?;
+    put_part(piece, sink, b"\n")
 }
 
 /// Appends one message's line, for which there is room.
 fn append_line<A: Allocator>(piece: &mut Vec<u8, A>, lead: &[u8], message: &[u8])
     requires { vec_len piece.old + length lead.now + length message.now + 1 ≤ vec_capacity piece.old }
-    ensures items { piece.new.items
-        ≡ piece.old.items ++ (lead.now ++ map shown_byte message.now ++ 10 ∷ []) }
+    ensures items { piece.new.items ≡ piece.old.items ++ (lead.now ++ message.now ++ 10 ∷ []) }
     ensures room { vec_capacity piece.old ≤ vec_capacity piece.new }
 {
     append(piece, lead);
-    append_shown(piece, message);
+    append(piece, message);
     append(piece, b"\n");
 }
 
@@ -143,21 +174,21 @@ fn put_message<K: Sink, A: Allocator>(
     requires some { 0 < vec_capacity piece.old }
     requires session { session < SESSIONS }
     ensures put { OnOk result
-        (IsPut (K.written sink.old) (K.written sink.new) piece.new.items
-        (piece.old.items ++ outgoing_line session message.now)) }
+        (IsPut (K.written sink.old) (K.written sink.new) (map shown_byte piece.new.items)
+        (map shown_byte piece.old.items ++ outgoing_line session message.now)) }
     ensures some { OnOk result (0 < vec_capacity piece.new) }
     ensures sound { OnOk result (K.has_failed sink.new ≡ false) }
     ensures failed { OnErr result (K.has_failed sink.new ≡ true) }
     ensures front { OnErr result
         (AppendsPrefix (K.written sink.old) (K.written sink.new)
-        (piece.old.items ++ outgoing_line session message.now)) }
+        (map shown_byte piece.old.items ++ outgoing_line session message.now)) }
 {
     let lead = lead(session);
     let line = lead.len().saturating_add(message.len()).saturating_add(1);
     if line > piece.capacity() {
         return put_long_message(piece, sink, session, message);
     }
-    make_room(piece, sink, line)?;
+    make_room_shown(piece, sink, line)?;
     append_line(piece, lead, message);
     Ok(())
 }
@@ -174,14 +205,14 @@ fn put_outgoing<K: Sink, A: Allocator>(
     requires session { session < SESSIONS }
     requires row { IsFrameRow bytes.now }
     ensures put { OnOk result
-        (IsPut (K.written sink.old) (K.written sink.new) piece.new.items
-        (piece.old.items ++ outgoing_lines session bytes.now)) }
+        (IsPut (K.written sink.old) (K.written sink.new) (map shown_byte piece.new.items)
+        (map shown_byte piece.old.items ++ outgoing_lines session bytes.now)) }
     ensures some { OnOk result (0 < vec_capacity piece.new) }
     ensures sound { OnOk result (K.has_failed sink.new ≡ false) }
     ensures failed { OnErr result (K.has_failed sink.new ≡ true) }
     ensures front { OnErr result
         (AppendsPrefix (K.written sink.old) (K.written sink.new)
-        (piece.old.items ++ outgoing_lines session bytes.now)) }
+        (map shown_byte piece.old.items ++ outgoing_lines session bytes.now)) }
 {
     let mut rest = bytes;
     while let Some((message, later)) = first_of_row(rest) {
@@ -202,13 +233,13 @@ fn put_sessions<K: Sink, A: Allocator, B: Allocator>(
     requires count { length lists.now ≤ SESSIONS }
     requires rows { All IsFrameRow (texts_of lists.now) }
     ensures put { OnOk result
-        (IsPut (K.written sink.old) (K.written sink.new) piece.new.items
-        (piece.old.items ++ outgoing_lines_from 0 (texts_of lists.now))) }
+        (IsPut (K.written sink.old) (K.written sink.new) (map shown_byte piece.new.items)
+        (map shown_byte piece.old.items ++ outgoing_lines_from 0 (texts_of lists.now))) }
     ensures sound { OnOk result (K.has_failed sink.new ≡ false) }
     ensures failed { OnErr result (K.has_failed sink.new ≡ true) }
     ensures front { OnErr result
         (AppendsPrefix (K.written sink.old) (K.written sink.new)
-        (piece.old.items ++ outgoing_lines_from 0 (texts_of lists.now))) }
+        (map shown_byte piece.old.items ++ outgoing_lines_from 0 (texts_of lists.now))) }
 {
     for (session, bytes) in lists.iter().enumerate() {
         put_outgoing(piece, sink, session as u8, bytes)?;
@@ -240,5 +271,5 @@ pub fn write_sessions<K: Sink, A: Allocator, B: Allocator>(
         (outgoing_lines_from 0 (texts_of lists.now))) }
 {
     put_sessions(piece, sink, lists)?;
-    write_out(piece, sink)
+    write_shown(piece, sink)
 }

@@ -1,10 +1,8 @@
-//! What a caller reads off the contracts of `run_day` and `replay`, fact by fact: each of these calls is the call
-//! itself.
+//! What a caller reads off the contract of `replay`, fact by fact: this call is the call itself.
 ghost use Rattle.std.specs.Io.KnownBytes.{Appends, IsAtEnd};
-ghost use Rattle.std.specs.Prelude.{◌≡◌, ℕ, ◌<◌, ◌≤◌, ◌+◌, ◌⊎◌, ◌≢◌, Contains, IfOk, IfErr, IfSome, OnOk, IsErrOf, length, take, true, false, Ok, [], All};
+ghost use Rattle.std.specs.Prelude.{◌≡◌, ℕ, ◌<◌, ◌≤◌, ◌⊎◌, ◌≢◌, Contains, IfOk, IfErr, IfSome, OnOk, IsErrOf, length, take, true, false, Ok};
 ghost use Rattle.host_base.specs.declared.limits.TheConstants.{MAX_INPUT_BYTES, SESSIONS};
-ghost use Rattle.fix_frames.specs.Frames.{IsFrameRow};
-ghost use Rattle.spread_rules.specs.Journal.{IsLawful, restricted};
+ghost use Rattle.spread_rules.specs.Journal.{IsLawful};
 ghost use Rattle.spread_rules.specs.Legs.{bought, sold, paid, received};
 ghost use Rattle.spread_rules.specs.Meaning.{meaning_of_journal, filled};
 ghost use Rattle.spread_rules.specs.Quiet.{IsQuiet};
@@ -17,66 +15,14 @@ ghost use Rattle.spread_journal.specs.JournalReading.{ReadsJournal};
 ghost use Rattle.spread_journal.specs.JournalText.{journal_text};
 ghost use Rattle.day_apply.specs.Applied.{outgoing_bytes, applied_entries};
 ghost use Rattle.day_lines.specs.Reading.{IsJournalOf, HasParts};
-ghost use Rattle.day_text.specs.DayText.{AreShown, texts_of};
-ghost use Rattle.session_threads.specs.Streams.{whole_at, all_events};
-ghost use Rattle.spread_host.specs.Days.{IsReplayFault, IsPartOut, text_of_day, texts_below};
-ghost use Rattle.spread_host.specs.LiveDays.{IsRunDayFault};
+ghost use Rattle.spread_host.specs.Days.{IsReplayFault, IsPartOut, text_of_day};
 ghost use Rattle.spread_host.specs.declared.fault.HostFault.{HostFault};
 
 use day_text::Day;
 use host_base::{Id, Sink, Source};
-use spread_host::{Caps, Gate, HostFault, replay, run_day};
+use spread_host::{HostFault, replay};
 use spread_rules::Rulebook;
 use std::alloc::Allocator;
-use std::sync::Wait;
-use std::thread::Threads;
-
-/// A day in threads.
-pub fn day_of_streams<R: Threads + Wait + Sync, G: Gate, A: Allocator + Copy + Send>(
-    rt: &R,
-    alloc: A,
-    rulebook: &Rulebook,
-    stamp: Id,
-    streams: Vec<Vec<u8, A>, A>,
-    gate: &G,
-    caps: Caps,
-) -> Result<Day<A>, HostFault>
-    ensures journal { IfOk result (λ day.
-        (s : ℕ) → restricted s day.journal.items ≡ whole_at streams.items s) }
-    ensures size { IfOk result (λ day. length day.journal.items ≤ caps.journal) }
-    ensures lawful { IfOk result (λ day. IsLawful day.journal.items) }
-    ensures fills { IfOk result (λ day.
-        day.fills.items ≡ (meaning_of_journal rulebook.now day.journal.items).fills) }
-    ensures outgoing { IfOk result (λ day. (s : ℕ) → s < SESSIONS
-        → bytes_of day.out.items s ≡ outgoing_bytes rulebook.now stamp day.journal.items s) }
-    ensures whole_frames { IfOk result (λ day. (s : ℕ) → s < SESSIONS
-        → IsRow (messages_to rulebook.now stamp
-        (applied_entries rulebook.now day.journal.items) s) (bytes_of day.out.items s)) }
-    ensures no_stream { IfOk result (λ day.
-        (s : ℕ) → s < SESSIONS → length streams.items ≤ s → bytes_of day.out.items s ≡ []) }
-    ensures lists { IfOk result (λ day. length day.out.items ≡ SESSIONS) }
-    ensures texts { IfOk result (λ day.
-        texts_of day.out.items ≡ texts_below SESSIONS rulebook.now stamp day.journal.items) }
-    ensures rows { IfOk result (λ day. All IsFrameRow (texts_of day.out.items)) }
-    ensures shown { IfOk result (λ day. AreShown rulebook.now day.fills.items) }
-    ensures bought_is_sold { IfOk result (λ day.
-        (month : ℕ) → bought month day.fills.items ≡ sold month day.fills.items) }
-    ensures paid_is_received { IfOk result (λ day.
-        (month : ℕ) → paid month day.fills.items ≡ received month day.fills.items) }
-    ensures quiet { IfOk result (λ day. (n : ℕ)
-        → IsQuiet (implied rulebook.now)
-        (meaning_of_journal rulebook.now (take n day.journal.items)).orders) }
-    ensures limits { IfOk result (λ day.
-        (f : Fill) → Contains day.fills.items f → KeepsOrder day.journal.items f) }
-    ensures totals { IfOk result (λ day.
-        (f : Fill) → Contains day.fills.items f → filled f.order day.fills.items ≤ f.total) }
-    ensures journal_full { IsErrOf result HostFault.JournalFull
-        → caps.journal < all_events streams.items }
-    ensures fault { IfErr result
-        (λ f. IsRunDayFault rulebook.now streams.items caps.ring caps.journal f) }
-{
-    run_day(rt, alloc, rulebook, stamp, streams, gate, caps)
-}
 
 /// A day of day lines.
 pub fn day_of_lines<S: Source, K: Sink, A: Allocator + Copy>(

@@ -12,12 +12,10 @@ mod audit;
 mod check;
 mod day;
 mod faults;
-mod live;
 mod no_memory;
 mod replaces;
 mod replay;
 mod reported;
-mod watch;
 
 fn three_months(rt: &impl Abort) -> Rulebook {
     Rulebook::read(THREE_MONTHS).expect(rt, "a rulebook")

@@ -1,17 +1,12 @@
 //! Each request for memory refused in turn.
 use super::check::{DIRECT_BEFORE_IMPLIED, DIRECT_BEFORE_IMPLIED_TEXT};
-use super::live::{Open, USUAL, streams_of};
 use super::three_months;
-use day_text::Day;
-use gate_link::LinkFault;
 use host_base::{TestSink, TestSource};
-use spread_host::{HostFault, check, replay, run_day};
+use spread_host::{HostFault, check, replay};
 use spread_rules::Rulebook;
 use std::alloc::{Allocator, Global};
 use std::process::Abort;
-use std::sync::Wait;
-use std::thread::Threads;
-use test_support::{FIRST_TRADE, Refusing, stamp};
+use test_support::{Refusing, stamp};
 
 const THREE_LOGONS: &[u8] =
     b"0:8=FIX.4.2|9=57|35=A|34=1|49=C1|52=20260105-14:30:00|56=HOST|98=0|108=30|10=220|\n\
@@ -133,61 +128,4 @@ fn check_refused_memory(rt: HostRuntime) {
     assert!(rt; !last_refused);
     assert!(rt; !places.seen[1] && places.seen[0] && places.seen[2]);
     assert!(rt; places.seen[5] && places.seen[6] && places.last == 6);
-}
-
-/// A day of one stream, whose order is the same in each run, in which all memory is the heap's.
-fn day_over<R: Threads + Wait + Sync, A: Allocator + Copy + Send>(
-    rt: &R,
-    heap: A,
-    rulebook: &Rulebook,
-) -> Result<Day<A>, HostFault> {
-    match streams_of(heap, 1, FIRST_TRADE) {
-        Ok(streams) => run_day(rt, heap, rulebook, stamp(), streams, &Open, USUAL),
-        Err(_) => Err(HostFault::NoMemory(0)),
-    }
-}
-
-/// The fault of that day; where it has none it has all entries and fills.
-fn day_fault<R: Threads + Wait + Sync + Abort, A: Allocator + Copy + Send>(
-    rt: &R,
-    heap: A,
-    rulebook: &Rulebook,
-) -> Option<HostFault> {
-    match day_over(rt, heap, rulebook) {
-        Ok(day) => {
-            assert!(rt; day.journal.len() == 4 && day.fills.len() == 2);
-            None
-        }
-        Err(fault) => Some(fault),
-    }
-}
-
-/// Of a stream of four events the places are 0 to 5: a writer's want of memory has the place behind the entries that were
-/// worked through. The threads' requests come in any order. The last of the numbers names no request.
-#[test]
-fn run_day_refused_memory(rt: HostRuntime) {
-    let rulebook = three_months(&rt);
-    let mut seen = [false; 6];
-    let mut last_refused = true;
-    for number in 1..250u64 {
-        let heap = Refusing::new(rt.alloc(), number);
-        let fault = day_fault(&rt, &heap, &rulebook);
-        last_refused = heap.has_refused();
-        match fault {
-            // A guess of a row that finds no memory is left out.
-            None => {}
-            Some(HostFault::NoMemory(place)) => {
-                assert!(rt; last_refused && place < 6);
-                if place < 6 {
-                    seen[place as usize] = true;
-                }
-            }
-            Some(fault) => {
-                assert!(rt; last_refused && !seen[1]);
-                assert!(rt; fault == HostFault::Link(LinkFault::NoMemory));
-            }
-        }
-    }
-    assert!(rt; !last_refused);
-    assert!(rt; seen[0] && seen[1]);
 }

@@ -7,7 +7,7 @@ use Rattle.spread_rules.specs.declared.order.Order.{Order}
 use Rattle.spread_rules.specs.Candidates.{Pairs}
 use Rattle.order_books.specs.Pairs.{IsCheapest}
 use Rattle.order_books.specs.declared.pair.PairCost.{PairCost}
-use Rattle.quoted_books.specs.code.Cheapest.{IsInColumn, KeepsColumn, KeepsCost, KeepsOthers}
+use Rattle.quoted_books.specs.code.Cheapest.{IsInColumn, KeepsCost}
 use Rattle.quoted_books.specs.code.QuoteTable.{ChangesOneQueue}
 use Rattle.quoted_books.proofs.quotes.Columns.{kept_row}
 use Rattle.quoted_books.proofs.quotes.Costs.{others_when_it_comes}
@@ -17,14 +17,6 @@ use Rattle.quoted_books.proofs.quotes.Tables.{column_kept}
 pub with_newest : (xs zs : List Order) (newest : Option Order) (o : Order) → newest ≡ Some o → xs ++ option_to_list newest ≡ zs → ChangesOneQueue xs zs o.instrument o.side
 with_newest xs zs newest o is whole j t other =
     subst (λ (ys : List Order). KeepsCost xs ys j t) (ap (λ (r : Option Order). xs ++ option_to_list r) (sym is) ∙ whole) (others_when_it_comes xs o j t other)
-
--- the fronts of all other months but that one cost what they did, where the newest is in no queue of another
-pub others_kept : (xs zs : List Order) (newest : Option Order) (side : Side) (month via : ℕ) → xs ++ option_to_list newest ≡ zs
-    → ((other : ℕ) → IsSomeAnd newest (λ o. IsInColumn o.instrument o.side side month other) → other ≡ via) → KeepsOthers xs zs side month via
-others_kept xs zs None side month via whole one = λ k other.
-    subst (λ (ys : List Order). KeepsColumn xs ys side month k) (sym (append-nil xs) ∙ whole) (record { first = λ cost c. c; second = λ cost c. c })
-others_kept xs zs (Some o) side month via whole one = λ k other.
-    column_kept xs zs o.instrument o.side side month k (with_newest xs zs (Some o) o refl whole) (λ at. other (one k at))
 
 -- what costs the least among the others does so with the newest, where that one is in none of the queues
 pub kept_by_newest : (on : Pairs) (xs zs : List Order) (newest : Option Order) (side : Side) (month : ℕ) (least : Option PairCost) → xs ++ option_to_list newest ≡ zs

@@ -2,7 +2,7 @@ use Rattle.std.proofs.Common.{rules, ◌≡◌, ◌+◌, ◌<◌, ◌++◌, ℕ,
 use Rattle.std.proofs.lemmas.List.{length-map, get_or-map}
 use Rattle.std.proofs.lemmas.List.Elements.{All-get_or}
 use Rattle.fix_frames.specs.Frames.{IsFrameRow}
-use Rattle.day_text.specs.Messages.{outgoing_lines, outgoing_lines_from}
+use Rattle.day_text.specs.Messages.{shown_byte, outgoing_lines, outgoing_lines_from}
 use Rattle.day_text.specs.code.Pieces.{IsPut}
 use Rattle.day_text.proofs.SessionLines.{sessions_next_of, sessions_rest}
 use Rattle.day_text.proofs.PiecesInTurn.{put_after, put_fails, on_err_any}
@@ -29,7 +29,7 @@ returns-in_err-put_outgoing-clause-front g c =
     let before = outgoing_lines_from 0 (take s texts) in
     let rest = sessions_rest texts 0 (s + 1) in
     on_err_any c.from_residual.result
-    (put_fails (told c.args.sink.now) (told c.loop-session.sink) (told c.put_outgoing.new.sink) c.args.piece.now.items c.loop-session.piece.items before line rest.0 (outgoing_lines_from 0 texts)
+    (put_fails (told c.args.sink.now) (told c.loop-session.sink) (told c.put_outgoing.new.sink) (map shown_byte c.args.piece.now.items) (map shown_byte c.loop-session.piece.items) before line rest.0 (outgoing_lines_from 0 texts)
     c.loop-session.invariant.0 c.in_err-put_outgoing.ensures.front (rest.1 ∙ (ap (λ (t : List ℕ). t ++ rest.0) (sessions_next_of texts s c.deref.result.now bytes within) ∙ append_assoc before line rest.0)))
 
 pub loop-session-preserved : goal.loop-session-preserved
@@ -43,8 +43,8 @@ loop-session-preserved g c =
     ∙ sym (get_or-map (λ (v : Vec ℕ g.row.B.Denot). v.items) c.args.lists.now s c.index-lists-session.result [] c.loop-session-test.true)) in
     let line = outgoing_lines s c.deref.result.now in
     let before = outgoing_lines_from 0 (take s texts) in (
-      subst (λ (t : List ℕ). IsPut (told c.args.sink.now) (told c.put_outgoing.new.sink) c.put_outgoing.new.piece.items (c.args.piece.now.items ++ t)) (sym (sessions_next_of texts s c.deref.result.now bytes within))
-          (put_after (told c.args.sink.now) (told c.loop-session.sink) (told c.put_outgoing.new.sink) c.args.piece.now.items c.loop-session.piece.items c.put_outgoing.new.piece.items before line c.loop-session.invariant.0 c.in_ok-put_outgoing.ensures.put),
+      subst (λ (t : List ℕ). IsPut (told c.args.sink.now) (told c.put_outgoing.new.sink) (map shown_byte c.put_outgoing.new.piece.items) ((map shown_byte c.args.piece.now.items) ++ t)) (sym (sessions_next_of texts s c.deref.result.now bytes within))
+          (put_after (told c.args.sink.now) (told c.loop-session.sink) (told c.put_outgoing.new.sink) (map shown_byte c.args.piece.now.items) (map shown_byte c.loop-session.piece.items) (map shown_byte c.put_outgoing.new.piece.items) before line c.loop-session.invariant.0 c.in_ok-put_outgoing.ensures.put),
       search rules,
       search rules,
     )

@@ -1,6 +1,6 @@
 use Rattle.std.proofs.Common.{◌≡◌, ◌++◌, List, ℕ, map, Vec, sym, subst, ◌∙◌, ap}
 use Rattle.host_base.specs.Ends.{AppendsPrefix}
-use Rattle.day_text.specs.Messages.{outgoing_lines_from}
+use Rattle.day_text.specs.Messages.{shown_byte, outgoing_lines_from}
 use Rattle.day_text.proofs.PiecesInTurn.{front_after, on_err}
 use Rattle.day_text.proofs.messages.write_sessions.Goals as goal
 
@@ -9,8 +9,8 @@ returns-clause-front g c =
     let told = λ (k : _). g.K.Sink.written k in
     let put = c.in_ok-put_sessions.ensures.put in
     let lines = outgoing_lines_from 0 (map (λ (v : Vec ℕ g.row.B.Denot). v.items) c.args.lists.now) in
-    let all : lines ≡ put.out ++ c.put_sessions.new.piece.items = sym (ap (λ (t : List ℕ). t ++ lines) c.requires.empty) ∙ put.all in
-    on_err c.write_out.result
-    (λ last. subst (λ (t : List ℕ). AppendsPrefix (told c.args.sink.now) (told c.write_out.new.sink) t) (sym all)
-    (front_after (told c.args.sink.now) (told c.put_sessions.new.sink) (told c.write_out.new.sink) put.out c.put_sessions.new.piece.items put.written last))
-    c.write_out.ensures.front
+    let all : lines ≡ put.out ++ map shown_byte c.put_sessions.new.piece.items = sym (ap (λ (t : List ℕ). map shown_byte t ++ lines) c.requires.empty) ∙ put.all in
+    on_err c.write_shown.result
+    (λ last. subst (λ (t : List ℕ). AppendsPrefix (told c.args.sink.now) (told c.write_shown.new.sink) t) (sym all)
+    (front_after (told c.args.sink.now) (told c.put_sessions.new.sink) (told c.write_shown.new.sink) put.out (map shown_byte c.put_sessions.new.piece.items) put.written last))
+    c.write_shown.ensures.front

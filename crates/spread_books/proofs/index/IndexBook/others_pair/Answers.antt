@@ -1,5 +1,4 @@
-use Rattle.std.proofs.Common.{◌≡◌, Option, true, false, sym, ap, subst, ◌∙◌}
-use Rattle.std.specs.Option.{is_some}
+use Rattle.std.proofs.Common.{◌≡◌, true, false, sym, ap, subst, ◌∙◌}
 use Rattle.host_base.specs.declared.limits.TheConstants.{MAX_MONTHS}
 use Rattle.spread_rulebook.specs.Rulebook.{Rules, implied}
 use Rattle.order_books.specs.Pairs.{IsCheapest}
@@ -11,5 +10,5 @@ pub returns : goal.returns
 returns g c =
     let xs = c.self.inside.others.orders in
     kept_by_newest (implied c.args.self.now.rules) xs c.args.self.now.orders c.self.inside.newest c.args.side c.args.month c.in_ok-held.held (ap (λ (v : BookView). v.orders) c.self.view_is)
-    (λ k at. let no : false ≡ true = sym c.if-is_some.false ∙ (c.is_some.ensures ∙ ap (λ (r : Option _). is_some r) (c.newest_via.ensures k at)) in cc)
+    (λ k at. let no : false ≡ true = sym c.if-newest_has_part.false ∙ c.newest_has_part.ensures k at in cc)
     (subst (λ (r : Rules). IsCheapest (implied r) xs c.args.side c.args.month MAX_MONTHS c.in_ok-held.held) (ap (λ (v : BookView). v.rules) c.self.view_is) c.in_ok-held.ensures)

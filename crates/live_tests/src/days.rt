@@ -2,10 +2,8 @@
 ghost use Rattle.std.specs.Prelude.{IfOk};
 ghost use Rattle.day_text.specs.DayText.{AreShown};
 
-use super::reported::{FIRST_TRADE_SENT, expect_first_sent};
-use super::three_months;
-use super::watch::{Meeting, Point, Watch};
 use crate::headline::day_of_streams;
+use crate::watch::{Meeting, Point, Watch};
 use day_text::{Day, put_months};
 use day_threads::{Caps, DayRules, Gate, run_sessions};
 use fix_wire::{Field, Head, Value, msg_types, tags, write_message};
@@ -16,7 +14,7 @@ use std::alloc::{AllocError, Allocator, Global};
 use std::process::Abort;
 use std::sync::Wait;
 use std::thread::Threads;
-use test_support::{FIRST_TRADE, id, stamp};
+use test_support::{FIRST_TRADE, FIRST_TRADE_SENT, THREE_MONTHS, expect_first_sent, id, stamp};
 
 pub const USUAL: Caps = Caps {
     ring: 256,
@@ -27,6 +25,10 @@ pub struct Open;
 
 impl Gate for Open {
     fn before(&self, _session: u8, _message: u32) {}
+}
+
+pub fn three_months(rt: &impl Abort) -> Rulebook {
+    Rulebook::read(THREE_MONTHS).expect(rt, "a rulebook")
 }
 
 /// So many streams of these bytes.

@@ -1,0 +1,10 @@
+//! Tests of the days in threads: `run_day` over real threads and rings.
+#![tactic(auto)]
+
+#[cfg(test)]
+mod days;
+pub mod headline;
+#[cfg(test)]
+mod no_memory;
+#[cfg(test)]
+mod watch;
