@@ -112,6 +112,7 @@ fn match_all<B: Book + Drop, A: Allocator + Copy>(
     requires entries { All FitsEntry journal.now }
 {
     let mut market = Market::new(alloc, rulebook, book);
+    market.reserve(journal.len())?;
     let mut fills = Vec::new(alloc);
     match_each(&mut market, journal, &mut fills)
 }

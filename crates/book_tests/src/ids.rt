@@ -1,5 +1,4 @@
 //! The table of ids: each that was noted is found at its first row, and no other one.
-ghost use Rattle.std.specs.Prelude.{◌≡◌, List, []};
 ghost use Rattle.row_index.specs.Tables.{IsTableOf};
 
 use host_base::{IdKey, NoMemory};
@@ -154,6 +153,22 @@ fn ids_are_found(rt: HostRuntime) {
     let mut keys = Vec::new(rt.alloc());
     note_numbers(&rt, &mut table, &mut keys, 8_190);
     rows_behind(&rt, &mut table, &mut keys);
+}
+
+/// Lines for a thousand keys more change no answer, whether keys stand in the table or none does.
+#[test]
+fn room_for_ids(rt: HostRuntime) {
+    let mut table = IdTable::new(rt.alloc());
+    let mut keys = Vec::new(rt.alloc());
+    table
+        .reserve(&Keys { keys: &keys }, 1_000)
+        .expect(&rt, "memory");
+    note_numbers(&rt, &mut table, &mut keys, 1_100);
+    table
+        .reserve(&Keys { keys: &keys }, 1_000)
+        .expect(&rt, "memory");
+    rows_stand(&rt, &table, &keys, 1_100);
+    assert!(rt; row_of(&table, &keys, 1_100).is_none());
 }
 
 /// Notes the key of the next row, and again once it is known.

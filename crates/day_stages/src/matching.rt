@@ -1,6 +1,6 @@
 //! The matching thread: it takes the journal's entries from a ring, applies them, and gives what they send to the
 //! writers.
-ghost use Rattle.std.specs.Prelude.{◌≡◌, ℕ, List, IfSome};
+ghost use Rattle.std.specs.Prelude.{◌≡◌, List, IfSome};
 ghost use Rattle.spread_rules.specs.declared.event.Entry.{Entry};
 ghost use Rattle.day_apply.specs.Sending.{sending_rules, stamp_of};
 ghost use Rattle.day_stages.specs.code.Matching.{HasMatched, IsUnfed, StepEnds};

@@ -1,6 +1,5 @@
 //! What the matching thread gives the sessions' writers: each entry's bytes before the next entry.
-ghost use Rattle.std.specs.Prelude.{◌≡◌, ◌≤◌, ◌<◌, ◌++◌, ℕ, [], length, true, false};
-ghost use Rattle.spread_report.specs.Sessions.{session_text};
+ghost use Rattle.std.specs.Prelude.{◌≡◌, ◌≤◌, ◌<◌, ◌++◌, ℕ, length, true, false};
 ghost use Rattle.stage_rings.specs.Posting.{posted, post_ended, SamePoster};
 ghost use Rattle.day_stages.specs.code.Posting.{HasMoved, NoneEnded, SamePosters, posted_at};
 

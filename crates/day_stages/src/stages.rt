@@ -1,5 +1,5 @@
 //! What the threads of a day work with, made before any of them is started.
-ghost use Rattle.std.specs.Prelude.{◌≡◌, ◌≤◌, ℕ, [], length, IfOk, IfErr, OnOk, vec_len};
+ghost use Rattle.std.specs.Prelude.{◌≡◌, ℕ, [], length, IfOk, IfErr, OnOk, vec_len};
 ghost use Rattle.day_apply.specs.Sending.{sending_rules, stamp_of};
 ghost use Rattle.stage_rings.specs.Faults.{IsRingRefusal, IsRingSize};
 ghost use Rattle.day_stages.specs.Limits.{IsWithinLimits};
@@ -112,7 +112,12 @@ pub fn stages_of<'r, A: Allocator + Copy>(
         Ok(made) => made,
         Err(fault) => return Err(ThreadsFault::Link(fault)),
     };
-    let reported = match ReportedEntries::new(alloc, rules.rulebook, rules.stamp) {
+    let reported = match ReportedEntries::with_capacity(
+        alloc,
+        rules.rulebook,
+        rules.stamp,
+        caps.journal,
+    ) {
         Ok(reported) => reported,
         Err(fault) => return Err(of_apply(fault)),
     };

@@ -1,5 +1,5 @@
 //! An entry told: what came of it, and how its order was traded.
-ghost use Rattle.std.specs.Prelude.{◌≡◌, ℕ, ◌+◌, All, IfOk, IfSome, length};
+ghost use Rattle.std.specs.Prelude.{◌≡◌, ◌+◌, All, IfOk, IfSome, length};
 ghost use Rattle.spread_rules.specs.Candidates.{HasOrderPrice};
 ghost use Rattle.spread_rules.specs.Clearing.{removed};
 ghost use Rattle.spread_rules.specs.Journal.{FitsEntry};

@@ -1,5 +1,4 @@
 //! Days in threads. Each ends by itself, whatever the schedule.
-ghost use Rattle.std.specs.Prelude.{IfOk};
 ghost use Rattle.day_text.specs.DayText.{AreShown};
 
 use crate::headline::day_of_streams;

@@ -1,5 +1,5 @@
 //! What a book of resting orders does.
-ghost use Rattle.std.specs.Prelude.{◌≡◌, ◌==◌, ℕ, ◌<◌, ◌++◌, ◌∷◌, [], List, length, slice_get, OnOk, OnErr, IfSome, All};
+ghost use Rattle.std.specs.Prelude.{◌≡◌, ◌==◌, ◌<◌, ◌++◌, ◌∷◌, [], List, length, slice_get, OnOk, OnErr, IfSome, All};
 ghost use Rattle.std.specs.List.{find};
 ghost use Rattle.host_base.specs.declared.limits.TheConstants.{MAX_MONTHS};
 ghost use Rattle.spread_rulebook.specs.Rulebook.{implied};

@@ -1,13 +1,10 @@
 //! A book over one list, in order of place.
-ghost use Rattle.std.specs.Prelude.{◌≡◌, ◌==◌, ℕ, ◌<◌, ◌++◌, ◌∷◌, [], List, length, slice_get, OnOk, OnErr, All, IfOk, neg_ℤ, pos, ◌≤ℤ◌, fold, None, Some};
+ghost use Rattle.std.specs.Prelude.{◌≡◌, ◌==◌, ◌<◌, [], List, All, fold, None, Some};
 ghost use Rattle.std.specs.List.{find};
 ghost use Rattle.spread_rules.specs.Clearing.{reduced, removed, with_less_left};
-ghost use Rattle.spread_rules.specs.Candidates.{better_by, cost, HasOrderPrice};
 ghost use Rattle.spread_rules.specs.Meaning.{is_own};
 ghost use Rattle.spread_rules.specs.Amended.{amended, amended_at};
-ghost use Rattle.order_books.specs.Queues.{IsFront, is_ahead, is_in, front_step};
-ghost use Rattle.order_tables.specs.Places.{HasMore, HasPlace};
-ghost use Rattle.spread_rules.specs.Legs.{other_side};
+ghost use Rattle.order_books.specs.Queues.{is_in, front_step};
 
 use crate::book::Book;
 use crate::queue::{front_with, is_in};

@@ -3,7 +3,7 @@
 //! A row is found by its hint, and where no hint names it by halves: at worst the logarithm of the rows. One order that
 //! comes or goes takes constant time but where the rows are tidied or grow, which takes time for all of them and comes
 //! once for as many changes.
-ghost use Rattle.std.specs.Prelude.{◌≡◌, ◌≢◌, ◌<◌, ◌≤◌, ◌==◌, ◌++◌, ◌∷◌, [], ℕ, List, All, IfSome, IfNone, OnOk, OnErr, length, true, ◌^◌, map, slice_get, slice_index_or};
+ghost use Rattle.std.specs.Prelude.{◌≡◌, ◌≢◌, ◌<◌, ◌==◌, ◌++◌, ◌∷◌, [], List, All, IfSome, IfNone, OnOk, OnErr, length, true, ◌^◌, map, slice_get, slice_index_or};
 ghost use Rattle.std.specs.List.{find};
 ghost use Rattle.std.specs.Option.{option_copied};
 ghost use Rattle.spread_rules.specs.declared.order.Order.{Order};

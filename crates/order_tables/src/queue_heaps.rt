@@ -4,7 +4,6 @@
 //! another rank of its queue is less, and goes when it comes to be the least, or when a queue has many such: each goes
 //! once, in the logarithm.
 ghost use Rattle.std.specs.Prelude.{◌≡◌, ◌<◌, [], All, OnOk, OnErr, IfSome, IfNone, length, map};
-ghost use Rattle.std.specs.BinaryHeap.{heap_items};
 ghost use Rattle.order_tables.specs.code.Heaps.{IsRankHeap, ranks_in, ranks_at, Joins, SameRanks, IsLeast, is_of_rank, is_ranked, HasSettled, Settles, HasThinned, Thins};
 ghost use Rattle.order_tables.specs.Places.{Ascends};
 

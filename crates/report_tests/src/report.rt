@@ -1,5 +1,5 @@
 //! Tests by subject, and what they share.
-ghost use Rattle.std.specs.Prelude.{◌≡◌, ℕ, ◌<◌, length, slice_index_or};
+ghost use Rattle.std.specs.Prelude.{ℕ, ◌<◌, length, slice_index_or};
 ghost use Rattle.std.specs.Bool.{OnTrue};
 ghost use Rattle.spread_rules.specs.declared.fill.Fill.{Fill};
 ghost use Rattle.spread_rulebook.specs.Rulebook.{IsListed};

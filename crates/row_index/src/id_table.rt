@@ -1,5 +1,5 @@
 //! Where the rows of ids stand: a hash table of short lines, and an ordered table for what finds its line full.
-ghost use Rattle.std.specs.Prelude.{◌≡◌, ◌≢◌, ℕ, ◌+◌, ◌*◌, ◌/◌, ◌<◌, ◌≤◌, false, List, All, length, slice_get, set, take, Some, None, [], ◌∷◌, ◌++◌, cond, is_some, IfOk, OnOk, OnErr};
+ghost use Rattle.std.specs.Prelude.{◌≡◌, ◌≢◌, ◌+◌, ◌*◌, ◌/◌, ◌<◌, ◌≤◌, false, List, All, length, slice_get, set, take, Some, None, [], ◌∷◌, ◌++◌, cond, is_some, IfOk, OnOk, OnErr};
 ghost use Rattle.std.specs.BTreeMap.{get};
 ghost use Rattle.std.specs.Option.{option_or};
 ghost use Rattle.host_base.specs.declared.id_key.IdKey.{IdKey};
@@ -26,7 +26,7 @@ const WIDTH: usize = 16;
 /// How many numbers stand in a line, on an average over all, before there are more lines.
 const CROWD: usize = 8;
 
-/// How many times as many lines there are then.
+/// How many times as many lines there are then at least.
 const GROWTH: usize = 4;
 
 /// A number for each row that is named in it, and 0 behind the last one. A number is a tag of twelve bits, never 0,
@@ -182,6 +182,11 @@ fn number_of(tag: u32, row: usize) -> u32
     tag * 1_048_576 + row as u32
 }
 
+/// In how many lines so many keys are no crowd: a power of two.
+fn lines_for(keys: usize) -> usize {
+    (keys.min(ROWS) / CROWD + 1).next_power_of_two().max(WIDTH)
+}
+
 /// Notes a row of a key, where the key has none yet.
 fn note_first<A: Allocator + Copy>(
     behind: &mut BTreeMap<IdKey, usize, A>,
@@ -333,15 +338,17 @@ impl<A: Allocator + Copy> IdTable<A> {
         })
     }
 
-    /// More lines, where they are crowded.
-    fn make_room<R: IdRows>(&mut self, rows: &R) -> Result<(), NoMemory>
+    /// More lines, where they would be crowded with so many keys more. After NoMemory look-ups answer as before.
+    pub fn reserve<R: IdRows>(&mut self, rows: &R, keys: usize) -> Result<(), NoMemory>
         requires { IsTableOf self.old (R.keys rows.now) }
         ensures { IsTableOf self.new (R.keys rows.now) }
     {
         let count = self.lines.len();
-        if self.standing >= count.saturating_mul(CROWD) {
+        let wanted = self.standing.saturating_add(keys);
+        if wanted > count.saturating_mul(CROWD) {
+            let lines = count.saturating_mul(GROWTH).max(lines_for(wanted));
             let alloc = *self.lines.allocator();
-            *self = IdTable::of_rows(alloc, rows, count.saturating_mul(GROWTH).max(WIDTH))?;
+            *self = IdTable::of_rows(alloc, rows, lines)?;
         }
         Ok(())
     }
@@ -356,7 +363,7 @@ impl<A: Allocator + Copy> IdTable<A> {
         ensures ok { OnOk result (IsTableOf self.new (R.keys rows.now ++ key.now ∷ [])) }
         ensures err { OnErr result (IsTableOf self.new (R.keys rows.now)) }
     {
-        self.make_room(rows)?;
+        self.reserve(rows, 1)?;
         self.note_row(rows, rows.len(), key)
     }
 

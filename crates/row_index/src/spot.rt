@@ -1,5 +1,5 @@
 //! Where a session and an id belong in a table of lines.
-ghost use Rattle.std.specs.Prelude.{◌≡◌, ◌<◌, ◌≤◌};
+ghost use Rattle.std.specs.Prelude.{◌≡◌, ◌≤◌};
 ghost use Rattle.row_index.specs.Tables.{hash_of, line_of, tag_of};
 
 use host_base::IdKey;

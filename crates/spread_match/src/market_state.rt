@@ -130,6 +130,13 @@ impl<B: Book, A: Allocator + Copy> MarketState<B, A> {
         }
     }
 
+    /// Makes room for the statuses of so many entries more.
+    pub fn reserve(&mut self, entries: usize) -> Result<(), NoMemory>
+        ensures { self.new ≡ self.old }
+    {
+        self.statuses.reserve(entries)
+    }
+
     /// The resting orders.
     pub fn book(&self) -> &B
         ensures { B.orders result.now ≡ self.now.orders }

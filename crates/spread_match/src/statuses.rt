@@ -1,5 +1,5 @@
 //! How the order of each New and Replace entry so far stands, found by its session and id.
-ghost use Rattle.std.specs.Prelude.{◌≡◌, ◌≢◌, ◌<◌, ◌≤◌, length, take, slice_get, slice_index_or, List, All, [], ◌++◌, ◌∷◌, map, OnOk, OnErr, IfSome, IfNone, ℕ, cond, is_some, Some, None, IfOk, true, false};
+ghost use Rattle.std.specs.Prelude.{◌≡◌, ◌<◌, slice_get, List, All, [], ◌++◌, ◌∷◌, map, OnOk, OnErr, IfSome, IfNone, cond, is_some, Some, None, IfOk, true, false};
 ghost use Rattle.spread_rules.specs.declared.codes.ord_status.TheConstants.{REJECTED};
 ghost use Rattle.spread_rules.specs.declared.outcome.OrderStatus.{OrderStatus};
 ghost use Rattle.std.specs.List.{find};
@@ -152,6 +152,15 @@ impl<A: Allocator + Copy> Statuses<A> {
             hints: Hints::new(alloc),
             first: IdTable::new(alloc),
         }
+    }
+
+    /// Makes room for so many statuses more.
+    pub fn reserve(&mut self, statuses: usize) -> Result<(), NoMemory>
+        ensures { self.new ≡ self.old }
+    {
+        self.rows.reserve(statuses)?;
+        self.first
+            .reserve(&StatusRows { rows: &self.rows }, statuses)
     }
 
     /// The earliest status of that session and id.

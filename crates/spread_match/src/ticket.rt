@@ -1,5 +1,5 @@
 //! Whether a ticket can be a new order, and what a replace request may make of a resting one.
-ghost use Rattle.std.specs.Prelude.{◌≡◌, ℤ, pos, ◌<ℤ◌, Option, None, is_some};
+ghost use Rattle.std.specs.Prelude.{◌≡◌, Option, None, is_some};
 ghost use Rattle.spread_rules.specs.declared.outcome.OrderStatus.{OrderStatus};
 ghost use Rattle.spread_rules.specs.Amended.{done};
 ghost use Rattle.spread_rules.specs.Meaning.{refusal_or_instrument, resting_status, may_replace, keeps_place, moved_to};

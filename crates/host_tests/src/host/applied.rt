@@ -55,7 +55,8 @@ fn apply_all(
 ) -> Vec<Fill>
     requires { All FitsEntry journal.now }
 {
-    let mut applied = AppliedEntries::new(alloc, rules).expect(rt, "memory");
+    let mut applied =
+        AppliedEntries::with_capacity(alloc, rules, journal.len()).expect(rt, "memory");
     let mut seen = 0usize;
     for entry in journal {
         applied.apply(entry).expect(rt, "memory");

@@ -13,6 +13,7 @@ fn best_and_apply(rt: HostRuntime) {
     without_replace();
     let rules = Rulebook::read(THREE_MONTHS).expect(&rt, "a rulebook");
     let mut market = Market::new(rt.alloc(), &rules, ListBook::new(rt.alloc()));
+    market.reserve(2).expect(&rt, "memory");
     let mut fills = Vec::new(rt.alloc());
     let order = Order {
         place: 9,
