@@ -1,5 +1,6 @@
 pub mod Costs
 pub mod QueueColumns
 pub mod CostRows
+pub mod Cells
 pub mod Columns
 pub mod Tables

@@ -31,7 +31,8 @@ fn front_is_within<B: Book>(book: &B, new: &Order, side: Side) -> bool
     }
 }
 
-/// The best is the direct candidate of the front that the new order meets. A call of its own: most new orders meet none.
+/// The best is the direct candidate of the front that the new order meets. A call of its own: most new orders meet
+/// none.
 #[inline(never)]
 fn with_front<B: Book>(book: &B, new: &Order, best: &mut Option<Candidate>)
     requires small { All HasOrderPrice (B.orders book.now) }

@@ -1,41 +1,53 @@
 //! What the fronts of queues cost who meets them, in rows by month: a search over them looks into no book.
-ghost use Rattle.std.specs.Prelude.{◌≡◌, ◌<◌, ◌≤◌, List, All, slice_set, IfOk, IfSome};
+ghost use Rattle.std.specs.Prelude.{◌≡◌, ◌<◌, ◌≤◌, ℕ, List, All, length, take, drop, slice_set, IfOk, IfSome, unwrap_or};
 ghost use Rattle.host_base.specs.declared.limits.TheConstants.{MAX_MONTHS};
 ghost use Rattle.spread_rules.specs.declared.order.Order.{Order};
 ghost use Rattle.spread_rules.specs.Candidates.{HasOrderPrice};
 ghost use Rattle.spread_rulebook.specs.Prices.{IsOrderPrice, IsLegPrice};
 ghost use Rattle.spread_rulebook.specs.Rulebook.{implied};
 ghost use Rattle.quoted_books.specs.Listed.{IsInMonths};
-ghost use Rattle.quoted_books.specs.code.FrontCosts.{cell_of, cost_at, row_cell, no_costs, pair_cost_in, with_outright_cost, with_spread_cost, AreFrontCosts, AreOrderPrices};
+ghost use Rattle.quoted_books.specs.code.FrontCosts.{cell_of, cell_at, cost_of_sum, costs_of, spread_cost, outright_cost, cost_at, row_cell, no_costs, pair_cost_in, with_outright_cost, with_spread_cost, AreFrontCosts, AreOrderPrices};
+ghost use Rattle.quoted_books.specs.declared.front_costs.TheConstants.{NO_COST};
 ghost use Rattle.quoted_books.specs.code.QuoteTable.{ChangesOneQueue};
 
-use crate::cheapest::{MonthPairs, front_cost, is_pair_on, together};
+use crate::cheapest::{MonthPairs, front_cost, is_pair_on};
 use host_base::NoMemory;
+use host_base::limits::MAX_MONTHS;
 use order_books::Book;
 use spread_rules::{Instrument, Order, Side};
 use std::alloc::Allocator;
 use std::marker::Model;
 
 /// How many months a row has room for.
-const ROW: usize = 24;
+const ROW: usize = MAX_MONTHS as usize;
 
-/// For each side and month a row of what the fronts of its spreads cost, and for each side a row of what the fronts of the
-/// outrights cost that meet an order of that side together with these: by the other month, none where a queue is empty or
-/// its pair takes no part.
+/// What stands in a cell of no cost: more than any price, and than any two together.
+const NO_COST: i64 = 1_000_000_000_000;
+
+/// What two cells come to at least, where one is of no cost. Two costs come to less.
+pub const NO_PAIR: i64 = 500_000_000_000;
+
+/// For each side and month a row of what the fronts of its spreads cost, and for each side a row of what the fronts of
+/// the outrights cost that meet an order of that side together with these: by the other month, `NO_COST` where a queue
+/// is empty or its pair takes no part.
 #[derive(Drop)]
 pub struct FrontCosts<A: Allocator + Copy> {
-    spreads: Vec<Option<i64>, A>,
-    outrights: Vec<Option<i64>, A>,
+    spreads: Vec<i64, A>,
+    outrights: Vec<i64, A>,
 }
 
 impl<A: Allocator + Copy> Model for FrontCosts<A> {
-    ghost use Rattle.quoted_books.specs.code.FrontCosts.{CostRows, AreOrderPrices};
+    ghost use Rattle.quoted_books.specs.code.FrontCosts.{CostRows, AreOrderPrices, costs_of};
 
     ghost Value = { CostRows };
 
-    ghost view = { λ c. record { spreads = c.spreads.items; outrights = c.outrights.items } };
+    ghost view = { λ c. record {
+      spreads = costs_of c.spreads.items;
+      outrights = costs_of c.outrights.items;
+    } };
 
-    ghost invariant = { λ c. AreOrderPrices c.spreads.items × AreOrderPrices c.outrights.items };
+    ghost invariant = { λ c.
+        AreOrderPrices (costs_of c.spreads.items) × AreOrderPrices (costs_of c.outrights.items) };
 }
 
 /// Which one of cells for each month, who buys before who sells, is that side's of that month.
@@ -57,24 +69,39 @@ fn row_cell(side: Side, month: u8, other_month: u8) -> usize
     cell(side, month) * ROW + usize::from(other_month)
 }
 
-/// The cost that stands there, if there is one.
+/// The cell that stands there, or one of no cost where there is none.
 #[inline(always)]
-fn cost_at(costs: &[Option<i64>], n: usize) -> Option<i64>
-    ensures cost { result ≡ cost_at costs.now n }
-    ensures small { AreOrderPrices costs.now → IfSome result IsOrderPrice }
+fn cell_at(cells: &[i64], n: usize) -> i64
+    ensures { result ≡ cell_at cells.now n }
 {
-    match costs.get(n) {
-        None => None,
-        Some(cost) => *cost,
+    cells.get(n).copied().unwrap_or(NO_COST)
+}
+
+/// What two cells that come to that tell: a cost where each is of one.
+#[inline(always)]
+fn cost_of_sum(sum: i64) -> Option<i64>
+    ensures { result ≡ cost_of_sum sum }
+{
+    if sum < NO_PAIR { Some(sum) } else { None }
+}
+
+/// So many cells from the first on, or as many as there are.
+#[inline(always)]
+fn row(cells: &[i64], first: usize, months: u8) -> &[i64]
+    ensures { result.now ≡ take months (drop first cells.now) }
+{
+    match cells.get(first..) {
+        None => &[],
+        Some(rest) => &rest[..rest.len().min(usize::from(months))],
     }
 }
 
 /// Puts that cost there, where there is such a cell.
-fn put_cost(costs: &mut [Option<i64>], n: usize, cost: Option<i64>)
-    ensures { costs.new ≡ slice_set costs.old n cost }
+fn put_cost(cells: &mut [i64], n: usize, cost: Option<i64>)
+    ensures { cells.new ≡ slice_set cells.old n (unwrap_or cost NO_COST) }
 {
-    if n < costs.len() {
-        costs[n] = cost;
+    if n < cells.len() {
+        cells[n] = cost.unwrap_or(NO_COST);
     }
 }
 
@@ -84,9 +111,9 @@ impl<A: Allocator + Copy> FrontCosts<A> {
         ensures { IfOk result (λ c. c ≡ no_costs months) }
     {
         let mut spreads = Vec::new(alloc);
-        spreads.resize(usize::from(months) * 2 * ROW, None)?;
+        spreads.resize(usize::from(months) * 2 * ROW, NO_COST)?;
         let mut outrights = Vec::new(alloc);
-        outrights.resize(2 * ROW, None)?;
+        outrights.resize(2 * ROW, NO_COST)?;
         Ok(FrontCosts { spreads, outrights })
     }
 
@@ -96,9 +123,30 @@ impl<A: Allocator + Copy> FrontCosts<A> {
         ensures cost { result ≡ pair_cost_in self.now side month other_month }
         ensures small { IfSome result IsLegPrice }
     {
-        let first = cost_at(&self.spreads, row_cell(side, month, other_month))?;
-        let second = cost_at(&self.outrights, row_cell(side, 0, other_month))?;
-        Some(together(first, second))
+        let first = cell_at(&self.spreads, row_cell(side, month, other_month));
+        let second = cell_at(&self.outrights, row_cell(side, 0, other_month));
+        cost_of_sum(first + second)
+    }
+
+    /// What the fronts of the spreads of that side and month cost, by the other month.
+    #[inline(always)]
+    pub fn spread_row(&self, side: Side, month: u8, months: u8) -> &[i64]
+        ensures most { length result.now ≤ months }
+        ensures small { AreOrderPrices (costs_of result.now) }
+        ensures costs { (other : ℕ) → other < months
+            → cost_at (costs_of result.now) other ≡ spread_cost self.now side month other }
+    {
+        row(&self.spreads, row_cell(side, month, 0), months)
+    }
+
+    /// What the fronts of the outrights cost that meet an order of that side, by their month.
+    #[inline(always)]
+    pub fn outright_row(&self, side: Side, months: u8) -> &[i64]
+        ensures small { AreOrderPrices (costs_of result.now) }
+        ensures costs { (other : ℕ) → other < months
+            → cost_at (costs_of result.now) other ≡ outright_cost self.now side other }
+    {
+        row(&self.outrights, row_cell(side, 0, 0), months)
     }
 
     /// The front of the outrights of that side and month costs that.

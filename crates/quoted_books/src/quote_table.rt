@@ -45,8 +45,8 @@ impl<A: Allocator + Copy> Model for QuoteTable<A> {
     ghost view = { λ t. t.cells.items };
 }
 
-/// Whether another pair may cost the least after a change of that other month's fronts. Where an order left, it may only
-/// where what cost the least was of that month.
+/// Whether another pair may cost the least after a change of that other month's fronts. Where an order left, it may
+/// only where what cost the least was of that month.
 fn must_renew(change: Change, held: Option<PairCost>, via: u8) -> bool
     ensures { result ≡ must_renew change held via }
 {
@@ -125,8 +125,8 @@ impl<A: Allocator + Copy> QuoteTable<A> {
         }
     }
 
-    /// Renews the cells that the front of that order's queue has a part in, after the order did that: then what the fronts
-    /// of so many months cost is this.
+    /// Renews the cells that the front of that order's queue has a part in, after the order did that: then what the
+    /// fronts of so many months cost is this.
     pub fn renew(&mut self, costs: &FrontCosts<A>, months: u8, order: &Order, change: Change)
         ensures { (trades_implied : Pairs) (xs ys : List Order)
             → AreFrontCosts trades_implied months ys costs.now

@@ -17,8 +17,8 @@ use spread_rules::{Instrument, Level, Order, Rulebook, Side};
 use std::alloc::Allocator;
 use std::marker::Model;
 
-/// Resting orders, and the pairs of fronts that cost the least. Once an order came that no market takes, of a month that
-/// the rulebook does not have or at a price beyond the limits, no pairs are kept.
+/// Resting orders, and the pairs of fronts that cost the least. Once an order came that no market takes, of a month
+/// that the rulebook does not have or at a price beyond the limits, no pairs are kept.
 #[derive(Drop)]
 pub struct QuotedBook<'r, A: Allocator + Copy> {
     book: FrontBook<A>,

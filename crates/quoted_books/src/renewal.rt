@@ -7,7 +7,7 @@ ghost use Rattle.quoted_books.specs.code.Cheapest.{KeepsOthers, must_search, soo
 ghost use Rattle.quoted_books.specs.code.FrontCosts.{AreFrontCosts};
 
 use crate::cheapest::cheaper;
-use crate::front_costs::FrontCosts;
+use crate::front_costs::{FrontCosts, NO_PAIR};
 use order_books::PairCost;
 use spread_rules::Side;
 use std::alloc::Allocator;
@@ -26,16 +26,30 @@ fn cheapest_of_row<A: Allocator + Copy>(
         → month < months
         → IsCheapest trades_implied xs side month months result }
 {
-    let mut least = None;
-    for other_month in 0..months {
-        let cost = costs.pair_cost(side, month, other_month);
-        least = cheaper(least, cost, u64::from(other_month));
+    let spreads = costs.spread_row(side, month, months);
+    let outrights = costs.outright_row(side, months);
+    // Where a cell is of no cost, the sum is no less than `NO_PAIR`.
+    let mut least = NO_PAIR;
+    let mut month_of_least = 0;
+    for other_month in 0..spreads.len().min(outrights.len()) {
+        let cost = spreads[other_month] + outrights[other_month];
+        if cost < least {
+            least = cost;
+            month_of_least = other_month;
+        }
     }
-    least
+    if least < NO_PAIR {
+        Some(PairCost {
+            cost: least,
+            other_month: month_of_least as u64,
+        })
+    } else {
+        None
+    }
 }
 
-/// Whether what cost the least is of that month, and costs more now or is there no longer. Then what costs the least may
-/// be of any month.
+/// Whether what cost the least is of that month, and costs more now or is there no longer. Then what costs the least
+/// may be of any month.
 fn must_search(held: &PairCost, cost: Option<i64>, via: u64) -> bool
     ensures { result ≡ must_search held.now cost via }
 {

@@ -51,12 +51,14 @@ CoversOne trades_implied n xs instrument side best =
 abbrev pub IsDirect : Candidate → Type 0
 IsDirect o = (order : Order) × (o.counterparty ≡ Direct order)
 
--- whether a pair at that price costs less than the best, a direct candidate, or, where there is none, is within the limit
+-- whether a pair at that price costs less than the best, a direct candidate, or, where there is none,
+-- is within the limit
 abbrev pub is_better : Order → Option Candidate → ℤ → Bool
 is_better n None price = is_within_limit n.side n.price price
 is_better n (Some direct) price = int_lt (cost n.side price) (cost n.side direct.price)
 
--- whichever pairs take part: the best is a fair direct one, and beats each eligible single of the order's own instrument
+-- whichever pairs take part: the best is a fair direct one, and beats each eligible single
+-- of the order's own instrument
 pub record IsBestDirect (n : Order) (xs : List Order) (best : Option Candidate) : Type 0 where
   pub fair : (trades_implied : Pairs) → IsFair trades_implied n xs best
   pub small : IfSome best HasLegPrice

@@ -1,6 +1,7 @@
 -- What the fronts of queues cost, in rows by month, and when rows tell it.
 -- Words of the code alone.
-use Rattle.std.specs.Prelude.{◌≡◌, ℕ, ◌+◌, ◌*◌, ◌<◌, nat_lt, ℤ, ◌+ℤ◌, Bool, true, false, cond, List, All, length, replicate, slice_get, slice_set, Option, Some, None, IfSome}
+use Rattle.std.specs.Prelude.{◌≡◌, ℕ, ◌+◌, ◌*◌, ◌<◌, nat_lt, ℤ, ◌+ℤ◌, int_lt, Bool, true, false, cond, List, All, map, length, replicate, slice_get, slice_set, Option, Some, None, IfSome, unwrap_or}
+use Rattle.std.specs.Ordering.{int_eq}
 use Rattle.host_base.specs.declared.limits.TheConstants.{MAX_MONTHS}
 use Rattle.spread_rules.specs.declared.order.Side.{Side}
 use Rattle.spread_rulebook.specs.declared.instrument.Instrument.TheVariants.{Outright}
@@ -11,11 +12,28 @@ use Rattle.spread_rulebook.specs.Prices.{IsOrderPrice}
 use Rattle.order_tables.specs.QueueRanks.{side_index}
 use Rattle.order_books.specs.Pairs.{spread_of, spread_side, is_pair_on}
 use Rattle.quoted_books.specs.code.Cheapest.{CostsOfFront}
+use Rattle.quoted_books.specs.declared.front_costs.TheConstants.{NO_COST, NO_PAIR}
 
 -- for each side and month a row by the other month, and for each side one
 pub record CostRows : Type 0 where
   pub spreads : List (Option ℤ)
   pub outrights : List (Option ℤ)
+
+-- what a cell of so much tells
+abbrev pub cost_of_cell : ℤ → Option ℤ
+cost_of_cell cell = cond (int_eq cell NO_COST) None (Some cell)
+
+-- what each of a row of cells tells
+abbrev pub costs_of : List ℤ → List (Option ℤ)
+costs_of cells = map cost_of_cell cells
+
+-- the cell that stands there, and one of no cost where there is none
+abbrev pub cell_at : List ℤ → ℕ → ℤ
+cell_at cells n = unwrap_or (slice_get cells n) NO_COST
+
+-- what two cells that come to so much tell
+abbrev pub cost_of_sum : ℤ → Option ℤ
+cost_of_sum sum = cond (int_lt sum NO_PAIR) (Some sum) None
 
 -- which one is that side's of that month
 abbrev pub cell_of : Side → ℕ → ℕ

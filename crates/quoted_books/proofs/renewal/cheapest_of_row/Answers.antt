@@ -1,22 +1,88 @@
-use Rattle.std.proofs.Common.{◌≡◌, arith, subst, sym, ap, ◌∙◌}
+use Rattle.std.proofs.Common.{◌≡◌, pos, ◌+◌, ◌<◌, ℤ, ◌+ℤ◌, ◌≤ℤ◌, Some, None, List, Bool, true, false, cond, length, get_or, arith, subst, sym, ap, ◌∙◌, to_z, w64}
+use Rattle.std.specs.Prelude.{int_lt}
+use Rattle.spread_rules.specs.declared.order.Order.{Order}
+use Rattle.spread_rules.specs.Candidates.{Pairs}
 use Rattle.order_books.specs.Pairs.{IsCheapest}
-use Rattle.quoted_books.specs.code.Cheapest.{CostsOfFronts, cheaper_of}
-use Rattle.quoted_books.proofs.fronts.MonthPairs.{none_cheapest, cheapest_more}
-use Rattle.quoted_books.proofs.quotes.CostRows.{pair_costs}
+use Rattle.order_books.specs.declared.pair.PairCost.{PairCost}
+use Rattle.quoted_books.specs.declared.front_costs.TheConstants.{NO_PAIR}
+use Rattle.quoted_books.specs.code.FrontCosts.{AreFrontCosts}
+use Rattle.quoted_books.proofs.quotes.Cells.{told_there, small_there, sum_fits, sum_is, least_pair, least_more, lesser_then, lesser_else, near_then, row_ended}
 use Rattle.quoted_books.proofs.renewal.cheapest_of_row.Goals as goal
+use Rattle.quoted_books.proofs.renewal.cheapest_of_row.Goals.{After-loop-other_month, then-cost-least, else-cost-least}
 
-pub loop-other_month-init : goal.loop-other_month-init
-loop-other_month-init g c = λ on xs told lt. none_cheapest on xs c.args.side c.args.month
+pub overflow_add-cost : goal.overflow_add-cost
+overflow_add-cost g c =
+    let k = c.loop-other_month.other_month in
+    let xs = c.spread_row-spreads.result.now in
+    let ys = c.outright_row-outrights.result.now in
+    let end = c.min-other_month-end.ensures in
+    let under = c.loop-other_month-test.true in
+    sum_fits (get_or xs k (pos 0)) (get_or ys k (pos 0))
+    (small_there xs k (pos 0) (omega (arith, end, under)) c.spread_row-spreads.ensures.small)
+    (small_there ys k (pos 0) (omega (arith, end, under)) c.outright_row-outrights.ensures.small)
 
 pub loop-other_month-preserved : goal.loop-other_month-preserved
-loop-other_month-preserved g c = λ on xs told lt.
+loop-other_month-preserved g c =
     let k = c.loop-other_month.other_month in
-    let least = c.loop-other_month.least in
-    let cost = c.pair_cost-cost.result in
-    let is : c.cheaper-least.result ≡ cheaper_of least cost k = c.cheaper-least.ensures ∙ ap (cheaper_of least cost) c.from.ensures in
-    let costs = subst (CostsOfFronts on xs c.args.side c.args.month k) (sym c.pair_cost-cost.ensures.cost) (pair_costs on c.args.months xs c.args.costs.now c.args.side c.args.month k told lt (omega arith)) in
-    subst (IsCheapest on xs c.args.side c.args.month _) (sym is)
-    (cheapest_more on xs c.args.side c.args.month k least cost (c.loop-other_month.invariant on xs told lt) costs c.pair_cost-cost.ensures.small)
+    let xs = c.spread_row-spreads.result.now in
+    let ys = c.outright_row-outrights.result.now in
+    let a = get_or xs k (pos 0) in
+    let b = get_or ys k (pos 0) in
+    let least = to_z w64 c.loop-other_month.least-bits in
+    let at = c.loop-other_month.month_of_least in
+    let new = to_z w64 c.if-cost-least.least-bits in
+    let now = c.if-cost-least.month_of_least in
+    let end = c.min-other_month-end.ensures in
+    let under = c.loop-other_month-test.true in
+    let most = c.spread_row-spreads.ensures.most in
+    let in_spreads : k < length xs = omega (arith, end, under) in
+    let in_outrights : k < length ys = omega (arith, end, under) in
+    let in_months : k < c.args.months = omega (arith, in_spreads, most) in
+    let first_small = small_there xs k (pos 0) in_spreads c.spread_row-spreads.ensures.small in
+    let second_small = small_there ys k (pos 0) in_outrights c.outright_row-outrights.ensures.small in
+    let sum = sum_is a b first_small second_small in
+    let more = λ (on : Pairs) (zs : List Order) (told : AreFrontCosts on c.args.months zs c.args.costs.now) (lt : c.args.month < c.args.months).
+    least_more on zs c.args.side c.args.month k c.args.months c.args.costs.now a b least at told lt in_months
+    (told_there xs k (pos 0) in_spreads ∙ c.spread_row-spreads.ensures.costs k in_months)
+    (told_there ys k (pos 0) in_outrights ∙ c.outright_row-outrights.ensures.costs k in_months)
+    first_small second_small c.loop-other_month.invariant.near (c.loop-other_month.invariant.cheapest on zs told lt) in
+    elim c.if-cost-least.branch [
+      | then-cost-least w ↦
+          let less : int_lt (a +ℤ b) least ≡ true = ap (λ (z : ℤ). int_lt z least) (sym sum) ∙ w.if-cost-least.true in
+          let is : new ≡ a +ℤ b = w.least-is ∙ sum in
+          record {
+            near = near_then (a +ℤ b) least new less is c.loop-other_month.invariant.near;
+            cheapest = λ on zs told lt. subst (IsCheapest on zs c.args.side c.args.month (k + 1)) (lesser_then (a +ℤ b) least new k at now less is w.month_of_least-is) (more on zs told lt);
+          }
+      | else-cost-least w ↦
+          let less : int_lt (a +ℤ b) least ≡ false = ap (λ (z : ℤ). int_lt z least) (sym sum) ∙ w.if-cost-least.false in
+          record {
+            near = subst (λ (z : ℤ). z ≤ℤ NO_PAIR) (sym w.least-is) c.loop-other_month.invariant.near;
+            cheapest = λ on zs told lt. subst (IsCheapest on zs c.args.side c.args.month (k + 1)) (lesser_else (a +ℤ b) least new k at now less w.least-is w.month_of_least-is) (more on zs told lt);
+          }
+    ]
 
-pub returns : goal.returns
-returns g c = λ on xs told lt. (let end = c.loop-other_month-test.false in subst (λ (n : _). IsCheapest on xs c.args.side c.args.month n c.loop-other_month.least) (omega (arith, end)) (c.loop-other_month.invariant on xs told lt))
+-- over all months, once the rows have ended
+ended : (g : _) (c : After-loop-other_month g) → (on : Pairs) (zs : List Order) → AreFrontCosts on c.args.months zs c.args.costs.now → c.args.month < c.args.months →
+    IsCheapest on zs c.args.side c.args.month c.args.months (least_pair (to_z w64 c.loop-other_month.least-bits) c.loop-other_month.month_of_least)
+ended g c on zs told lt =
+    let k = c.loop-other_month.other_month in
+    let xs = c.spread_row-spreads.result.now in
+    let ys = c.outright_row-outrights.result.now in
+    let end = c.min-other_month-end.ensures in
+    let last = c.loop-other_month.auto.other_month-end in
+    let stop = c.loop-other_month-test.false in
+    row_ended on zs c.args.side c.args.month k c.args.months c.args.costs.now xs ys (least_pair (to_z w64 c.loop-other_month.least-bits) c.loop-other_month.month_of_least) told lt
+    (omega (arith, end, last, stop)) c.spread_row-spreads.ensures.most c.spread_row-spreads.ensures.costs c.outright_row-outrights.ensures.costs (c.loop-other_month.invariant.cheapest on zs told lt)
+
+pub returns-then-least-lt-NO_PAIR : goal.returns-then-least-lt-NO_PAIR
+returns-then-least-lt-NO_PAIR g c = λ on zs told lt.
+    let found : PairCost = record { cost = to_z w64 c.loop-other_month.least-bits; other_month = c.loop-other_month.month_of_least } in
+    subst (IsCheapest on zs c.args.side c.args.month c.args.months) (ap (λ (b : Bool). cond b (Some found) None) c.if-least-lt-NO_PAIR.true)
+    (ended g (goal.at.returns-then-least-lt-NO_PAIR g c).After-loop-other_month on zs told lt)
+
+pub returns-else-least-lt-NO_PAIR : goal.returns-else-least-lt-NO_PAIR
+returns-else-least-lt-NO_PAIR g c = λ on zs told lt.
+    let found : PairCost = record { cost = to_z w64 c.loop-other_month.least-bits; other_month = c.loop-other_month.month_of_least } in
+    subst (IsCheapest on zs c.args.side c.args.month c.args.months) (ap (λ (b : Bool). cond b (Some found) None) c.if-least-lt-NO_PAIR.false)
+    (ended g (goal.at.returns-else-least-lt-NO_PAIR g c).After-loop-other_month on zs told lt)
