@@ -55,8 +55,8 @@ fn apply_all(
 ) -> Vec<Fill>
     requires { All FitsEntry journal.now }
 {
-    let mut applied =
-        AppliedEntries::with_capacity(alloc, rules, journal.len()).expect(rt, "memory");
+    let count = journal.len();
+    let mut applied = AppliedEntries::with_capacity(alloc, rules, count).expect(rt, "memory");
     let mut seen = 0usize;
     for entry in journal {
         applied.apply(entry).expect(rt, "memory");
@@ -64,7 +64,7 @@ fn apply_all(
         assert!(rt; want.made.get(seen).copied() == Some(made));
         seen = seen.wrapping_add(1);
     }
-    assert!(rt; applied.count() == journal.len() as u64);
+    assert!(rt; applied.count() == count as u64);
     expect_orders(rt, applied.book(), want.resting);
     applied.into_fills()
 }
