@@ -13,7 +13,7 @@ use std::alloc::{AllocError, Allocator, Global};
 use std::process::Abort;
 use std::sync::Wait;
 use std::thread::Threads;
-use test_support::{FIRST_TRADE, FIRST_TRADE_SENT, THREE_MONTHS, expect_first_sent, id, stamp};
+use test_support::{FIRST_TRADE, FIRST_TRADE_SENT, THREE_MONTHS, id, is_first_sent, stamp};
 
 pub const USUAL: Caps = Caps {
     ring: 256,
@@ -303,7 +303,7 @@ fn expect_held(rt: &impl Abort, meeting: Meeting, journal: &[Entry]) {
 
 /// What a stream alone is sent, and what the gate is told of it: each message and each piece of bytes in turn.
 fn expect_alone(rt: &impl Abort, watch: &Watch, out: &[Vec<u8>]) {
-    expect_first_sent(rt, out);
+    assert!(rt; is_first_sent(out));
     assert!(rt; watch.in_turn());
     assert!(rt; watch.messages() == 4);
     assert!(rt; watch.bytes() == FIRST_TRADE_SENT.len() as u64);

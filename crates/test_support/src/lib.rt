@@ -10,5 +10,5 @@ pub use host_base::{TestSink, TestSource};
 pub use refusing::Refusing;
 pub use samples::{
     FIRST_TRADE, FIRST_TRADE_JOURNAL, FIRST_TRADE_LINES, FIRST_TRADE_SENT, FIRST_TRADE_TEXT,
-    THREE_MONTHS, expect_first_sent, id, stamp,
+    THREE_MONTHS, id, is_first_sent, stamp,
 };

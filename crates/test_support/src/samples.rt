@@ -1,6 +1,5 @@
 //! What the worked examples share: the rulebook of three months, the usual SendingTime, and the first trade.
 use host_base::Id;
-use std::process::Abort;
 
 /// A rulebook of three months and a tick of one hundredth.
 pub const THREE_MONTHS: &[u8] = b"tick 1\nmonth H6 10000\nmonth M6 9800\nmonth U6 9500\n";
@@ -46,11 +45,14 @@ pub fn stamp() -> Id {
     id(b"20260105-14:30:00")
 }
 
-/// The first of sixteen lists is what the first trade's session is sent, and the others are empty.
-pub fn expect_first_sent(rt: &impl Abort, out: &[Vec<u8>]) {
-    assert!(rt; out.len() == 16);
-    for (list, session) in out.iter().zip(0..16u8) {
-        let want = if session == 0 { FIRST_TRADE_SENT } else { b"" };
-        assert!(rt; list.as_slice() == want);
+/// Whether the first of sixteen lists is what the first trade's session is sent, and the others are empty.
+pub fn is_first_sent(lists: &[Vec<u8>]) -> bool {
+    match lists {
+        [first, others @ ..] => {
+            others.len() == 15
+                && first.as_slice() == FIRST_TRADE_SENT
+                && others.iter().all(|list| list.is_empty())
+        }
+        [] => false,
     }
 }
