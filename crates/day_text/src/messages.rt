@@ -1,11 +1,9 @@
 //! The lines of outgoing messages, written in pieces. What stands in a piece is shown when the piece is written.
-ghost use Rattle.std.specs.Prelude.{◌≡◌, ◌<◌, ◌≤◌, ◌+◌, ◌++◌, ◌∷◌, [], All, map, length, OnOk, OnErr, vec_len, vec_capacity, true, false};
-ghost use Rattle.std.specs.Io.KnownBytes.{Appends};
-ghost use Rattle.host_base.specs.Ends.{AppendsPrefix};
+ghost use Rattle.std.specs.Prelude.{◌≡◌, ◌<◌, ◌≤◌, ◌+◌, ◌++◌, ◌∷◌, [], All, map, length, OnOk, vec_len, vec_capacity, false};
 ghost use Rattle.fix_frames.specs.Frames.{IsFrameRow};
 ghost use Rattle.day_text.specs.DayText.{texts_of};
 ghost use Rattle.day_text.specs.Messages.{shown_byte, line_lead, outgoing_line, outgoing_lines, outgoing_lines_from};
-ghost use Rattle.day_text.specs.code.Pieces.{IsPut};
+ghost use Rattle.day_text.specs.code.Pieces.{Puts, Writes};
 
 use crate::pieces::{append, write_out};
 use fix_wire::first_of_row;
@@ -32,16 +30,11 @@ fn shown_byte(byte: u8) -> u8
 /// most of its time on its last few bytes.
 fn write_shown<K: Sink, A: Allocator>(piece: &mut Vec<u8, A>, sink: &mut K) -> Result<(), Failed>
     requires works { K.has_failed sink.old ≡ false }
-    ensures ok { OnOk result
-        (Appends (K.written sink.old) (K.written sink.new) (map shown_byte piece.old.items)) }
+    ensures writes { Writes result (K.written sink.old) (K.written sink.new) (K.has_failed sink.new)
+        (map shown_byte piece.old.items) }
     ensures items { OnOk result (piece.new.items ≡ []) }
     ensures len { OnOk result (vec_len piece.new ≡ 0) }
     ensures room { vec_capacity piece.new ≡ vec_capacity piece.old }
-    ensures sound { OnOk result (K.has_failed sink.new ≡ false) }
-    ensures failed { OnErr result (K.has_failed sink.new ≡ true) }
-    ensures front { OnErr result
-        (AppendsPrefix (K.written sink.old) (K.written sink.new)
-        (map shown_byte piece.old.items)) }
 {
     show_field_ends(&mut piece[..]);
     write_out(piece, sink)
@@ -55,16 +48,10 @@ fn make_room_shown<K: Sink, A: Allocator>(
 ) -> Result<(), Failed>
     requires works { K.has_failed sink.old ≡ false }
     requires most { bytes ≤ vec_capacity piece.old }
-    ensures put { OnOk result
-        (IsPut (K.written sink.old) (K.written sink.new) (map shown_byte piece.new.items)
-        (map shown_byte piece.old.items)) }
+    ensures puts { Puts result (K.written sink.old) (K.written sink.new) (K.has_failed sink.new)
+        (map shown_byte piece.new.items) (map shown_byte piece.old.items) }
     ensures room { OnOk result (vec_len piece.new + bytes ≤ vec_capacity piece.new) }
     ensures capacity { vec_capacity piece.new ≡ vec_capacity piece.old }
-    ensures sound { OnOk result (K.has_failed sink.new ≡ false) }
-    ensures failed { OnErr result (K.has_failed sink.new ≡ true) }
-    ensures front { OnErr result
-        (AppendsPrefix (K.written sink.old) (K.written sink.new)
-        (map shown_byte piece.old.items)) }
 {
     if piece.capacity() - piece.len() < bytes {
         return write_shown(piece, sink);
@@ -80,15 +67,10 @@ fn put_part<K: Sink, A: Allocator>(
 ) -> Result<(), Failed>
     requires works { K.has_failed sink.old ≡ false }
     requires some { 0 < vec_capacity piece.old }
-    ensures put { OnOk result
-        (IsPut (K.written sink.old) (K.written sink.new) (map shown_byte piece.new.items)
-        (map shown_byte piece.old.items ++ map shown_byte bytes.now)) }
+    ensures puts { Puts result (K.written sink.old) (K.written sink.new) (K.has_failed sink.new)
+        (map shown_byte piece.new.items)
+        (map shown_byte piece.old.items ++ map shown_byte bytes.now) }
     ensures some { OnOk result (0 < vec_capacity piece.new) }
-    ensures sound { OnOk result (K.has_failed sink.new ≡ false) }
-    ensures failed { OnErr result (K.has_failed sink.new ≡ true) }
-    ensures front { OnErr result
-        (AppendsPrefix (K.written sink.old) (K.written sink.new)
-        (map shown_byte piece.old.items ++ map shown_byte bytes.now)) }
 {
     let mut rest = bytes;
     while !rest.is_empty() {
@@ -137,15 +119,10 @@ fn put_long_message<K: Sink, A: Allocator>(
     requires works { K.has_failed sink.old ≡ false }
     requires some { 0 < vec_capacity piece.old }
     requires session { session < SESSIONS }
-    ensures put { OnOk result
-        (IsPut (K.written sink.old) (K.written sink.new) (map shown_byte piece.new.items)
-        (map shown_byte piece.old.items ++ outgoing_line session message.now)) }
+    ensures puts { Puts result (K.written sink.old) (K.written sink.new) (K.has_failed sink.new)
+        (map shown_byte piece.new.items)
+        (map shown_byte piece.old.items ++ outgoing_line session message.now) }
     ensures some { OnOk result (0 < vec_capacity piece.new) }
-    ensures sound { OnOk result (K.has_failed sink.new ≡ false) }
-    ensures failed { OnErr result (K.has_failed sink.new ≡ true) }
-    ensures front { OnErr result
-        (AppendsPrefix (K.written sink.old) (K.written sink.new)
-        (map shown_byte piece.old.items ++ outgoing_line session message.now)) }
 {
     put_part(piece, sink, lead(session))?;
     put_part(piece, sink, message)?;
@@ -173,15 +150,10 @@ fn put_message<K: Sink, A: Allocator>(
     requires works { K.has_failed sink.old ≡ false }
     requires some { 0 < vec_capacity piece.old }
     requires session { session < SESSIONS }
-    ensures put { OnOk result
-        (IsPut (K.written sink.old) (K.written sink.new) (map shown_byte piece.new.items)
-        (map shown_byte piece.old.items ++ outgoing_line session message.now)) }
+    ensures puts { Puts result (K.written sink.old) (K.written sink.new) (K.has_failed sink.new)
+        (map shown_byte piece.new.items)
+        (map shown_byte piece.old.items ++ outgoing_line session message.now) }
     ensures some { OnOk result (0 < vec_capacity piece.new) }
-    ensures sound { OnOk result (K.has_failed sink.new ≡ false) }
-    ensures failed { OnErr result (K.has_failed sink.new ≡ true) }
-    ensures front { OnErr result
-        (AppendsPrefix (K.written sink.old) (K.written sink.new)
-        (map shown_byte piece.old.items ++ outgoing_line session message.now)) }
 {
     let lead = lead(session);
     let line = lead.len().saturating_add(message.len()).saturating_add(1);
@@ -204,15 +176,10 @@ fn put_outgoing<K: Sink, A: Allocator>(
     requires some { 0 < vec_capacity piece.old }
     requires session { session < SESSIONS }
     requires row { IsFrameRow bytes.now }
-    ensures put { OnOk result
-        (IsPut (K.written sink.old) (K.written sink.new) (map shown_byte piece.new.items)
-        (map shown_byte piece.old.items ++ outgoing_lines session bytes.now)) }
+    ensures puts { Puts result (K.written sink.old) (K.written sink.new) (K.has_failed sink.new)
+        (map shown_byte piece.new.items)
+        (map shown_byte piece.old.items ++ outgoing_lines session bytes.now) }
     ensures some { OnOk result (0 < vec_capacity piece.new) }
-    ensures sound { OnOk result (K.has_failed sink.new ≡ false) }
-    ensures failed { OnErr result (K.has_failed sink.new ≡ true) }
-    ensures front { OnErr result
-        (AppendsPrefix (K.written sink.old) (K.written sink.new)
-        (map shown_byte piece.old.items ++ outgoing_lines session bytes.now)) }
 {
     let mut rest = bytes;
     while let Some((message, later)) = first_of_row(rest) {
@@ -232,14 +199,9 @@ fn put_sessions<K: Sink, A: Allocator, B: Allocator>(
     requires some { 0 < vec_capacity piece.old }
     requires count { length lists.now ≤ SESSIONS }
     requires rows { All IsFrameRow (texts_of lists.now) }
-    ensures put { OnOk result
-        (IsPut (K.written sink.old) (K.written sink.new) (map shown_byte piece.new.items)
-        (map shown_byte piece.old.items ++ outgoing_lines_from 0 (texts_of lists.now))) }
-    ensures sound { OnOk result (K.has_failed sink.new ≡ false) }
-    ensures failed { OnErr result (K.has_failed sink.new ≡ true) }
-    ensures front { OnErr result
-        (AppendsPrefix (K.written sink.old) (K.written sink.new)
-        (map shown_byte piece.old.items ++ outgoing_lines_from 0 (texts_of lists.now))) }
+    ensures puts { Puts result (K.written sink.old) (K.written sink.new) (K.has_failed sink.new)
+        (map shown_byte piece.new.items)
+        (map shown_byte piece.old.items ++ outgoing_lines_from 0 (texts_of lists.now)) }
 {
     for (session, bytes) in lists.iter().enumerate() {
         put_outgoing(piece, sink, session as u8, bytes)?;
@@ -260,15 +222,9 @@ pub fn write_sessions<K: Sink, A: Allocator, B: Allocator>(
     requires some { 0 < vec_capacity piece.old }
     requires count { length lists.now ≤ SESSIONS }
     requires rows { All IsFrameRow (texts_of lists.now) }
-    ensures ok { OnOk result
-        (Appends (K.written sink.old) (K.written sink.new)
-        (outgoing_lines_from 0 (texts_of lists.now))) }
+    ensures writes { Writes result (K.written sink.old) (K.written sink.new) (K.has_failed sink.new)
+        (outgoing_lines_from 0 (texts_of lists.now)) }
     ensures emptied { OnOk result (piece.new.items ≡ []) }
-    ensures sound { OnOk result (K.has_failed sink.new ≡ false) }
-    ensures failed { OnErr result (K.has_failed sink.new ≡ true) }
-    ensures front { OnErr result
-        (AppendsPrefix (K.written sink.old) (K.written sink.new)
-        (outgoing_lines_from 0 (texts_of lists.now))) }
 {
     put_sessions(piece, sink, lists)?;
     write_shown(piece, sink)

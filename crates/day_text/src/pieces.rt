@@ -1,8 +1,6 @@
 //! Bytes on their way to a sink, collected in a piece that is written when it is full.
-ghost use Rattle.std.specs.Prelude.{◌≡◌, ◌≤◌, ◌+◌, ◌++◌, [], length, OnOk, OnErr, vec_len, vec_capacity, true, false};
-ghost use Rattle.std.specs.Io.KnownBytes.{Appends};
-ghost use Rattle.host_base.specs.Ends.{AppendsPrefix};
-ghost use Rattle.day_text.specs.code.Pieces.{IsPut};
+ghost use Rattle.std.specs.Prelude.{◌≡◌, ◌≤◌, ◌+◌, ◌++◌, [], length, OnOk, vec_len, vec_capacity, false};
+ghost use Rattle.day_text.specs.code.Pieces.{Puts, Writes};
 
 use host_base::{Failed, Sink, write_all};
 use std::alloc::Allocator;
@@ -13,14 +11,11 @@ pub const PIECE_BYTES: usize = 65_536;
 /// Writes what stands in the piece.
 pub fn write_out<K: Sink, A: Allocator>(piece: &mut Vec<u8, A>, sink: &mut K) -> Result<(), Failed>
     requires works { K.has_failed sink.old ≡ false }
-    ensures ok { OnOk result (Appends (K.written sink.old) (K.written sink.new) piece.old.items) }
+    ensures writes { Writes result (K.written sink.old) (K.written sink.new) (K.has_failed sink.new)
+        piece.old.items }
     ensures items { OnOk result (piece.new.items ≡ []) }
     ensures len { OnOk result (vec_len piece.new ≡ 0) }
     ensures room { vec_capacity piece.new ≡ vec_capacity piece.old }
-    ensures sound { OnOk result (K.has_failed sink.new ≡ false) }
-    ensures failed { OnErr result (K.has_failed sink.new ≡ true) }
-    ensures front { OnErr result
-        (AppendsPrefix (K.written sink.old) (K.written sink.new) piece.old.items) }
 {
     write_all(sink, piece)?;
     piece.clear();
@@ -35,14 +30,10 @@ pub fn make_room<K: Sink, A: Allocator>(
 ) -> Result<(), Failed>
     requires works { K.has_failed sink.old ≡ false }
     requires most { bytes ≤ vec_capacity piece.old }
-    ensures put { OnOk result
-        (IsPut (K.written sink.old) (K.written sink.new) piece.new.items piece.old.items) }
+    ensures puts { Puts result (K.written sink.old) (K.written sink.new) (K.has_failed sink.new)
+        piece.new.items piece.old.items }
     ensures room { OnOk result (vec_len piece.new + bytes ≤ vec_capacity piece.new) }
     ensures capacity { vec_capacity piece.new ≡ vec_capacity piece.old }
-    ensures sound { OnOk result (K.has_failed sink.new ≡ false) }
-    ensures failed { OnErr result (K.has_failed sink.new ≡ true) }
-    ensures front { OnErr result
-        (AppendsPrefix (K.written sink.old) (K.written sink.new) piece.old.items) }
 {
     if piece.capacity() - piece.len() < bytes {
         return write_out(piece, sink);

@@ -37,5 +37,5 @@ returns-clause-write g c e =
           let after : w.in-Ok-texts_around.around.after.items ≡ month_lines rules fills = w.in-Ok-texts_around.ensures.after ∙ ap (λ (fs : List Fill). month_lines rules fs) w.deref-else-journal_only.ensures.value in
           let all = join before lines messages after ∙ sym (ap text w.if-journal_only.false) in
           subst (λ (k : _). (g.K.Sink.has_failed k ≡ true) × AppendsPrefix (told c.args.sink.now) (told k) (text c.args.journal_only)) (sym w.sink-is)
-          (of_err _ _ failed w.write_parts.ensures.failed, subst (λ (t : List ℕ). AppendsPrefix (told c.args.sink.now) (told w.write_parts.new.sink) t) all (of_err _ _ failed w.write_parts.ensures.front))
+          (of_err _ _ failed w.write_parts.ensures.writes.failed, subst (λ (t : List ℕ). AppendsPrefix (told c.args.sink.now) (told w.write_parts.new.sink) t) all (of_err _ _ failed w.write_parts.ensures.writes.front))
     ]

@@ -1,16 +1,26 @@
-use Rattle.std.proofs.Common.{◌≡◌, ◌++◌, List, ℕ, sym, subst, ◌∙◌, ap}
+use Rattle.std.proofs.Common.{rules, ◌≡◌, ◌++◌, List, ℕ, sym, subst, ◌∙◌, ap}
+use Rattle.std.proofs.KnownBytes.{Appends-trans}
+use Rattle.std.specs.Io.KnownBytes.{Appends}
 use Rattle.host_base.specs.Ends.{AppendsPrefix}
 use Rattle.day_text.specs.Fills.{fill_lines}
-use Rattle.day_text.proofs.PiecesInTurn.{front_after, on_err}
+use Rattle.day_text.proofs.PiecesInTurn.{front_after, on_err, on_ok}
 use Rattle.day_text.proofs.fills.write_fill_lines.Goals as goal
 
-pub returns-clause-front : goal.returns-clause-front
-returns-clause-front g c =
+pub returns-clause-writes : goal.returns-clause-writes
+returns-clause-writes g c =
     let told = λ (k : _). g.K.Sink.written k in
-    let put = c.in_ok-put_all.ensures.put in
+    let put = c.in_ok-put_all.ensures.puts.put in
     let lines = fill_lines c.args.rulebook.now c.args.fills.now in
     let all : lines ≡ put.out ++ c.put_all.new.piece.items = sym (ap (λ (t : List ℕ). t ++ lines) c.requires.empty) ∙ put.all in
-    on_err c.write_out.result
-    (λ last. subst (λ (t : List ℕ). AppendsPrefix (told c.args.sink.now) (told c.write_out.new.sink) t) (sym all)
-    (front_after (told c.args.sink.now) (told c.put_all.new.sink) (told c.write_out.new.sink) put.out c.put_all.new.piece.items put.written last))
-    c.write_out.ensures.front
+    record {
+      all = on_ok c.write_out.result
+          (λ last. subst (λ (t : List ℕ). Appends (told c.args.sink.now) (told c.write_out.new.sink) t) (sym all)
+          (Appends-trans (told c.args.sink.now) (told c.put_all.new.sink) (told c.write_out.new.sink) put.out c.put_all.new.piece.items put.written last))
+          c.write_out.ensures.writes.all;
+      sound = search rules;
+      failed = search rules;
+      front = on_err c.write_out.result
+          (λ last. subst (λ (t : List ℕ). AppendsPrefix (told c.args.sink.now) (told c.write_out.new.sink) t) (sym all)
+          (front_after (told c.args.sink.now) (told c.put_all.new.sink) (told c.write_out.new.sink) put.out c.put_all.new.piece.items put.written last))
+          c.write_out.ensures.writes.front;
+    }

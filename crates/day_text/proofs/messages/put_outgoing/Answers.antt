@@ -4,16 +4,21 @@ use Rattle.day_text.specs.Messages.{shown_byte, outgoing_line, outgoing_lines}
 use Rattle.day_text.proofs.PiecesInTurn.{put_after, put_fails, on_err_any}
 use Rattle.day_text.proofs.messages.put_outgoing.Goals as goal
 
-pub returns-in_err-put_message-clause-front : goal.returns-in_err-put_message-clause-front
-returns-in_err-put_message-clause-front g c =
+pub returns-in_err-put_message-clause-puts : goal.returns-in_err-put_message-clause-puts
+returns-in_err-put_message-clause-puts g c =
     let told = λ (k : _). g.K.Sink.written k in
     let so_far = c.loop-message.invariant.0 in
     let line = outgoing_line c.args.session c.in-Some.message.now in
     let lines = outgoing_lines c.args.session c.in-Some.later.now in
     let next : outgoing_lines c.args.session c.loop-message.rest.now ≡ line ++ lines = ap (λ (fs : List (List ℕ)). flat_map (outgoing_line c.args.session) fs) c.in-Some.ensures.found in
-    on_err_any c.from_residual.result
-    (put_fails (told c.args.sink.now) (told c.loop-message.sink) (told c.put_message.new.sink) (map shown_byte c.args.piece.now.items) (map shown_byte c.loop-message.piece.items) so_far.0 line lines (outgoing_lines c.args.session c.args.bytes.now)
-    so_far.1 c.in_err-put_message.ensures.front (so_far.2 ∙ ap (λ (t : List ℕ). so_far.0 ++ t) next))
+    record {
+      put = search rules;
+      sound = search rules;
+      failed = search rules;
+      front = on_err_any c.from_residual.result
+          (put_fails (told c.args.sink.now) (told c.loop-message.sink) (told c.put_message.new.sink) (map shown_byte c.args.piece.now.items) (map shown_byte c.loop-message.piece.items) so_far.0 line lines (outgoing_lines c.args.session c.args.bytes.now)
+          so_far.1 c.in_err-put_message.ensures.puts.front (so_far.2 ∙ ap (λ (t : List ℕ). so_far.0 ++ t) next));
+    }
 
 pub loop-message-preserved : goal.loop-message-preserved
 loop-message-preserved g c =
@@ -24,7 +29,7 @@ loop-message-preserved g c =
     let next : outgoing_lines c.args.session c.loop-message.rest.now ≡ line ++ lines = ap (λ (fs : List (List ℕ)). flat_map (outgoing_line c.args.session) fs) c.in-Some.ensures.found in (
       (
         so_far.0 ++ line,
-        put_after (told c.args.sink.now) (told c.loop-message.sink) (told c.put_message.new.sink) (map shown_byte c.args.piece.now.items) (map shown_byte c.loop-message.piece.items) (map shown_byte c.put_message.new.piece.items) so_far.0 line so_far.1 c.in_ok-put_message.ensures.put,
+        put_after (told c.args.sink.now) (told c.loop-message.sink) (told c.put_message.new.sink) (map shown_byte c.args.piece.now.items) (map shown_byte c.loop-message.piece.items) (map shown_byte c.put_message.new.piece.items) so_far.0 line so_far.1 c.in_ok-put_message.ensures.puts.put,
         so_far.2 ∙ (ap (λ (t : List ℕ). so_far.0 ++ t) next ∙ sym (append_assoc so_far.0 line lines)),
       ),
       search rules,
