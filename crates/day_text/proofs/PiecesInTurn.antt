@@ -41,14 +41,6 @@ front_of_more a b xs ys front =
     let most : n ≤ length xs = front.1 in
     (n, omega (arith, e, most), subst (λ (t : List ℕ). Appends a b t) (sym (take-append-le n xs ys most)) front.2)
 
--- nothing was written yet
-pub put_nothing : (a : Option (List ℕ)) (piece : List ℕ) → IsPut a a piece piece
-put_nothing a piece = record { out = []; written = Appends-nil a; all = refl }
-
--- what stood in the piece was written
-pub put_out : (a b : Option (List ℕ)) (old new : List ℕ) → Appends a b old → new ≡ [] → IsPut a b new old
-put_out a b old new out empty = record { out = old; written = out; all = sym (append-nil old) ∙ ap (λ (p : List ℕ). old ++ p) (sym empty) }
-
 -- more stands in the piece
 pub put_more : (a b : Option (List ℕ)) (old new text bytes : List ℕ) → IsPut a b old text → new ≡ old ++ bytes → IsPut a b new (text ++ bytes)
 put_more a b old new text bytes put is = record {
