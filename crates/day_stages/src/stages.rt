@@ -112,12 +112,7 @@ pub fn stages_of<'r, A: Allocator + Copy>(
         Ok(made) => made,
         Err(fault) => return Err(ThreadsFault::Link(fault)),
     };
-    let reported = match ReportedEntries::with_capacity(
-        alloc,
-        rules.rulebook,
-        rules.stamp,
-        caps.journal,
-    ) {
+    let reported = match ReportedEntries::new(alloc, rules.rulebook, rules.stamp) {
         Ok(reported) => reported,
         Err(fault) => return Err(of_apply(fault)),
     };
