@@ -4,3 +4,4 @@ pub mod CostRows
 pub mod Cells
 pub mod Columns
 pub mod Tables
+pub mod PairCells

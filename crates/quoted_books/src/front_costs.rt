@@ -1,12 +1,12 @@
 //! What the fronts of queues cost who meets them, in rows by month: a search over them looks into no book.
-ghost use Rattle.std.specs.Prelude.{◌≡◌, ◌<◌, ◌≤◌, ℕ, List, All, length, take, drop, slice_set, IfOk, IfSome, unwrap_or};
+ghost use Rattle.std.specs.Prelude.{◌≡◌, ◌<◌, ◌≤◌, ◌+ℤ◌, ℕ, List, All, length, take, drop, slice_set, IfOk, IfSome, unwrap_or};
 ghost use Rattle.host_base.specs.declared.limits.TheConstants.{MAX_MONTHS};
 ghost use Rattle.spread_rules.specs.declared.order.Order.{Order};
 ghost use Rattle.spread_rules.specs.Candidates.{HasOrderPrice};
-ghost use Rattle.spread_rulebook.specs.Prices.{IsOrderPrice, IsLegPrice};
+ghost use Rattle.spread_rulebook.specs.Prices.{IsOrderPrice};
 ghost use Rattle.spread_rulebook.specs.Rulebook.{implied};
 ghost use Rattle.quoted_books.specs.Listed.{IsInMonths};
-ghost use Rattle.quoted_books.specs.code.FrontCosts.{cell_of, cell_at, cost_of_sum, costs_of, spread_cost, outright_cost, cost_at, row_cell, no_costs, pair_cost_in, with_outright_cost, with_spread_cost, AreFrontCosts, AreOrderPrices};
+ghost use Rattle.quoted_books.specs.code.FrontCosts.{cell_of, cell_at, cost_of_cell, costs_of, spread_cost, outright_cost, cost_at, row_cell, no_costs, with_outright_cost, with_spread_cost, AreFrontCosts, AreOrderPrices};
 ghost use Rattle.quoted_books.specs.declared.front_costs.TheConstants.{NO_COST};
 ghost use Rattle.quoted_books.specs.code.QuoteTable.{ChangesOneQueue};
 
@@ -19,7 +19,7 @@ use std::alloc::Allocator;
 use std::marker::Model;
 
 /// How many months a row has room for.
-const ROW: usize = MAX_MONTHS as usize;
+pub const ROW: usize = MAX_MONTHS as usize;
 
 /// What stands in a cell of no cost: more than any price, and than any two together.
 const NO_COST: i64 = 1_000_000_000_000;
@@ -63,7 +63,7 @@ pub fn cell(side: Side, month: u8) -> usize
 
 /// Where the cost of that other month stands in the row of that side and month.
 #[inline(always)]
-fn row_cell(side: Side, month: u8, other_month: u8) -> usize
+pub fn row_cell(side: Side, month: u8, other_month: u8) -> usize
     ensures { result ≡ row_cell side month other_month }
 {
     cell(side, month) * ROW + usize::from(other_month)
@@ -77,12 +77,14 @@ fn cell_at(cells: &[i64], n: usize) -> i64
     cells.get(n).copied().unwrap_or(NO_COST)
 }
 
-/// What two cells that come to that tell: a cost where each is of one.
+/// What two cells come to: no less than `NO_PAIR` where one is of no cost.
 #[inline(always)]
-fn cost_of_sum(sum: i64) -> Option<i64>
-    ensures { result ≡ cost_of_sum sum }
+pub fn sum_of_cells(first: i64, second: i64) -> i64
+    requires first { IfSome (cost_of_cell first) IsOrderPrice }
+    requires second { IfSome (cost_of_cell second) IsOrderPrice }
+    ensures { result ≡ first +ℤ second }
 {
-    if sum < NO_PAIR { Some(sum) } else { None }
+    first + second
 }
 
 /// So many cells from the first on, or as many as there are.
@@ -117,15 +119,31 @@ impl<A: Allocator + Copy> FrontCosts<A> {
         Ok(FrontCosts { spreads, outrights })
     }
 
-    /// What the fronts of that other month's two queues together cost an order of that side and month.
+    /// The cells of all spreads, as `row_cell` has them.
     #[inline(always)]
-    pub fn pair_cost(&self, side: Side, month: u8, other_month: u8) -> Option<i64>
-        ensures cost { result ≡ pair_cost_in self.now side month other_month }
-        ensures small { IfSome result IsLegPrice }
+    pub fn spread_cells(&self) -> &[i64]
+        ensures costs { costs_of result.now ≡ self.now.spreads }
+        ensures small { AreOrderPrices (costs_of result.now) }
     {
-        let first = cell_at(&self.spreads, row_cell(side, month, other_month));
-        let second = cell_at(&self.outrights, row_cell(side, 0, other_month));
-        cost_of_sum(first + second)
+        &self.spreads
+    }
+
+    /// The cell of the spreads of that side and month with that other month.
+    #[inline(always)]
+    pub fn spread_cell(&self, side: Side, month: u8, other_month: u8) -> i64
+        ensures cost { cost_of_cell result ≡ spread_cost self.now side month other_month }
+        ensures small { IfSome (cost_of_cell result) IsOrderPrice }
+    {
+        cell_at(&self.spreads, row_cell(side, month, other_month))
+    }
+
+    /// The cell of the outrights of that month that meet an order of that side.
+    #[inline(always)]
+    pub fn outright_cell(&self, side: Side, month: u8) -> i64
+        ensures cost { cost_of_cell result ≡ outright_cost self.now side month }
+        ensures small { IfSome (cost_of_cell result) IsOrderPrice }
+    {
+        cell_at(&self.outrights, row_cell(side, 0, month))
     }
 
     /// What the fronts of the spreads of that side and month cost, by the other month.

@@ -6,7 +6,7 @@ ghost use Rattle.spread_rulebook.specs.Rulebook.{implied};
 ghost use Rattle.spread_rules.specs.declared.order.Order.{Order};
 ghost use Rattle.quoted_books.specs.Listed.{IsInMonths};
 ghost use Rattle.quoted_books.specs.code.QuoteTable.{known_pair, no_quotes, AreQuotes, HasCome, HasLeft, is_as_good};
-ghost use Rattle.quoted_books.specs.declared.quote_table.Change.TheVariants.{Came};
+ghost use Rattle.quoted_books.specs.declared.quote_table.Change.TheVariants.{Came, Left};
 
 use crate::cheapest::MonthPairs;
 use crate::front_costs::FrontCosts;
@@ -80,7 +80,7 @@ impl<A: Allocator + Copy> Quotes<A> {
             → HasCome xs (B.orders book.now) order.now others
             → AreQuotes (implied pairs.now.rules.now) pairs.now.months xs self.old
             → AreQuotes (implied pairs.now.rules.now) pairs.now.months (B.orders book.now) self.new }
-        ensures left { (xs : List Order)
+        ensures left { change ≡ Left → (xs : List Order)
             → HasLeft xs (B.orders book.now) order.now others
             → AreQuotes (implied pairs.now.rules.now) pairs.now.months xs self.old
             → AreQuotes (implied pairs.now.rules.now) pairs.now.months (B.orders book.now) self.new }

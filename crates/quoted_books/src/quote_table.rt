@@ -1,15 +1,19 @@
 //! A table of the pairs of fronts that cost the least, one for each month and side, renewed as fronts change.
-ghost use Rattle.std.specs.Prelude.{◌≡◌, ℕ, ◌<◌, ◌*◌, List, replicate, slice_set, None, IfOk};
+ghost use Rattle.std.specs.Prelude.{◌≡◌, ℕ, ◌<◌, ◌≤◌, ◌*◌, ◌^◌, List, length, replicate, None, IfOk};
+ghost use Rattle.host_base.specs.declared.limits.TheConstants.{MAX_MONTHS};
 ghost use Rattle.spread_rules.specs.Candidates.{Pairs};
 ghost use Rattle.spread_rules.specs.declared.order.Side.{Side};
 ghost use Rattle.spread_rules.specs.declared.order.Order.{Order};
-ghost use Rattle.quoted_books.specs.code.Cheapest.{KeepsOthers};
-ghost use Rattle.quoted_books.specs.code.FrontCosts.{AreFrontCosts, cell_of};
-ghost use Rattle.quoted_books.specs.code.QuoteTable.{known_pair, must_renew, HasCheapest, AreCheapest, ChangesOneQueue, NoneCame};
+ghost use Rattle.order_books.specs.Pairs.{IsCheapest};
+ghost use Rattle.quoted_books.specs.Listed.{IsInMonths};
+ghost use Rattle.quoted_books.specs.code.Cheapest.{KeepsOthers, sooner_of};
+ghost use Rattle.quoted_books.specs.code.FrontCosts.{AreFrontCosts, cell_of, pair_of_cell, pairs_of};
+ghost use Rattle.quoted_books.specs.code.QuoteTable.{known_pair, HasCheapest, AreCheapest, AreAmong, ChangesOneQueue, IsOneWay};
 
-use crate::front_costs::{FrontCosts, cell};
-use crate::renewal::renewed_pair;
+use crate::front_costs::{FrontCosts, NO_PAIR, ROW, cell, row_cell, sum_of_cells};
+use crate::renewal::{cheapest_of_row, is_sooner};
 use host_base::NoMemory;
+use host_base::limits::MAX_MONTHS;
 use order_books::PairCost;
 use spread_rules::{Instrument, Order, Side};
 use std::alloc::Allocator;
@@ -30,30 +34,152 @@ pub struct ColumnChange {
     pub change: Change,
 }
 
-/// The cells of each month in turn, who buys before who sells.
+/// The cells of each month in turn, who buys before who sells. A cell of no pair costs `NO_PAIR`, or more.
 #[derive(Drop)]
 pub struct QuoteTable<A: Allocator + Copy> {
-    cells: Vec<Option<PairCost>, A>,
+    cells: Vec<PairCost, A>,
 }
 
 impl<A: Allocator + Copy> Model for QuoteTable<A> {
     ghost use Rattle.std.specs.Prelude.{List, Option};
     ghost use Rattle.order_books.specs.declared.pair.PairCost.{PairCost};
+    ghost use Rattle.quoted_books.specs.code.FrontCosts.{pairs_of};
 
     ghost Value = { List (Option PairCost) };
 
-    ghost view = { λ t. t.cells.items };
+    ghost view = { λ t. pairs_of t.cells.items };
 }
 
-/// Whether another pair may cost the least after a change of that other month's fronts. Where an order left, it may
-/// only where what cost the least was of that month.
-fn must_renew(change: Change, held: Option<PairCost>, via: u8) -> bool
-    ensures { result ≡ must_renew change held via }
+/// The pair that a cell has, if any.
+#[inline(always)]
+fn pair_of_cell(cell: PairCost) -> Option<PairCost>
+    ensures { result ≡ pair_of_cell cell }
 {
-    match (change, held) {
-        (Change::Came, _) => true,
-        (Change::Left, None) => false,
-        (Change::Left, Some(pair)) => pair.other_month == u64::from(via),
+    if cell.cost < NO_PAIR {
+        Some(cell)
+    } else {
+        None
+    }
+}
+
+/// How many months have a cell of that side among so many cells.
+#[inline(always)]
+fn side_count(side: Side, cells: usize) -> usize
+    requires { cells < 2 ^ 63 }
+    ensures within { (month : ℕ) → month < result → cell_of side month < cells }
+    ensures all { (month : ℕ) → cell_of side month < cells → month < result }
+{
+    match side {
+        Side::Buy => (cells + 1) / 2,
+        Side::Sell => cells / 2,
+    }
+}
+
+/// A pair of that month that costs so much takes the place of the one that a cell holds, where it is sooner.
+#[inline(always)]
+fn offer(held: &mut PairCost, cost: i64, via: u8)
+    ensures { held.new ≡ sooner_of cost via held.old }
+{
+    if is_sooner(cost, via, held) {
+        *held = PairCost {
+            cost,
+            other_month: u64::from(via),
+        };
+    }
+}
+
+/// Renews that side's cell of a month, after an order of that other month left: another pair may cost the least only
+/// where the one that did was of that month. No sum has become less.
+#[inline(always)]
+fn renew_left<A: Allocator + Copy>(
+    held: &mut PairCost,
+    costs: &FrontCosts<A>,
+    months: u8,
+    side: Side,
+    month: u8,
+    via: u8,
+)
+    ensures { (trades_implied : Pairs) (xs ys : List Order)
+        → AreFrontCosts trades_implied months ys costs.now
+        → month < months
+        → AreAmong ys xs
+        → KeepsOthers xs ys side month via
+        → IsCheapest trades_implied xs side month months (pair_of_cell held.old)
+        → IsCheapest trades_implied ys side month months (pair_of_cell held.new) }
+{
+    if held.other_month == u64::from(via) {
+        *held = cheapest_of_row(costs, months, side, month);
+    }
+}
+
+/// Renews that side's cell of each month, after an order of that other month came.
+fn renew_row_came<A: Allocator + Copy>(
+    cells: &mut [PairCost],
+    costs: &FrontCosts<A>,
+    months: u8,
+    side: Side,
+    via: u8,
+)
+    requires { via < MAX_MONTHS }
+    ensures length { length cells.new ≡ length cells.old }
+    ensures rest { (t : Side) (m : ℕ)
+        → (t ≡ side → ⊥)
+        → known_pair (pairs_of cells.new) t m ≡ known_pair (pairs_of cells.old) t m }
+    ensures own { (trades_implied : Pairs) (xs ys : List Order) (m : ℕ)
+        → AreFrontCosts trades_implied months ys costs.now
+        → m < months
+        → via < months
+        → AreAmong xs ys
+        → KeepsOthers xs ys side m via
+        → HasCheapest trades_implied months xs (pairs_of cells.old) side m
+        → HasCheapest trades_implied months ys (pairs_of cells.new) side m }
+{
+    let spreads = costs.spread_cells();
+    let outright = costs.outright_cell(side, via);
+    let rows = spreads.len() / (2 * ROW);
+    let count = side_count(side, cells.len())
+        .min(rows)
+        .min(usize::from(months));
+    for month in 0..count as u8 {
+        let spread = spreads[row_cell(side, month, via)];
+        offer(
+            &mut cells[cell(side, month)],
+            sum_of_cells(spread, outright),
+            via,
+        );
+    }
+}
+
+/// Renews that side's cell of each month, after an order of that other month left.
+fn renew_row_left<A: Allocator + Copy>(
+    cells: &mut [PairCost],
+    costs: &FrontCosts<A>,
+    months: u8,
+    side: Side,
+    via: u8,
+)
+    ensures length { length cells.new ≡ length cells.old }
+    ensures rest { (t : Side) (m : ℕ)
+        → (t ≡ side → ⊥)
+        → known_pair (pairs_of cells.new) t m ≡ known_pair (pairs_of cells.old) t m }
+    ensures own { (trades_implied : Pairs) (xs ys : List Order) (m : ℕ)
+        → AreFrontCosts trades_implied months ys costs.now
+        → m < months
+        → AreAmong ys xs
+        → KeepsOthers xs ys side m via
+        → HasCheapest trades_implied months xs (pairs_of cells.old) side m
+        → HasCheapest trades_implied months ys (pairs_of cells.new) side m }
+{
+    let count = side_count(side, cells.len()).min(usize::from(months));
+    for month in 0..count as u8 {
+        renew_left(
+            &mut cells[cell(side, month)],
+            costs,
+            months,
+            side,
+            month,
+            via,
+        );
     }
 }
 
@@ -62,8 +188,12 @@ impl<A: Allocator + Copy> QuoteTable<A> {
     pub fn new(alloc: A, months: u8) -> Result<Self, NoMemory>
         ensures { IfOk result (λ t. t ≡ replicate (months * 2) None) }
     {
+        let no_pair = PairCost {
+            cost: NO_PAIR,
+            other_month: u64::from(MAX_MONTHS),
+        };
         let mut cells = Vec::new(alloc);
-        cells.resize(usize::from(months) * 2, None)?;
+        cells.resize(usize::from(months) * 2, no_pair)?;
         Ok(QuoteTable { cells })
     }
 
@@ -71,21 +201,13 @@ impl<A: Allocator + Copy> QuoteTable<A> {
     pub fn known_pair(&self, side: Side, month: u8) -> Option<Option<PairCost>>
         ensures { result ≡ known_pair self.now side month }
     {
-        self.cells.get(cell(side, month)).copied()
-    }
-
-    /// Puts that into its cell, where the table has such a month.
-    fn put(&mut self, side: Side, month: u8, pair: Option<PairCost>)
-        ensures { self.new ≡ slice_set self.old (cell_of side month) pair }
-    {
-        let n = cell(side, month);
-        if n < self.cells.len() {
-            self.cells[n] = pair;
+        match self.cells.get(cell(side, month)) {
+            None => None,
+            Some(held) => Some(pair_of_cell(*held)),
         }
     }
 
-    /// Renews the cell of that month, where it has to be.
-    #[inline(always)]
+    /// Renews the cell of that month, where there are fronts of the other one.
     fn renew_cell(&mut self, costs: &FrontCosts<A>, months: u8, column: ColumnChange, month: u8)
         ensures rest { (t : Side) (m : ℕ)
             → ((t ≡ column.side) × (m ≡ month) → ⊥)
@@ -93,44 +215,55 @@ impl<A: Allocator + Copy> QuoteTable<A> {
         ensures own { (trades_implied : Pairs) (xs ys : List Order)
             → AreFrontCosts trades_implied months ys costs.now
             → month < months
-            → NoneCame column.change xs ys
+            → IsOneWay column.change xs ys
             → KeepsOthers xs ys column.side month column.via
             → HasCheapest trades_implied months xs self.old column.side month
             → HasCheapest trades_implied months ys self.new column.side month }
     {
         let ColumnChange { side, via, change } = column;
-        if let Some(held) = self.known_pair(side, month) {
-            if must_renew(change, held, via) {
-                let pair = renewed_pair(costs, months, side, month, via, held);
-                self.put(side, month, pair);
+        let n = cell(side, month);
+        if via < months && n < self.cells.len() {
+            match change {
+                Change::Came => {
+                    let spread = costs.spread_cell(side, month, via);
+                    let cost = sum_of_cells(spread, costs.outright_cell(side, via));
+                    offer(&mut self.cells[n], cost, via);
+                }
+                Change::Left => renew_left(&mut self.cells[n], costs, months, side, month, via),
             }
         }
     }
 
-    /// Renews that side's cell of each month, where it has to be.
+    /// Renews that side's cell of each month.
     fn renew_months(&mut self, costs: &FrontCosts<A>, months: u8, column: ColumnChange)
+        requires { column.via < MAX_MONTHS }
         ensures rest { (t : Side) (m : ℕ)
             → (t ≡ column.side → ⊥)
             → known_pair self.new t m ≡ known_pair self.old t m }
         ensures own { (trades_implied : Pairs) (xs ys : List Order) (m : ℕ)
             → AreFrontCosts trades_implied months ys costs.now
             → m < months
-            → NoneCame column.change xs ys
+            → column.via < months
+            → IsOneWay column.change xs ys
             → KeepsOthers xs ys column.side m column.via
             → HasCheapest trades_implied months xs self.old column.side m
             → HasCheapest trades_implied months ys self.new column.side m }
     {
-        for month in 0..months {
-            self.renew_cell(costs, months, column, month);
+        let ColumnChange { side, via, change } = column;
+        match change {
+            Change::Came => renew_row_came(&mut self.cells, costs, months, side, via),
+            Change::Left => renew_row_left(&mut self.cells, costs, months, side, via),
         }
     }
 
     /// Renews the cells that the front of that order's queue has a part in, after the order did that: then what the
     /// fronts of so many months cost is this.
     pub fn renew(&mut self, costs: &FrontCosts<A>, months: u8, order: &Order, change: Change)
+        requires within { IsInMonths months order.now.instrument }
+        requires most { months ≤ MAX_MONTHS }
         ensures { (trades_implied : Pairs) (xs ys : List Order)
             → AreFrontCosts trades_implied months ys costs.now
-            → NoneCame change xs ys
+            → IsOneWay change xs ys
             → ChangesOneQueue xs ys order.now.instrument order.now.side
             → AreCheapest trades_implied months xs self.old
             → AreCheapest trades_implied months ys self.new }

@@ -17,7 +17,7 @@ use Rattle.order_books.specs.Pairs.{IsCheapest}
 use Rattle.order_books.specs.declared.pair.PairCost.{PairCost}
 use Rattle.quoted_books.specs.declared.front_costs.TheConstants.{NO_COST, NO_PAIR}
 use Rattle.quoted_books.specs.code.Cheapest.{CostsOfFronts, cheaper_of}
-use Rattle.quoted_books.specs.code.FrontCosts.{cost_of_cell, costs_of, cell_at, cost_of_sum, sum_of, cost_at, joined, row_cell, set_if, with_spread_cost, spread_cost, outright_cost, AreOrderPrices, CostRows, AreFrontCosts, pair_cost_in}
+use Rattle.quoted_books.specs.code.FrontCosts.{cost_of_cell, costs_of, pair_of_cell, cell_at, sum_of, cost_at, joined, row_cell, set_if, with_spread_cost, spread_cost, outright_cost, AreOrderPrices, CostRows, AreFrontCosts, pair_cost_in}
 use Rattle.quoted_books.proofs.fronts.MonthPairs.{cheapest_more}
 use Rattle.quoted_books.proofs.quotes.CostRows.{pair_costs}
 
@@ -71,10 +71,28 @@ sum_is a b h k =
     let q = cell_high b k in
     omega (arith, ints, l, m, p, q)
 
+-- a cell as a machine word
+pub cell_whole : (a : ℤ) → IsSmall (cost_of_cell a) → to_z w64 (of_z w64 a) ≡ a
+cell_whole a h =
+    let l = cell_low a h in
+    let m = cell_high a h in
+    omega (arith, ints, l, m)
+
+pub sum_whole : (a b r : ℤ) → IsSmall (cost_of_cell a) → IsSmall (cost_of_cell b) → r ≡ to_z w64 (of_z w64 a) +ℤ to_z w64 (of_z w64 b) → to_z w64 (of_z w64 r) ≡ a +ℤ b
+sum_whole a b r h k is =
+    let x = cell_whole a h in
+    let y = cell_whole b k in
+    let l = cell_low a h in
+    let m = cell_high a h in
+    let p = cell_low b k in
+    let q = cell_high b k in
+    let sum : r ≡ a +ℤ b = omega (arith, ints, is, x, y) in
+    omega (arith, ints, sum, l, m, p, q)
+
 abbrev both : ℤ → ℤ → Option ℤ
 both a b = sum_of (cost_of_cell a) (cost_of_cell b)
 
-two_told : (a b : ℤ) → IsSmall (cost_of_cell a) → IsSmall (cost_of_cell b) →
+pub two_told : (a b : ℤ) → IsSmall (cost_of_cell a) → IsSmall (cost_of_cell b) →
     ((NO_PAIR ≤ℤ (a +ℤ b)) × (both a b ≡ None)) ⊎ (IsLegPrice (a +ℤ b) × (both a b ≡ Some (a +ℤ b)))
 two_told a b h k =
     let l = cell_low b k in
@@ -93,18 +111,6 @@ two_told a b h k =
           ]
     ]
 
-far_sum : (s : ℤ) → NO_PAIR ≤ℤ s → cost_of_sum s ≡ None
-far_sum s h = let e : int_lt s NO_PAIR ≡ false = grind (arith, ints) in rw e refl
-
-near_sum : (s : ℤ) → IsLegPrice s → cost_of_sum s ≡ Some s
-near_sum s h =
-    let high = h.high in
-    let less : int_lt s NO_PAIR ≡ true = grind (arith, ints) in rw less refl
-
--- a sum tells what its two cells do
-pub sum_told : (a b : ℤ) → IsSmall (cost_of_cell a) → IsSmall (cost_of_cell b) → cost_of_sum (a +ℤ b) ≡ both a b
-sum_told a b h k = elim (two_told a b h k) [ inl x ↦ far_sum (a +ℤ b) x.0 ∙ sym x.1 | inr x ↦ near_sum (a +ℤ b) x.0 ∙ sym x.1 ]
-
 pub sum_small : (a b : ℤ) → IsSmall (cost_of_cell a) → IsSmall (cost_of_cell b) → IfSome (both a b) IsLegPrice
 sum_small a b h k = elim (two_told a b h k) [
   | inl x ↦ subst (λ (c : Option ℤ). IfSome c IsLegPrice) (sym x.1) tt
@@ -115,7 +121,7 @@ sum_small a b h k = elim (two_told a b h k) [
 
 -- the pair that costs that, if any does
 abbrev pub least_pair : ℤ → ℕ → Option PairCost
-least_pair least at = cond (int_lt least NO_PAIR) (Some (record { cost = least; other_month = at })) None
+least_pair least at = pair_of_cell (record { cost = least; other_month = at })
 
 none_cheaper : (p : Option PairCost) (k : ℕ) → cheaper_of p None k ≡ p
 none_cheaper None k = refl
@@ -168,7 +174,7 @@ told_there (c ∷ cells) (suc k) d lt = told_there cells k d (omega (arith, lt))
 pub small_there : (cells : List ℤ) (k : ℕ) (d : ℤ) → k < length cells → AreOrderPrices (costs_of cells) → IsSmall (cost_of_cell (get_or cells k d))
 small_there cells k d lt h = subst IsSmall (sym (told_there cells k d lt)) (small_at (costs_of cells) k h)
 
-length_told : (cells : List ℤ) → length (costs_of cells) ≡ length cells
+pub length_told : (cells : List ℤ) → length (costs_of cells) ≡ length cells
 length_told [] = refl
 length_told (c ∷ cells) = ap suc (length_told cells)
 

@@ -1,7 +1,8 @@
 -- what costs the least among all months, after the fronts of one of them changed
-use Rattle.std.proofs.Common.{◌≡◌, ℕ, ◌<◌, ◌≤◌, ◌==◌, ℤ, ◌+ℤ◌, ◌≤ℤ◌, Bool, true, false, cond, List, Contains, Option, Some, None, IfSome, IsSomeAnd, refl, sym, ap, ◌∙◌, subst, arith, inl, inr}
+use Rattle.std.proofs.Common.{◌≡◌, ℕ, ◌<◌, ◌≤◌, ◌==◌, ◌&&◌, ℤ, ◌+ℤ◌, ◌≤ℤ◌, Bool, true, false, cond, List, Option, Some, None, IfSome, IsSomeAnd, refl, sym, ap, ◌∙◌, subst, arith, inl, inr}
 use Rattle.std.proofs.lemmas.Bool.Decides.{nat_tests}
 use Rattle.std.proofs.lemmas.Int.{ints}
+use Rattle.std.specs.Prelude.{int_lt}
 use Rattle.std.specs.Ordering.{nat_cmp, int_cmp, ordering_then, is_lt}
 use Rattle.spread_rules.specs.declared.order.Side.{Side}
 use Rattle.spread_rulebook.specs.declared.instrument.Instrument.{Instrument}
@@ -14,12 +15,10 @@ use Rattle.spread_rules.specs.Quiet.{Rests}
 use Rattle.order_tables.proofs.places.Ascending.{is_so}
 use Rattle.order_books.specs.declared.pair.PairCost.{PairCost}
 use Rattle.order_books.specs.Pairs.{spread_of, spread_side, cost_of_pair, IsPair, HasFronts, IsNoCheaper, IsCheapest}
-use Rattle.quoted_books.specs.code.Cheapest.{CostsOfFront, CostsOfFronts, cheaper_of, KeepsColumn, KeepsOthers, must_search, sooner_of}
-use Rattle.quoted_books.specs.code.QuoteTable.{NoneCame, must_renew}
-use Rattle.quoted_books.specs.declared.quote_table.Change.{Change}
-use Rattle.quoted_books.specs.declared.quote_table.Change.TheVariants.{Came, Left}
+use Rattle.quoted_books.specs.code.Cheapest.{CostsOfFront, CostsOfFronts, cheaper_of, KeepsColumn, KeepsOthers, sooner_of}
+use Rattle.quoted_books.specs.code.QuoteTable.{AreAmong}
 use Rattle.quoted_books.proofs.fronts.PairCost.{behind, pair_le}
-use Rattle.quoted_books.proofs.fronts.MonthPairs.{fresh}
+use Rattle.quoted_books.proofs.fronts.MonthPairs.{fresh, front_least}
 use Rattle.quoted_books.proofs.quotes.Costs.{cost_there, no_dearer}
 
 dearer : (held : Option PairCost) (c d : ℤ) (k : ℕ) → c ≤ℤ d → IsSomeAnd held (λ l. IsNoCheaper l c k) → IsSomeAnd held (λ l. IsNoCheaper l d k)
@@ -92,11 +91,11 @@ module _ (on : Pairs) where
     covers = λ k a b lt p. covered xs ys side m k held (keep k lt) a b (λ x y q. h.covers k x y lt q) p;
   }
 
-  still_rests : (xs ys : List Order) (i : Instrument) (s : Side) (o : Order) → ((p : Order) → Contains ys p → Contains xs p) → Rests ys i s o → Rests xs i s o
-  still_rests xs ys i s o fewer r = record { stands = fewer o r.stands; instrument_is = r.instrument_is; side_is = r.side_is }
+  still_rests : (xs ys : List Order) (i : Instrument) (s : Side) (o : Order) → AreAmong xs ys → Rests xs i s o → Rests ys i s o
+  still_rests xs ys i s o among r = record { stands = among o r.stands; instrument_is = r.instrument_is; side_is = r.side_is }
 
   -- where orders of one month left, and what cost the least is of another one
-  left_row : (xs ys : List Order) (side : Side) (m months via : ℕ) (held : Option PairCost) → ((o : Order) → Contains ys o → Contains xs o) → KeepsOthers xs ys side m via → must_renew Left held via ≡ false →
+  pub left_row : (xs ys : List Order) (side : Side) (m months via : ℕ) (held : Option PairCost) → AreAmong ys xs → KeepsOthers xs ys side m via → IfSome held (λ l. (l.other_month == via) ≡ false) →
       IsCheapest on xs side m months held → IsCheapest on ys side m months held
   left_row xs ys side m months via held fewer keep other h = record {
     fronts = fronts held other h.fronts;
@@ -104,20 +103,48 @@ module _ (on : Pairs) where
     below = h.below;
     covers = λ k a b lt p. h.covers k a b lt (record {
       on = p.on;
-      first = still_rests xs ys (spread_of m k) (spread_side side m k) a fewer p.first;
-      second = still_rests xs ys (Outright k) (other_side side) b fewer p.second;
+      first = still_rests ys xs (spread_of m k) (spread_side side m k) a fewer p.first;
+      second = still_rests ys xs (Outright k) (other_side side) b fewer p.second;
     });
   }
     where
-      fronts : (l : Option PairCost) → must_renew Left l via ≡ false → IfSome l (λ c. HasFronts on xs side m c.other_month c.cost) → IfSome l (λ c. HasFronts on ys side m c.other_month c.cost)
+      fronts : (l : Option PairCost) → IfSome l (λ c. (c.other_month == via) ≡ false) → IfSome l (λ c. HasFronts on xs side m c.other_month c.cost) → IfSome l (λ c. HasFronts on ys side m c.other_month c.cost)
       fronts None e f = f
       fronts (Some l) e f = kept_fronts xs ys side m l.other_month l.cost (keep l.other_month (differs l.other_month via e)) f
 
-  -- where a cell need not be renewed
-  pub stays_cheapest : (xs ys : List Order) (side : Side) (m months via : ℕ) (held : Option PairCost) (change : Change) → NoneCame change xs ys → KeepsOthers xs ys side m via → must_renew change held via ≡ false →
-      IsCheapest on xs side m months held → IsCheapest on ys side m months held
-  stays_cheapest xs ys side m months via held Came fewer keep other h = cc
-  stays_cheapest xs ys side m months via held Left fewer keep other h = left_row xs ys side m months via held fewer keep other h
+  -- fronts that still rest are a pair
+  still_pair : (xs ys : List Order) (side : Side) (m k : ℕ) (c : ℤ) → AreAmong xs ys → (f : HasFronts on xs side m k c) → IsPair on ys side m k f.a f.b
+  still_pair xs ys side m k c among f = record {
+    on = f.on;
+    first = still_rests xs ys (spread_of m k) (spread_side side m k) f.a among f.first.0;
+    second = still_rests xs ys (Outright k) (other_side side) f.b among f.second.0;
+  }
+
+  -- what cost the least is of that month, and costs more now, or is there no longer
+  abbrev must_search : PairCost → Option ℤ → ℕ → Bool
+  must_search held None via = held.other_month == via
+  must_search held (Some cost) via = held.other_month == via && int_lt held.cost cost
+
+  abbrev sooner_by : PairCost → Option ℤ → ℕ → PairCost
+  sooner_by held None via = held
+  sooner_by held (Some cost) via = sooner_of cost via held
+
+  -- not so where orders came
+  no_search : (xs ys : List Order) (side : Side) (m via : ℕ) (held : PairCost) (c : Option ℤ) → AreAmong xs ys → HasFronts on xs side m held.other_month held.cost → CostsOfFronts on ys side m via c → must_search held c via ≡ false
+  no_search xs ys side m via held None among f g = elim (is_so (held.other_month == via)) [
+    | inl e ↦
+        let h = subst (λ (j : ℕ). HasFronts on xs side m j held.cost) (same held.other_month via e) f in
+        absurd (g h.a h.b (still_pair xs ys side m via held.cost among h))
+    | inr e ↦ e
+  ]
+  no_search xs ys side m via held (Some c) among f g = elim (is_so (held.other_month == via)) [
+    | inl e ↦
+        let h = subst (λ (j : ℕ). HasFronts on xs side m j held.cost) (same held.other_month via e) f in
+        let low : c ≤ℤ held.cost = subst (λ (v : ℤ). c ≤ℤ v) (sym h.sum) (front_least on ys side m via c h.a h.b g (still_pair xs ys side m via held.cost among h)) in
+        let no_less : int_lt held.cost c ≡ false = grind (arith, ints, low) in
+        rw (e, no_less) refl
+    | inr e ↦ rw e refl
+  ]
 
   module _ (xs ys : List Order) (side : Side) (m months via : ℕ) (keep : KeepsOthers xs ys side m via) (lt : via < months) where
     -- where no two orders met it
@@ -202,9 +229,9 @@ module _ (on : Pairs) where
         }
 
     -- where what cost the least is known to cost no more
-    pub next_pair : (held : PairCost) (c : Option ℤ) → must_search held c via ≡ false → IsCheapest on xs side m months (Some held) → CostsOfFronts on ys side m via c → IfSome c IsLegPrice →
-        IsCheapest on ys side m months (Some (sooner_of held c via))
-    next_pair held None search h f small = record {
+    known_pair_next : (held : PairCost) (c : Option ℤ) → must_search held c via ≡ false → IsCheapest on xs side m months (Some held) → CostsOfFronts on ys side m via c → IfSome c IsLegPrice →
+        IsCheapest on ys side m months (Some (sooner_by held c via))
+    known_pair_next held None search h f small = record {
       fronts = kept_fronts xs ys side m held.other_month held.cost (keep held.other_month (differs held.other_month via search)) h.fronts;
       small = h.small;
       below = h.below;
@@ -213,4 +240,9 @@ module _ (on : Pairs) where
         | inr e ↦ covered xs ys side m k (Some held) (keep k (differs k via e)) a b (λ x y r. h.covers k x y below r) p
       ];
     }
-    next_pair held (Some c) search h f small = after held c (is_lt (ordering_then (int_cmp c held.cost) (nat_cmp via held.other_month))) refl search h f small
+    known_pair_next held (Some c) search h f small = after held c (is_lt (ordering_then (int_cmp c held.cost) (nat_cmp via held.other_month))) refl search h f small
+
+    -- where orders came
+    pub next_pair : (held : PairCost) (c : Option ℤ) → AreAmong xs ys → IsCheapest on xs side m months (Some held) → CostsOfFronts on ys side m via c → IfSome c IsLegPrice →
+        IsCheapest on ys side m months (Some (sooner_by held c via))
+    next_pair held c among h f small = known_pair_next held c (no_search xs ys side m via held c among h.fronts f) h f small

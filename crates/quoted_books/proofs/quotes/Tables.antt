@@ -1,7 +1,7 @@
 -- a table of what costs the least, through the changes of a book
 use Rattle.std.proofs.Common.{◌≡◌, Contains, ℕ, ◌*◌, ◌<◌, ◌≤◌, ◌==◌, Bool, true, List, [], ◌∷◌, ◌++◌, All, Option, Some, None, IfSome, refl, sym, ap, ◌∙◌, subst, arith, inl, inr, slice_set}
 use Rattle.std.proofs.lemmas.Bool.Decides.{nat_tests}
-use Rattle.std.proofs.lemmas.List.Elements.{All-contains, Contains-push_cases}
+use Rattle.std.proofs.lemmas.List.Elements.{All-contains, Contains-push_cases, Contains-append_left}
 use Rattle.spread_rules.specs.declared.order.Side.{Side}
 use Rattle.spread_rules.specs.declared.order.Side.TheVariants.{Buy, Sell}
 use Rattle.spread_rulebook.specs.declared.instrument.Instrument.{Instrument}
@@ -22,9 +22,7 @@ use Rattle.quoted_books.specs.Listed.{IsInMonths}
 use Rattle.order_books.specs.declared.pair.PairCost.{PairCost}
 use Rattle.order_books.specs.Pairs.{spread_of, spread_side, IsCheapest}
 use Rattle.quoted_books.specs.code.Cheapest.{IsInColumn, KeepsCost, KeepsColumn, KeepsOthers}
-use Rattle.quoted_books.specs.code.QuoteTable.{QuotesView, no_quotes, AreQuotes, known_pair, HasCheapest, AreCheapest, ChangesOneQueue, is_as_good, HasCome, HasLeft, IsListed, IsQuoted, KeepsQuotes, NoneCame}
-use Rattle.quoted_books.specs.declared.quote_table.Change.{Change}
-use Rattle.quoted_books.specs.declared.quote_table.Change.TheVariants.{Came, Left}
+use Rattle.quoted_books.specs.code.QuoteTable.{QuotesView, no_quotes, AreQuotes, known_pair, HasCheapest, AreCheapest, ChangesOneQueue, is_as_good, HasCome, HasLeft, IsListed, IsQuoted, KeepsQuotes, AreAmong}
 use Rattle.quoted_books.proofs.quotes.Costs.{others_when_it_comes, others_when_it_leaves, changed_in_queue, own_when_it_comes, own_when_it_leaves}
 use Rattle.quoted_books.proofs.quotes.Columns.{kept_row}
 use Rattle.quoted_books.proofs.quotes.QueueColumns.{outright_column, spread_column, not_other, other_or_same, back}
@@ -148,10 +146,11 @@ come_one xs ys o l h j t other = subst (λ (zs : List Order). KeepsCost xs zs j 
 pub left_one : (xs ys : List Order) (o : Order) (l : Option Level) → HasLeft xs ys o l → ChangesOneQueue xs ys o.instrument o.side
 left_one xs ys o l h j t other = subst (λ (zs : List Order). KeepsCost xs zs j t) (sym h.is) (others_when_it_leaves xs o j t h.ordered h.stood other)
 
--- no order came where one left
-pub none_came : (xs ys : List Order) (o : Order) (l : Option Level) → HasLeft xs ys o l → (w : Change) → NoneCame w xs ys
-none_came xs ys o l h Came = tt
-none_came xs ys o l h Left = λ p c. (from_removed o.place xs p (subst (λ (zs : List Order). Contains zs p) h.is c)).0
+pub none_left : (xs ys : List Order) (o : Order) (l : Option Level) → HasCome xs ys o l → AreAmong xs ys
+none_left xs ys o l h p c = subst (λ (zs : List Order). Contains zs p) (sym h.is) (Contains-append_left xs (o ∷ []) p c)
+
+pub none_came : (xs ys : List Order) (o : Order) (l : Option Level) → HasLeft xs ys o l → AreAmong ys xs
+none_came xs ys o l h p c = (from_removed o.place xs p (subst (λ (zs : List Order). Contains zs p) h.is c)).0
 
 pub come_kept : (xs ys : List Order) (o : Order) (l : Option Level) → HasCome xs ys o l → is_as_good l o ≡ true → (j : Instrument) (t : Side) → KeepsCost xs ys j t
 come_kept xs ys o l h good =

@@ -1,6 +1,6 @@
 -- What the fronts of queues cost, and what is known of the cheapest pair after a front has changed.
 -- Words of the code alone.
-use Rattle.std.specs.Prelude.{◌≡◌, ℕ, ◌==◌, ℤ, int_lt, Bool, ◌&&◌, cond, List, Option, Some, None, ◌⊎◌}
+use Rattle.std.specs.Prelude.{◌≡◌, ℕ, ℤ, int_lt, Bool, cond, List, Option, Some, None, ◌⊎◌}
 use Rattle.std.specs.Ordering.{nat_cmp, int_cmp, ordering_then, is_lt}
 use Rattle.spread_rules.specs.declared.order.Side.{Side}
 use Rattle.spread_rulebook.specs.declared.instrument.Instrument.{Instrument}
@@ -62,15 +62,12 @@ abbrev pub KeepsOthers : List Order → List Order → Side → ℕ → ℕ → 
 KeepsOthers xs ys side month via =
     (other : ℕ) → (other ≡ via → ⊥) → KeepsColumn xs ys side month other
 
--- what cost the least is of that month, and costs more now, or is there no longer
-abbrev pub must_search : PairCost → Option ℤ → ℕ → Bool
-must_search held None via = held.other_month == via
-must_search held (Some cost) via = held.other_month == via && int_lt held.cost cost
+-- whether a pair of that month that costs so much takes the place of the one that is held
+abbrev pub is_sooner : ℤ → ℕ → PairCost → Bool
+is_sooner cost via held =
+    is_lt (ordering_then (int_cmp cost held.cost) (nat_cmp via held.other_month))
 
--- the one of two that costs less, the earlier month where they cost the same
-abbrev pub sooner_of : PairCost → Option ℤ → ℕ → PairCost
-sooner_of held None via = held
-sooner_of held (Some cost) via =
-    cond (is_lt (ordering_then (int_cmp cost held.cost) (nat_cmp via held.other_month)))
-    (record { cost = cost; other_month = via })
-    held
+-- the one of the two that costs less, the earlier month where they cost the same
+abbrev pub sooner_of : ℤ → ℕ → PairCost → PairCost
+sooner_of cost via held =
+    cond (is_sooner cost via held) (record { cost = cost; other_month = via }) held

@@ -11,6 +11,7 @@ use Rattle.spread_rules.specs.Legs.{other_side}
 use Rattle.spread_rulebook.specs.Prices.{IsOrderPrice}
 use Rattle.order_tables.specs.QueueRanks.{side_index}
 use Rattle.order_books.specs.Pairs.{spread_of, spread_side, is_pair_on}
+use Rattle.order_books.specs.declared.pair.PairCost.{PairCost}
 use Rattle.quoted_books.specs.code.Cheapest.{CostsOfFront}
 use Rattle.quoted_books.specs.declared.front_costs.TheConstants.{NO_COST, NO_PAIR}
 
@@ -31,9 +32,13 @@ costs_of cells = map cost_of_cell cells
 abbrev pub cell_at : List ℤ → ℕ → ℤ
 cell_at cells n = unwrap_or (slice_get cells n) NO_COST
 
--- what two cells that come to so much tell
-abbrev pub cost_of_sum : ℤ → Option ℤ
-cost_of_sum sum = cond (int_lt sum NO_PAIR) (Some sum) None
+-- the pair that a cell has, none where it costs as much as no pair does
+abbrev pub pair_of_cell : PairCost → Option PairCost
+pair_of_cell cell = cond (int_lt cell.cost NO_PAIR) (Some cell) None
+
+-- what each of a table of cells has
+abbrev pub pairs_of : List PairCost → List (Option PairCost)
+pairs_of cells = map pair_of_cell cells
 
 -- which one is that side's of that month
 abbrev pub cell_of : Side → ℕ → ℕ

@@ -1,6 +1,6 @@
 -- A table of the pairs of fronts that cost the least, one for each month and side, and when it stays one.
 -- Words of the code alone.
-use Rattle.std.specs.Prelude.{◌≡◌, ℕ, ◌==◌, ◌*◌, ◌<◌, ◌≤◌, int_le, Bool, true, false, List, [], ◌∷◌, ◌++◌, Contains, All, Option, Some, None, slice_get, replicate}
+use Rattle.std.specs.Prelude.{◌≡◌, ℕ, ◌*◌, ◌<◌, ◌≤◌, int_le, Bool, true, false, List, [], ◌∷◌, ◌++◌, Contains, All, Option, Some, None, slice_get, replicate}
 use Rattle.host_base.specs.declared.limits.TheConstants as limits
 use Rattle.spread_rules.specs.declared.order.Side.{Side}
 use Rattle.spread_rulebook.specs.declared.instrument.Instrument.{Instrument}
@@ -42,16 +42,14 @@ abbrev pub ChangesOneQueue : List Order → List Order → Instrument → Side �
 ChangesOneQueue xs ys instrument side =
     (j : Instrument) (t : Side) → ((instrument ≡ j) × (side ≡ t) → ⊥) → KeepsCost xs ys j t
 
--- where an order left, no other one came
-abbrev pub NoneCame : Change → List Order → List Order → Type 0
-NoneCame Came xs ys = Unit {0}
-NoneCame Left xs ys = (o : Order) → Contains ys o → Contains xs o
+-- each of these orders is among those
+abbrev pub AreAmong : List Order → List Order → Type 0
+AreAmong xs ys = (o : Order) → Contains xs o → Contains ys o
 
--- whether another pair may cost the least after a change of that other month's fronts
-abbrev pub must_renew : Change → Option PairCost → ℕ → Bool
-must_renew Came held via = true
-must_renew Left None via = false
-must_renew Left (Some l) via = l.other_month == via
+-- where an order came, none left; where one left, none came
+abbrev pub IsOneWay : Change → List Order → List Order → Type 0
+IsOneWay Came xs ys = AreAmong xs ys
+IsOneWay Left xs ys = AreAmong ys xs
 
 -- whether an order at that level is as good as this one for who meets it
 abbrev pub is_as_good : Option Level → Order → Bool

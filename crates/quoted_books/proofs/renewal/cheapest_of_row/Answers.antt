@@ -1,9 +1,8 @@
-use Rattle.std.proofs.Common.{◌≡◌, pos, ◌+◌, ◌<◌, ℤ, ◌+ℤ◌, ◌≤ℤ◌, Some, None, List, Bool, true, false, cond, length, get_or, arith, subst, sym, ap, ◌∙◌, to_z, w64}
+use Rattle.std.proofs.Common.{◌≡◌, pos, ◌+◌, ◌<◌, ℤ, ◌+ℤ◌, ◌≤ℤ◌, List, true, false, length, get_or, arith, subst, sym, ap, ◌∙◌, to_z, w64}
 use Rattle.std.specs.Prelude.{int_lt}
 use Rattle.spread_rules.specs.declared.order.Order.{Order}
 use Rattle.spread_rules.specs.Candidates.{Pairs}
 use Rattle.order_books.specs.Pairs.{IsCheapest}
-use Rattle.order_books.specs.declared.pair.PairCost.{PairCost}
 use Rattle.quoted_books.specs.declared.front_costs.TheConstants.{NO_PAIR}
 use Rattle.quoted_books.specs.code.FrontCosts.{AreFrontCosts}
 use Rattle.quoted_books.proofs.quotes.Cells.{told_there, small_there, sum_fits, sum_is, least_pair, least_more, lesser_then, lesser_else, near_then, row_ended}
@@ -75,14 +74,5 @@ ended g c on zs told lt =
     row_ended on zs c.args.side c.args.month k c.args.months c.args.costs.now xs ys (least_pair (to_z w64 c.loop-other_month.least-bits) c.loop-other_month.month_of_least) told lt
     (omega (arith, end, last, stop)) c.spread_row-spreads.ensures.most c.spread_row-spreads.ensures.costs c.outright_row-outrights.ensures.costs (c.loop-other_month.invariant.cheapest on zs told lt)
 
-pub returns-then-least-lt-NO_PAIR : goal.returns-then-least-lt-NO_PAIR
-returns-then-least-lt-NO_PAIR g c = λ on zs told lt.
-    let found : PairCost = record { cost = to_z w64 c.loop-other_month.least-bits; other_month = c.loop-other_month.month_of_least } in
-    subst (IsCheapest on zs c.args.side c.args.month c.args.months) (ap (λ (b : Bool). cond b (Some found) None) c.if-least-lt-NO_PAIR.true)
-    (ended g (goal.at.returns-then-least-lt-NO_PAIR g c).After-loop-other_month on zs told lt)
-
-pub returns-else-least-lt-NO_PAIR : goal.returns-else-least-lt-NO_PAIR
-returns-else-least-lt-NO_PAIR g c = λ on zs told lt.
-    let found : PairCost = record { cost = to_z w64 c.loop-other_month.least-bits; other_month = c.loop-other_month.month_of_least } in
-    subst (IsCheapest on zs c.args.side c.args.month c.args.months) (ap (λ (b : Bool). cond b (Some found) None) c.if-least-lt-NO_PAIR.false)
-    (ended g (goal.at.returns-else-least-lt-NO_PAIR g c).After-loop-other_month on zs told lt)
+pub returns : goal.returns
+returns g c = ended g (goal.at.returns g c).After-loop-other_month

@@ -1,8 +1,8 @@
 use Rattle.std.proofs.Common.{sym, subst, ◌∙◌}
 use Rattle.spread_rulebook.specs.Rulebook.{implied}
-use Rattle.quoted_books.specs.code.QuoteTable.{NoneCame, AreQuotes}
+use Rattle.quoted_books.specs.code.QuoteTable.{IsOneWay, AreQuotes}
 use Rattle.quoted_books.specs.declared.quote_table.Change.{Change}
-use Rattle.quoted_books.proofs.quotes.Tables.{come_one, left_one, come_kept, left_kept, none_came, all_kept}
+use Rattle.quoted_books.proofs.quotes.Tables.{come_one, left_one, come_kept, left_kept, none_left, none_came, all_kept}
 use Rattle.quoted_books.proofs.quotes.CostRows.{kept_costs}
 use Rattle.quoted_books.proofs.kept_quotes.Quotes.renew_for.Goals as goal
 
@@ -14,18 +14,18 @@ returns-then-not-is_as_good-clause-came g c = λ is xs come h.
     let costs = c.note.ensures xs one was.costs in
     record {
       costs = costs;
-      cheapest = c.renew.ensures (implied c.args.pairs.now.rules.now) xs ys costs (subst (λ (w : Change). NoneCame w xs ys) (sym is) tt) one was.cheapest;
+      cheapest = c.renew.ensures (implied c.args.pairs.now.rules.now) xs ys costs (subst (λ (w : Change). IsOneWay w xs ys) (sym is) (none_left xs ys c.args.order.now c.args.others come)) one was.cheapest;
     }
 
 pub returns-then-not-is_as_good-clause-left : goal.returns-then-not-is_as_good-clause-left
-returns-then-not-is_as_good-clause-left g c = λ xs left h.
+returns-then-not-is_as_good-clause-left g c = λ is xs left h.
     let ys = g.B.Book.orders c.args.book.now in
     let one = left_one xs ys c.args.order.now c.args.others left in
     let was = subst (AreQuotes (implied c.args.pairs.now.rules.now) c.args.pairs.now.months xs) (sym c.self.view_is) h in
     let costs = c.note.ensures xs one was.costs in
     record {
       costs = costs;
-      cheapest = c.renew.ensures (implied c.args.pairs.now.rules.now) xs ys costs (none_came xs ys c.args.order.now c.args.others left c.args.change) one was.cheapest;
+      cheapest = c.renew.ensures (implied c.args.pairs.now.rules.now) xs ys costs (subst (λ (w : Change). IsOneWay w xs ys) (sym is) (none_came xs ys c.args.order.now c.args.others left)) one was.cheapest;
     }
 
 pub returns-else-not-is_as_good-clause-came : goal.returns-else-not-is_as_good-clause-came
@@ -37,7 +37,7 @@ returns-else-not-is_as_good-clause-came g c = λ is xs come h.
     record { costs = kept_costs on months c.requires.most xs ys c.args.self.now.costs keep h.costs; cheapest = all_kept on months xs ys c.args.self.now.cells keep h.cheapest }
 
 pub returns-else-not-is_as_good-clause-left : goal.returns-else-not-is_as_good-clause-left
-returns-else-not-is_as_good-clause-left g c = λ xs left h.
+returns-else-not-is_as_good-clause-left g c = λ is xs left h.
     let ys = g.B.Book.orders c.args.book.now in
     let on = implied c.args.pairs.now.rules.now in
     let months = c.args.pairs.now.months in

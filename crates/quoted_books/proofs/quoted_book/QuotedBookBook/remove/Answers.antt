@@ -1,4 +1,4 @@
-use Rattle.std.proofs.Common.{ℕ, List, All, sym, ap, ◌∙◌, subst}
+use Rattle.std.proofs.Common.{ℕ, List, All, refl, sym, ap, ◌∙◌, subst}
 use Rattle.spread_rules.specs.declared.order.Order.{Order}
 use Rattle.spread_rules.specs.Candidates.{HasOrderPrice}
 use Rattle.spread_rules.specs.Clearing.{removed}
@@ -39,7 +39,7 @@ invariant_of-self g c =
     record {
       most = c.self.invariant.most;
       on = c.self.invariant.on;
-      quoted = λ e. left_table (implied c.self.inside.pairs.rules.now) c.self.inside.pairs.months xs ys o c.front_level-others.result c.self.inside.quotes c.renew_for.new.self (c.self.invariant.quoted e) left (c.renew_for.ensures.left xs left);
+      quoted = λ e. left_table (implied c.self.inside.pairs.rules.now) c.self.inside.pairs.months xs ys o c.front_level-others.result c.self.inside.quotes c.renew_for.new.self (c.self.invariant.quoted e) left (c.renew_for.ensures.left refl xs left);
     }
 
 pub invariant_of-self-in_default : goal.invariant_of-self-in_default
