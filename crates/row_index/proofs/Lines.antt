@@ -1,6 +1,6 @@
 -- one number more in a line
 use Rattle.std.proofs.Common.{◌≡◌, ℕ, zero, suc, ◌+◌, ◌<◌, ◌/◌, ◌%◌, ◌==◌, Bool, true, false, ◌&&◌, cond, List, [], ◌∷◌, ◌++◌, ◌≤◌, length, get_or, set, take, drop, All, Option, Some, None, refl, ap, ◌∙◌, sym, subst, arith, add-one, drop-cons, ◌⊎◌, inl, inr}
-use Rattle.std.specs.Prelude.{◌≢◌, slice_get, option_map}
+use Rattle.std.specs.Prelude.{◌≢◌, max, slice_get, option_map}
 use Rattle.std.specs.Option.{option_or}
 use Rattle.std.proofs.lemmas.Bool.{cases_lt}
 use Rattle.std.proofs.lemmas.Bool.Decides.{nat_tests}
@@ -44,7 +44,7 @@ tail_of P x xs h = λ k d lt. h (suc k) d (omega arith)
 pub head_of : {X : Type 0} (P : X → Type 0) (x : X) (xs : List X) → All P (x ∷ xs) → P x
 head_of P x xs h = h zero x (omega arith)
 
-no_tag : (t : ℕ) → (0 == 1 + t) ≡ false
+no_tag : (t : ℕ) → (0 == max t 1) ≡ false
 no_tag t = grind (arith, nat_tests)
 
 and_false : (a b : Bool) → a ≡ false → (a && b) ≡ false

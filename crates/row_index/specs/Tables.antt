@@ -1,5 +1,6 @@
 -- Which rows a table of ids is of: lines of numbers, and an ordered table for what finds its line full.
-use Rattle.std.specs.Prelude.{◌≡◌, ℕ, ◌+◌, ◌-◌, ◌*◌, ◌/◌, ◌%◌, ◌^◌, ◌<◌, ◌≤◌, ◌==◌, ◌≢◌, Bool, false, ◌&&◌, cond, List, [], ◌∷◌, length, get_or, Option, Some, None, All, slice_get, bit_and, bit_xor}
+use Rattle.std.specs.Prelude.{◌≡◌, ℕ, ◌+◌, ◌-◌, ◌*◌, ◌/◌, ◌%◌, ◌^◌, ◌<◌, ◌≤◌, ◌==◌, ◌≢◌, Bool, false, ◌&&◌, cond, List, [], ◌∷◌, length, get_or, Option, Some, None, All, slice_get, max, bit_and, bit_xor}
+use Rattle.std.specs.Int.{w64, trailing_zeros}
 use Rattle.std.specs.Option.{option_or}
 use Rattle.std.specs.BTreeMap.{get}
 use Rattle.host_base.specs.declared.id_key.IdKey.{IdKey}
@@ -15,20 +16,36 @@ use Rattle.row_index.specs.Ids.{is_key, first_row}
 abbrev pub wrap : ℕ → ℕ
 wrap n = n % 2 ^ 64
 
-abbrev pub sum_of : IdKey → ℕ
-sum_of k =
-    wrap (wrap (wrap (wrap (wrap (k.session * 11400714819323198485)
-    + wrap (k.first * 12605985483714917081))
-    + wrap (k.second * 9650029242287828579))
-    + wrap (k.third * 14181476777654086739))
-    + wrap (k.fourth * 16294208416658607535))
+-- a sum with one word more
+abbrev pub joined : ℕ → ℕ → ℕ
+joined sum word = wrap (wrap (sum * 11400714819323198485) + wrap (word * 12605985483714917081))
 
 abbrev pub spread_bits : ℕ → ℕ
 spread_bits sum = wrap (bit_xor sum (sum / 2 ^ 32) * 11400714819323198485)
 
--- the bits of a key: five products, added, whose upper half is laid over the lower one
+-- the last word of an id that is not 0
+abbrev pub last_word : IdKey → ℕ
+last_word k =
+    cond (k.fourth == 0) (cond (k.third == 0) (cond (k.second == 0) k.first k.second) k.third) k.fourth
+
+-- the session and the words before that, in one sum
+abbrev pub words_before : IdKey → ℕ
+words_before k =
+    let one = joined k.session k.first in
+    let two = joined one k.second in
+    cond (k.fourth == 0) (cond (k.third == 0) (cond (k.second == 0) k.session one) two) (joined two k.third)
+
+-- a word without the bytes behind the last one that is not 0
+abbrev pub from_last_byte : ℕ → ℕ
+from_last_byte word = word / 2 ^ (trailing_zeros w64 word / 8 * 8 % 64)
+
+-- the last word of an id up to the last byte that is not 0
+unfoldable pub last_of : IdKey → ℕ
+last_of k = from_last_byte (last_word k)
+
+-- the bits of a key, spread, without the two low ones of that byte
 unfoldable pub hash_of : IdKey → ℕ
-hash_of k = spread_bits (sum_of k)
+hash_of k = spread_bits (joined (words_before k) (from_last_byte (last_word k) / 4))
 
 -- the line of a key among so many
 abbrev pub line_of : ℕ → IdKey → ℕ
@@ -36,7 +53,7 @@ line_of count k = bit_and (hash_of k / 2 ^ 32) (count - 1)
 
 -- twelve bits of a key, never 0
 abbrev pub tag_of : IdKey → ℕ
-tag_of k = 1 + (hash_of k / 2 ^ 16) % 4095
+tag_of k = max ((hash_of k / 2 ^ 16 + last_of k % 4) % 4096) 1
 
 -- whether the row is of that key
 abbrev pub is_row_of : Option IdKey → IdKey → Bool
