@@ -222,7 +222,7 @@ fn ids_are_taken_back(rt: HostRuntime) {
             Noted::Behind => behind = behind.wrapping_add(1),
         }
     }
-    assert!(rt; in_lines > 8_000);
+    assert!(rt; in_lines > 7_500);
     assert!(rt; behind > 0);
     rows_stand(&rt, &table, &keys, 8_190);
 }
@@ -252,7 +252,7 @@ fn hints_are_guesses(rt: HostRuntime) {
     assert!(rt; hints.guess(5) == Some(0));
     assert!(rt; hints.guess(9) == Some(1));
     assert!(rt; hints.guess(4).is_none());
-    assert!(rt; hints.guess(10).is_none());
+    assert!(rt; hints.guess(1_000).is_none());
     hints.note(1_000_000_000_000, 2);
     assert!(rt; hints.guess(1_000_000_000_000) == Some(2));
     assert!(rt; hints.guess(9).is_none());

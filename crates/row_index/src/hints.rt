@@ -7,6 +7,10 @@ use std::alloc::Allocator;
 /// How many places the next guess may be behind the last one, beyond as many as there are guesses.
 const GAP: usize = 1024;
 
+/// To so many places, from the last one on, room is given at once: most places are noted where a guess stands already, be
+/// there a gap before them or none.
+const AHEAD: usize = 128;
+
 /// For each place from a first one on, the row that may have it. Nothing rests on a guess: who takes one looks whether
 /// the row has that place, and searches if it has not.
 #[derive(Drop)]
@@ -51,31 +55,23 @@ impl<A: Allocator + Copy> Hints<A> {
         if let (Ok(n), Ok(row)) = (usize::try_from(from), u32::try_from(at)) {
             if n < self.rows.len() {
                 self.rows[n] = row;
-            } else if n == self.rows.len() && n > 0 {
-                let _ = self.rows.push(row);
             } else {
                 self.note_behind(place, n, row);
             }
         }
     }
 
-    /// The same of a place that is so many places behind the first one, and not the next one behind all guesses.
+    /// The same of a place that is so many places behind the first one, and behind all guesses.
     #[inline(never)]
     fn note_behind(&mut self, place: u64, n: usize, row: u32) {
-        if self.rows.is_empty() {
-            self.begin_at(place, row);
-        } else if n < self.rows.len().saturating_mul(2).saturating_add(GAP) {
-            let _ = self.rows.resize(n.saturating_add(1), row);
+        let most = self.rows.len().saturating_mul(2).saturating_add(GAP);
+        if !self.rows.is_empty() && n < most {
+            let _ = self.rows.resize(n.saturating_add(AHEAD), row);
         } else {
             self.rows.clear();
-            self.begin_at(place, row);
+            self.base = place;
+            let _ = self.rows.resize(AHEAD, row);
         }
-    }
-
-    /// The first guess of all.
-    fn begin_at(&mut self, place: u64, row: u32) {
-        self.base = place;
-        let _ = self.rows.push(row);
     }
 
     /// Forgets all guesses.

@@ -20,7 +20,10 @@ fn words_of(key: &IdKey) -> (u64, u64)
 {
     let [session, first, second, third, fourth] = key.words();
     if fourth != 0 {
-        (joined(joined(joined(session, first), second), third), fourth)
+        (
+            joined(joined(joined(session, first), second), third),
+            fourth,
+        )
     } else if third != 0 {
         (joined(joined(session, first), second), third)
     } else if second != 0 {
