@@ -5,7 +5,7 @@ ghost use Rattle.spread_rules.specs.Candidates.{HasOrderPrice};
 ghost use Rattle.spread_rulebook.specs.Rulebook.{implied};
 ghost use Rattle.spread_rules.specs.declared.order.Order.{Order};
 ghost use Rattle.quoted_books.specs.Listed.{IsInMonths};
-ghost use Rattle.quoted_books.specs.code.QuoteTable.{known_pair, no_quotes, AreQuotes, HasCome, HasLeft, is_as_good};
+ghost use Rattle.quoted_books.specs.code.QuoteTable.{known_pair, no_quotes, AreQuotes, HasCome, HasLeft, IsOneWay, ChangesOneQueue, is_as_good};
 ghost use Rattle.quoted_books.specs.declared.quote_table.Change.TheVariants.{Came, Left};
 
 use crate::cheapest::MonthPairs;
@@ -33,6 +33,7 @@ impl<A: Allocator + Copy> Model for Quotes<A> {
 }
 
 /// Whether an order at that level is as good as this one for who meets it.
+#[inline(always)]
 fn is_as_good(level: Option<Level>, order: &Order) -> bool
     ensures { result ≡ is_as_good level order.now }
 {
@@ -64,7 +65,8 @@ impl<A: Allocator + Copy> Quotes<A> {
     }
 
     /// Renews what has to be, after that order came or left, where the front of the others in its queue stands at that
-    /// level.
+    /// level. Most orders have another one as good before them, so that no front costs something else.
+    #[inline(always)]
     pub fn renew_for<B: Book>(
         &mut self,
         book: &B,
@@ -86,8 +88,29 @@ impl<A: Allocator + Copy> Quotes<A> {
             → AreQuotes (implied pairs.now.rules.now) pairs.now.months (B.orders book.now) self.new }
     {
         if !is_as_good(others, order) {
-            self.costs.note(book, pairs, order);
-            self.cells.renew(&self.costs, pairs.months, order, change);
+            self.renew_front(book, pairs, order, change);
         }
+    }
+
+    /// Renews what the front of that order's queue has a part in, after the order came or left.
+    #[inline(never)]
+    fn renew_front<B: Book>(
+        &mut self,
+        book: &B,
+        pairs: &MonthPairs<'_>,
+        order: &Order,
+        change: Change,
+    )
+        requires small { All HasOrderPrice (B.orders book.now) }
+        requires within { IsInMonths pairs.now.months order.now.instrument }
+        requires most { pairs.now.months ≤ MAX_MONTHS }
+        ensures { (xs : List Order)
+            → IsOneWay change xs (B.orders book.now)
+            → ChangesOneQueue xs (B.orders book.now) order.now.instrument order.now.side
+            → AreQuotes (implied pairs.now.rules.now) pairs.now.months xs self.old
+            → AreQuotes (implied pairs.now.rules.now) pairs.now.months (B.orders book.now) self.new }
+    {
+        self.costs.note(book, pairs, order);
+        self.cells.renew(&self.costs, pairs.months, order, change);
     }
 }

@@ -142,11 +142,8 @@ fn renew_row_came<A: Allocator + Copy>(
         .min(usize::from(months));
     for month in 0..count as u8 {
         let spread = spreads[row_cell(side, month, via)];
-        offer(
-            &mut cells[cell(side, month)],
-            sum_of_cells(spread, outright),
-            via,
-        );
+        let cost = sum_of_cells(spread, outright);
+        offer(&mut cells[cell(side, month)], cost, via);
     }
 }
 

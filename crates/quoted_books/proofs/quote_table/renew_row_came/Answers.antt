@@ -11,28 +11,29 @@ use Rattle.quoted_books.proofs.quotes.Cells.{cell_whole, sum_whole, small_there,
 use Rattle.quoted_books.proofs.quotes.PairCells.{came_told, put_elsewhere, put_there, held_there, known_within, row_within}
 use Rattle.quoted_books.proofs.quotes.Tables.{cell_as}
 use Rattle.quoted_books.proofs.quote_table.renew_row_came.Goals as goal
-use Rattle.quoted_books.proofs.quote_table.renew_row_came.Goals.{After-offer-arg-1}
+use Rattle.quoted_books.proofs.quote_table.renew_row_came.Goals.{After-row_cell}
 
 -- the cost of a month's spread stands in its row
-spread_within : (g : _) (c : After-offer-arg-1 g) → c.row_cell.result < length c.spread_cells-spreads.result.now
+spread_within : (g : _) (c : After-row_cell g) → c.row_cell.result < length c.spread_cells-spreads.result.now
 spread_within g c =
     let under = c.loop-month-test.true in
     let first = c.min.ensures in
     let both = c.min-count.ensures in
     row_within c.args.side c.loop-month.month c.args.via (length c.spread_cells-spreads.result.now) c.row_cell.result c.row_cell.ensures (omega (arith, under, first, both)) c.requires
 
-spread_small : (g : _) (c : After-offer-arg-1 g) → IfSome (cost_of_cell (get_or c.spread_cells-spreads.result.now c.row_cell.result (pos 0))) IsOrderPrice
+spread_small : (g : _) (c : After-row_cell g) → IfSome (cost_of_cell (get_or c.spread_cells-spreads.result.now c.row_cell.result (pos 0))) IsOrderPrice
 spread_small g c = small_there c.spread_cells-spreads.result.now c.row_cell.result (pos 0) (spread_within g c) c.spread_cells-spreads.ensures.small
 
-spread_told : (g : _) (c : After-offer-arg-1 g) → cost_of_cell (get_or c.spread_cells-spreads.result.now c.row_cell.result (pos 0)) ≡ spread_cost c.args.costs.now c.args.side c.loop-month.month c.args.via
+spread_told : (g : _) (c : After-row_cell g) → cost_of_cell (get_or c.spread_cells-spreads.result.now c.row_cell.result (pos 0)) ≡ spread_cost c.args.costs.now c.args.side c.loop-month.month c.args.via
 spread_told g c =
     told_there c.spread_cells-spreads.result.now c.row_cell.result (pos 0) (spread_within g c)
     ∙ (ap (cost_at (costs_of c.spread_cells-spreads.result.now)) c.row_cell.ensures
     ∙ ap (λ (cs : List (Option ℤ)). cost_at cs (row_cell c.args.side c.loop-month.month c.args.via)) c.spread_cells-spreads.ensures.costs)
 
-pub sum_of_cells-requires-clause-first : goal.sum_of_cells-requires-clause-first
-sum_of_cells-requires-clause-first g c =
-    subst (λ (a : ℤ). IfSome (cost_of_cell a) IsOrderPrice) (sym (cell_whole (get_or c.spread_cells-spreads.result.now c.row_cell.result (pos 0)) (spread_small g c))) (spread_small g c)
+pub sum_of_cells-cost-requires-clause-first : goal.sum_of_cells-cost-requires-clause-first
+sum_of_cells-cost-requires-clause-first g c =
+    let small = spread_small g (goal.at.sum_of_cells-cost-requires-clause-first g c).After-row_cell in
+    subst (λ (a : ℤ). IfSome (cost_of_cell a) IsOrderPrice) (sym (cell_whole (get_or c.spread_cells-spreads.result.now c.row_cell.result (pos 0)) small)) small
 
 cell_within : (g : _) (c : goal.After-offer g) → cell_of c.args.side c.loop-month.month < length c.loop-month.cells
 cell_within g c =
@@ -61,12 +62,12 @@ loop-month-preserved g c =
             | inr e ↦
                 let mine : HasCheapest on months xs (pairs_of cells) s k = cell_as on months xs (pairs_of c.args.cells.now) (pairs_of cells) s k (was.later k (omega arith)) (subst (λ (j : ℕ). HasCheapest on months xs (pairs_of c.args.cells.now) s j) e h) in
                 let here : KeepsOthers xs ys s k c.args.via = subst (λ (j : ℕ). KeepsOthers xs ys s j c.args.via) e keep in
-                let d = (goal.at.loop-month-preserved g c).After-offer-arg-1 in
+                let d = (goal.at.loop-month-preserved g c).After-row_cell in
                 let none : PairCost = record { cost = pos 0; other_month = 0 } in
                 let held = get_or cells n none in
                 let a = get_or c.spread_cells-spreads.result.now c.row_cell.result (pos 0) in
                 let b = c.outright_cell-outright.result in
-                let sum = sum_whole a b c.sum_of_cells.result (spread_small g d) c.outright_cell-outright.ensures.small c.sum_of_cells.ensures in
+                let sum = sum_whole a b c.sum_of_cells-cost.result (spread_small g d) c.outright_cell-outright.ensures.small c.sum_of_cells-cost.ensures in
                 let renewed : IsCheapest on ys s k months (pair_of_cell new) =
                 subst (λ (p : PairCost). IsCheapest on ys s k months (pair_of_cell p)) (sym (c.offer.ensures ∙ ap (λ (z : ℤ). sooner_of z c.args.via held) sum))
                 (came_told on xs ys s k months c.args.via here under among c.args.costs.now held a b told (subst (λ (j : ℕ). j < months) e lt) (spread_told g d) c.outright_cell-outright.ensures.cost

@@ -1,6 +1,6 @@
 use Rattle.std.proofs.Common.{sym, subst, ◌∙◌}
 use Rattle.spread_rulebook.specs.Rulebook.{implied}
-use Rattle.quoted_books.specs.code.QuoteTable.{IsOneWay, AreQuotes}
+use Rattle.quoted_books.specs.code.QuoteTable.{IsOneWay}
 use Rattle.quoted_books.specs.declared.quote_table.Change.{Change}
 use Rattle.quoted_books.proofs.quotes.Tables.{come_one, left_one, come_kept, left_kept, none_left, none_came, all_kept}
 use Rattle.quoted_books.proofs.quotes.CostRows.{kept_costs}
@@ -9,24 +9,14 @@ use Rattle.quoted_books.proofs.kept_quotes.Quotes.renew_for.Goals as goal
 pub returns-then-not-is_as_good-clause-came : goal.returns-then-not-is_as_good-clause-came
 returns-then-not-is_as_good-clause-came g c = λ is xs come h.
     let ys = g.B.Book.orders c.args.book.now in
-    let one = come_one xs ys c.args.order.now c.args.others come in
-    let was = subst (AreQuotes (implied c.args.pairs.now.rules.now) c.args.pairs.now.months xs) (sym c.self.view_is) h in
-    let costs = c.note.ensures xs one was.costs in
-    record {
-      costs = costs;
-      cheapest = c.renew.ensures (implied c.args.pairs.now.rules.now) xs ys costs (subst (λ (w : Change). IsOneWay w xs ys) (sym is) (none_left xs ys c.args.order.now c.args.others come)) one was.cheapest;
-    }
+    let o = c.args.order.now in
+    c.renew_front.ensures xs (subst (λ (w : Change). IsOneWay w xs ys) (sym is) (none_left xs ys o c.args.others come)) (come_one xs ys o c.args.others come) h
 
 pub returns-then-not-is_as_good-clause-left : goal.returns-then-not-is_as_good-clause-left
 returns-then-not-is_as_good-clause-left g c = λ is xs left h.
     let ys = g.B.Book.orders c.args.book.now in
-    let one = left_one xs ys c.args.order.now c.args.others left in
-    let was = subst (AreQuotes (implied c.args.pairs.now.rules.now) c.args.pairs.now.months xs) (sym c.self.view_is) h in
-    let costs = c.note.ensures xs one was.costs in
-    record {
-      costs = costs;
-      cheapest = c.renew.ensures (implied c.args.pairs.now.rules.now) xs ys costs (subst (λ (w : Change). IsOneWay w xs ys) (sym is) (none_came xs ys c.args.order.now c.args.others left)) one was.cheapest;
-    }
+    let o = c.args.order.now in
+    c.renew_front.ensures xs (subst (λ (w : Change). IsOneWay w xs ys) (sym is) (none_came xs ys o c.args.others left)) (left_one xs ys o c.args.others left) h
 
 pub returns-else-not-is_as_good-clause-came : goal.returns-else-not-is_as_good-clause-came
 returns-else-not-is_as_good-clause-came g c = λ is xs come h.
