@@ -50,8 +50,9 @@ fn judge_first(framer: &mut Framer, session: &Session, verdict: &mut Verdict) ->
         ≡ option_map (judge session.now) (first_frame (frames framer.old)) }
     ensures held { framer.new ≡ from_first_start framer.old }
 {
-    match framer.next() {
-        Next::Message(message) => Some(session.judged(&message, verdict)),
+    let next = framer.next();
+    match &next {
+        Next::Message(message) => Some(session.judged(message, verdict)),
         Next::Need => None,
     }
 }
@@ -121,10 +122,10 @@ impl Reader {
             &mut self.verdict,
             &mut self.due,
         );
-        match self.due {
-            Some(_) => Some(self.verdict),
-            None => None,
+        if self.due.is_none() {
+            return None;
         }
+        Some(self.verdict)
     }
 
     /// Goes past the first message, which the session judges; false where none stands.

@@ -92,12 +92,15 @@ impl Session {
     pub(crate) fn judged(&self, message: &Message, verdict: &mut Verdict) -> Change
         ensures { judgement_of self.now (verdict.new, result) ≡ judge self.now message.now.frame.now }
     {
-        *verdict = Verdict::Nothing;
         let Some(number) = message.number() else {
+            *verdict = Verdict::Nothing;
             return Change::Nothing;
         };
         match &self.state {
-            State::Closed => Change::Nothing,
+            State::Closed => {
+                *verdict = Verdict::Nothing;
+                Change::Nothing
+            }
             State::Before => match logon_of(message, number) {
                 Some(logon) => opened(logon, verdict),
                 None => closes(close_reason::NO_LOGON, verdict),
@@ -333,10 +336,10 @@ fn accepted(message: &Message, number: u32, verdict: &mut Verdict) -> u32
         ≡ due_after_accepted number (meaning_of_message message.now.frame.now number) }
 {
     if let [msg_types::NEW_ORDER_SINGLE] = message.kind() {
-        *verdict = match new_order(message) {
-            Ok(ticket) => Verdict::Event(Event::New(ticket)),
-            Err(reason) => Verdict::Event(Event::Reject { number, reason }),
-        };
+        match new_order(message) {
+            Ok(ticket) => *verdict = Verdict::Event(Event::New(ticket)),
+            Err(reason) => *verdict = Verdict::Event(Event::Reject { number, reason }),
+        }
         return number + 1;
     }
     accepted_other(message, number, verdict)
@@ -350,12 +353,12 @@ fn accepted_other(message: &Message, number: u32, verdict: &mut Verdict) -> u32
     ensures due { result
         ≡ due_after_accepted number (meaning_of_message message.now.frame.now number) }
 {
-    let (said, due) = match meaning_of_message(message, number) {
-        Ok(Meaning::Nothing) => (Verdict::Nothing, number + 1),
-        Ok(Meaning::Gives(event)) => (Verdict::Event(event), number + 1),
-        Ok(Meaning::Fills(next)) => (Verdict::Nothing, next),
-        Err(reason) => (Verdict::Event(Event::Reject { number, reason }), number + 1),
-    };
-    *verdict = said;
-    due
+    *verdict = Verdict::Nothing;
+    match meaning_of_message(message, number) {
+        Ok(Meaning::Nothing) => {}
+        Ok(Meaning::Gives(event)) => *verdict = Verdict::Event(event),
+        Ok(Meaning::Fills(next)) => return next,
+        Err(reason) => *verdict = Verdict::Event(Event::Reject { number, reason }),
+    }
+    number + 1
 }

@@ -205,9 +205,9 @@ pub(crate) fn new_order(message: &Message) -> Result<Ticket, u8>
     ensures { result ≡ new_order message.now.frame.now }
 {
     value_at(message, tags::SENDING_TIME)?;
-    let id = Id::of(id_text_at(message, tags::CL_ORD_ID)?);
+    let id = id_text_at(message, tags::CL_ORD_ID)?;
     let _handling = choice_at(message, tags::HANDL_INST, b"123")?;
-    let symbol = Id::of(id_text_at(message, tags::SYMBOL)?);
+    let symbol = id_text_at(message, tags::SYMBOL)?;
     let side = side_at(message)?;
     value_at(message, tags::TRANSACT_TIME)?;
     let quantity = quantity_at(message, tags::ORDER_QTY)?;
@@ -215,8 +215,8 @@ pub(crate) fn new_order(message: &Message) -> Result<Ticket, u8>
     let price = price_at(message, tags::PRICE)?;
     let immediate = is_immediate_at(message)?;
     Ok(Ticket {
-        id,
-        symbol,
+        id: Id::of(id),
+        symbol: Id::of(symbol),
         side,
         quantity,
         price,
