@@ -50,9 +50,8 @@ fn judge_first(framer: &mut Framer, session: &Session, verdict: &mut Verdict) ->
         ≡ option_map (judge session.now) (first_frame (frames framer.old)) }
     ensures held { framer.new ≡ from_first_start framer.old }
 {
-    let next = framer.next();
-    match &next {
-        Next::Message(message) => Some(session.judged(message, verdict)),
+    match framer.next() {
+        Next::Message(ref message) => Some(session.judged(message, verdict)),
         Next::Need => None,
     }
 }

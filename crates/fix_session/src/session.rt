@@ -8,7 +8,7 @@ ghost use Rattle.fix_session.specs.declared.session.Running.{Running};
 ghost use Rattle.fix_session.specs.code.Changes.{changed, judgement_in, judgement_of};
 ghost use Rattle.fix_session.specs.Steps.{new_session, running, closes, opens, step_below, step_above, step_due, step_running, verdict_of, judge, ended, is_closed};
 
-use crate::table::{Meaning, meaning_of_message, new_order};
+use crate::table::{Meaning, meaning_of_message, order_texts, ticket_of};
 use fix_wire::{Message, msg_types, read_number, tags};
 use host_base::Id;
 use host_base::limits::{FIRST_MSG_SEQ_NUM, MAX_MSG_SEQ_NUM};
@@ -336,8 +336,8 @@ fn accepted(message: &Message, number: u32, verdict: &mut Verdict) -> u32
         ≡ due_after_accepted number (meaning_of_message message.now.frame.now number) }
 {
     if let [msg_types::NEW_ORDER_SINGLE] = message.kind() {
-        match new_order(message) {
-            Ok(ticket) => *verdict = Verdict::Event(Event::New(ticket)),
+        match order_texts(message) {
+            Ok(texts) => *verdict = Verdict::Event(Event::New(ticket_of(&texts))),
             Err(reason) => *verdict = Verdict::Event(Event::Reject { number, reason }),
         }
         return number + 1;

@@ -8,7 +8,7 @@ ghost use Rattle.host_base.specs.Ids.{is_id};
 ghost use Rattle.fix_frames.specs.Messages.{get};
 ghost use Rattle.fix_frames.specs.declared.tags.TheConstants as tags;
 ghost use Rattle.fix_session.specs.Table.{value_at, id_at, number_at, quantity_at, price_at, choice_at, one_of, side_at, time_in_force_of, gap_fill_flag_of, passed_over, test_request, resend_request, sequence_reset, new_order, cancel_request, replace_request, meaning_of_kind, meaning_of_message, reason_of};
-ghost use Rattle.fix_session.specs.code.Shown.{bytes_behind};
+ghost use Rattle.fix_session.specs.code.Shown.{bytes_behind, ticket_of, ticket_behind};
 
 use fix_wire::{
     Message, Unread, field_values, msg_types, read_number, read_price, read_quantity, tags,
@@ -199,10 +199,23 @@ fn sequence_reset(message: &Message, number: u32) -> Result<Meaning, u8>
     Ok(Meaning::Fills(next))
 }
 
+/// What a new order says, its ids as they stand in the message.
+#[derive(Clone, Copy)]
+pub(crate) struct OrderTexts<'a> {
+    pub id: &'a [u8],
+    pub symbol: &'a [u8],
+    pub side: Side,
+    pub quantity: u32,
+    pub price: i64,
+    pub immediate: bool,
+}
+
 #[tactic(auto, unfolding(crate::specs::Table::new_order))]
 #[inline(always)]
-pub(crate) fn new_order(message: &Message) -> Result<Ticket, u8>
-    ensures { result ≡ new_order message.now.frame.now }
+pub(crate) fn order_texts<'a>(message: &Message<'a>) -> Result<OrderTexts<'a>, u8>
+    ensures ticket { ticket_behind result ≡ new_order message.now.frame.now }
+    ensures id { IfOk result (λ o. is_id o.id.now ≡ true) }
+    ensures symbol { IfOk result (λ o. is_id o.symbol.now ≡ true) }
 {
     value_at(message, tags::SENDING_TIME)?;
     let id = id_text_at(message, tags::CL_ORD_ID)?;
@@ -214,14 +227,40 @@ pub(crate) fn new_order(message: &Message) -> Result<Ticket, u8>
     let _limit_order = choice_at(message, tags::ORD_TYPE, b"2")?;
     let price = price_at(message, tags::PRICE)?;
     let immediate = is_immediate_at(message)?;
-    Ok(Ticket {
-        id: Id::of(id),
-        symbol: Id::of(symbol),
+    Ok(OrderTexts {
+        id,
+        symbol,
         side,
         quantity,
         price,
         immediate,
     })
+}
+
+/// The order with these texts.
+#[inline(always)]
+pub(crate) fn ticket_of(texts: &OrderTexts) -> Ticket
+    requires id { is_id texts.now.id.now ≡ true }
+    requires symbol { is_id texts.now.symbol.now ≡ true }
+    ensures { result ≡ ticket_of texts.now }
+{
+    Ticket {
+        id: Id::of(texts.id),
+        symbol: Id::of(texts.symbol),
+        side: texts.side,
+        quantity: texts.quantity,
+        price: texts.price,
+        immediate: texts.immediate,
+    }
+}
+
+fn new_order(message: &Message) -> Result<Ticket, u8>
+    ensures { result ≡ new_order message.now.frame.now }
+{
+    match order_texts(message) {
+        Ok(texts) => Ok(ticket_of(&texts)),
+        Err(reason) => Err(reason),
+    }
 }
 
 #[tactic(auto, unfolding(crate::specs::Table::cancel_request))]
