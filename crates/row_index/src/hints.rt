@@ -7,8 +7,8 @@ use std::alloc::Allocator;
 /// How many places the next guess may be behind the last one, beyond as many as there are guesses.
 const GAP: usize = 1024;
 
-/// To so many places, from the last one on, room is given at once: most places are noted where a guess stands already, be
-/// there a gap before them or none.
+/// How many places get a guess at once, from the one that is noted on. So most places have one already when they are
+/// noted, be there a gap before them or none.
 const AHEAD: usize = 128;
 
 /// For each place from a first one on, the row that may have it. Nothing rests on a guess: who takes one looks whether

@@ -1,7 +1,7 @@
-//! Where a session and an id belong in a table of lines. Ids that differ in the two low bits of their last byte alone share
-//! a line: a session counts its ids up, so its next id mostly belongs to the line of the one before.
-ghost use Rattle.std.specs.Prelude.{◌≡◌, ◌≤◌, ◌/◌};
-ghost use Rattle.row_index.specs.Tables.{joined, words_before, last_word, from_last_byte, spread_bits, last_of, hash_of, line_of, tag_of};
+//! Where a session and an id belong in a table of lines. Ids that differ in the two low bits of their last byte alone
+//! share a line: a session mostly counts its ids up, so its next id mostly belongs to the line of the one before.
+ghost use Rattle.std.specs.Prelude.{◌≡◌, ◌≤◌};
+ghost use Rattle.row_index.specs.Tables.{joined, words_before, last_word, from_last_byte, spread_bits, line_of, tag_of};
 
 use host_base::IdKey;
 
@@ -54,8 +54,8 @@ pub struct Spot {
     pub tag: u32,
 }
 
-/// Where a key belongs among so many lines. Who chooses ids can choose them so that all belong to one line: nothing rests
-/// on the line and the tag but speed.
+/// Where a key belongs among so many lines. Who chooses ids can choose them so that all belong to one line: nothing
+/// rests on the line and the tag but speed.
 #[inline(always)]
 #[tactic(auto, unfolding(crate::specs::Tables::hash_of, crate::specs::Tables::last_of))]
 pub fn spot_of(count: usize, key: &IdKey) -> Spot
