@@ -139,14 +139,14 @@ impl<A: Allocator + Copy> FrontBook<A> {
 impl<A: Allocator + Copy> Book for FrontBook<A> {
     ghost orders = { λ b. b };
 
+    #[inline(always)]
     fn front(&self, instrument: Instrument, side: Side) -> Option<Order> {
-        match self.fronts.known_price(instrument, side) {
-            None => self.tables.front(instrument, side),
-            Some(known) => match known {
-                None => None,
-                Some(best) => self.tables.order_at(best.place).copied(),
-            },
-        }
+        let Some(known) = self.fronts.known_price(instrument, side) else {
+            return self.tables.front(instrument, side);
+        };
+        let best = known?;
+        let order = self.tables.order_at(best.place)?;
+        Some(*order)
     }
 
     #[inline(always)]

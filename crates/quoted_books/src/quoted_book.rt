@@ -108,6 +108,7 @@ impl<'r, A: Allocator + Copy> QuotedBook<'r, A> {
 impl<'r, A: Allocator + Copy> Book for QuotedBook<'r, A> {
     ghost orders = { λ b. b.orders };
 
+    #[inline(always)]
     fn front(&self, instrument: Instrument, side: Side) -> Option<Order> {
         self.book.front(instrument, side)
     }

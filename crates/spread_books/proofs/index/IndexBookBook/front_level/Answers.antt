@@ -3,19 +3,15 @@ use Rattle.std.proofs.lemmas.List.{append-nil}
 use Rattle.std.specs.Option.{option_to_list}
 use Rattle.spread_rules.specs.declared.order.Order.{Order}
 use Rattle.spread_rules.specs.declared.order.Level.{Level}
-use Rattle.order_books.specs.Queues.{IsFrontLevel}
-use Rattle.order_books.proofs.fronts.Changes.{front_of_queue, level_of_no_queue}
+use Rattle.order_books.specs.Queues.{IsFront, IsFrontLevel}
+use Rattle.order_books.proofs.fronts.Changes.{level_of_no_queue}
 use Rattle.quoted_books.specs.BookView.{BookView}
 use Rattle.spread_books.proofs.index.IndexBookBook.front_level.Goals as goal
 
 pub returns-then-is_in : goal.returns-then-is_in
 returns-then-is_in g c =
-    let xs = c.self.inside.others.orders in
-    let o = c.in-Some.newest in
-    let whole : xs ++ o ∷ [] ≡ c.args.self.now.orders = ap (λ (r : Option Order). xs ++ option_to_list r) (sym c.in-Some.is) ∙ (ap (λ (v : BookView). v.orders) c.self.view_is) in
-    let front = front_of_queue xs o c.front_with.result c.args.instrument c.args.side c.front-front.result (sym c.is_in.ensures ∙ c.if-is_in.true) c.front-front.ensures c.front_with.ensures in
-    subst (λ (zs : List Order). IsFrontLevel zs c.args.instrument c.args.side (Some c.level.result)) whole
-    (Some c.front_with.result, front, ap (λ (l : Level). Some l) c.level.ensures)
+    let front = subst (λ (r : Option Order). IsFront c.args.self.now.orders c.args.instrument c.args.side r) c.in_ok-front.was c.front.ensures in
+    (Some c.in_ok-front.front, front, ap (λ (l : Level). Some l) c.level.ensures)
 
 pub returns-else-is_in : goal.returns-else-is_in
 returns-else-is_in g c =
