@@ -8,7 +8,8 @@ ghost use Rattle.order_books.specs.Pairs.{IsCheapest};
 ghost use Rattle.quoted_books.specs.Listed.{IsInMonths};
 ghost use Rattle.quoted_books.specs.code.Cheapest.{KeepsOthers, sooner_of};
 ghost use Rattle.quoted_books.specs.code.FrontCosts.{AreFrontCosts, cell_of, pair_of_cell, pairs_of};
-ghost use Rattle.quoted_books.specs.code.QuoteTable.{known_pair, HasCheapest, AreCheapest, AreAmong, ChangesOneQueue, IsOneWay};
+ghost use Rattle.quoted_books.specs.code.QuoteTable.{known_pair, AreCheapest, AreAmong, ChangesOneQueue, IsOneWay, KeepsOtherSide, RenewsCell};
+ghost use Rattle.quoted_books.specs.declared.quote_table.Change.TheVariants.{Came, Left};
 
 use crate::front_costs::{FrontCosts, NO_PAIR, ROW, cell, row_cell, sum_of_cells};
 use crate::renewal::{cheapest_of_row, is_sooner};
@@ -120,19 +121,12 @@ fn renew_row_came<A: Allocator + Copy>(
     side: Side,
     via: u8,
 )
-    requires { via < MAX_MONTHS }
+    requires within { via < months }
+    requires most { months ≤ MAX_MONTHS }
     ensures length { length cells.new ≡ length cells.old }
-    ensures rest { (t : Side) (m : ℕ)
-        → (t ≡ side → ⊥)
-        → known_pair (pairs_of cells.new) t m ≡ known_pair (pairs_of cells.old) t m }
-    ensures own { (trades_implied : Pairs) (xs ys : List Order) (m : ℕ)
-        → AreFrontCosts trades_implied months ys costs.now
-        → m < months
-        → via < months
-        → AreAmong xs ys
-        → KeepsOthers xs ys side m via
-        → HasCheapest trades_implied months xs (pairs_of cells.old) side m
-        → HasCheapest trades_implied months ys (pairs_of cells.new) side m }
+    ensures rest { KeepsOtherSide side (pairs_of cells.old) (pairs_of cells.new) }
+    ensures own { (m : ℕ)
+        → RenewsCell Came costs.now months side via (pairs_of cells.old) (pairs_of cells.new) m }
 {
     let spreads = costs.spread_cells();
     let outright = costs.outright_cell(side, via);
@@ -156,16 +150,9 @@ fn renew_row_left<A: Allocator + Copy>(
     via: u8,
 )
     ensures length { length cells.new ≡ length cells.old }
-    ensures rest { (t : Side) (m : ℕ)
-        → (t ≡ side → ⊥)
-        → known_pair (pairs_of cells.new) t m ≡ known_pair (pairs_of cells.old) t m }
-    ensures own { (trades_implied : Pairs) (xs ys : List Order) (m : ℕ)
-        → AreFrontCosts trades_implied months ys costs.now
-        → m < months
-        → AreAmong ys xs
-        → KeepsOthers xs ys side m via
-        → HasCheapest trades_implied months xs (pairs_of cells.old) side m
-        → HasCheapest trades_implied months ys (pairs_of cells.new) side m }
+    ensures rest { KeepsOtherSide side (pairs_of cells.old) (pairs_of cells.new) }
+    ensures own { (m : ℕ)
+        → RenewsCell Left costs.now months side via (pairs_of cells.old) (pairs_of cells.new) m }
 {
     let count = side_count(side, cells.len()).min(usize::from(months));
     for month in 0..count as u8 {
@@ -209,13 +196,7 @@ impl<A: Allocator + Copy> QuoteTable<A> {
         ensures rest { (t : Side) (m : ℕ)
             → ((t ≡ column.side) × (m ≡ month) → ⊥)
             → known_pair self.new t m ≡ known_pair self.old t m }
-        ensures own { (trades_implied : Pairs) (xs ys : List Order)
-            → AreFrontCosts trades_implied months ys costs.now
-            → month < months
-            → IsOneWay column.change xs ys
-            → KeepsOthers xs ys column.side month column.via
-            → HasCheapest trades_implied months xs self.old column.side month
-            → HasCheapest trades_implied months ys self.new column.side month }
+        ensures own { RenewsCell column.change costs.now months column.side column.via self.old self.new month }
     {
         let ColumnChange { side, via, change } = column;
         let n = cell(side, month);
@@ -233,18 +214,11 @@ impl<A: Allocator + Copy> QuoteTable<A> {
 
     /// Renews that side's cell of each month.
     fn renew_months(&mut self, costs: &FrontCosts<A>, months: u8, column: ColumnChange)
-        requires { column.via < MAX_MONTHS }
-        ensures rest { (t : Side) (m : ℕ)
-            → (t ≡ column.side → ⊥)
-            → known_pair self.new t m ≡ known_pair self.old t m }
-        ensures own { (trades_implied : Pairs) (xs ys : List Order) (m : ℕ)
-            → AreFrontCosts trades_implied months ys costs.now
-            → m < months
-            → column.via < months
-            → IsOneWay column.change xs ys
-            → KeepsOthers xs ys column.side m column.via
-            → HasCheapest trades_implied months xs self.old column.side m
-            → HasCheapest trades_implied months ys self.new column.side m }
+        requires within { column.via < months }
+        requires most { months ≤ MAX_MONTHS }
+        ensures rest { KeepsOtherSide column.side self.old self.new }
+        ensures own { (m : ℕ)
+            → RenewsCell column.change costs.now months column.side column.via self.old self.new m }
     {
         let ColumnChange { side, via, change } = column;
         match change {

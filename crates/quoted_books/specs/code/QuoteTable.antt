@@ -13,7 +13,7 @@ use Rattle.order_tables.specs.Places.{Ascends}
 use Rattle.order_books.specs.Queues.{IsFrontLevel}
 use Rattle.quoted_books.specs.Listed.{IsInMonths}
 use Rattle.order_books.specs.Pairs.{IsCheapest}
-use Rattle.quoted_books.specs.code.Cheapest.{KeepsCost}
+use Rattle.quoted_books.specs.code.Cheapest.{KeepsCost, KeepsOthers}
 use Rattle.quoted_books.specs.code.FrontCosts.{CostRows, AreFrontCosts, cell_of, no_costs}
 use Rattle.quoted_books.specs.code.PairsOn.{AreAllOn}
 use Rattle.quoted_books.specs.declared.quote_table.Change.{Change}
@@ -50,6 +50,24 @@ AreAmong xs ys = (o : Order) → Contains xs o → Contains ys o
 abbrev pub IsOneWay : Change → List Order → List Order → Type 0
 IsOneWay Came xs ys = AreAmong xs ys
 IsOneWay Left xs ys = AreAmong ys xs
+
+-- the cells of the other side are as they were
+abbrev pub KeepsOtherSide : Side → List (Option PairCost) → List (Option PairCost) → Type 0
+KeepsOtherSide side old new =
+    (t : Side) (m : ℕ) → (t ≡ side → ⊥) → known_pair new t m ≡ known_pair old t m
+
+-- where an order of that other month came or left, and the fronts cost this now, the cell of that side and month has
+-- the cheapest pair still
+abbrev pub RenewsCell :
+    Change → CostRows → ℕ → Side → ℕ → List (Option PairCost) → List (Option PairCost) → ℕ → Type 0
+RenewsCell change costs months side via old new month =
+    (trades_implied : Pairs) (xs ys : List Order)
+    → AreFrontCosts trades_implied months ys costs
+    → month < months
+    → IsOneWay change xs ys
+    → KeepsOthers xs ys side month via
+    → HasCheapest trades_implied months xs old side month
+    → HasCheapest trades_implied months ys new side month
 
 -- whether an order at that level is as good as this one for who meets it
 abbrev pub is_as_good : Option Level → Order → Bool

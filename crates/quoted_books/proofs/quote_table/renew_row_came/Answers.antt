@@ -19,7 +19,9 @@ spread_within g c =
     let under = c.loop-month-test.true in
     let first = c.min.ensures in
     let both = c.min-count.ensures in
-    row_within c.args.side c.loop-month.month c.args.via (length c.spread_cells-spreads.result.now) c.row_cell.result c.row_cell.ensures (omega (arith, under, first, both)) c.requires
+    let within = c.requires.within in
+    let most = c.requires.most in
+    row_within c.args.side c.loop-month.month c.args.via (length c.spread_cells-spreads.result.now) c.row_cell.result c.row_cell.ensures (omega (arith, under, first, both)) (omega (arith, within, most))
 
 spread_small : (g : _) (c : After-row_cell g) → IfSome (cost_of_cell (get_or c.spread_cells-spreads.result.now c.row_cell.result (pos 0))) IsOrderPrice
 spread_small g c = small_there c.spread_cells-spreads.result.now c.row_cell.result (pos 0) (spread_within g c) c.spread_cells-spreads.ensures.small
@@ -56,9 +58,9 @@ loop-month-preserved g c =
       count = length-set cells n new ∙ was.count;
       rest = λ t m other. put_elsewhere cells s t k m n new at (λ q. other q.0) ∙ was.rest t m other;
       later = λ m lt. put_elsewhere cells s s k m n new at (λ q. let e = q.1 in omega (arith, lt, e)) ∙ was.later m (omega (arith, lt));
-      own = λ on xs ys m told lt before under among keep h.
+      own = λ m before on xs ys told lt among keep h.
           elim (less_or_same on m k before) [
-            | inl earlier ↦ cell_as on months ys (pairs_of cells) (pairs_of (slice_set cells n new)) s m (put_elsewhere cells s s k m n new at (λ q. let e = q.1 in omega (arith, earlier, e))) (was.own on xs ys m told lt earlier under among keep h)
+            | inl earlier ↦ cell_as on months ys (pairs_of cells) (pairs_of (slice_set cells n new)) s m (put_elsewhere cells s s k m n new at (λ q. let e = q.1 in omega (arith, earlier, e))) (was.own m earlier on xs ys told lt among keep h)
             | inr e ↦
                 let mine : HasCheapest on months xs (pairs_of cells) s k = cell_as on months xs (pairs_of c.args.cells.now) (pairs_of cells) s k (was.later k (omega arith)) (subst (λ (j : ℕ). HasCheapest on months xs (pairs_of c.args.cells.now) s j) e h) in
                 let here : KeepsOthers xs ys s k c.args.via = subst (λ (j : ℕ). KeepsOthers xs ys s j c.args.via) e keep in
@@ -70,14 +72,14 @@ loop-month-preserved g c =
                 let sum = sum_whole a b c.sum_of_cells-cost.result (spread_small g d) c.outright_cell-outright.ensures.small c.sum_of_cells-cost.ensures in
                 let renewed : IsCheapest on ys s k months (pair_of_cell new) =
                 subst (λ (p : PairCost). IsCheapest on ys s k months (pair_of_cell p)) (sym (c.offer.ensures ∙ ap (λ (z : ℤ). sooner_of z c.args.via held) sum))
-                (came_told on xs ys s k months c.args.via here under among c.args.costs.now held a b told (subst (λ (j : ℕ). j < months) e lt) (spread_told g d) c.outright_cell-outright.ensures.cost
+                (came_told on xs ys s k months c.args.via here c.requires.within among c.args.costs.now held a b told (subst (λ (j : ℕ). j < months) e lt) (spread_told g d) c.outright_cell-outright.ensures.cost
                 (spread_small g d) c.outright_cell-outright.ensures.small (held_there on months xs cells s k n none at (subst (λ (i : ℕ). i < length cells) (sym at) (cell_within g c)) mine)) in
                 subst (λ (j : ℕ). HasCheapest on months ys (pairs_of (slice_set cells n new)) s j) (sym e) (put_there on months ys cells s k n new at renewed)
           ];
     }
 
 pub returns-clause-own : goal.returns-clause-own
-returns-clause-own g c = λ on xs ys m told lt under among keep h least known.
+returns-clause-own g c = λ m on xs ys told lt among keep h least known.
     let there = subst (λ (n : ℕ). cell_of c.args.side m < n) c.loop-month.invariant.count (known_within c.loop-month.cells c.args.side m least known) in
     let in_cells = c.side_count.ensures.all m there in
     let rows = ap length c.spread_cells-spreads.ensures.costs in
@@ -87,4 +89,4 @@ returns-clause-own g c = λ on xs ys m told lt under among keep h least known.
     let months = c.from.ensures in
     let all = c.min-count.ensures in
     let end = c.loop-month-test.false in
-    c.loop-month.invariant.own on xs ys m told lt (omega (arith, in_cells, rows, long, count, first, months, all, end, lt)) under among keep h least known
+    c.loop-month.invariant.own m (omega (arith, in_cells, rows, long, count, first, months, all, end, lt)) on xs ys told lt among keep h least known

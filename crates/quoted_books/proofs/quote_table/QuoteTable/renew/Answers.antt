@@ -1,9 +1,8 @@
 use Rattle.std.proofs.Common.{◌≡◌, ℕ, ◌<◌, subst}
 use Rattle.spread_rules.specs.declared.order.Side.{Side}
 use Rattle.spread_rulebook.specs.declared.instrument.Instrument.{Instrument}
-use Rattle.quoted_books.specs.Listed.{IsInMonths}
 use Rattle.quoted_books.specs.code.Cheapest.{KeepsOthers}
-use Rattle.quoted_books.specs.code.QuoteTable.{known_pair, HasCheapest, ChangesOneQueue}
+use Rattle.quoted_books.specs.code.QuoteTable.{known_pair, HasCheapest, ChangesOneQueue, KeepsOtherSide}
 use Rattle.quoted_books.proofs.quotes.Tables.{outright_renewed, spread_renewed}
 use Rattle.quoted_books.proofs.quote_table.QuoteTable.renew.Goals as goal
 
@@ -14,8 +13,8 @@ returns-in-Outright g c = λ on xs ys told came one h.
     let months = c.args.months in
     let j = c.in-Outright.via in
     outright_renewed on months xs ys old new j c.args.order.now.side
-    (subst (λ (u : Side). (t : Side) (m : ℕ) → (t ≡ u → ⊥) → known_pair new t m ≡ known_pair old t m) c.opposite-side.ensures c.renew_months.ensures.rest)
-    (subst (λ (u : Side). (m : ℕ) → m < months → KeepsOthers xs ys u m j → HasCheapest on months xs old u m → HasCheapest on months ys new u m) c.opposite-side.ensures (λ m lt. c.renew_months.ensures.own on xs ys m told lt (subst (IsInMonths months) c.in-Outright.is c.requires.within) came))
+    (subst (λ (u : Side). KeepsOtherSide u old new) c.opposite-side.ensures c.renew_months.ensures.rest)
+    (subst (λ (u : Side). (m : ℕ) → m < months → KeepsOthers xs ys u m j → HasCheapest on months xs old u m → HasCheapest on months ys new u m) c.opposite-side.ensures (λ m lt. c.renew_months.ensures.own m on xs ys told lt came))
     (subst (λ (i : Instrument). ChangesOneQueue xs ys i c.args.order.now.side) c.in-Outright.is one) h
 
 pub returns-in-Spread : goal.returns-in-Spread
