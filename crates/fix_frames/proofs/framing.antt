@@ -4,3 +4,4 @@ pub mod FrontStays
 pub mod HeaderDigits
 pub mod FramesHeld
 pub mod FrameStarts
+pub mod FrameBody

@@ -185,32 +185,25 @@ fn any_tag(text: &[u8]) -> Option<Tag>
     None
 }
 
-/// The tag of one or two digits that the text of a field begins with, if it does.
+/// The tag of two digits that the text of a field begins with, if it does.
 #[inline(always)]
 fn short_tag(text: &[u8]) -> Option<Tag>
     ensures field { IfSome result (λ t. Some (tag_view text.now t) ≡ field_of_text text.now) }
     ensures within { IfSome result (λ t. t.digits < length text.now) }
 {
-    if text.len() < 3 || !text[0].is_ascii_digit() || text[0] == b'0' {
+    if text.len() < 3 || text[2] != b'=' || !text[1].is_ascii_digit() {
         return None;
     }
-    let first = u32::from(text[0] - b'0');
-    if text[1] == b'=' {
-        return Some(Tag {
-            number: first,
-            digits: 1,
-        });
-    }
-    if !text[1].is_ascii_digit() || text[2] != b'=' {
+    if !text[0].is_ascii_digit() || text[0] == b'0' {
         return None;
     }
     Some(Tag {
-        number: first * 10 + u32::from(text[1] - b'0'),
+        number: u32::from(text[0] - b'0') * 10 + u32::from(text[1] - b'0'),
         digits: 2,
     })
 }
 
-/// The tag that the text of a field begins with. Most have one or two digits, and those are read without a loop.
+/// The tag that the text of a field begins with. Most have two digits, and those are read without a loop.
 #[inline(always)]
 fn leading_tag(text: &[u8]) -> Option<Tag>
     ensures field { option_map (tag_view text.now) result ≡ field_of_text text.now }

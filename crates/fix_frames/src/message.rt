@@ -1,13 +1,13 @@
 //! A message, which is a lawful frame.
-ghost use Rattle.std.specs.Prelude.{◌≡◌, ◌+◌, ◌<◌, length, Option, IsSome, IfSome, ◌↔◌, Some, is_some, true};
+ghost use Rattle.std.specs.Prelude.{◌≡◌, IsSome, IfSome, ◌↔◌, Some, option_map};
 ghost use Rattle.std.specs.Option.{option_copied};
-ghost use Rattle.fix_frames.specs.Frames.{IsFrame, header, body_at, is_body};
-ghost use Rattle.fix_frames.specs.Fields.{fields_of_body};
-ghost use Rattle.fix_frames.specs.code.Tabled.{IsTableOf};
+ghost use Rattle.fix_frames.specs.Frames.{IsFrame, header, body_at};
+ghost use Rattle.fix_frames.specs.code.Tabled.{IsTable, IsTableOf};
 ghost use Rattle.fix_frames.specs.Messages.{kind, get, number};
+ghost use Rattle.std.proofs.Props.{props};
 
-use crate::frame::{Scan, scan_front};
-use crate::table::{FrameTable, first_value, value_of};
+use crate::frame::{FrameHeader, Scan, scan_front};
+use crate::table::{FieldTable, FrameTable, first_value, value_of};
 use crate::tags;
 use fix_values::read_number;
 
@@ -18,13 +18,27 @@ pub const MAX_FRAME_BYTES: usize = 4_124;
 #[derive(Clone, Copy)]
 pub struct Message<'a> {
     frame: &'a [u8],
-    table: FrameTable,
+    body: &'a [u8],
+    // Where the fields of its body stand. Without it each field is looked for from the front.
+    table: Option<&'a FieldTable>,
     pub ghost lawful: { IsFrame frame.now },
-    pub ghost tabled: { IsTableOf frame.now table },
+    pub ghost framed: { option_map (body_at frame.now) (header frame.now) ≡ Some body.now },
+    pub ghost tabled: { IfSome table (λ t. IsTable body.now t.now) } by { Prim.hlevel props },
+}
+
+/// The body of a frame whose header that is.
+#[inline(always)]
+fn body_of(frame: &[u8], at: FrameHeader) -> &[u8]
+    requires lawful { IsFrame frame.now }
+    requires header { header frame.now ≡ Some at }
+    ensures { result.now ≡ body_at frame.now at }
+{
+    &frame[at.body_start..at.body_start + at.body_length]
 }
 
 impl<'a> Message<'a> {
-    /// The message whose frame the bytes are, if they are one lawful frame.
+    /// The message whose frame the bytes are, if they are one lawful frame. No table of its fields is kept: each field is
+    /// looked for from the front.
     pub fn whole(bytes: &'a [u8]) -> Option<Message<'a>>
         ensures only { IsSome result ↔ IsFrame bytes.now }
         ensures same { IfSome result (λ m. m.frame.now ≡ bytes.now) }
@@ -34,7 +48,11 @@ impl<'a> Message<'a> {
         }
         let mut table = FrameTable::empty();
         match scan_front(bytes, &mut table) {
-            Scan::Frame(n) if n == bytes.len() => Some(Message::of_frame(bytes, &table)),
+            Scan::Frame(n) if n == bytes.len() => Some(Message {
+                frame: bytes,
+                body: body_of(bytes, table.header),
+                table: None,
+            }),
             _ => None,
         }
     }
@@ -47,27 +65,18 @@ impl<'a> Message<'a> {
         self.frame
     }
 
-    fn body(&self) -> &'a [u8]
-        ensures value { result.now ≡ body_at self.now.frame.now self.now.table.header }
-        ensures body { is_body result.now ≡ true }
-        ensures fields_of_body { is_some (fields_of_body result.now) ≡ true }
-    {
-        let header = self.table.header;
-        &self.frame[header.body_start..header.body_start + header.body_length]
-    }
-
     /// The value of its first field.
     pub fn kind(&self) -> &'a [u8]
         ensures { result.now ≡ kind self.now.frame.now }
     {
-        first_value(self.body(), &self.table.fields)
+        first_value(self.body, self.table)
     }
 
     /// The value of the first field with that tag.
     pub fn get(&self, tag: u32) -> Option<&'a [u8]>
         ensures { option_copied result ≡ get tag self.now.frame.now }
     {
-        value_of(self.body(), &self.table.fields, tag)
+        value_of(self.body, self.table, tag)
     }
 
     /// Its number, where it can be read and is at least 1.
@@ -81,14 +90,16 @@ impl<'a> Message<'a> {
     }
 
     /// The message of a lawful frame, whose table is known.
-    pub fn of_frame(frame: &'a [u8], table: &FrameTable) -> Message<'a>
+    #[inline(always)]
+    pub fn of_frame(frame: &'a [u8], table: &'a FrameTable) -> Message<'a>
         requires lawful { IsFrame frame.now }
         requires tabled { IsTableOf frame.now table.now }
         ensures { result.frame.now ≡ frame.now }
     {
         Message {
             frame,
-            table: *table,
+            body: body_of(frame, table.header),
+            table: Some(&table.fields),
         }
     }
 }

@@ -1,5 +1,5 @@
 //! Where the first field of each tag that a session reads stands in a body, so that it is found without a walk.
-ghost use Rattle.std.specs.Prelude.{◌≡◌, ◌≤◌, ◌<◌, ◌^◌, length, take, ◌+◌, is_some, true, unwrap_or, []};
+ghost use Rattle.std.specs.Prelude.{◌≡◌, ◌≤◌, ◌<◌, ◌^◌, length, take, ◌+◌, is_some, true, unwrap_or, [], IfSome};
 ghost use Rattle.std.specs.Bool.{OnTrue};
 ghost use Rattle.std.specs.Option.{option_copied};
 ghost use Rattle.fix_frames.specs.Fields.{fields_of_body};
@@ -134,9 +134,9 @@ pub(crate) fn are_fields(text: &[u8], count: usize, table: &mut FieldTable) -> b
 
 /// MsgType: the value of the first field of a body.
 #[inline(always)]
-pub(crate) fn first_value<'a>(body: &'a [u8], table: &FieldTable) -> &'a [u8]
+pub(crate) fn first_value<'a>(body: &'a [u8], table: Option<&FieldTable>) -> &'a [u8]
     requires body { is_body body.now ≡ true }
-    requires table { IsTable body.now table.now }
+    requires table { IfSome table (λ t. IsTable body.now t.now) }
     ensures { result.now ≡ first_value (unwrap_or (fields_of_body body.now) []) }
 {
     match value_of(body, table, tags::MSG_TYPE) {
@@ -145,13 +145,16 @@ pub(crate) fn first_value<'a>(body: &'a [u8], table: &FieldTable) -> &'a [u8]
     }
 }
 
-/// The value of the first field of a body with that tag.
+/// The value of the first field of a body with that tag, found by the body's table where there is one.
 #[inline(always)]
-pub(crate) fn value_of<'a>(body: &'a [u8], table: &FieldTable, tag: u32) -> Option<&'a [u8]>
+pub(crate) fn value_of<'a>(body: &'a [u8], table: Option<&FieldTable>, tag: u32) -> Option<&'a [u8]>
     requires row { is_some (fields_of_body body.now) ≡ true }
-    requires table { IsTable body.now table.now }
+    requires table { IfSome table (λ t. IsTable body.now t.now) }
     ensures { option_copied result ≡ value_of tag body.now }
 {
+    let Some(table) = table else {
+        return value_in(body, tag);
+    };
     let i = index_of(tag);
     if i == TABLED_TAGS {
         return value_in(body, tag);

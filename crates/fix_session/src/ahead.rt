@@ -5,7 +5,7 @@ ghost use Rattle.fix_session.specs.Ahead.{IsAhead};
 ghost use Rattle.fix_session.specs.code.Judged.{JudgesOne};
 
 use crate::session::{Session, Verdict};
-use fix_wire::{Framer, Look};
+use fix_wire::{FrameTable, Framer};
 use spread_rules::Entry;
 
 /// How far a reader has judged ahead.
@@ -22,7 +22,14 @@ pub struct Ahead {
 }
 
 /// Judges the next message that is held, if one stands, and puts its event behind the others.
-fn judge_next(framer: &Framer, number: u8, ahead: &mut Ahead, entries: &mut [Entry]) -> bool
+#[inline(always)]
+fn judge_next(
+    framer: &Framer,
+    number: u8,
+    table: &mut FrameTable,
+    ahead: &mut Ahead,
+    entries: &mut [Entry],
+) -> bool
     requires place { ahead.old.place ≤ length framer.now }
     requires room { ahead.old.events < length entries.old }
     requires few { ahead.old.messages < length entries.old }
@@ -32,13 +39,14 @@ fn judge_next(framer: &Framer, number: u8, ahead: &mut Ahead, entries: &mut [Ent
         ((frames (drop ahead.old.place framer.now) ≡ []) × (ahead.new ≡ ahead.old)
         × (entries.new ≡ entries.old)) }
 {
-    let Look::Message(message, place) = framer.look(ahead.place) else {
+    let Some(place) = framer.find(ahead.place, table) else {
         return false;
     };
+    let message = framer.message(place, table);
     let mut verdict = Verdict::Nothing;
     let change = ahead.session.judged(&message, &mut verdict);
     ahead.session.change(&verdict, change);
-    ahead.place = place;
+    ahead.place = place.end;
     ahead.messages += 1;
     match verdict {
         Verdict::Event(event) => {
@@ -70,11 +78,12 @@ pub(crate) fn judge_ahead(
         place: 0,
         session,
     };
+    let mut table = FrameTable::empty();
     for _ in 0..most {
         if ahead.session.is_closed() {
             return ahead;
         }
-        if !judge_next(framer, number, &mut ahead, entries) {
+        if !judge_next(framer, number, &mut table, &mut ahead, entries) {
             return ahead;
         }
     }
@@ -86,10 +95,11 @@ pub(crate) fn count_messages(framer: &Framer, most: usize) -> usize
     ensures { result ≡ min most (length (frames framer.now)) }
 {
     let mut place = 0;
+    let mut table = FrameTable::empty();
     for count in 0..most {
-        match framer.look(place) {
-            Look::Message(_, after) => place = after,
-            Look::Need => return count,
+        match framer.find(place, &mut table) {
+            Some(found) => place = found.end,
+            None => return count,
         }
     }
     most

@@ -7,7 +7,7 @@ ghost use Rattle.fix_frames.specs.Held.{first_frame, from_first_start};
 ghost use Rattle.fix_wire.specs.Pieces.{IsDrained};
 ghost use Rattle.fix_session.specs.Steps.{judge, ended, is_closed};
 ghost use Rattle.fix_session.specs.Reading.{ReaderState, new_reader, with_more, first_message, first_verdict, after_skipping, after_passing, Fed};
-ghost use Rattle.fix_wire.specs.Looks.{FollowsFrames};
+ghost use Rattle.fix_wire.specs.FramePlaces.{FollowsFrames};
 ghost use Rattle.fix_session.specs.Ahead.{IsAhead, after_ahead};
 ghost use Rattle.fix_session.specs.code.Changes.{judgement_with};
 ghost use Rattle.fix_session.specs.code.ReaderFields.{IsKept};
@@ -44,14 +44,14 @@ impl Model for Reader {
 
 /// Sets what the first message says, if one stands, and tells what it changes in the session. Bytes at which no frame stands
 /// are skipped.
-#[inline(always)]
+#[inline(never)]
 fn judge_first(framer: &mut Framer, session: &Session, verdict: &mut Verdict) -> Option<Change>
     ensures verdict { option_map (judgement_with session.now verdict.new) result
         ≡ option_map (judge session.now) (first_frame (frames framer.old)) }
     ensures held { framer.new ≡ from_first_start framer.old }
 {
     match framer.next() {
-        Next::Message(ref message) => Some(session.judged(message, verdict)),
+        Next::Message(message) => Some(session.judged(&message, verdict)),
         Next::Need => None,
     }
 }
@@ -111,6 +111,7 @@ impl Reader {
     }
 
     /// What the first message says, if one stands. Bytes at which no frame stands are skipped, and nothing else changes.
+    #[inline(always)]
     pub fn look(&mut self) -> Option<Verdict>
         ensures says { result ≡ first_verdict self.old }
         ensures skipped { self.new ≡ after_skipping self.old }
@@ -121,13 +122,14 @@ impl Reader {
             &mut self.verdict,
             &mut self.due,
         );
-        if self.due.is_none() {
-            return None;
+        match self.due {
+            Some(_) => Some(self.verdict),
+            None => None,
         }
-        Some(self.verdict)
     }
 
     /// Goes past the first message, which the session judges; false where none stands.
+    #[inline(always)]
     pub fn pass(&mut self) -> bool
         ensures stands { result ≡ is_some (first_message self.old) }
         ensures passed { self.new ≡ after_passing self.old }

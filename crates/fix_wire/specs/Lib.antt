@@ -1,5 +1,5 @@
 pub mod code
 pub mod Next
-pub mod Looks
+pub mod FramePlaces
 pub mod Layout
 pub mod Pieces

@@ -1,11 +1,11 @@
 //! The frames of a stream that comes in pieces.
-ghost use Rattle.std.specs.Prelude.{◌≡◌, ℕ, ◌+◌, ◌-◌, ◌<◌, ◌≤◌, ◌^◌, ◌++◌, List, [], length, take, drop, min, IsTrue, ⊤, IfSome, Some, None, is_some, slice_range};
+ghost use Rattle.std.specs.Prelude.{◌≡◌, ℕ, ◌+◌, ◌-◌, ◌<◌, ◌≤◌, ◌^◌, ◌++◌, List, [], length, take, drop, min, IsTrue, ⊤, IfSome, Some, None, is_some, slice_range, option_map};
 ghost use Rattle.std.specs.Bool.{OnTrue, OnFalse};
 ghost use Rattle.std.specs.Borrow.{sem};
 ghost use Rattle.fix_frames.specs.Frames.{frames, frame_at};
 ghost use Rattle.fix_frames.specs.Held.{first_frame, from_first_start, after_first_frame};
 ghost use Rattle.fix_wire.specs.Next.{frame_in};
-ghost use Rattle.fix_wire.specs.Looks.{frame_from, place_after, EndsFirst, FollowsFrames};
+ghost use Rattle.fix_wire.specs.FramePlaces.{frame_of, IsFramePlace, EndsFirst, FollowsFrames};
 ghost use Rattle.fix_frames.specs.code.Tabled.{IsTableOf};
 ghost use denote.Follow.{follows_so};
 ghost use mathlib.Core.Option.{none};
@@ -47,11 +47,11 @@ pub enum Next<'a> {
     Need,
 }
 
-/// What a framer answers of a place: the first message from there on, with the place after it, or that none stands.
+/// Where a frame stands among the bytes that are held: from start to end.
 #[derive(Clone, Copy)]
-pub enum Look<'a> {
-    Message(Message<'a>, usize),
-    Need,
+pub struct FramePlace {
+    pub start: usize,
+    pub end: usize,
 }
 
 impl Framer {
@@ -162,16 +162,34 @@ impl Framer {
         self.peek(front_length)
     }
 
-    /// The first message from a place of the held bytes on, and the place after it. Nothing changes.
-    pub fn look(&self, at: usize) -> Look<'_>
+    /// Where the first frame from a place of the held bytes on stands. Its fields become the table's; nothing else changes.
+    pub fn find(&self, at: usize, table: &mut FrameTable) -> Option<FramePlace>
         requires { at ≤ length self.now }
-        ensures first { frame_from result ≡ first_frame (frames (drop at self.now)) }
-        ensures after { (n : ℕ) → place_after result ≡ Some n → EndsFirst self.now at n }
+        ensures first { option_map (frame_of self.now) result ≡ first_frame (frames (drop at self.now)) }
+        ensures after { IfSome result (λ p. EndsFirst self.now at p.end) }
+        ensures place { IfSome result (λ p. IsFramePlace self.now p table.new) }
     {
-        match first_message(&self.buffer[self.start + at..self.end]) {
-            Look::Message(message, length) => Look::Message(message, at + length),
-            Look::Need => Look::Need,
+        let (skip, length) = first_start(&self.buffer[self.start + at..self.end], table);
+        match length {
+            Some(length) => {
+                let start = at + skip;
+                Some(FramePlace {
+                    start,
+                    end: start + length,
+                })
+            }
+            None => None,
         }
+    }
+
+    /// The message whose frame stands at that place, where it was found with that table.
+    #[inline(always)]
+    pub fn message<'a>(&'a self, place: FramePlace, table: &'a FrameTable) -> Message<'a>
+        requires { IsFramePlace self.now place table.now }
+        ensures { result.frame.now ≡ frame_of self.now place }
+    {
+        let frame = &self.buffer[self.start + place.start..self.start + place.end];
+        Message::of_frame(frame, table)
     }
 
     /// Goes past all bytes before a place, which stands just after one of the held frames.
@@ -238,23 +256,6 @@ fn first_start_in(
         → IsTableOf (from_first_start (slice_range buffer.now start end)) table.new }
 {
     first_start(&buffer[start..end], table)
-}
-
-/// The first message of a text, and the place after it.
-fn first_message(held: &[u8]) -> Look<'_>
-    requires { length held.now ≤ BUFFER_BYTES }
-    ensures first { frame_from result ≡ first_frame (frames held.now) }
-    ensures after { (n : ℕ) → place_after result ≡ Some n → EndsFirst held.now 0 n }
-{
-    let mut table = FrameTable::empty();
-    let (skip, length) = first_start(held, &mut table);
-    match length {
-        Some(length) => {
-            let end = skip + length;
-            Look::Message(Message::of_frame(&held[skip..end], &table), end)
-        }
-        None => Look::Need,
-    }
 }
 
 /// The first place at which a frame stands or may still begin, and the length and the table of the frame that stands there.

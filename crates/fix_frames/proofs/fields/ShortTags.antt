@@ -1,4 +1,4 @@
--- Tags of one and two digits.
+-- Tags of two digits.
 use Rattle.std.proofs.Common.{◌≡◌, ◌≢◌, ℕ, ◌+◌, ◌*◌, ◌-◌, ◌≤◌, true, false, cond, not, ◌&&◌, eqb, List, [], ◌∷◌, Some, length, take, drop, get_or, sym, ap, ◌∙◌, arith}
 use Rattle.std.specs.Char.{is_ascii_digit}
 use Rattle.std.specs.List.{position_or_len, list_all}
@@ -10,17 +10,6 @@ use Rattle.fix_frames.proofs.fields.RowOfFields.{field_found}
 
 pub digit_is_not_equals : (b : ℕ) → is_ascii_digit b ≡ true → eqb b 61 ≡ false
 digit_is_not_equals b d = grind (arith, nat_tests)
-
-pub one_digit : (text : List ℕ) (tag : ℕ) → 3 ≤ length text → is_ascii_digit (get_or text 0 0) ≡ true → get_or text 0 0 ≢ 48 → get_or text 1 0 ≡ 61 → tag ≡ get_or text 0 0 - 48 →
-    Some (record { tag = tag; value = drop 2 text }) ≡ field_of_text text
-one_digit [] tag l d first e v = absurd (omega arith)
-one_digit (a ∷ []) tag l d first e v = absurd (omega arith)
-one_digit (a ∷ b ∷ r) tag l d first e v =
-    let x = digit_is_not_equals a d in
-    let y = same b 61 e in
-    let place : 1 ≡ position_or_len is_equals (a ∷ b ∷ r) =
-    sym (ap (λ v. cond (not v) (1 + cond (not (eqb b 61)) (1 + position_or_len is_equals r) 0) 0) x ∙ ap (λ v. 1 + cond (not v) (1 + position_or_len is_equals r) 0) y) in
-    field_found (a ∷ b ∷ r) 1 tag place (omega arith) (omega arith) (omega arith) first (ap (λ v. v && true) d) (omega (arith, v))
 
 pub two_digits : (text : List ℕ) (tag : ℕ) → 3 ≤ length text → is_ascii_digit (get_or text 0 0) ≡ true → get_or text 0 0 ≢ 48 → is_ascii_digit (get_or text 1 0) ≡ true → get_or text 2 0 ≡ 61 → tag ≡ (get_or text 0 0 - 48) * 10 + (get_or text 1 0 - 48) →
     Some (record { tag = tag; value = drop 3 text }) ≡ field_of_text text

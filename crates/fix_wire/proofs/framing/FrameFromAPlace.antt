@@ -1,16 +1,17 @@
 -- The first frame from a place on, and the place where it ends.
 use Rattle.std.proofs.Common.{◌≡◌, ℕ, ◌+◌, ◌-◌, ◌≤◌, List, length, take, drop, Some, sym, ap, ◌∙◌, arith}
+use Rattle.std.specs.Prelude.{slice_range}
 use Rattle.std.proofs.lemmas.List.{drop-drop, length-drop}
 use Rattle.fix_frames.specs.Frames.{frame_at}
 use Rattle.fix_frames.specs.Held.{from_first_start, past_frame}
-use Rattle.fix_wire.specs.Looks.{EndsFirst}
+use Rattle.fix_wire.specs.FramePlaces.{EndsFirst}
 use Rattle.fix_frames.proofs.framing.FrontStays.{frame_within}
 
 -- the bytes of the frame
-pub frame_part : (held : List ℕ) (skip n : ℕ) → drop skip held ≡ from_first_start held → take (skip + n - skip) (drop skip held) ≡ take n (from_first_start held)
-frame_part held skip n kept =
-    let size : skip + n - skip ≡ n = omega arith in
-    ap (λ k. take k (drop skip held)) size ∙ ap (take n) kept
+pub frame_part : (held : List ℕ) (at skip n : ℕ) → drop skip (drop at held) ≡ from_first_start (drop at held) → slice_range held (at + skip) (at + skip + n) ≡ take n (from_first_start (drop at held))
+frame_part held at skip n kept =
+    let size : at + skip + n - (at + skip) ≡ n = omega arith in
+    ap (λ k. take k (drop (at + skip) held)) size ∙ ap (take n) (sym (drop-drop skip at held) ∙ kept)
 
 pub ends_first : (held : List ℕ) (skip n : ℕ) → drop skip held ≡ from_first_start held → frame_at (from_first_start held) ≡ Some n → skip + n ≤ length held → EndsFirst held 0 (skip + n)
 ends_first held skip n kept e fits =

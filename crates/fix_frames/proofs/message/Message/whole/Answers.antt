@@ -1,5 +1,10 @@
-use Rattle.std.proofs.Common.{refl}
+use Rattle.std.proofs.Common.{Some, refl, ap, ◌∙◌, sym, option_map}
+use Rattle.fix_frames.specs.Frames.{body_at}
 use Rattle.fix_frames.proofs.message.Message.whole.Goals as goal
 
-pub of_frame-requires-clause-tabled : goal.of_frame-requires-clause-tabled
-of_frame-requires-clause-tabled c = c.in-Frame.ensures.table c.in-Frame.n refl
+pub body_of-requires-clause-header : goal.body_of-requires-clause-header
+body_of-requires-clause-header c = (c.in-Frame.ensures.table c.in-Frame.n refl).header
+
+pub invariant_of-result-clause-framed : goal.invariant_of-result-clause-framed
+invariant_of-result-clause-framed c =
+    ap (option_map (body_at c.args.bytes.now)) (c.in-Frame.ensures.table c.in-Frame.n refl).header ∙ ap Some (sym c.body_of.ensures)

@@ -4,7 +4,3 @@ use Rattle.fix_session.proofs.reader.Reader.look.Goals as goal
 pub invariant_of-self : goal.invariant_of-self
 invariant_of-self c =
     found_kept c.self.inside.framer c.find_due.new.framer c.self.inside.session c.find_due.new.verdict c.find_due.new.due c.find_due.ensures.held c.find_due.ensures.found
-
-pub invariant_of-self-2 : goal.invariant_of-self-2
-invariant_of-self-2 c =
-    found_kept c.self.inside.framer c.find_due.new.framer c.self.inside.session c.find_due.new.verdict c.find_due.new.due c.find_due.ensures.held c.find_due.ensures.found
