@@ -13,8 +13,8 @@ ghost use Rattle.order_books.specs.Pairs.{IsCheapest};
 use crate::cheapest::{MonthPairs, Queue, cheapest_pair, spreads_with};
 use order_books::{Book, PairCost};
 use spread_rules::{
-    Candidate, Counterparty, Instrument, Order, Rulebook, Side, better, candidate_for, is_within,
-    levels_meet,
+    Candidate, Counterparty, Instrument, Order, Rulebook, Side, candidate_for, is_within,
+    levels_meet, ranking,
 };
 
 /// Whether the front of the new order's own instrument stands within its limit. Only its price is read: most fronts do
@@ -65,8 +65,15 @@ fn offer_pair(new: &Order, best: &mut Option<Candidate>, first: Order, second: O
         ≡ better_of new.now best.old (candidate_of all_on new.now (Implied first second)) }
     ensures small { IfSome best.new HasLegPrice }
 {
-    let pair = candidate_for(new, Counterparty::Implied(first, second));
-    *best = better(new, *best, pair);
+    let Some(pair) = candidate_for(new, Counterparty::Implied(first, second)) else {
+        return;
+    };
+    if let Some(held) = best {
+        if ranking(new, held) <= ranking(new, &pair) {
+            return;
+        }
+    }
+    *best = Some(pair);
 }
 
 /// Whether the fronts of two queues make an implied candidate. Where they do not, no pair of these queues does. Only

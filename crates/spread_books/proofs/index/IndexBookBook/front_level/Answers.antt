@@ -10,8 +10,10 @@ use Rattle.spread_books.proofs.index.IndexBookBook.front_level.Goals as goal
 
 pub returns-then-is_in : goal.returns-then-is_in
 returns-then-is_in g c =
-    let front = subst (λ (r : Option Order). IsFront c.args.self.now.orders c.args.instrument c.args.side r) c.in_ok-front.was c.front.ensures in
-    (Some c.in_ok-front.front, front, ap (λ (l : Level). Some l) c.level.ensures)
+    let xs = c.self.inside.others.orders in
+    let o = c.in-Some.newest in
+    let whole : xs ++ o ∷ [] ≡ c.args.self.now.orders = ap (λ (r : Option Order). xs ++ option_to_list r) (sym c.in-Some.is) ∙ (ap (λ (v : BookView). v.orders) c.self.view_is) in
+    subst (λ (zs : List Order). IsFrontLevel zs c.args.instrument c.args.side (Some c.level_beside.result)) whole c.level_beside.ensures
 
 pub returns-else-is_in : goal.returns-else-is_in
 returns-else-is_in g c =
