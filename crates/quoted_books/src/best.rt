@@ -41,7 +41,14 @@ fn with_front<B: Book>(book: &B, new: &Order, best: &mut Option<Candidate>)
 {
     let side = new.side.opposite();
     if let Some(order) = book.front(new.instrument, side) {
-        *best = candidate_for(new, Counterparty::Direct(order));
+        let price = order.price;
+        if is_within(new, price) {
+            let counterparty = Counterparty::Direct(order);
+            *best = Some(Candidate {
+                price,
+                counterparty,
+            });
+        }
     }
 }
 

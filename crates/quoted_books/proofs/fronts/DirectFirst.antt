@@ -1,5 +1,5 @@
 -- a direct candidate that costs no more than the cheapest pair beats every pair
-use Rattle.std.proofs.Common.{◌≡◌, ℕ, ℤ, ◌≤ℤ◌, Bool, true, false, cond, List, All, Option, Some, None, IfSome, refl, subst, sym, arith}
+use Rattle.std.proofs.Common.{◌≡◌, ℕ, ℤ, ◌≤ℤ◌, Bool, true, false, ◌&&◌, cond, List, All, Option, Some, None, IfSome, refl, subst, sym, ap, ◌∙◌, arith}
 use Rattle.std.proofs.lemmas.Int.{ints}
 use Rattle.std.specs.Prelude.{int_lt}
 use Rattle.std.specs.Ordering.{int_cmp, is_lt}
@@ -8,7 +8,12 @@ use Rattle.spread_rules.specs.declared.order.Order.{Order}
 use Rattle.spread_rules.specs.declared.candidate.Candidate.{Candidate}
 use Rattle.spread_rules.specs.declared.candidate.Counterparty.{Counterparty}
 use Rattle.spread_rules.specs.declared.candidate.Counterparty.TheVariants.{Direct, Implied}
-use Rattle.spread_rules.specs.Candidates.{Pairs, all_on, cost, price_of, candidate_at, candidate_of, is_within_limit, rank_at, rank_cmp}
+use Rattle.spread_rules.specs.Candidates.{Pairs, all_on, cost, price_if, price_of, same_instrument, are_opposite, candidate_at, candidate_of, is_within_limit, rank_at, rank_cmp}
+use Rattle.spread_rules.specs.Legs.{other_side}
+use Rattle.spread_rules.specs.declared.order.Side.{Side}
+use Rattle.spread_rules.specs.declared.order.Side.TheVariants.{Buy, Sell}
+use Rattle.spread_rulebook.specs.declared.instrument.Instrument.{Instrument}
+use Rattle.order_books.proofs.fronts.FoldGivesFront.{same_instrument_itself}
 use Rattle.spread_rulebook.specs.Instruments.{month_of}
 use Rattle.quoted_books.specs.Listed.{IsNearFirst}
 use Rattle.quoted_books.specs.code.Best.{IsDirect, is_better, CoversBelow}
@@ -17,17 +22,18 @@ use Rattle.order_books.specs.Pairs.{IsCheapest}
 use Rattle.quoted_books.proofs.fronts.PairCost.{after_cost}
 use Rattle.quoted_books.proofs.fronts.MonthPairs.{cost_twice, eligible_pair, price_costs, too_dear}
 
-direct_if : (o : Order) (price : ℤ) (b : Bool) → IfSome (cond b (Some (record { price = price; counterparty = Direct o })) None) IsDirect
-direct_if o price true = (o, refl)
-direct_if o price false = tt
+opposite_sides : (s : Side) → are_opposite s (other_side s) ≡ true
+opposite_sides Buy = refl
+opposite_sides Sell = refl
 
-direct_at : (n o : Order) (price : Option ℤ) → IfSome (candidate_at n (Direct o) price) IsDirect
-direct_at n o None = tt
-direct_at n o (Some price) = direct_if o price (is_within_limit n.side n.price price)
-
--- what one order makes is a direct candidate
-pub is_direct : (n o : Order) → IfSome (candidate_of all_on n (Direct o)) IsDirect
-is_direct n o = direct_at n o (price_of all_on n (Direct o))
+-- an order that stands opposite makes a candidate where its price is within the limit
+pub direct_within : (n o : Order) → o.instrument ≡ n.instrument → o.side ≡ other_side n.side → candidate_of all_on n (Direct o) ≡ cond (is_within_limit n.side n.price o.price) (Some (record { price = o.price; counterparty = Direct o })) None
+direct_within n o same opposite =
+    let meets : price_of all_on n (Direct o) ≡ Some o.price = ap (λ (i : Instrument). price_if (same_instrument n.instrument i && are_opposite n.side o.side) o.price) same
+    ∙ ap (λ (s : Side). price_if (same_instrument n.instrument n.instrument && are_opposite n.side s) o.price) opposite
+    ∙ ap (λ (b : Bool). price_if (b && are_opposite n.side (other_side n.side)) o.price) (same_instrument_itself n.instrument)
+    ∙ ap (λ (b : Bool). price_if b o.price) (opposite_sides n.side) in
+    ap (candidate_at n (Direct o)) meets
 
 -- a pair that costs no less than one order does not rank before it
 behind_direct : (n o a b : Order) (price at : ℤ) (p : Counterparty) → p ≡ Direct o → cost n.side at ≤ℤ cost n.side price →
