@@ -1,11 +1,23 @@
 -- Where frames stand among the bytes that are held, and the places that follow frames.
-use Rattle.std.specs.Prelude.{◌≡◌, ℕ, ◌<◌, ◌≤◌, List, length, drop, slice_range}
+use Rattle.std.specs.Prelude.{◌≡◌, ℕ, ◌<◌, ◌≤◌, List, Option, Some, None, length, drop, slice_range}
 use Rattle.fix_frames.specs.declared.table.FrameTable.{FrameTable}
 use Rattle.fix_frames.specs.Frames.{IsFrame}
 use Rattle.fix_frames.specs.Held.{after_first_frame}
 use Rattle.fix_frames.specs.code.Tabled.{IsTableOf}
 use Rattle.fix_wire.specs.declared.framer.FramePlace.{FramePlace}
+use Rattle.fix_wire.specs.declared.framer.Look.{Look}
+use Rattle.fix_wire.specs.declared.framer.Look.TheVariants.{Message, Need}
 use Rattle.fix_wire.specs.Pieces.{SplitsInto}
+
+-- the frame of the message that a look finds, where one stands
+abbrev pub frame_from : Look → Option (List ℕ)
+frame_from (Message m n) = Some m.frame.now
+frame_from Need = None
+
+-- the place after it
+abbrev pub place_after : Look → Option ℕ
+place_after (Message m n) = Some n
+place_after Need = None
 
 -- the bytes from its start to its end
 abbrev pub frame_of : List ℕ → FramePlace → List ℕ

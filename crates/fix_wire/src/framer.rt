@@ -5,7 +5,7 @@ ghost use Rattle.std.specs.Borrow.{sem};
 ghost use Rattle.fix_frames.specs.Frames.{frames, frame_at};
 ghost use Rattle.fix_frames.specs.Held.{first_frame, from_first_start, after_first_frame};
 ghost use Rattle.fix_wire.specs.Next.{frame_in};
-ghost use Rattle.fix_wire.specs.FramePlaces.{frame_of, IsFramePlace, EndsFirst, FollowsFrames};
+ghost use Rattle.fix_wire.specs.FramePlaces.{frame_from, place_after, frame_of, IsFramePlace, EndsFirst, FollowsFrames};
 ghost use Rattle.fix_frames.specs.code.Tabled.{IsTableOf};
 ghost use denote.Follow.{follows_so};
 ghost use mathlib.Core.Option.{none};
@@ -44,6 +44,13 @@ impl Model for Framer {
 #[derive(Clone, Copy)]
 pub enum Next<'a> {
     Message(Message<'a>),
+    Need,
+}
+
+/// What a framer answers of a place: the first message from there on, with the place after it, or that none stands.
+#[derive(Clone, Copy)]
+pub enum Look<'a> {
+    Message(Message<'a>, usize),
     Need,
 }
 
@@ -179,6 +186,23 @@ impl Framer {
                 })
             }
             None => None,
+        }
+    }
+
+    /// The first message from a place of the held bytes on, and the place after it. Nothing changes. Its frame is tested
+    /// twice, and no table of its fields is kept: who asks for many messages calls `find` and `message`.
+    pub fn look(&self, at: usize) -> Look<'_>
+        requires { at ≤ length self.now }
+        ensures first { frame_from result ≡ first_frame (frames (drop at self.now)) }
+        ensures after { (n : ℕ) → place_after result ≡ Some n → EndsFirst self.now at n }
+    {
+        let mut table = FrameTable::empty();
+        let Some(place) = self.find(at, &mut table) else {
+            return Look::Need;
+        };
+        match Message::whole(&self.buffer[self.start + place.start..self.start + place.end]) {
+            Some(message) => Look::Message(message, place.end),
+            None => Look::Need,
         }
     }
 

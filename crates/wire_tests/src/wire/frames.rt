@@ -1,6 +1,6 @@
 //! Frames of streams, cut and garbled.
 use crate::day::{BUY, LOGON, LOGOUT, SELL};
-use fix_wire::{FrameTable, Framer, Message, Next};
+use fix_wire::{FrameTable, Framer, Look, Message, Next};
 use std::alloc::Allocator;
 use std::process::Abort;
 use test_support::FIRST_TRADE;
@@ -278,14 +278,22 @@ const LOOKED_AT_FROM_A_PLACE: &[Step] = &[
 /// What stands from a place on: the message and the place after it.
 fn expect_look(rt: &impl Abort, framer: &Framer, at: usize, want: Option<(&[u8], usize)>) {
     assert!(rt; at <= framer.held());
+    match (framer.look(at), want) {
+        (Look::Message(message, after), Some((frame, place))) => {
+            assert!(rt; message.bytes() == frame);
+            assert!(rt; after == place);
+        }
+        (Look::Need, None) => {}
+        _ => assert!(rt; false, "what stands from {at} on"),
+    }
     let mut table = FrameTable::empty();
     match (framer.find(at, &mut table), want) {
-        (Some(found), Some((frame, after))) => {
+        (Some(found), Some((frame, place))) => {
             assert!(rt; framer.message(found, &table).bytes() == frame);
-            assert!(rt; found.end == after);
+            assert!(rt; found.end == place);
         }
         (None, None) => {}
-        _ => assert!(rt; false, "what stands from {at} on"),
+        _ => assert!(rt; false, "where the next frame from {at} on stands"),
     }
 }
 
