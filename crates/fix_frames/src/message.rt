@@ -37,8 +37,8 @@ fn body_of(frame: &[u8], at: FrameHeader) -> &[u8]
 }
 
 impl<'a> Message<'a> {
-    /// The message whose frame the bytes are, if they are one lawful frame. No table of its fields is kept: each field is
-    /// looked for from the front.
+    /// The message whose frame the bytes are, if they are one lawful frame. No table of its fields is kept: each field
+    /// is looked for from the front.
     pub fn whole(bytes: &'a [u8]) -> Option<Message<'a>>
         ensures only { IsSome result ↔ IsFrame bytes.now }
         ensures same { IfSome result (λ m. m.frame.now ≡ bytes.now) }

@@ -169,7 +169,8 @@ impl Framer {
         self.peek(front_length)
     }
 
-    /// Where the first frame from a place of the held bytes on stands. Its fields become the table's; nothing else changes.
+    /// Where the first frame from a place of the held bytes on stands. Its fields become the table's; nothing else
+    /// changes.
     pub fn find(&self, at: usize, table: &mut FrameTable) -> Option<FramePlace>
         requires { at ≤ length self.now }
         ensures first { option_map (frame_of self.now) result ≡ first_frame (frames (drop at self.now)) }
@@ -189,8 +190,8 @@ impl Framer {
         }
     }
 
-    /// The first message from a place of the held bytes on, and the place after it. Nothing changes. Its frame is tested
-    /// twice, and no table of its fields is kept: who asks for many messages calls `find` and `message`.
+    /// The first message from a place of the held bytes on, and the place after it. Nothing changes. Its frame is
+    /// tested twice, and no table of its fields is kept: who asks for many messages calls `find` and `message`.
     pub fn look(&self, at: usize) -> Look<'_>
         requires { at ≤ length self.now }
         ensures first { frame_from result ≡ first_frame (frames (drop at self.now)) }

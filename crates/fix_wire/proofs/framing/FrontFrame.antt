@@ -5,6 +5,9 @@ use Rattle.std.specs.List.{between}
 use Rattle.std.proofs.lemmas.List.{length-take-le, length-drop}
 use Rattle.fix_wire.specs.declared.framer.Framer.TheInside.{Inside}
 use Rattle.fix_wire.specs.code.FramerFields.{held_of, IsKept}
+use Rattle.fix_wire.specs.declared.framer.FramePlace.{FramePlace}
+use Rattle.fix_wire.specs.FramePlaces.{frame_of}
+use Rattle.fix_wire.proofs.framing.HeldPart.{range_part}
 use Rattle.fix_frames.specs.Frames.{frame_at}
 use Rattle.fix_frames.specs.Held.{from_first_start}
 use Rattle.fix_frames.specs.declared.table.FrameTable.{FrameTable}
@@ -61,3 +64,8 @@ held_short f held full kept e =
     let len = range_length f.buffer f.start f.end (omega (arith, full, kept.room)) in
     let same = ap length e in
     omega (arith, len, same, kept.room)
+
+-- the bytes of the buffer at a place of a frame are those that are held there
+pub place_held : (f : Inside) (now : List ℕ) (p : FramePlace) → length f.buffer ≡ 8192 → IsKept f → held_of f ≡ now → p.start ≤ p.end → p.end ≤ length now → between (f.start + p.start) (f.start + p.end) f.buffer ≡ frame_of now p
+place_held f now p full kept is order within =
+    range_part f.buffer f.start p.start p.end f.end order (skip_within f p.end now full kept is within) ∙ ap (λ t. frame_of t p) is

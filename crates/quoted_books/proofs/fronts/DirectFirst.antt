@@ -1,6 +1,7 @@
--- a direct candidate that costs no more than the cheapest pair beats every pair
-use Rattle.std.proofs.Common.{◌≡◌, ℕ, ℤ, ◌≤ℤ◌, Bool, true, false, ◌&&◌, cond, List, All, Option, Some, None, IfSome, refl, subst, sym, ap, ◌∙◌, arith}
+-- The direct candidate of a front; where it costs no more than the cheapest pair, it beats every pair.
+use Rattle.std.proofs.Common.{◌≡◌, ℕ, ℤ, ◌≤ℤ◌, Bool, true, false, ◌&&◌, cond, List, All, Option, Some, None, IfSome, refl, subst, sym, ap, ◌∙◌, arith, to_z, of_z, w64}
 use Rattle.std.proofs.lemmas.Int.{ints}
+use Rattle.std.proofs.lemmas.List.Elements.{All-contains}
 use Rattle.std.specs.Prelude.{int_lt}
 use Rattle.std.specs.Ordering.{int_cmp, is_lt}
 use Rattle.spread_rulebook.specs.declared.instrument.Instrument.TheVariants.{Outright}
@@ -8,19 +9,22 @@ use Rattle.spread_rules.specs.declared.order.Order.{Order}
 use Rattle.spread_rules.specs.declared.candidate.Candidate.{Candidate}
 use Rattle.spread_rules.specs.declared.candidate.Counterparty.{Counterparty}
 use Rattle.spread_rules.specs.declared.candidate.Counterparty.TheVariants.{Direct, Implied}
-use Rattle.spread_rules.specs.Candidates.{Pairs, all_on, cost, price_if, price_of, same_instrument, are_opposite, candidate_at, candidate_of, is_within_limit, rank_at, rank_cmp}
+use Rattle.spread_rules.specs.Candidates.{Pairs, all_on, cost, price_if, price_of, same_instrument, are_opposite, candidate_at, candidate_of, is_within_limit, rank_at, rank_cmp, HasOrderPrice, HasLegPrice}
 use Rattle.spread_rules.specs.Legs.{other_side}
 use Rattle.spread_rules.specs.declared.order.Side.{Side}
 use Rattle.spread_rules.specs.declared.order.Side.TheVariants.{Buy, Sell}
 use Rattle.spread_rulebook.specs.declared.instrument.Instrument.{Instrument}
 use Rattle.order_books.proofs.fronts.FoldGivesFront.{same_instrument_itself}
 use Rattle.spread_rulebook.specs.Instruments.{month_of}
+use Rattle.spread_rulebook.specs.Prices.{IsLegPrice}
 use Rattle.quoted_books.specs.Listed.{IsNearFirst}
-use Rattle.quoted_books.specs.code.Best.{IsDirect, is_better, CoversBelow}
+use Rattle.quoted_books.specs.code.Best.{IsDirect, IsFair, IsBestDirect, is_better, CoversBelow, CoversOne}
 use Rattle.order_books.specs.declared.pair.PairCost.{PairCost}
 use Rattle.order_books.specs.Pairs.{IsCheapest}
+use Rattle.order_books.specs.Queues.{IsFront}
+use Rattle.quoted_books.proofs.fronts.BeatAnyPair.{front_beats, candidate_fair}
 use Rattle.quoted_books.proofs.fronts.PairCost.{after_cost}
-use Rattle.quoted_books.proofs.fronts.MonthPairs.{cost_twice, eligible_pair, price_costs, too_dear}
+use Rattle.quoted_books.proofs.fronts.MonthPairs.{cost_twice, eligible_pair, leg_is, price_costs, too_dear}
 
 opposite_sides : (s : Side) → are_opposite s (other_side s) ≡ true
 opposite_sides Buy = refl
@@ -34,6 +38,39 @@ direct_within n o same opposite =
     ∙ ap (λ (b : Bool). price_if (b && are_opposite n.side (other_side n.side)) o.price) (same_instrument_itself n.instrument)
     ∙ ap (λ (b : Bool). price_if b o.price) (opposite_sides n.side) in
     ap (candidate_at n (Direct o)) meets
+
+-- the candidate of a front, where its price is within the limit
+abbrev made : Order → Bool → Option Candidate
+made front within = cond within (Some (record { price = front.price; counterparty = Direct front })) None
+
+small_made : (front : Order) (b : Bool) → IsLegPrice front.price → IfSome (made front b) HasLegPrice
+small_made front true leg = leg
+small_made front false leg = tt
+
+direct_made : (front : Order) (b : Bool) → IfSome (made front b) IsDirect
+direct_made front true = (front, refl)
+direct_made front false = tt
+
+best_made : (n front : Order) (xs : List Order) (b : Bool) → IsLegPrice front.price → IsFront xs n.instrument (other_side n.side) (Some front) → b ≡ is_within_limit n.side n.price front.price → IsBestDirect n xs (made front b)
+best_made n front xs b leg first within =
+    let value : candidate_of all_on n (Direct front) ≡ made front b = direct_within n front first.0.instrument_is first.0.side_is ∙ ap (made front) (sym within) in
+    record {
+      fair = λ on. subst (IsFair on n xs) value (candidate_fair on n xs (Direct front) first.0.stands);
+      small = small_made front b leg;
+      direct = direct_made front b;
+      covers = λ on. subst (CoversOne on n xs n.instrument (other_side n.side)) value (front_beats on n xs n.instrument front first);
+    }
+
+-- it is the best direct candidate: the front stands opposite, and its price is compared as the code reads it
+pub front_made : (n front : Order) (xs : List Order) (side : Side) (b : Bool) → side ≡ other_side n.side → IsFront xs n.instrument side (Some front) → All HasOrderPrice xs → b ≡ is_within_limit n.side n.price (to_z w64 (of_z w64 front.price)) →
+    IsBestDirect n xs (cond b (Some (record { price = to_z w64 (of_z w64 front.price); counterparty = Direct front })) None)
+front_made n front xs side b opposite first small within =
+    let here = subst (λ (s : Side). IsFront xs n.instrument s (Some front)) opposite first in
+    let price = All-contains HasOrderPrice xs front small here.0.stands in
+    let leg : IsLegPrice front.price = record { low = grind (arith, price.low); high = grind (arith, price.high) } in
+    let is = leg_is front.price leg in
+    subst (λ (at : ℤ). IsBestDirect n xs (cond b (Some (record { price = at; counterparty = Direct front })) None)) (sym is)
+    (best_made n front xs b leg here (within ∙ ap (is_within_limit n.side n.price) is))
 
 -- a pair that costs no less than one order does not rank before it
 behind_direct : (n o a b : Order) (price at : ℤ) (p : Counterparty) → p ≡ Direct o → cost n.side at ≤ℤ cost n.side price →

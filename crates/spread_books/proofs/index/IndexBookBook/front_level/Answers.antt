@@ -13,7 +13,8 @@ returns-then-is_in g c =
     let xs = c.self.inside.others.orders in
     let o = c.in-Some.newest in
     let whole : xs ++ o ∷ [] ≡ c.args.self.now.orders = ap (λ (r : Option Order). xs ++ option_to_list r) (sym c.in-Some.is) ∙ (ap (λ (v : BookView). v.orders) c.self.view_is) in
-    subst (λ (zs : List Order). IsFrontLevel zs c.args.instrument c.args.side (Some c.level_beside.result)) whole c.level_beside.ensures
+    subst (λ (zs : List Order). IsFrontLevel zs c.args.instrument c.args.side (Some c.level.result)) whole
+    (Some c.front_beside.result, c.front_beside.ensures, ap (λ (l : Level). Some l) c.level.ensures)
 
 pub returns-else-is_in : goal.returns-else-is_in
 returns-else-is_in g c =
