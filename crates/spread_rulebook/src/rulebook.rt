@@ -170,9 +170,13 @@ impl Rulebook {
         ensures value { result ≡ find_symbol self.now symbol.now }
     {
         let _ = &self.tick;
+        // A spread first: its symbol is no month's name, and whoever looks for a name that no month has looks at all.
+        if let Some(spread) = self.spread_named(symbol) {
+            return Some(spread);
+        }
         match self.month_named(symbol) {
             Some(month) => Some(Instrument::Outright(month)),
-            None => self.spread_named(symbol),
+            None => None,
         }
     }
 

@@ -181,8 +181,3 @@ neither rules symbol a b (Spread m f) l = b m f l
 pub found_is : (rules : Rules) → IsRules rules → (symbol : List ℕ) (o : Option Instrument) → IfSome o (λ i. IsListed rules i × (symbol_of rules i ≡ symbol)) → IfNone o ((i : Instrument) → IsListed rules i → symbol_of rules i ≢ symbol) → o ≡ find_symbol rules symbol
 found_is rules r symbol None s n = sym (find_symbol_none rules symbol n)
 found_is rules r symbol (Some i) s n = sym (find_symbol_some rules r symbol i s.0 s.1)
-
-pub found_spread_is : (rules : Rules) → IsRules rules → (symbol : List ℕ) (o : Option Instrument) → ((m : ℕ) → m < month_count rules → get_or (names_of rules) m [] ≢ symbol) → IfSome o (λ i. IsListed rules i × (symbol_of rules i ≡ symbol))
-    → IfNone o ((m f : ℕ) → IsListed rules (Spread m f) → symbol_of rules (Spread m f) ≢ symbol) → o ≡ find_symbol rules symbol
-found_spread_is rules r symbol None a s n = sym (find_symbol_none rules symbol (neither rules symbol a n))
-found_spread_is rules r symbol (Some i) a s n = sym (find_symbol_some rules r symbol i s.0 s.1)
