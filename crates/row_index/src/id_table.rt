@@ -339,17 +339,31 @@ impl<A: Allocator + Copy> IdTable<A> {
     }
 
     /// More lines, where they would be crowded with so many keys more. After NoMemory look-ups answer as before.
+    #[inline(always)]
     pub fn reserve<R: IdRows>(&mut self, rows: &R, keys: usize) -> Result<(), NoMemory>
         requires { IsTableOf self.old (R.keys rows.now) }
         ensures { IsTableOf self.new (R.keys rows.now) }
     {
-        let count = self.lines.len();
-        let wanted = self.standing.saturating_add(keys);
-        if wanted > count.saturating_mul(CROWD) {
-            let lines = count.saturating_mul(GROWTH).max(lines_for(wanted));
-            let alloc = *self.lines.allocator();
-            *self = IdTable::of_rows(alloc, rows, lines)?;
+        if self.standing.saturating_add(keys) > self.lines.len().saturating_mul(CROWD) {
+            return self.grow(rows, keys);
         }
+        Ok(())
+    }
+
+    /// More lines, in which so many keys more are no crowd. A call of its own: it seldom comes.
+    #[inline(never)]
+    fn grow<R: IdRows>(&mut self, rows: &R, keys: usize) -> Result<(), NoMemory>
+        requires { IsTableOf self.old (R.keys rows.now) }
+        ensures { IsTableOf self.new (R.keys rows.now) }
+    {
+        let wanted = self.standing.saturating_add(keys);
+        let lines = self
+            .lines
+            .len()
+            .saturating_mul(GROWTH)
+            .max(lines_for(wanted));
+        let alloc = *self.lines.allocator();
+        *self = IdTable::of_rows(alloc, rows, lines)?;
         Ok(())
     }
 
