@@ -185,22 +185,23 @@ fn any_tag(text: &[u8]) -> Option<Tag>
     None
 }
 
-/// The tag of two digits that the text of a field begins with, if it does.
+/// The tag of two digits that the text of a field begins with, if it does. What a byte that is no digit adds is seen by
+/// the number, which is looked at once: a branch for each digit would be most of the work of a field.
 #[inline(always)]
 fn short_tag(text: &[u8]) -> Option<Tag>
     ensures field { IfSome result (λ t. Some (tag_view text.now t) ≡ field_of_text text.now) }
     ensures within { IfSome result (λ t. t.digits < length text.now) }
 {
-    if text.len() < 3 || text[2] != b'=' || !text[1].is_ascii_digit() {
+    if text.len() < 3 || text[2] != b'=' {
         return None;
     }
-    if !text[0].is_ascii_digit() || text[0] == b'0' {
+    let tens = u32::from(text[0].wrapping_sub(b'0'));
+    let units = u32::from(text[1].wrapping_sub(b'0'));
+    let number = tens * 10 + units;
+    if units > 9 || number < 10 || number > 99 {
         return None;
     }
-    Some(Tag {
-        number: u32::from(text[0] - b'0') * 10 + u32::from(text[1] - b'0'),
-        digits: 2,
-    })
+    Some(Tag { number, digits: 2 })
 }
 
 /// The tag that the text of a field begins with. Most have two digits, and those are read without a loop.

@@ -26,7 +26,10 @@ pub const TABLED_TAGS: usize = 23;
 /// How many places a table has: one more, for all other tags.
 pub const PLACES: usize = 24;
 
-/// The index of each tag below 128: from 0 in order of the tags, and 23 where the tag is not tabled.
+/// A tag that is not tabled, above all that are.
+const LAST_TAG: u32 = 127;
+
+/// The index of each tag up to the last: from 0 in order of the tags, and 23 where the tag is not tabled.
 static TAG_INDEXES: [u8; 128] = [
     23, 23, 23, 23, 23, 23, 23, 0, 23, 23, 23, 1, 23, 23, 23, 23, 2, 23, 23, 23, 23, 3, 23, 23, 23,
     23, 23, 23, 23, 23, 23, 23, 23, 23, 4, 5, 6, 23, 7, 23, 8, 9, 23, 10, 11, 23, 23, 23, 23, 12,
@@ -103,11 +106,7 @@ fn index_of(tag: u32) -> usize
     ensures index { result ≡ index_of tag }
     ensures within { result ≤ TABLED_TAGS }
 {
-    if tag < 128 {
-        usize::from(TAG_INDEXES[tag as usize])
-    } else {
-        TABLED_TAGS
-    }
+    usize::from(TAG_INDEXES[tag.min(LAST_TAG) as usize])
 }
 
 /// Whether the first bytes of a text, of that number, are a row of fields, and if so, their table.

@@ -1,7 +1,8 @@
-use Rattle.std.proofs.Common.{sym, ◌∙◌, arith}
-use Rattle.fix_frames.proofs.fields.ShortTags.{two_digits}
+use Rattle.std.proofs.Common.{arith}
+use Rattle.fix_frames.proofs.fields.ShortTags.{two_digits_left}
 use Rattle.fix_frames.proofs.frame.short_tag.Goals as goal
 
 pub returns-clause-field : goal.returns-clause-field
 returns-clause-field c =
-    two_digits c.args.text.now _ (omega arith) (sym c.is_ascii_digit-2.ensures.value ∙ c.if-not-is_ascii_digit-2.false) c.if-text-eq48.false (sym c.is_ascii_digit.ensures.value ∙ c.if-not-is_ascii_digit.false) c.if-text-ne61.false (omega (arith, c.from.ensures, c.from-2.ensures))
+    two_digits_left c.args.text.now c.from-tens.result c.from-units.result (omega (arith, c.if-text-lt3.false)) (λ i. (c.type_inv.text i).fits) c.from-tens.ensures c.from-units.ensures c.if-text-ne61.false c.if-units-gt9.false
+    c.if-number-lt10.false c.if-number-gt99.false

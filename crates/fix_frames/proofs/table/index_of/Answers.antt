@@ -1,12 +1,11 @@
-use Rattle.std.proofs.Common.{◌∙◌, arith}
-use Rattle.fix_frames.proofs.texts.TagIndexes.{short_tag, index_within}
+use Rattle.std.proofs.Common.{◌≤◌, get_or, ap, ◌∙◌, subst, sym}
+use Rattle.fix_frames.specs.declared.table.TheConstants.{TAG_INDEXES}
+use Rattle.fix_frames.proofs.texts.TagIndexes.{tag_index, index_within}
 use Rattle.fix_frames.proofs.table.index_of.Goals as goal
 
-pub returns-then-tag-lt128-clause-index : goal.returns-then-tag-lt128-clause-index
-returns-then-tag-lt128-clause-index c = c.from.ensures ∙ short_tag c.args.tag c.if-tag-lt128.true
+pub returns-clause-index : goal.returns-clause-index
+returns-clause-index c = c.from.ensures ∙ ap (λ t. get_or TAG_INDEXES t 0) c.min.ensures ∙ tag_index c.args.tag
 
-pub returns-then-tag-lt128-clause-within : goal.returns-then-tag-lt128-clause-within
-returns-then-tag-lt128-clause-within c =
-    let e = c.from.ensures ∙ short_tag c.args.tag c.if-tag-lt128.true in
-    let w = index_within c.args.tag in
-    omega (arith, e, w)
+pub returns-clause-within : goal.returns-clause-within
+returns-clause-within c =
+    subst (λ i. i ≤ 23) (sym (c.from.ensures ∙ ap (λ t. get_or TAG_INDEXES t 0) c.min.ensures ∙ tag_index c.args.tag)) (index_within c.args.tag)
