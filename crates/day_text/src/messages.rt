@@ -137,7 +137,7 @@ fn append_line<A: Allocator>(piece: &mut Vec<u8, A>, lead: &[u8], message: &[u8]
 {
     append(piece, lead);
     append(piece, message);
-    append(piece, b"\n");
+    piece.push_reserved(b'\n');
 }
 
 /// One message's line. The piece is written first where it has no room for the line.
