@@ -49,25 +49,6 @@ fn apply_each<B: Book, A: Allocator + Copy>(
     Ok(())
 }
 
-/// What comes of the entries of a journal, over an empty book.
-fn apply_all<B: Book + Drop, A: Allocator + Copy>(
-    alloc: A,
-    rulebook: &Rulebook,
-    book: B,
-    journal: &[Entry],
-) -> Result<Applied<A>, NoMemory>
-    requires empty { B.orders book ≡ [] }
-    requires entries { All FitsEntry journal.now }
-{
-    let mut market = Market::new(alloc, rulebook, book);
-    let mut applied = Applied {
-        fills: Vec::new(alloc),
-        outcomes: Vec::new(alloc),
-    };
-    apply_each(&mut market, journal, &mut applied)?;
-    Ok(applied)
-}
-
 /// Applies an entry that fits, its fills over those of the one before, and counts them.
 fn match_entry<B: Book, A: Allocator + Copy>(
     market: &mut Market<'_, B, A>,
@@ -149,7 +130,8 @@ pub fn time_match(
     Ok(())
 }
 
-/// Writes what the sessions of an applied journal are sent.
+/// Writes what the sessions of an applied journal are sent. The market stays until then, as it does in a day: what is
+/// freed decides how `malloc` grows the lists of messages.
 pub fn time_report(
     rt: &(impl CpuClock + Print + AllocGlobal),
     rules: &[u8],
@@ -158,7 +140,13 @@ pub fn time_report(
     let rulebook = rulebook_of(rules)?;
     let journal = read_journal(rt.alloc(), text)?;
     let book = IndexBook::new(rt.alloc(), &rulebook)?;
-    let applied = apply_all(rt.alloc(), &rulebook, book, &journal)?;
+    let mut market = Market::new(rt.alloc(), &rulebook, book);
+    market.reserve(journal.len())?;
+    let mut applied = Applied {
+        fills: Vec::new(rt.alloc()),
+        outcomes: Vec::new(rt.alloc()),
+    };
+    apply_each(&mut market, &journal, &mut applied)?;
     let mut lists = Vec::new(rt.alloc());
     let mut least = u64::MAX;
     for _ in 0..RUNS {
