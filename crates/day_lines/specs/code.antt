@@ -1,2 +1,2 @@
-pub mod LinesRead
 pub mod Lanes
+pub mod PiecesRead

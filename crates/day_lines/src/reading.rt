@@ -1,34 +1,82 @@
-//! A text of day lines, to its journal.
-ghost use Rattle.std.specs.Prelude.{IfOk, IfErr};
+//! A source of day lines, read to its end, to its journal.
+ghost use Rattle.std.specs.Prelude.{◌≡◌, ◌⊎◌, ◌+◌, ◌<◌, length, true, false, IfOk, IfErr, OnOk, IfSome, IsErrOf};
+ghost use Rattle.std.specs.Io.KnownBytes.{IsAtEnd};
+ghost use Rattle.host_base.specs.declared.limits.TheConstants.{MAX_INPUT_BYTES};
+ghost use Rattle.host_base.specs.Ends.{TakesAtMost};
+ghost use Rattle.fix_frames.specs.Texts.{with_soh};
 ghost use Rattle.spread_rules.specs.Journal.{IsLawful};
 ghost use Rattle.day_lines.specs.Reading.{IsJournalOf, HasParts, IsLinesFault};
+ghost use Rattle.day_lines.specs.code.PiecesRead.{HasRead, IsReading};
 
-use crate::lanes::journal_of_lines;
-use crate::laws::day_journal;
-use crate::lines::{LinesFault, put_field_ends, read_lines};
-use host_base::limits::MAX_JOURNAL_ENTRIES;
-use host_base::release;
+use crate::day_reader::DayReader;
+use crate::lines::LinesFault;
+use host_base::limits::MAX_INPUT_BYTES;
+use host_base::{Failed, Source};
 use spread_rules::Entry;
 use std::alloc::Allocator;
 
-/// The journal of a text of day lines. The text is used up: SOH stands where a `|` stood. Answers BadLine, naming the
-/// first bad line; or JournalFull, above 1,000,000 entries; NoMemory may stand anywhere between.
-pub fn read_day_lines<A: Allocator + Copy>(
+/// How many bytes one read takes at most.
+pub const CHUNK_BYTES: usize = 65_536;
+
+/// Reads a source to its end, past a bad line too.
+fn read_pieces<S: Source, A: Allocator + Copy>(
     alloc: A,
-    text: &mut [u8],
-) -> Result<Vec<Entry, A>, LinesFault>
-    ensures journal { IfOk result (λ journal. IsJournalOf text.old journal.items) }
-    ensures parts { IfOk result (λ journal. HasParts text.old journal.items) }
-    ensures lawful { IfOk result (λ journal. IsLawful journal.items) }
-    ensures fault { IfErr result (IsLinesFault text.old) }
+    source: &mut S,
+) -> Result<DayReader<A>, LinesFault>
+    requires { S.has_failed source.old ≡ false }
+    ensures whole { IfOk result (λ reader.
+        IfSome (S.left source.old) (λ input. HasRead (with_soh input) reader)) }
+    ensures reading { IfOk result IsReading }
+    ensures end { OnOk result (IsAtEnd (S.left source.new)) }
+    ensures sound { OnOk result (S.has_failed source.new ≡ false) }
+    ensures read { IsErrOf result LinesFault.Read → (S.has_failed source.new ≡ true)
+        ⊎ IfSome (S.left source.old) (λ input. MAX_INPUT_BYTES < length input) }
+    // One read more than the limit, and no further.
+    ensures taken { IsErrOf result LinesFault.Read →
+        TakesAtMost (S.left source.old) (S.left source.new) (MAX_INPUT_BYTES + CHUNK_BYTES) }
+    ensures fault { IfErr result (λ f. (f ≡ LinesFault.Read) ⊎ (f ≡ LinesFault.NoMemory)) }
 {
-    day_journal();
-    put_field_ends(text);
-    let lines = read_lines(alloc, text)?;
-    let journal = journal_of_lines(alloc, &lines)?;
-    release(lines);
-    if journal.len() > MAX_JOURNAL_ENTRIES {
-        return Err(LinesFault::JournalFull);
+    let mut reader = DayReader::new(alloc)?;
+    let mut piece = [0u8; CHUNK_BYTES];
+    let mut taken = 0;
+    loop {
+        let count = match source.read(&mut piece) {
+            Ok(count) => count,
+            Err(Failed) => return Err(LinesFault::Read),
+        };
+        if count == 0 {
+            return Ok(reader);
+        }
+        if count > MAX_INPUT_BYTES - taken {
+            return Err(LinesFault::Read);
+        }
+        reader.take_piece(&mut piece[..count])?;
+        taken += count;
     }
-    Ok(journal)
+}
+
+/// The journal of the day lines that a source gives, read a piece at a time. At most 16,777,216 bytes are taken, and one
+/// read more. Answers, the first that applies: Read, where the source failed or gave more; BadLine, naming the first bad
+/// line; JournalFull, above 1,000,000 entries. NoMemory may stand anywhere between.
+pub fn read_day_lines<S: Source, A: Allocator + Copy>(
+    alloc: A,
+    source: &mut S,
+) -> Result<Vec<Entry, A>, LinesFault>
+    requires { S.has_failed source.old ≡ false }
+    ensures journal { IfOk result (λ journal.
+        IfSome (S.left source.old) (λ input. IsJournalOf input journal.items)) }
+    ensures parts { IfOk result (λ journal.
+        IfSome (S.left source.old) (λ input. HasParts input journal.items)) }
+    ensures lawful { IfOk result (λ journal. IsLawful journal.items) }
+    ensures end { OnOk result (IsAtEnd (S.left source.new)) }
+    ensures sound { OnOk result (S.has_failed source.new ≡ false) }
+    ensures read { IsErrOf result LinesFault.Read → (S.has_failed source.new ≡ true)
+        ⊎ IfSome (S.left source.old) (λ input. MAX_INPUT_BYTES < length input) }
+    ensures taken { IsErrOf result LinesFault.Read →
+        TakesAtMost (S.left source.old) (S.left source.new) (MAX_INPUT_BYTES + CHUNK_BYTES) }
+    ensures fault { IfErr result (λ f.
+        IfSome (S.left source.old) (λ input. IsLinesFault input f)) }
+{
+    let reader = read_pieces(alloc, source)?;
+    reader.into_journal()
 }

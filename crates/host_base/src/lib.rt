@@ -20,4 +20,4 @@ pub use sink::{Sink, ToWriter};
 pub use source::{Failed, FromReader, Source};
 pub use test_ends::{TestSink, TestSource};
 pub use text::{after, cut_at, read_decimal, read_plain};
-pub use whole::{ReadFault, read_all, write_all};
+pub use whole::write_all;

@@ -1,8 +1,6 @@
 -- The numbers of faults.
 use Rattle.std.specs.Prelude.{ℕ}
 use Rattle.spread_host.specs.declared.fault.HostFault.{HostFault}
-use Rattle.host_base.specs.declared.whole.ReadFault.{ReadFault}
-use Rattle.host_base.specs.declared.whole.ReadFault.TheVariants as read
 use Rattle.day_lines.specs.declared.lines.LinesFault.{LinesFault}
 use Rattle.day_lines.specs.declared.lines.LinesFault.TheVariants as lines
 use Rattle.day_stages.specs.declared.fault.ThreadsFault.{ThreadsFault}
@@ -27,11 +25,8 @@ number_of (Journal fault) = 10
 
 -- ---- the fault of a run whose part has this fault
 
-abbrev pub of_read : ReadFault → HostFault
-of_read read.Read = Read
-of_read read.NoMemory = NoMemory 0
-
 abbrev pub of_lines : LinesFault → HostFault
+of_lines lines.Read = Read
 of_lines (lines.BadLine line) = DayLine line
 of_lines lines.JournalFull = JournalFull
 of_lines lines.NoMemory = NoMemory 0

@@ -1,13 +1,12 @@
 //! Why a run ended without its day.
 ghost use Rattle.std.specs.Prelude.{◌≡◌};
-ghost use Rattle.spread_host.specs.Faults.{number_of, of_apply, of_lines, of_read, of_text, of_threads};
+ghost use Rattle.spread_host.specs.Faults.{number_of, of_apply, of_lines, of_text, of_threads};
 
 use day_apply::ApplyFault;
 use day_lines::LinesFault;
 use day_text::TextFault;
 use day_threads::ThreadsFault;
 use gate_link::LinkFault;
-use host_base::ReadFault;
 use spread_journal::JournalFault;
 use spread_rules::RuleFault;
 use thiserror::Error;
@@ -70,24 +69,13 @@ impl HostFault {
     }
 }
 
-/// Want of memory for the input comes before any entry is begun.
-impl From<ReadFault> for HostFault {
-    ghost from_gives = { λ read f. f ≡ of_read read };
-
-    fn from(read: ReadFault) -> HostFault {
-        match read {
-            ReadFault::Read => HostFault::Read,
-            ReadFault::NoMemory => HostFault::NoMemory(0),
-        }
-    }
-}
-
 /// Want of memory for day lines comes before any entry is begun.
 impl From<LinesFault> for HostFault {
     ghost from_gives = { λ lines f. f ≡ of_lines lines };
 
     fn from(lines: LinesFault) -> HostFault {
         match lines {
+            LinesFault::Read => HostFault::Read,
             LinesFault::BadLine(line) => HostFault::DayLine(line),
             LinesFault::JournalFull => HostFault::JournalFull,
             LinesFault::NoMemory => HostFault::NoMemory(0),

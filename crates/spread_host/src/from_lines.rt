@@ -1,8 +1,8 @@
 //! A recorded day in one thread: day lines in, the day's text out.
 ghost use Rattle.std.specs.Prelude.{◌≡◌, ◌<◌, ◌⊎◌, ◌+◌, ◌≢◌, IfOk, IfErr, IfSome, OnOk, IsErrOf, length, true, false, Ok};
 ghost use Rattle.host_base.specs.declared.limits.TheConstants.{MAX_INPUT_BYTES};
-ghost use Rattle.host_base.specs.declared.whole.TheConstants.{CHUNK_BYTES};
 ghost use Rattle.host_base.specs.Ends.{TakesAtMost};
+ghost use Rattle.day_lines.specs.declared.reading.TheConstants.{CHUNK_BYTES};
 ghost use Rattle.spread_journal.specs.JournalReading.{ReadsJournal};
 ghost use Rattle.spread_journal.specs.JournalText.{journal_text};
 ghost use Rattle.spread_host.specs.Headline.{IsJournalOfText, HasFills, HasOutgoing, BoughtIsSold, PaidIsReceived, IsAlwaysQuiet, IsDayOf};
@@ -13,7 +13,7 @@ use crate::day::{day_of, write_day};
 use crate::fault::HostFault;
 use day_lines::read_day_lines;
 use day_text::Day;
-use host_base::{Id, Sink, Source, read_all, release};
+use host_base::{Id, Sink, Source};
 use spread_journal::laws::read_back;
 use spread_rules::Rulebook;
 use std::alloc::Allocator;
@@ -70,10 +70,7 @@ pub fn replay<S: Source, K: Sink, A: Allocator + Copy>(
 {
     // Cites that a journal's text is read back.
     read_back();
-    let mut text = read_all(alloc, source)?;
-    let journal = read_day_lines(alloc, &mut text)?;
-    // The day takes more room than the text, which is not needed any more.
-    release(text);
+    let journal = read_day_lines(alloc, source)?;
     let day = day_of(alloc, rulebook, stamp, journal)?;
     write_day(alloc, rulebook, &day, journal_only, sink)?;
     Ok(day)

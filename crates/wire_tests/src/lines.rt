@@ -1,8 +1,39 @@
 //! Day lines as they are read.
 use day_lines::laws::day_journal;
 use day_lines::{LinesFault, read_day_lines};
+use host_base::{FromReader, TestSource};
 use spread_rules::{Entry, Event};
+use std::alloc::Global;
+use std::io;
+use std::io::Read;
 use std::process::Abort;
+use test_support::Refusing;
+
+/// A reader that gives at most so many bytes at a time.
+#[derive(Drop)]
+struct Trickle {
+    left: &'static [u8],
+    most: usize,
+}
+
+impl Read for Trickle {
+    fn read(&mut self, buf: &mut [u8]) -> io::Result<usize> {
+        let count = buf.len().min(self.most).min(self.left.len());
+        let (now, later) = self.left.split_at(count);
+        buf[..count].copy_from_slice(now);
+        self.left = later;
+        Ok(count)
+    }
+}
+
+/// How many bytes come at a time.
+const SIZES: &[usize] = &[1, 2, 3, 64];
+
+/// What day lines give that come so many bytes at a time.
+fn read_by(alloc: Global, lines: &'static [u8], most: usize) -> Result<Vec<Entry>, LinesFault> {
+    let mut source = FromReader::new(Trickle { left: lines, most });
+    read_day_lines(alloc, &mut source)
+}
 
 /// Day lines, and the sessions that they name, in the sessions' order.
 const SESSIONS: &[(&[u8], &[u8])] = &[
@@ -21,10 +52,11 @@ const SESSIONS: &[(&[u8], &[u8])] = &[
 #[test]
 fn sessions_of_lines(rt: HostRuntime) {
     day_journal();
-    for (text, sessions) in SESSIONS {
-        let mut text = Vec::from_slice(rt.alloc(), text).expect(&rt, "memory");
-        let journal = read_day_lines(rt.alloc(), &mut text).expect(&rt, "day lines");
-        expect_closes(&rt, &journal, sessions);
+    for (lines, sessions) in SESSIONS {
+        for most in SIZES {
+            let journal = read_by(rt.alloc(), lines, *most).expect(&rt, "day lines");
+            expect_closes(&rt, &journal, sessions);
+        }
     }
 }
 
@@ -65,9 +97,92 @@ const BAD_LINES: &[(&[u8], u64)] = &[
 
 #[test]
 fn bad_day_lines(rt: HostRuntime) {
-    for (text, line) in BAD_LINES {
-        let mut text = Vec::from_slice(rt.alloc(), text).expect(&rt, "memory");
-        let fault = read_day_lines(rt.alloc(), &mut text).err();
-        assert!(rt; fault == Some(LinesFault::BadLine(*line)));
+    for (lines, line) in BAD_LINES {
+        for most in SIZES {
+            let fault = read_by(rt.alloc(), lines, *most).err();
+            assert!(rt; fault == Some(LinesFault::BadLine(*line)));
+        }
     }
+}
+
+/// A line of 150,000 bytes in the midst of others, which stands in three pieces.
+fn with_long_line(
+    rt: &impl Abort,
+    alloc: Global,
+    before: &[u8],
+    byte: u8,
+    after: &[u8],
+) -> Vec<u8> {
+    let mut lines = Vec::from_slice(alloc, before).expect(rt, "memory");
+    let length = lines.len().saturating_add(150_000);
+    lines.resize(length, byte).expect(rt, "memory");
+    lines.extend_from_slice(after).expect(rt, "memory");
+    lines
+}
+
+/// A line that goes over pieces is one line.
+#[test]
+fn line_over_pieces(rt: HostRuntime) {
+    let lines = with_long_line(&rt, rt.alloc(), b"3:a\n5:", b'x', b"\n9:b");
+    let mut source = TestSource::new(lines, 0);
+    let journal = read_day_lines(rt.alloc(), &mut source).expect(&rt, "day lines");
+    expect_closes(&rt, &journal, b"\x03\x05\x09");
+    let lines = with_long_line(&rt, rt.alloc(), b"3:a\n# ", b'x', b"\n\n16:b\n5:");
+    let mut source = TestSource::new(lines, 0);
+    let fault = read_day_lines(rt.alloc(), &mut source).err();
+    assert!(rt; fault == Some(LinesFault::BadLine(4)));
+}
+
+/// Day lines, the number of the read that fails (0: none), and the fault. A bad line does not end the reading.
+const FAILING: &[(&[u8], u32, Option<LinesFault>)] = &[
+    (b"3:", 0, None),
+    (b"3:", 1, Some(LinesFault::Read)),
+    (b"3:", 2, Some(LinesFault::Read)),
+    (b"3:", 3, None),
+    (b"x\n", 1, Some(LinesFault::Read)),
+    (b"x\n", 2, Some(LinesFault::Read)),
+    (b"x\n", 3, Some(LinesFault::BadLine(1))),
+];
+
+#[test]
+fn sources_that_fail(rt: HostRuntime) {
+    for (lines, fail, fault) in FAILING {
+        let lines = Vec::from_slice(rt.alloc(), lines).expect(&rt, "memory");
+        let mut source = TestSource::new(lines, *fail);
+        assert!(rt; read_day_lines(rt.alloc(), &mut source).err() == *fault);
+    }
+}
+
+/// 16,777,216 bytes are taken. Above them the source is not read, a bad line or not.
+#[test]
+fn too_many_bytes(rt: HostRuntime) {
+    for (length, fault) in [
+        (16_777_216, LinesFault::BadLine(1)),
+        (16_777_217, LinesFault::Read),
+    ] {
+        let mut lines = Vec::from_slice(rt.alloc(), b"x\n").expect(&rt, "memory");
+        lines.resize(length, b'#').expect(&rt, "memory");
+        let mut source = TestSource::new(lines, 0);
+        assert!(rt; read_day_lines(rt.alloc(), &mut source).err() == Some(fault));
+    }
+}
+
+/// NoMemory comes where a request was refused, and only there.
+#[test]
+fn lines_with_memory_refused(rt: HostRuntime) {
+    for number in 1..100u64 {
+        let heap = Refusing::new(rt.alloc(), number);
+        let mut source = FromReader::new(Trickle {
+            left: b"0:a\n# a line that is kept while it comes\n15:b",
+            most: 2,
+        });
+        match read_day_lines(&heap, &mut source) {
+            Ok(journal) => {
+                assert!(rt; !heap.has_refused() && journal.len() == 2 && number > 4);
+                return;
+            }
+            Err(fault) => assert!(rt; heap.has_refused() && fault == LinesFault::NoMemory),
+        }
+    }
+    assert!(rt; false);
 }

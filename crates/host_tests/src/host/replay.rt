@@ -47,7 +47,7 @@ const MESSAGES: &[u8] =
 /// What a day without entries writes.
 const EMPTY_TEXT: &[u8] = b"JOURNAL 2\nEND 0\nM H6 0 0 0 0\nM M6 0 0 0 0\nM U6 0 0 0 0\n";
 
-static REPLAYS: [Replay; 21] = [
+static REPLAYS: [Replay; 23] = [
     // Messages cut after each byte.
     Replay {
         lines: &[Piece::CutMessages],
@@ -86,6 +86,20 @@ static REPLAYS: [Replay; 21] = [
         journal_only: true,
         fault: None,
         written: Written::Whole(b"JOURNAL 2\n0 close 5\nEND 1\n"),
+    },
+    // A line that begins in one piece that is read and ends in the next.
+    Replay {
+        lines: &[
+            Piece::Bytes(b"#"),
+            Piece::Fill(b' ', 65_500),
+            Piece::Bytes(b"\n0:"),
+            Piece::Messages,
+        ],
+        fails: (0, 0),
+        room: 4096,
+        journal_only: false,
+        fault: None,
+        written: Written::FirstTrade,
     },
     // Lines that are no day lines.
     Replay {
@@ -176,6 +190,15 @@ static REPLAYS: [Replay; 21] = [
         journal_only: false,
         fault: None,
         written: Written::Whole(EMPTY_TEXT),
+    },
+    // A read that fails behind a bad line.
+    Replay {
+        lines: &[Piece::Bytes(b"x\n"), Piece::Fill(b' ', 149_998)],
+        fails: (3, 0),
+        room: 4096,
+        journal_only: false,
+        fault: Some(HostFault::Read),
+        written: Written::Whole(b""),
     },
     // Just enough room, and writes that fail.
     Replay {

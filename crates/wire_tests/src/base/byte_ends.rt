@@ -1,12 +1,9 @@
 //! Sources and sinks, over memory and over std.
 ghost use Rattle.std.specs.Prelude.{◌≡◌, false};
 
-use host_base::{
-    Failed, FromReader, ReadFault, Sink, TestSink, TestSource, ToWriter, read_all, write_all,
-};
+use host_base::{Failed, FromReader, Sink, Source, TestSink, TestSource, ToWriter, write_all};
 use std::io;
 use std::io::{ErrorKind, Read};
-use test_support::Refusing;
 
 /// What two writes into a sink with room for twelve bytes answer, and what is written then.
 fn written<K: Sink>(sink: &mut K) -> (Result<(), Failed>, Result<(), Failed>)
@@ -18,19 +15,34 @@ fn written<K: Sink>(sink: &mut K) -> (Result<(), Failed>, Result<(), Failed>)
     }
 }
 
-/// The number of the read that fails (0: none), and whether all is read then.
-const SOURCES: &[(u32, bool)] = &[(0, true), (1, false), (2, false), (3, true)];
+/// What two reads of a source answer, and the bytes that the first one gave.
+fn read_twice<S: Source>(source: &mut S, room: &mut [u8]) -> (Option<usize>, Option<usize>)
+    requires { S.has_failed source.old ≡ false }
+{
+    match source.read(room) {
+        Ok(count) => (Some(count), source.read(&mut [0u8; 16]).ok()),
+        Err(Failed) => (None, None),
+    }
+}
+
+/// The number of the read that fails (0: none), and how many bytes the first two reads give.
+const SOURCES: &[(u32, Option<usize>, Option<usize>)] = &[
+    (0, Some(9), Some(0)),
+    (1, None, None),
+    (2, Some(9), None),
+    (3, Some(9), Some(0)),
+];
 
 #[test]
 fn sources_in_memory(rt: HostRuntime) {
     let text = b"8=FIX.4.2";
-    for (fail, is_read) in SOURCES {
+    for (fail, first, second) in SOURCES {
         let bytes = Vec::from_slice(rt.alloc(), text).expect(&rt, "memory");
         let mut source = TestSource::new(bytes, *fail);
-        match read_all(rt.alloc(), &mut source) {
-            Ok(bytes) => assert!(rt; *is_read && bytes.as_slice() == text.as_slice()),
-            Err(fault) => assert!(rt; !*is_read && fault == ReadFault::Read),
-        }
+        let mut room = [0u8; 16];
+        let counts = read_twice(&mut source, &mut room);
+        assert!(rt; counts.0 == *first && counts.1 == *second);
+        assert!(rt; first.is_none() || room.starts_with(text));
     }
 }
 
@@ -52,36 +64,16 @@ fn sinks_in_memory(rt: HostRuntime) {
     }
 }
 
-/// NoMemory comes where a request was refused, and only there.
-#[test]
-fn reading_with_memory_refused(rt: HostRuntime) {
-    for number in 1..20u64 {
-        let heap = Refusing::new(rt.alloc(), number);
-        let text = Vec::from_slice(rt.alloc(), &[b'#'; 9000]).expect(&rt, "memory");
-        let mut source = TestSource::new(text, 0);
-        match read_all(&heap, &mut source) {
-            Ok(bytes) => {
-                assert!(rt; !heap.has_refused() && bytes.len() == 9000 && number > 1);
-                return;
-            }
-            Err(fault) => assert!(rt; heap.has_refused() && fault == ReadFault::NoMemory),
-        }
-    }
-    assert!(rt; false);
-}
-
 #[test]
 fn ends_over_std(rt: HostRuntime) {
     let text = b"10=220|";
     let mut source = FromReader::new(text.as_slice());
-    match read_all(rt.alloc(), &mut source) {
-        Ok(bytes) => {
-            let mut sink = ToWriter::new(Vec::new(rt.alloc()));
-            assert!(rt; write_all(&mut sink, &bytes) == Ok(()));
-            assert!(rt; bytes.as_slice() == text.as_slice());
-        }
-        Err(_) => assert!(rt; false),
-    }
+    let mut room = [0u8; 16];
+    let counts = read_twice(&mut source, &mut room);
+    assert!(rt; counts.0 == Some(7) && counts.1 == Some(0));
+    assert!(rt; room.starts_with(text));
+    let mut sink = ToWriter::new(Vec::new(rt.alloc()));
+    assert!(rt; write_all(&mut sink, text) == Ok(()));
 }
 
 /// A reader that a signal interrupts twice, and that then gives one byte.
@@ -109,8 +101,8 @@ impl Read for Interrupting {
 #[test]
 fn interrupted_reads(rt: HostRuntime) {
     let mut source = FromReader::new(Interrupting { left: 4 });
-    match read_all(rt.alloc(), &mut source) {
-        Ok(bytes) => assert!(rt; bytes.as_slice() == b"x".as_slice()),
-        Err(_) => assert!(rt; false),
-    }
+    let mut room = [0u8; 16];
+    let counts = read_twice(&mut source, &mut room);
+    assert!(rt; counts.0 == Some(1) && counts.1 == Some(0));
+    assert!(rt; room[0] == b'x');
 }

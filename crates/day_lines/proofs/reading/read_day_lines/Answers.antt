@@ -1,48 +1,28 @@
-use Rattle.std.proofs.Common.{◌≡◌, ℕ, List, ap, sym, ◌∙◌, refl, arith, Err, subst, length}
-use Rattle.spread_rules.specs.declared.event.Entry.{Entry}
-use Rattle.spread_rules.specs.Journal.{IsLawful, restricted}
-use Rattle.day_lines.specs.LineText.{lines_said}
-use Rattle.day_lines.specs.code.LinesRead.{said_by}
-use Rattle.day_lines.specs.declared.lines.Line.{Line}
-use Rattle.day_lines.specs.DayLines.{journal_of_lines}
-use Rattle.day_lines.proofs.PartsOfTheJournal.{said_of_sessions}
+use Rattle.std.proofs.Common.{ℕ, List}
+use Rattle.std.proofs.lemmas.Result.{IfOk-weaker, IfErr-weaker}
+use Rattle.fix_frames.specs.Texts.{with_soh}
+use Rattle.day_lines.specs.Reading.{IsJournalOf, HasParts, IsLinesFault}
+use Rattle.day_lines.specs.code.PiecesRead.{HasRead}
+use Rattle.day_lines.proofs.PiecesReadInTurn.{known}
 use Rattle.day_lines.proofs.reading.read_day_lines.Goals as goal
 
-pub returns-then-len-gt-MAX_JOURNAL_ENTRIES-clause-fault : goal.returns-then-len-gt-MAX_JOURNAL_ENTRIES-clause-fault
-returns-then-len-gt-MAX_JOURNAL_ENTRIES-clause-fault g c =
-    let lines = said_by c.in_ok-lines.lines.items in
-    let is : c.in_ok-journal.journal.items ≡ journal_of_lines lines = c.in_ok-journal.ensures ∙ ap (λ (ls : List Line). journal_of_lines (said_by ls)) c.deref.ensures.value in
-    let n : c.len.result ≡ length c.in_ok-journal.journal.items = c.len.ensures ∙ c.in_ok-journal.journal.ok.0 in
-    let l : length c.in_ok-journal.journal.items ≡ length (journal_of_lines lines) = ap (λ (es : List Entry). length es) is in
-    let many = c.if-len-gt-MAX_JOURNAL_ENTRIES.true in
-    record {
-      lines = lines;
-      said = ap lines_said (sym c.put_field_ends.ensures) ∙ c.in_ok-lines.ensures.lines;
-      many = omega (arith, n, l, many);
-    }
-
 pub returns-clause-journal : goal.returns-clause-journal
-returns-clause-journal g c = record {
-  lines = said_by c.in_ok-lines.lines.items;
-  said = ap lines_said (sym c.put_field_ends.ensures) ∙ c.in_ok-lines.ensures.lines;
-  journal_is = c.in_ok-journal.ensures ∙ ap (λ (ls : List Line). journal_of_lines (said_by ls)) c.deref.ensures.value;
-}
+returns-clause-journal g c =
+    let reader = c.in_ok-reader.reader in
+    IfOk-weaker c.into_journal.result _ _
+    (λ journal of. known (λ (input : List ℕ). HasRead (with_soh input) reader) (λ (input : List ℕ). IsJournalOf input journal.items) of (g.S.Source.left c.args.source.now) c.in_ok-reader.ensures.whole)
+    c.into_journal.ensures.journal
 
 pub returns-clause-parts : goal.returns-clause-parts
 returns-clause-parts g c =
-    let lines = said_by c.in_ok-lines.lines.items in
-    let is : c.in_ok-journal.journal.items ≡ journal_of_lines lines = c.in_ok-journal.ensures ∙ ap (λ (ls : List Line). journal_of_lines (said_by ls)) c.deref.ensures.value in
-    record {
-      lines = lines;
-      said = ap lines_said (sym c.put_field_ends.ensures) ∙ c.in_ok-lines.ensures.lines;
-      part = λ s. ap (restricted s) is ∙ c.day_journal.ensures.part s lines (said_of_sessions c.in_ok-lines.lines.items c.in_ok-lines.ensures.sessions);
-    }
+    let reader = c.in_ok-reader.reader in
+    IfOk-weaker c.into_journal.result _ _
+    (λ journal of. known (λ (input : List ℕ). HasRead (with_soh input) reader) (λ (input : List ℕ). HasParts input journal.items) of (g.S.Source.left c.args.source.now) c.in_ok-reader.ensures.whole)
+    c.into_journal.ensures.parts
 
-pub returns-clause-lawful : goal.returns-clause-lawful
-returns-clause-lawful g c =
-    let lines = said_by c.in_ok-lines.lines.items in
-    let is : c.in_ok-journal.journal.items ≡ journal_of_lines lines = c.in_ok-journal.ensures ∙ ap (λ (ls : List Line). journal_of_lines (said_by ls)) c.deref.ensures.value in
-    let n : c.len.result ≡ length c.in_ok-journal.journal.items = c.len.ensures ∙ c.in_ok-journal.journal.ok.0 in
-    let l : length c.in_ok-journal.journal.items ≡ length (journal_of_lines lines) = ap (λ (es : List Entry). length es) is in
-    let few = c.if-len-gt-MAX_JOURNAL_ENTRIES.false in
-    subst IsLawful (sym is) (c.day_journal.ensures.lawful lines (said_of_sessions c.in_ok-lines.lines.items c.in_ok-lines.ensures.sessions) (omega (arith, n, l, few)))
+pub returns-clause-fault : goal.returns-clause-fault
+returns-clause-fault g c =
+    let reader = c.in_ok-reader.reader in
+    IfErr-weaker c.into_journal.result _ _
+    (λ f of. known (λ (input : List ℕ). HasRead (with_soh input) reader) (λ (input : List ℕ). IsLinesFault input f) of (g.S.Source.left c.args.source.now) c.in_ok-reader.ensures.whole)
+    c.into_journal.ensures.fault

@@ -1,4 +1,4 @@
-use Rattle.std.proofs.Common.{◌≡◌, ℕ, List, sym, subst, ◌∙◌}
+use Rattle.std.proofs.Common.{ℕ, List, sym, subst}
 use Rattle.std.specs.Prelude.{IsErrOf}
 use Rattle.std.specs.Io.KnownBytes.{Appends}
 use Rattle.std.proofs.lemmas.Result.{err_from_is_err_and}
@@ -8,7 +8,7 @@ use Rattle.day_lines.specs.Reading.{IsJournalOf, HasParts}
 use Rattle.spread_host.specs.Days.{IsPartOut}
 use Rattle.spread_host.specs.Headline.{IsJournalOfText}
 use Rattle.spread_host.specs.declared.fault.HostFault.TheVariants as faults
-use Rattle.spread_host.proofs.LawfulJournals.{text_is, if_some}
+use Rattle.spread_host.proofs.LawfulJournals.{text_is, if_some, if_some_both}
 use Rattle.spread_host.proofs.from_lines.replay.Goals as goal
 
 pub day_of-requires : goal.day_of-requires
@@ -17,12 +17,9 @@ day_of-requires g c = c.in_ok-journal.ensures.lawful
 pub returns-clause-journal : goal.returns-clause-journal
 returns-clause-journal g c =
     let journal = c.in_ok-journal.journal.items in
-    if_some (λ (input : List ℕ). c.in_ok-text.text.items ≡ input) (λ (input : List ℕ). IsJournalOfText input c.in_ok-day.day.journal.items)
-    (λ input whole. let said = c.deref_mut.ensures.value ∙ whole in subst (λ (es : List Entry). IsJournalOfText input es) (sym c.in_ok-day.ensures.journal) record {
-      entries = subst (λ (t : List ℕ). IsJournalOf t journal) said c.in_ok-journal.ensures.journal;
-      parts = subst (λ (t : List ℕ). HasParts t journal) said c.in_ok-journal.ensures.parts;
-    })
-    (g.S.Source.left c.args.source.now) c.in_ok-text.ensures.whole
+    if_some_both (λ (input : List ℕ). IsJournalOf input journal) (λ (input : List ℕ). HasParts input journal) (λ (input : List ℕ). IsJournalOfText input c.in_ok-day.day.journal.items)
+    (λ input entries parts. subst (λ (es : List Entry). IsJournalOfText input es) (sym c.in_ok-day.ensures.journal) record { entries = entries; parts = parts })
+    (g.S.Source.left c.args.source.now) c.in_ok-journal.ensures.journal c.in_ok-journal.ensures.parts
 
 pub returns-clause-written : goal.returns-clause-written
 returns-clause-written g c =
@@ -46,13 +43,13 @@ returns-in_err-write_day-clause-write g c e =
     let journal = c.in_ok-day.day.journal.items in
     let text = text_is c.args.journal_only rules c.args.stamp journal _ _ c.in_ok-day.ensures.fills c.in_ok-day.ensures.day.texts in (
       w.0,
-      if_some (λ (input : List ℕ). c.in_ok-text.text.items ≡ input) (λ (input : List ℕ). IsPartOut c.args.journal_only rules c.args.stamp input (told c.args.sink.now) (told c.write_day.new.sink))
-          (λ input whole. record {
+      if_some (λ (input : List ℕ). IsJournalOf input c.in_ok-journal.journal.items) (λ (input : List ℕ). IsPartOut c.args.journal_only rules c.args.stamp input (told c.args.sink.now) (told c.write_day.new.sink))
+          (λ input entries. record {
             journal = journal;
-            is_of = subst (λ (es : List Entry). IsJournalOf input es) (sym c.in_ok-day.ensures.journal) (subst (λ (t : List ℕ). IsJournalOf t c.in_ok-journal.journal.items) (c.deref_mut.ensures.value ∙ whole) c.in_ok-journal.ensures.journal);
+            is_of = subst (λ (es : List Entry). IsJournalOf input es) (sym c.in_ok-day.ensures.journal) entries;
             part = subst (λ (t : List ℕ). AppendsPrefix (told c.args.sink.now) (told c.write_day.new.sink) t) text w.1;
           })
-          (g.S.Source.left c.args.source.now) c.in_ok-text.ensures.whole,
+          (g.S.Source.left c.args.source.now) c.in_ok-journal.ensures.journal,
     )
 
 pub returns-clause-read_again : goal.returns-clause-read_again
