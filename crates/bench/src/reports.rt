@@ -75,19 +75,23 @@ fn send<A: Allocator + Copy>(
     applied: &AppliedEntry<'_>,
     lists: &mut Vec<Vec<u8, A>, A>,
 ) -> Result<(), Fault> {
-    let AppliedEntry {
-        place,
-        entry,
-        outcome,
-        fills,
-    } = *applied;
-    if entry.session >= 16 || lists.len() != 16 {
+    if applied.entry.session >= 16 || lists.len() != 16 {
         return Err(Fault::Input);
     }
-    if !fits_outcome(rules, &entry.event, outcome) || !fit_fills(rules, fills) {
+    if !fits_outcome(rules, &applied.entry.event, applied.outcome) {
         return Err(Fault::Input);
     }
-    match desk.outgoing(rules, place, entry, outcome, fills, lists) {
+    if !fit_fills(rules, applied.fills) {
+        return Err(Fault::Input);
+    }
+    match desk.outgoing(
+        rules,
+        applied.place,
+        applied.entry,
+        applied.outcome,
+        applied.fills,
+        lists,
+    ) {
         Ok(()) => Ok(()),
         Err(DeskFault::NoMemory) => Err(Fault::NoMemory),
         Err(DeskFault::NumbersSpent) => Err(Fault::Input),
@@ -123,13 +127,15 @@ pub fn send_all<A: Allocator + Copy>(
     let mut lists = new_lists(alloc)?;
     let mut desk = Desk::new(Id::new(b"20260105-14:30:00").unwrap_or(Id::default()));
     let mut rest = applied.fills.as_slice();
-    let mut place = 0u64;
-    for (entry, outcome) in journal.iter().zip(applied.outcomes.iter()) {
-        place = place.wrapping_add(1);
+    for n in 0..journal.len() {
+        let Some(outcome) = applied.outcomes.get(n) else {
+            return Err(Fault::Input);
+        };
+        let place = n as u64 + 1;
         let (fills, others) = rest.split_at(made_at(rest, place));
         let one = AppliedEntry {
             place,
-            entry,
+            entry: &journal[n],
             outcome,
             fills,
         };

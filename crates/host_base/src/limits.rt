@@ -30,5 +30,5 @@ pub const MAX_LEG_PRICE: i64 = 2_000_000_000;
 pub const MAX_JOURNAL_ENTRIES: usize = 1_000_000;
 /// Events that wait in a session's ring, at least 1.
 pub const MAX_RING: usize = 4_096;
-/// Bytes of an input that is read as a whole: 16 MiB.
+/// Bytes of an input that is read to its end: 16 MiB.
 pub const MAX_INPUT_BYTES: usize = 16_777_216;
