@@ -118,6 +118,19 @@ impl Rulebook {
         self.switches.is_on(near, far)
     }
 
+    /// The month that is guessed to have this name, where it has.
+    fn month_guessed(&self, name: &[u8]) -> Option<u8>
+        ensures found { IfSome result (λ m.
+            (m < month_count self.now) × (get_or (names_of self.now) m [] ≡ name.now)) }
+    {
+        let months = &self.list.slots[..self.list.count];
+        let guess = self.guesses.month(name);
+        if usize::from(guess) < months.len() && name_in(months, guess) == name {
+            return Some(guess);
+        }
+        None
+    }
+
     /// The number of the month with this name: the one that is guessed, or one that is looked for.
     fn month_named(&self, name: &[u8]) -> Option<u8>
         ensures found { IfSome result (λ m.
@@ -125,12 +138,10 @@ impl Rulebook {
         ensures none { IfNone result ((m : ℕ)
             → m < month_count self.now → get_or (names_of self.now) m [] ≢ name.now) }
     {
-        let months = &self.list.slots[..self.list.count];
-        let guess = self.guesses.month(name);
-        if usize::from(guess) < months.len() && name_in(months, guess) == name {
-            return Some(guess);
+        match self.month_guessed(name) {
+            Some(month) => Some(month),
+            None => month_named(&self.list.slots[..self.list.count], name),
         }
-        month_named(months, name)
     }
 
     /// The spread with this symbol.
@@ -170,7 +181,10 @@ impl Rulebook {
         ensures value { result ≡ find_symbol self.now symbol.now }
     {
         let _ = &self.tick;
-        // A spread first: its symbol is no month's name, and whoever looks for a name that no month has looks at all.
+        if let Some(month) = self.month_guessed(symbol) {
+            return Some(Instrument::Outright(month));
+        }
+        // A spread's symbol is no month's name, and whoever looks for a name that no month has looks at all.
         if let Some(spread) = self.spread_named(symbol) {
             return Some(spread);
         }

@@ -1,7 +1,5 @@
-use Rattle.std.proofs.Common.{◌≡◌, ℕ, ◌-◌, ◌<◌, ◌≤◌, true, not, eqb, List, ◌++◌, length, drop, replicate, sym, ap, ◌∙◌, subst, arith}
-use Rattle.std.specs.List.{list_all}
+use Rattle.std.proofs.Common.{◌≡◌, ℕ, ◌-◌, List, ◌++◌, length, drop, replicate, sym, ap, ◌∙◌, subst}
 use Rattle.std.proofs.lemmas.List.{drop-replicate}
-use Rattle.std.proofs.lemmas.Bool.Decides.{nat_tests}
 use Rattle.host_base.specs.declared.id.Id.TheInside.{Inside}
 use Rattle.host_base.specs.code.IdFields.{IsKept}
 use Rattle.host_base.proofs.IdKept.{kept_new, id_parts}
