@@ -12,7 +12,7 @@ use spread_books::{Book, IndexBook};
 use spread_journal::read_journal;
 use spread_match::Market;
 use spread_rules::{Entry, Fill, Outcome, Rulebook};
-use std::alloc::{AllocGlobal, Allocator};
+use std::alloc::{AllocGlobal, Allocator, Global};
 use std::time::CpuClock;
 
 fn rulebook_of(text: &[u8]) -> Result<Rulebook, Fault> {
@@ -130,8 +130,46 @@ pub fn time_match(
     Ok(())
 }
 
-/// Writes what the sessions of an applied journal are sent. The market stays until then, as it does in a day: what is
-/// freed decides how `malloc` grows the lists of messages.
+/// Writes what the sessions of an applied journal are sent.
+fn time_messages(
+    rt: &(impl CpuClock + Print + AllocGlobal),
+    rulebook: &Rulebook,
+    journal: &[Entry],
+    applied: &Applied<Global>,
+) -> Result<(), Fault> {
+    let mut lists = Vec::new(rt.alloc());
+    let mut least = u64::MAX;
+    for _ in 0..RUNS {
+        let start = nanos(rt)?;
+        lists = send_all(rt.alloc(), rulebook, journal, applied)?;
+        least = least.min(nanos(rt)?.saturating_sub(start));
+    }
+    tell(rt, "report", scanned(&lists), "messages", least)?;
+    tell(rt, "report-bytes", bytes_of(&lists), "bytes", least)
+}
+
+/// The same of a journal applied over an empty book. The market stays until the messages are written, as it does in a
+/// day: what is freed decides how `malloc` grows the lists of messages.
+fn time_messages_over<B: Book + Drop>(
+    rt: &(impl CpuClock + Print + AllocGlobal),
+    rulebook: &Rulebook,
+    book: B,
+    journal: &[Entry],
+) -> Result<(), Fault>
+    requires empty { B.orders book ≡ [] }
+    requires entries { All FitsEntry journal.now }
+{
+    let mut market = Market::new(rt.alloc(), rulebook, book);
+    market.reserve(journal.len())?;
+    let mut applied = Applied {
+        fills: Vec::new(rt.alloc()),
+        outcomes: Vec::new(rt.alloc()),
+    };
+    apply_each(&mut market, journal, &mut applied)?;
+    time_messages(rt, rulebook, journal, &applied)
+}
+
+/// Writes what the sessions of a journal are sent, which is applied over the book that the host has.
 pub fn time_report(
     rt: &(impl CpuClock + Print + AllocGlobal),
     rules: &[u8],
@@ -140,20 +178,5 @@ pub fn time_report(
     let rulebook = rulebook_of(rules)?;
     let journal = read_journal(rt.alloc(), text)?;
     let book = IndexBook::new(rt.alloc(), &rulebook)?;
-    let mut market = Market::new(rt.alloc(), &rulebook, book);
-    market.reserve(journal.len())?;
-    let mut applied = Applied {
-        fills: Vec::new(rt.alloc()),
-        outcomes: Vec::new(rt.alloc()),
-    };
-    apply_each(&mut market, &journal, &mut applied)?;
-    let mut lists = Vec::new(rt.alloc());
-    let mut least = u64::MAX;
-    for _ in 0..RUNS {
-        let start = nanos(rt)?;
-        lists = send_all(rt.alloc(), &rulebook, &journal, &applied)?;
-        least = least.min(nanos(rt)?.saturating_sub(start));
-    }
-    tell(rt, "report", scanned(&lists), "messages", least)?;
-    tell(rt, "report-bytes", bytes_of(&lists), "bytes", least)
+    time_messages_over(rt, &rulebook, book, &journal)
 }

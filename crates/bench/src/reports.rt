@@ -127,16 +127,17 @@ pub fn send_all<A: Allocator + Copy>(
     let mut lists = new_lists(alloc)?;
     let mut desk = Desk::new(Id::new(b"20260105-14:30:00").unwrap_or(Id::default()));
     let mut rest = applied.fills.as_slice();
+    let outcomes = applied.outcomes.as_slice();
+    if outcomes.len() != journal.len() {
+        return Err(Fault::Input);
+    }
     for n in 0..journal.len() {
-        let Some(outcome) = applied.outcomes.get(n) else {
-            return Err(Fault::Input);
-        };
         let place = n as u64 + 1;
         let (fills, others) = rest.split_at(made_at(rest, place));
         let one = AppliedEntry {
             place,
             entry: &journal[n],
-            outcome,
+            outcome: &outcomes[n],
             fills,
         };
         send(&mut desk, rules, &one, &mut lists)?;

@@ -1,5 +1,5 @@
 //! A source of day lines, read to its end, to its journal.
-ghost use Rattle.std.specs.Prelude.{◌≡◌, ◌⊎◌, ◌+◌, ◌<◌, length, true, false, IfOk, IfErr, OnOk, IfSome, IsErrOf};
+ghost use Rattle.std.specs.Prelude.{◌≡◌, ◌≢◌, ◌⊎◌, ◌+◌, ◌<◌, length, true, false, IfOk, IfErr, OnOk, IfSome, IsErrOf};
 ghost use Rattle.std.specs.Io.KnownBytes.{IsAtEnd};
 ghost use Rattle.host_base.specs.declared.limits.TheConstants.{MAX_INPUT_BYTES};
 ghost use Rattle.host_base.specs.Ends.{TakesAtMost};
@@ -55,9 +55,10 @@ fn read_pieces<S: Source, A: Allocator + Copy>(
     }
 }
 
-/// The journal of the day lines that a source gives, read a piece at a time. At most 16,777,216 bytes are taken, and one
-/// read more. Answers, the first that applies: Read, where the source failed or gave more; BadLine, naming the first bad
-/// line; JournalFull, above 1,000,000 entries. NoMemory may stand anywhere between.
+/// The journal of the day lines that a source gives, read a piece at a time. At most 16,777,216 bytes are taken, and
+/// one read more. Answers, the first that applies: Read, where the source failed or gave more; BadLine, naming the
+/// first bad line; JournalFull, above 1,000,000 entries. The last two come of a source that was read to its end.
+/// NoMemory may stand anywhere between.
 pub fn read_day_lines<S: Source, A: Allocator + Copy>(
     alloc: A,
     source: &mut S,
@@ -76,6 +77,9 @@ pub fn read_day_lines<S: Source, A: Allocator + Copy>(
         TakesAtMost (S.left source.old) (S.left source.new) (MAX_INPUT_BYTES + CHUNK_BYTES) }
     ensures fault { IfErr result (λ f.
         IfSome (S.left source.old) (λ input. IsLinesFault input f)) }
+    // A bad line does not end the reading.
+    ensures read_on { IfErr result (λ f. f ≢ LinesFault.Read → f ≢ LinesFault.NoMemory →
+        IsAtEnd (S.left source.new) × (S.has_failed source.new ≡ false)) }
 {
     let reader = read_pieces(alloc, source)?;
     reader.into_journal()

@@ -71,6 +71,17 @@ fn put_short(room: &mut [u8], at: usize, number: u64) -> usize
     }
 }
 
+/// Any number. It stays a call of its own, so that the shorter ones keep no room for its digits.
+#[inline(never)]
+fn put_any(room: &mut [u8], at: usize, number: u64) -> usize
+    requires within { at + 20 ≤ length room.old }
+    ensures text { take result room.new ≡ take at room.old ++ decimal number }
+    ensures most { result ≤ at + 20 }
+    ensures size { length room.new ≡ length room.old }
+{
+    put(room, at, Buffer::new().format(number).as_bytes())
+}
+
 /// A number of at least five digits.
 fn put_long(room: &mut [u8], at: usize, number: u64) -> usize
     requires long { 10000 ≤ number }
@@ -84,7 +95,7 @@ fn put_long(room: &mut [u8], at: usize, number: u64) -> usize
         let ones = put_two(room, tens, number / 100);
         put_two(room, ones, number)
     } else {
-        put(room, at, Buffer::new().format(number).as_bytes())
+        put_any(room, at, number)
     }
 }
 

@@ -11,6 +11,7 @@ use Rattle.fix_wire.specs.declared.writer.Value.{Value}
 use Rattle.fix_wire.specs.declared.writer.Value.TheVariants.{Text, Number, Price, Pair}
 use Rattle.fix_wire.specs.declared.writer.Field as given
 use Rattle.fix_wire.specs.declared.writer.Head.{Head}
+use Rattle.fix_wire.specs.declared.writer.LentHead.{LentHead}
 use Rattle.fix_values.specs.Values.{price_text}
 use Rattle.fix_frames.specs.Fields.{TagValue}
 use Rattle.fix_frames.specs.Frames.{begin_text, checksum_field, IsFrame, frames}
@@ -29,6 +30,17 @@ field_text f = (decimal f.tag ++ (equals ∷ f.value)) ++ (SOH ∷ [])
 
 abbrev pub field : ℕ → List ℕ → TagValue
 field tag value = record { tag = tag; value = value }
+
+-- a head whose ids are lent, as a head
+abbrev pub head_lent : LentHead → Head
+head_lent h = record {
+  kind = h.kind;
+  number = h.number;
+  duplicate = h.duplicate;
+  sender = h.sender.now;
+  target = h.target.now;
+  stamp = h.stamp.now;
+}
 
 -- the fields of a duplicate alone
 abbrev pub only_if : Bool → TagValue → List TagValue

@@ -6,12 +6,12 @@ ghost use Rattle.host_base.specs.declared.limits.TheConstants.{MAX_ID_LENGTH};
 ghost use Rattle.fix_frames.specs.Frames.{begin_text, checksum_field};
 ghost use Rattle.host_base.specs.Ascii.{digit_zero};
 ghost use Rattle.host_base.specs.Ids.{is_plain};
-ghost use Rattle.fix_wire.specs.Layout.{value_text, field_text, head_fields, field_of_given, body_text, summed_text, FitsTypes, FitsValueOf, FitsValue};
+ghost use Rattle.fix_wire.specs.Layout.{head_lent, value_text, field_text, head_fields, field_of_given, body_text, summed_text, FitsTypes, FitsValueOf, FitsValue};
 ghost use Rattle.fix_values.specs.Values.{price_text};
 ghost use Rattle.fix_wire.specs.code.Spelling.{kind_text, orig_text};
 
 use crate::body::Body;
-use crate::writer::{Field, Head, Value};
+use crate::writer::{Field, LentHead, Value};
 use fix_frames::{BEGIN_BYTES, BEGIN_TEXT, CHECKSUM_BYTES, checksum, checksum_digits};
 use fix_values::{put, put_byte, put_number, put_price};
 use host_base::Id;
@@ -84,9 +84,9 @@ pub(crate) fn put_fields(room: &mut [u8], at: usize, fields: &[Field]) -> usize
 }
 
 /// MsgType, MsgSeqNum, and PossDupFlag in a duplicate; then the tag of SenderCompID.
-fn put_kind(room: &mut [u8], at: usize, head: &Head) -> usize
+fn put_kind(room: &mut [u8], at: usize, head: &LentHead<'_>) -> usize
     requires within { at + 37 ≤ length room.old }
-    ensures text { take result room.new ≡ take at room.old ++ kind_text head.now }
+    ensures text { take result room.new ≡ take at room.old ++ kind_text (head_lent head.now) }
     ensures most { result ≤ at + 37 }
     ensures range { head.now.number < 2 ^ 64 }
     ensures size { length room.new ≡ length room.old }
@@ -102,47 +102,47 @@ fn put_kind(room: &mut [u8], at: usize, head: &Head) -> usize
 }
 
 /// OrigSendingTime in a duplicate, up to its SOH.
-fn put_orig_time(room: &mut [u8], at: usize, head: &Head) -> usize
+fn put_orig_time(room: &mut [u8], at: usize, head: &LentHead<'_>) -> usize
     requires within { at + 37 ≤ length room.old }
-    ensures text { take result room.new ≡ take at room.old ++ orig_text head.now }
+    ensures text { take result room.new ≡ take at room.old ++ orig_text (head_lent head.now) }
     ensures most { result ≤ at + 37 }
     ensures size { length room.new ≡ length room.old }
 {
     if head.duplicate {
         let stamp = put(room, at, b"\x01122=");
-        put_id(room, stamp, &head.stamp)
+        put_id(room, stamp, head.stamp)
     } else {
         at
     }
 }
 
-fn put_head(room: &mut [u8], at: usize, head: &Head) -> usize
+fn put_head(room: &mut [u8], at: usize, head: &LentHead<'_>) -> usize
     requires within { at + 180 ≤ length room.old }
     ensures text { take result room.new
-        ≡ take at room.old ++ flat_map field_text (head_fields head.now) }
+        ≡ take at room.old ++ flat_map field_text (head_fields (head_lent head.now)) }
     ensures most { result ≤ at + 180 }
-    ensures types { FitsTypes head.now }
+    ensures types { FitsTypes (head_lent head.now) }
     ensures size { length room.new ≡ length room.old }
 {
     let sender = put_kind(room, at, head);
-    let time = put_id(room, sender, &head.sender);
+    let time = put_id(room, sender, head.sender);
     let stamp = put(room, time, b"\x0152=");
-    let to = put_id(room, stamp, &head.stamp);
+    let to = put_id(room, stamp, head.stamp);
     let target = put(room, to, b"\x0156=");
-    let rest = put_id(room, target, &head.target);
+    let rest = put_id(room, target, head.target);
     let end = put_orig_time(room, rest, head);
     put_byte(room, end, SOH)
 }
 
 /// MsgType to the last field.
-fn put_body<B: Body>(room: &mut [u8], at: usize, head: &Head, body: &B) -> usize
+fn put_body<B: Body>(room: &mut [u8], at: usize, head: &LentHead<'_>, body: &B) -> usize
     requires within { at + 64 * length (B.fields body.now) + 180 ≤ length room.old }
     ensures text { take result room.new
-        ≡ take at room.old ++ body_text head.now (B.fields body.now) }
-    ensures end { result ≡ at + length (body_text head.now (B.fields body.now)) }
+        ≡ take at room.old ++ body_text (head_lent head.now) (B.fields body.now) }
+    ensures end { result ≡ at + length (body_text (head_lent head.now) (B.fields body.now)) }
     ensures most { result ≤ at + 64 * length (B.fields body.now) + 180 }
     ensures size { length room.new ≡ length room.old }
-    ensures types { FitsTypes head.now }
+    ensures types { FitsTypes (head_lent head.now) }
     ensures values { AllByRecursion FitsValueOf (B.fields body.now) }
 {
     let rest = put_head(room, at, head);
@@ -177,16 +177,21 @@ fn set_three(room: &mut [u8], at: usize, number: usize)
 
 /// BeginString to the last field. Most bodies have a length of three digits, so three are left open and set once the body is
 /// written. A body of another length is written again, behind its length.
-pub(crate) fn put_summed<B: Body>(room: &mut [u8], start: usize, head: &Head, body: &B) -> usize
+pub(crate) fn put_summed<B: Body>(
+    room: &mut [u8],
+    start: usize,
+    head: &LentHead<'_>,
+    body: &B,
+) -> usize
     requires within { start + 64 * length (B.fields body.now) + 220 ≤ length room.old }
     ensures text { take result room.new
-        ≡ take start room.old ++ summed_text (body_text head.now (B.fields body.now)) }
+        ≡ take start room.old ++ summed_text (body_text (head_lent head.now) (B.fields body.now)) }
     ensures least { start ≤ result }
     ensures most { result ≤ start + 64 * length (B.fields body.now) + 220 }
     ensures size { length room.new ≡ length room.old }
-    ensures short { length (body_text head.now (B.fields body.now))
+    ensures short { length (body_text (head_lent head.now) (B.fields body.now))
         ≤ 64 * length (B.fields body.now) + 180 }
-    ensures types { FitsTypes head.now }
+    ensures types { FitsTypes (head_lent head.now) }
     ensures values { AllByRecursion FitsValueOf (B.fields body.now) }
 {
     let first = put(room, start, b"8=FIX.4.2\x019=000\x01");

@@ -2,7 +2,7 @@
 ghost use Rattle.std.specs.Prelude.{◌≡◌, ◌++◌, ◌≤◌, ◌*◌, ◌+◌, ◌^◌, ◌-◌, min, OnOk, OnErr, length, take};
 ghost use Rattle.std.specs.List.{AllByRecursion};
 ghost use Rattle.std.specs.Vec.{vec_len, vec_capacity};
-ghost use Rattle.fix_wire.specs.Layout.{body_text, message_text, FitsKind, FitsTags, FitsBody, FitsTypes, FitsValueOf, IsReadBack};
+ghost use Rattle.fix_wire.specs.Layout.{head_lent, body_text, message_text, FitsKind, FitsTags, FitsBody, FitsTypes, FitsValueOf, IsReadBack};
 
 use crate::body::{Body, FieldList};
 use crate::spelling::{put_checksum, put_summed};
@@ -36,6 +36,17 @@ pub struct Head {
     pub stamp: Id,
 }
 
+/// A head whose ids stay where they are: who sends many messages copies no id into each head.
+#[derive(Clone, Copy)]
+pub struct LentHead<'a> {
+    pub kind: u8,
+    pub number: u64,
+    pub duplicate: bool,
+    pub sender: &'a Id,
+    pub target: &'a Id,
+    pub stamp: &'a Id,
+}
+
 /// Room for a message with so many fields, whatever they hold.
 fn room_for(fields: usize) -> usize
     ensures { result ≡ min (64 * fields + 240) (2 ^ 64 - 1) }
@@ -61,7 +72,15 @@ pub fn write_message<A: Allocator>(
     out.reserve(most)?;
     let start = out.as_slice().len();
     let _ = out.resize(start + most, 0);
-    let end = put_message(out.as_mut_slice(), start, head, &FieldList { fields });
+    let lent = LentHead {
+        kind: head.kind,
+        number: head.number,
+        duplicate: head.duplicate,
+        sender: &head.sender,
+        target: &head.target,
+        stamp: &head.stamp,
+    };
+    let end = put_message(out.as_mut_slice(), start, &lent, &FieldList { fields });
     out.truncate(end);
     Ok(())
 }
@@ -71,18 +90,20 @@ pub fn write_message<A: Allocator>(
 pub fn write_body<A: Allocator, B: Body>(
     room: &mut [u8],
     out: &mut Vec<u8, A>,
-    head: &Head,
+    head: &LentHead<'_>,
     body: &B,
 ) -> Result<(), NoMemory>
     requires room { 64 * length (B.fields body.now) + 240 ≤ length room.old }
     ensures ok { OnOk result
-        (out.new.items ≡ out.old.items ++ message_text head.now (B.fields body.now)) }
+        (out.new.items ≡ out.old.items ++ message_text (head_lent head.now) (B.fields body.now)) }
     ensures err { OnErr result (out.new.items ≡ out.old.items) }
     ensures size { length room.new ≡ length room.old }
     ensures short { OnOk result
-        (length (body_text head.now (B.fields body.now)) ≤ 64 * length (B.fields body.now) + 180) }
-    ensures lawful { OnOk result (FitsKind head.now → FitsTags (B.fields body.now) →
-        FitsBody head.now (B.fields body.now) → IsReadBack head.now (B.fields body.now)) }
+        (length (body_text (head_lent head.now) (B.fields body.now))
+        ≤ 64 * length (B.fields body.now) + 180) }
+    ensures lawful { OnOk result (FitsKind (head_lent head.now) → FitsTags (B.fields body.now) →
+        FitsBody (head_lent head.now) (B.fields body.now) →
+        IsReadBack (head_lent head.now) (B.fields body.now)) }
 {
     let end = put_message(room, 0, head, body);
     out.extend_from_slice(&room[..end])?;
@@ -90,15 +111,15 @@ pub fn write_body<A: Allocator, B: Body>(
 }
 
 /// Writes a message at that place, and tells where it ends.
-fn put_message<B: Body>(room: &mut [u8], start: usize, head: &Head, body: &B) -> usize
+fn put_message<B: Body>(room: &mut [u8], start: usize, head: &LentHead<'_>, body: &B) -> usize
     requires within { start + 64 * length (B.fields body.now) + 240 ≤ length room.old }
     ensures text { take result room.new
-        ≡ take start room.old ++ message_text head.now (B.fields body.now) }
+        ≡ take start room.old ++ message_text (head_lent head.now) (B.fields body.now) }
     ensures end { result ≤ length room.new }
     ensures size { length room.new ≡ length room.old }
-    ensures short { length (body_text head.now (B.fields body.now))
+    ensures short { length (body_text (head_lent head.now) (B.fields body.now))
         ≤ 64 * length (B.fields body.now) + 180 }
-    ensures types { FitsTypes head.now }
+    ensures types { FitsTypes (head_lent head.now) }
     ensures values { AllByRecursion FitsValueOf (B.fields body.now) }
 {
     let end = put_summed(room, start, head, body);

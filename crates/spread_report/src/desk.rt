@@ -18,7 +18,7 @@ mod report_body;
 use crate::fault::DeskFault;
 use crate::outbound::{CompIds, OutboundSession};
 use entry::AppliedEntry;
-use fix_wire::{Body, Field, FieldList, Head, write_body};
+use fix_wire::{Body, Field, FieldList, LentHead, write_body};
 use host_base::Id;
 use host_base::limits::{MAX_MSG_SEQ_NUM, SESSIONS};
 use spread_rules::{Entry, Fill, Outcome, Rulebook};
@@ -157,20 +157,20 @@ impl Desk {
     {
         let at = session as usize;
         let outbound = self.sessions[at];
-        let comp_ids = outbound.comp_ids;
-        match comp_ids {
+        let stamp = self.stamp;
+        match &outbound.comp_ids {
             None => Ok(()),
             Some(ids) => {
                 if outbound.next > u64::from(MAX_MSG_SEQ_NUM) {
                     return Err(DeskFault::NumbersSpent);
                 }
-                let head = Head {
+                let head = LentHead {
                     kind,
                     number: outbound.next,
                     duplicate: false,
-                    sender: ids.host,
-                    target: ids.client,
-                    stamp: self.stamp,
+                    sender: &ids.host,
+                    target: &ids.client,
+                    stamp: &stamp,
                 };
                 write_body(&mut self.room, &mut lists[at], &head, body)?;
                 self.sessions[at].next = outbound.next + 1;

@@ -1,23 +1,11 @@
 //! Symbols and other short texts.
-ghost use Rattle.std.specs.Prelude.{◌≡◌, ◌≤◌, ◌<◌, ◌+◌, ◌++◌, ◌∷◌, true, length, take};
-ghost use Rattle.host_base.specs.Ids.{is_id};
+ghost use Rattle.std.specs.Prelude.{◌≡◌, ◌≤◌, ◌<◌, ◌+◌, ◌++◌, ◌∷◌, length, take};
 ghost use Rattle.host_base.specs.Ascii.{hyphen_minus};
 ghost use Rattle.spread_rulebook.specs.Rulebook.{IsListed, symbol_of};
 
 use host_base::Id;
 use host_base::limits::MAX_ID_LENGTH;
 use spread_rules::{Instrument, Rulebook};
-
-/// The id of a text that is one.
-pub fn known_id(text: &[u8]) -> Id
-    requires { is_id text.now ≡ true }
-    ensures { result ≡ text.now }
-{
-    match Id::new(text) {
-        Some(id) => id,
-        None => unreachable!(),
-    }
-}
 
 /// Writes two names with a dash between to the front of the text, and tells how many bytes they are.
 fn write_joined(text: &mut [u8], first: &[u8], second: &[u8]) -> usize
@@ -40,7 +28,7 @@ fn joined(near: &Id, far: &Id) -> Id
 {
     let mut text = [0; MAX_ID_LENGTH];
     let end = write_joined(&mut text, near.bytes(), far.bytes());
-    known_id(&text[..end])
+    Id::of(&text[..end])
 }
 
 /// The symbol of an instrument.

@@ -13,7 +13,7 @@ use Rattle.spread_report.specs.EntryMessages.{text_field, number_field, price_fi
 
 -- OrderID and ClOrdID
 abbrev pub order_fields : OrderReport → List Field
-order_fields r = number_field tags.ORDER_ID r.order_id ∷ text_field tags.CL_ORD_ID r.cl_ord_id ∷ []
+order_fields r = number_field tags.ORDER_ID r.order_id ∷ text_field tags.CL_ORD_ID r.cl_ord_id.now ∷ []
 
 -- ExecID, ExecTransType, ExecType and OrdStatus
 abbrev pub event_fields : OrderReport → List Field
@@ -27,7 +27,7 @@ event_fields r =
 -- Symbol, Side and OrderQty
 abbrev pub terms_fields : OrderReport → List Field
 terms_fields r =
-    text_field tags.SYMBOL r.symbol
+    text_field tags.SYMBOL r.symbol.now
     ∷ number_field tags.SIDE (side_code r.side)
     ∷ number_field tags.ORDER_QTY r.order_qty
     ∷ []
@@ -57,7 +57,7 @@ fields_of_reject r =
 abbrev pub fields_of_cancel : CancelReport → List Field
 fields_of_cancel r =
     order_fields r.order
-    ++ (text_field tags.ORIG_CL_ORD_ID r.original
+    ++ (text_field tags.ORIG_CL_ORD_ID r.original.now
     ∷ (event_fields r.order ++ (terms_fields r.order ++ left_fields r.order)))
 
 -- a report of a fill, with MultiLegReportingType

@@ -12,7 +12,6 @@ use super::Desk;
 use super::entry::{CancelRefusal, CancelRequest};
 use crate::codes::ENCRYPT_METHOD_NONE;
 use crate::fault::DeskFault;
-use crate::symbol::known_id;
 use fix_wire::{Field, Head, Value, msg_types, tags, write_message};
 use host_base::Id;
 use host_base::limits::SESSIONS;
@@ -109,10 +108,10 @@ impl Desk {
         if reason == close_reason::LOGOUT {
             self.send(lists, session, msg_types::LOGOUT, &[])
         } else if reason == close_reason::MSG_SEQ_NUM_TOO_LOW {
-            let fields = [text_field!(tags::TEXT, known_id(b"MsgSeqNum too low"))];
+            let fields = [text_field!(tags::TEXT, Id::of(b"MsgSeqNum too low"))];
             self.send(lists, session, msg_types::LOGOUT, &fields)
         } else if reason == close_reason::COMP_ID {
-            let fields = [text_field!(tags::TEXT, known_id(b"CompID"))];
+            let fields = [text_field!(tags::TEXT, Id::of(b"CompID"))];
             self.send(lists, session, msg_types::LOGOUT, &fields)
         } else {
             Ok(())
@@ -153,7 +152,7 @@ impl Desk {
                 let next = new_seq_no(outbound.next, u64::from(last));
                 let fields = [
                     number_field!(tags::NEW_SEQ_NO, next),
-                    text_field!(tags::GAP_FILL_FLAG, known_id(b"Y")),
+                    text_field!(tags::GAP_FILL_FLAG, Id::of(b"Y")),
                 ];
                 write_message(&mut lists[at], &head, &fields)?;
                 Ok(())
@@ -165,18 +164,18 @@ impl Desk {
     pub(super) fn cancel_reject<A: Allocator + Copy>(
         &mut self,
         lists: &mut [Vec<u8, A>],
-        request: &CancelRequest,
+        request: &CancelRequest<'_>,
         refusal: CancelRefusal,
     ) -> Result<(), DeskFault>
         requires lists { length lists.old ≡ SESSIONS }
         requires session { request.now.session < SESSIONS }
         ensures { Sends self.old self.new lists.old lists.new
             (numbered_message request.now.session ORDER_CANCEL_REJECT
-            (cancel_reject_fields refusal.response_to request.now.id request.now.original
+            (cancel_reject_fields refusal.response_to request.now.id.now request.now.original.now
             refusal.reason refusal.place refusal.status) ∷ []) result }
     {
         let named = if refusal.place == 0 {
-            Value::Text(known_id(b"NONE"))
+            Value::Text(Id::of(b"NONE"))
         } else {
             Value::Number(refusal.place)
         };
@@ -185,8 +184,8 @@ impl Desk {
                 tag: tags::ORDER_ID,
                 value: named,
             },
-            text_field!(tags::CL_ORD_ID, request.id),
-            text_field!(tags::ORIG_CL_ORD_ID, request.original),
+            text_field!(tags::CL_ORD_ID, *request.id),
+            text_field!(tags::ORIG_CL_ORD_ID, *request.original),
             number_field!(tags::ORD_STATUS, refusal.status as u64),
             number_field!(tags::CXL_REJ_RESPONSE_TO, refusal.response_to),
             number_field!(tags::CXL_REJ_REASON, refusal.reason as u64),

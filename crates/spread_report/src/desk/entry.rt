@@ -29,21 +29,21 @@ pub struct AppliedEntry<'a> {
 
 /// A new order, at its entry's place.
 #[derive(Clone, Copy)]
-pub struct NewOrder {
+pub struct NewOrder<'a> {
     pub place: u64,
     pub session: u8,
-    pub ticket: Ticket,
+    pub ticket: &'a Ticket,
 }
 
 /// A cancel request or a cancel/replace request, at its entry's place.
 #[derive(Clone, Copy)]
-pub struct CancelRequest {
+pub struct CancelRequest<'a> {
     pub place: u64,
     pub session: u8,
     /// Its own ClOrdID (tag 11).
-    pub id: Id,
+    pub id: &'a Id,
     /// The ClOrdID of the order that it names (OrigClOrdID, tag 41).
-    pub original: Id,
+    pub original: &'a Id,
 }
 
 /// Why such a request is refused, and what it says of the order that the request names.
@@ -97,7 +97,7 @@ impl Desk {
                 let order = NewOrder {
                     place,
                     session,
-                    ticket: *ticket,
+                    ticket,
                 };
                 self.new_entry(lists, rules, &order, applied.outcome, applied.fills)
             }
@@ -105,8 +105,8 @@ impl Desk {
                 let request = CancelRequest {
                     place,
                     session,
-                    id: *id,
-                    original: *original,
+                    id,
+                    original,
                 };
                 self.cancel_entry(lists, rules, &request, applied.outcome)
             }
@@ -126,16 +126,16 @@ impl Desk {
         &mut self,
         lists: &mut [Vec<u8, A>],
         rules: &Rulebook,
-        order: &NewOrder,
+        order: &NewOrder<'_>,
         outcome: &Outcome,
         fills: &[Fill],
     ) -> Result<(), DeskFault>
         requires lists { length lists.old ≡ SESSIONS }
         requires session { order.now.session < SESSIONS }
-        requires outcome { FitsNew order.now.ticket.quantity outcome.now }
+        requires outcome { FitsNew order.now.ticket.now.quantity outcome.now }
         requires fills { FitFills rules.now fills.now }
         ensures { Sends self.old self.new lists.old lists.new
-            (new_messages rules.now order.now.place order.now.session order.now.ticket
+            (new_messages rules.now order.now.place order.now.session order.now.ticket.now
             outcome.now fills.now) result }
     {
         match *outcome {
@@ -157,15 +157,15 @@ impl Desk {
         &mut self,
         lists: &mut [Vec<u8, A>],
         rules: &Rulebook,
-        order: &NewOrder,
+        order: &NewOrder<'_>,
         fills: &[Fill],
     ) -> Result<u64, DeskFault>
         requires lists { length lists.old ≡ SESSIONS }
         requires session { order.now.session < SESSIONS }
         requires fills { FitFills rules.now fills.now }
         ensures sent { Sends self.old self.new lists.old lists.new
-            (accepted_messages rules.now order.now.place order.now.session order.now.ticket
-            fills.now) result }
+            (accepted_messages rules.now order.now.place order.now.session
+            order.now.ticket.now fills.now) result }
         ensures index { IfOk result (λ i. i ≡ 2 + reports_of fills.now) }
     {
         self.accepted(lists, order)?;
@@ -177,15 +177,15 @@ impl Desk {
         &mut self,
         lists: &mut [Vec<u8, A>],
         rules: &Rulebook,
-        request: &CancelRequest,
+        request: &CancelRequest<'_>,
         outcome: &Outcome,
     ) -> Result<(), DeskFault>
         requires lists { length lists.old ≡ SESSIONS }
         requires session { request.now.session < SESSIONS }
         requires outcome { FitsCancel rules.now outcome.now }
         ensures { Sends self.old self.new lists.old lists.new
-            (cancel_messages rules.now request.now.place request.now.session request.now.id
-            request.now.original outcome.now) result }
+            (cancel_messages rules.now request.now.place request.now.session
+            request.now.id.now request.now.original.now outcome.now) result }
     {
         match *outcome {
             Outcome::Cancelled(order) => {
@@ -230,8 +230,8 @@ impl Desk {
         let request = CancelRequest {
             place: applied.place,
             session: applied.entry.session,
-            id: ticket.id,
-            original: *original,
+            id: &ticket.id,
+            original,
         };
         match *applied.outcome {
             Outcome::Replaced(order) => {

@@ -22,8 +22,8 @@ use std::alloc::Allocator;
 
 /// What one report of a fill tells: the whole fill, or one leg of a spread's.
 #[derive(Clone, Copy)]
-pub struct ReportedPart {
-    pub symbol: Id,
+pub struct ReportedPart<'a> {
+    pub symbol: &'a Id,
     pub side: Side,
     /// In hundredths.
     pub price: i64,
@@ -35,23 +35,23 @@ impl Desk {
     pub(super) fn accepted<A: Allocator + Copy>(
         &mut self,
         lists: &mut [Vec<u8, A>],
-        order: &NewOrder,
+        order: &NewOrder<'_>,
     ) -> Result<(), DeskFault>
         requires lists { length lists.old ≡ SESSIONS }
         requires session { order.now.session < SESSIONS }
         ensures { Sends self.old self.new lists.old lists.new
-            (report order.now.session (new_report order.now.place order.now.ticket) ∷ []) result }
+            (report order.now.session (new_report order.now.place order.now.ticket.now) ∷ []) result }
     {
-        let ticket = &order.ticket;
+        let ticket = order.ticket;
         let report = OrderReport {
             order_id: order.place,
-            cl_ord_id: ticket.id,
+            cl_ord_id: &ticket.id,
             exec_id: ExecId {
                 place: order.place,
                 index: 1,
             },
             ord_status: OrdStatus::New,
-            symbol: ticket.symbol,
+            symbol: &ticket.symbol,
             side: ticket.side,
             order_qty: ticket.quantity as u64,
             leaves_qty: ticket.quantity as u64,
@@ -64,26 +64,26 @@ impl Desk {
     pub(super) fn rejected<A: Allocator + Copy>(
         &mut self,
         lists: &mut [Vec<u8, A>],
-        order: &NewOrder,
+        order: &NewOrder<'_>,
         reason: u8,
     ) -> Result<(), DeskFault>
         requires lists { length lists.old ≡ SESSIONS }
         requires session { order.now.session < SESSIONS }
         ensures { Sends self.old self.new lists.old lists.new
-            (report order.now.session (rejected_report order.now.place order.now.ticket reason)
+            (report order.now.session (rejected_report order.now.place order.now.ticket.now reason)
             ∷ []) result }
     {
-        let ticket = &order.ticket;
+        let ticket = order.ticket;
         let report = RejectReport {
             order: OrderReport {
                 order_id: order.place,
-                cl_ord_id: ticket.id,
+                cl_ord_id: &ticket.id,
                 exec_id: ExecId {
                     place: order.place,
                     index: 1,
                 },
                 ord_status: OrdStatus::Rejected,
-                symbol: ticket.symbol,
+                symbol: &ticket.symbol,
                 side: ticket.side,
                 order_qty: ticket.quantity as u64,
                 leaves_qty: 0,
@@ -98,28 +98,28 @@ impl Desk {
     pub(super) fn ended<A: Allocator + Copy>(
         &mut self,
         lists: &mut [Vec<u8, A>],
-        order: &NewOrder,
+        order: &NewOrder<'_>,
         index: u64,
         left: u32,
     ) -> Result<(), DeskFault>
         requires lists { length lists.old ≡ SESSIONS }
         requires session { order.now.session < SESSIONS }
-        requires left { left ≤ order.now.ticket.quantity }
+        requires left { left ≤ order.now.ticket.now.quantity }
         ensures { Sends self.old self.new lists.old lists.new
-            (report order.now.session (ended_report order.now.place index order.now.ticket left)
+            (report order.now.session (ended_report order.now.place index order.now.ticket.now left)
             ∷ []) result }
     {
-        let ticket = &order.ticket;
+        let ticket = order.ticket;
         let filled = ticket.quantity - left;
         let report = OrderReport {
             order_id: order.place,
-            cl_ord_id: ticket.id,
+            cl_ord_id: &ticket.id,
             exec_id: ExecId {
                 place: order.place,
                 index,
             },
             ord_status: OrdStatus::Canceled,
-            symbol: ticket.symbol,
+            symbol: &ticket.symbol,
             side: ticket.side,
             order_qty: ticket.quantity as u64,
             leaves_qty: 0,
@@ -132,7 +132,7 @@ impl Desk {
     pub(super) fn cancelled<A: Allocator + Copy>(
         &mut self,
         lists: &mut [Vec<u8, A>],
-        request: &CancelRequest,
+        request: &CancelRequest<'_>,
         order: &Order,
         symbol: &Id,
     ) -> Result<(), DeskFault>
@@ -141,7 +141,7 @@ impl Desk {
         requires left { order.now.leaves ≤ order.now.quantity }
         ensures { Sends self.old self.new lists.old lists.new
             (report request.now.session (cancelled_report symbol.now request.now.place
-            request.now.id request.now.original order.now) ∷ []) result }
+            request.now.id.now request.now.original.now order.now) ∷ []) result }
     {
         let filled = order.quantity - order.leaves;
         let report = CancelReport {
@@ -153,7 +153,7 @@ impl Desk {
                     index: 1,
                 },
                 ord_status: OrdStatus::Canceled,
-                symbol: *symbol,
+                symbol,
                 side: order.side,
                 order_qty: order.quantity as u64,
                 leaves_qty: 0,
@@ -169,7 +169,7 @@ impl Desk {
     pub(super) fn replaced<A: Allocator + Copy>(
         &mut self,
         lists: &mut [Vec<u8, A>],
-        request: &CancelRequest,
+        request: &CancelRequest<'_>,
         order: &Order,
         symbol: &Id,
     ) -> Result<(), DeskFault>
@@ -178,7 +178,7 @@ impl Desk {
         requires left { order.now.leaves ≤ order.now.quantity }
         ensures { Sends self.old self.new lists.old lists.new
             (report request.now.session (replaced_report symbol.now request.now.place
-            request.now.id request.now.original order.now) ∷ []) result }
+            request.now.id.now request.now.original.now order.now) ∷ []) result }
     {
         let filled = order.quantity - order.leaves;
         let report = CancelReport {
@@ -190,7 +190,7 @@ impl Desk {
                     index: 1,
                 },
                 ord_status: OrdStatus::Replaced,
-                symbol: *symbol,
+                symbol,
                 side: order.side,
                 order_qty: order.quantity as u64,
                 leaves_qty: order.leaves as u64,
@@ -207,7 +207,7 @@ impl Desk {
         lists: &mut [Vec<u8, A>],
         exec_id: ExecId,
         fill: &Fill,
-        part: &ReportedPart,
+        part: &ReportedPart<'_>,
     ) -> Result<(), DeskFault>
         requires lists { length lists.old ≡ SESSIONS }
         requires session { fill.now.session < SESSIONS }
@@ -215,13 +215,13 @@ impl Desk {
         requires price { FitsSigned w64 part.now.price }
         ensures { Sends self.old self.new lists.old lists.new
             (report fill.now.session (fill_report exec_id.place exec_id.index fill.now
-            part.now.symbol part.now.side part.now.price part.now.multi_leg) ∷ []) result }
+            part.now.symbol.now part.now.side part.now.price part.now.multi_leg) ∷ []) result }
     {
         let filled = fill.total - fill.leaves;
         let report = FillReport {
             order: OrderReport {
                 order_id: fill.order,
-                cl_ord_id: fill.id,
+                cl_ord_id: &fill.id,
                 exec_id,
                 ord_status: fill_status(fill.leaves),
                 symbol: part.symbol,
@@ -255,15 +255,17 @@ impl Desk {
             (leg_reports months.0 months.1 rules.now exec_id.place exec_id.index fill.now)
             result }
     {
+        let near_month = rules.name_id(months.0);
+        let far_month = rules.name_id(months.1);
         let near = ReportedPart {
-            symbol: rules.name_id(months.0),
+            symbol: &near_month,
             side: fill.side,
             price: near_of(fill),
             multi_leg: MultiLegReportingType::IndividualLeg,
         };
         self.fill_part(lists, exec_id, fill, &near)?;
         let far = ReportedPart {
-            symbol: rules.name_id(months.1),
+            symbol: &far_month,
             side: other_side(fill.side),
             price: far_of(fill),
             multi_leg: MultiLegReportingType::IndividualLeg,
@@ -289,7 +291,7 @@ impl Desk {
         match fill.instrument {
             Instrument::Outright(_) => {
                 let part = ReportedPart {
-                    symbol,
+                    symbol: &symbol,
                     side: fill.side,
                     price: price_of(fill),
                     multi_leg: MultiLegReportingType::SingleSecurity,
@@ -298,7 +300,7 @@ impl Desk {
             }
             Instrument::Spread(near, far) => {
                 let part = ReportedPart {
-                    symbol,
+                    symbol: &symbol,
                     side: fill.side,
                     price: price_of(fill),
                     multi_leg: MultiLegReportingType::MultiLegSecurity,

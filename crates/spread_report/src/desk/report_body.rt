@@ -21,15 +21,15 @@ pub struct ExecId {
 
 /// What each report tells of its order.
 #[derive(Clone, Copy)]
-pub struct OrderReport {
+pub struct OrderReport<'a> {
     /// OrderID (tag 37).
     pub order_id: u64,
     /// ClOrdID (tag 11).
-    pub cl_ord_id: Id,
+    pub cl_ord_id: &'a Id,
     pub exec_id: ExecId,
     /// ExecType and OrdStatus (tags 150 and 39).
     pub ord_status: OrdStatus,
-    pub symbol: Id,
+    pub symbol: &'a Id,
     pub side: Side,
     /// OrderQty (tag 38).
     pub order_qty: u64,
@@ -41,24 +41,24 @@ pub struct OrderReport {
 
 /// A report of an order that is refused.
 #[derive(Clone, Copy)]
-pub struct RejectReport {
-    pub order: OrderReport,
+pub struct RejectReport<'a> {
+    pub order: OrderReport<'a>,
     /// OrdRejReason (tag 103).
     pub reason: u64,
 }
 
 /// A report of an order that a request cancelled or replaced.
 #[derive(Clone, Copy)]
-pub struct CancelReport {
-    pub order: OrderReport,
+pub struct CancelReport<'a> {
+    pub order: OrderReport<'a>,
     /// OrigClOrdID (tag 41).
-    pub original: Id,
+    pub original: &'a Id,
 }
 
 /// A report of a fill.
 #[derive(Clone, Copy)]
-pub struct FillReport {
-    pub order: OrderReport,
+pub struct FillReport<'a> {
+    pub order: OrderReport<'a>,
     /// LastShares (tag 32).
     pub last_shares: u64,
     /// LastPx (tag 31), in hundredths.
@@ -68,7 +68,7 @@ pub struct FillReport {
 }
 
 #[inline(always)]
-fn put_order(room: &mut [u8], at: usize, report: &OrderReport) -> usize
+fn put_order(room: &mut [u8], at: usize, report: &OrderReport<'_>) -> usize
     requires within { at + 128 ≤ length room.old }
     ensures text { take result room.new ≡ take at room.old
         ++ flat_map (λ f. field_text (field_of_given f)) (order_fields report.now) }
@@ -77,11 +77,11 @@ fn put_order(room: &mut [u8], at: usize, report: &OrderReport) -> usize
     ensures size { length room.new ≡ length room.old }
 {
     let at = put_field(room, at, &number_field!(tags::ORDER_ID, report.order_id));
-    put_field(room, at, &text_field!(tags::CL_ORD_ID, report.cl_ord_id))
+    put_field(room, at, &text_field!(tags::CL_ORD_ID, *report.cl_ord_id))
 }
 
 #[inline(always)]
-fn put_event(room: &mut [u8], at: usize, report: &OrderReport) -> usize
+fn put_event(room: &mut [u8], at: usize, report: &OrderReport<'_>) -> usize
     requires within { at + 256 ≤ length room.old }
     ensures text { take result room.new ≡ take at room.old
         ++ flat_map (λ f. field_text (field_of_given f)) (event_fields report.now) }
@@ -106,7 +106,7 @@ fn put_event(room: &mut [u8], at: usize, report: &OrderReport) -> usize
 }
 
 #[inline(always)]
-fn put_terms(room: &mut [u8], at: usize, report: &OrderReport) -> usize
+fn put_terms(room: &mut [u8], at: usize, report: &OrderReport<'_>) -> usize
     requires within { at + 192 ≤ length room.old }
     ensures text { take result room.new ≡ take at room.old
         ++ flat_map (λ f. field_text (field_of_given f)) (terms_fields report.now) }
@@ -114,13 +114,13 @@ fn put_terms(room: &mut [u8], at: usize, report: &OrderReport) -> usize
     ensures values { AllByRecursion FitsValueOf (terms_fields report.now) }
     ensures size { length room.new ≡ length room.old }
 {
-    let at = put_field(room, at, &text_field!(tags::SYMBOL, report.symbol));
+    let at = put_field(room, at, &text_field!(tags::SYMBOL, *report.symbol));
     let at = put_field(room, at, &number_field!(tags::SIDE, side_code(report.side)));
     put_field(room, at, &number_field!(tags::ORDER_QTY, report.order_qty))
 }
 
 #[inline(always)]
-fn put_left(room: &mut [u8], at: usize, report: &OrderReport) -> usize
+fn put_left(room: &mut [u8], at: usize, report: &OrderReport<'_>) -> usize
     requires within { at + 192 ≤ length room.old }
     ensures text { take result room.new ≡ take at room.old
         ++ flat_map (λ f. field_text (field_of_given f)) (left_fields report.now) }
@@ -152,14 +152,14 @@ fn put_last(room: &mut [u8], at: usize, quantity: u64, price: i64) -> usize
 
 /// The price that a report tells.
 #[inline(always)]
-fn price_of(report: &FillReport) -> i64
+fn price_of(report: &FillReport<'_>) -> i64
     ensures value { result ≡ report.now.last_px }
     ensures fits { FitsSigned w64 report.now.last_px }
 {
     report.last_px
 }
 
-impl Body for OrderReport {
+impl<'a> Body for OrderReport<'a> {
     ghost fields = { fields_of_order };
 
     fn count(&self) -> usize {
@@ -174,7 +174,7 @@ impl Body for OrderReport {
     }
 }
 
-impl Body for RejectReport {
+impl<'a> Body for RejectReport<'a> {
     ghost fields = { fields_of_reject };
 
     fn count(&self) -> usize {
@@ -190,7 +190,7 @@ impl Body for RejectReport {
     }
 }
 
-impl Body for CancelReport {
+impl<'a> Body for CancelReport<'a> {
     ghost fields = { fields_of_cancel };
 
     fn count(&self) -> usize {
@@ -199,14 +199,14 @@ impl Body for CancelReport {
 
     fn put(&self, room: &mut [u8], at: usize) -> usize {
         let at = put_order(room, at, &self.order);
-        let at = put_field(room, at, &text_field!(tags::ORIG_CL_ORD_ID, self.original));
+        let at = put_field(room, at, &text_field!(tags::ORIG_CL_ORD_ID, *self.original));
         let at = put_event(room, at, &self.order);
         let at = put_terms(room, at, &self.order);
         put_left(room, at, &self.order)
     }
 }
 
-impl Body for FillReport {
+impl<'a> Body for FillReport<'a> {
     ghost fields = { fields_of_fill };
 
     fn count(&self) -> usize {

@@ -1,6 +1,7 @@
 //! Messages as they are written.
 use fix_wire::{
-    Body, Field, FieldList, Head, Message, Value, put_field, read_price, write_body, write_message,
+    Body, Field, FieldList, Head, LentHead, Message, Value, put_field, read_price, write_body,
+    write_message,
 };
 use host_base::Id;
 use std::alloc::Allocator;
@@ -24,6 +25,18 @@ fn head(kind: u8, number: u64, duplicate: bool) -> Head {
         sender: id(b"HOST"),
         target: id(b"C1"),
         stamp: id(b"20260105-14:30:00"),
+    }
+}
+
+/// The same head, its ids lent.
+fn lent(head: &Head) -> LentHead<'_> {
+    LentHead {
+        kind: head.kind,
+        number: head.number,
+        duplicate: head.duplicate,
+        sender: &head.sender,
+        target: &head.target,
+        stamp: &head.stamp,
     }
 }
 
@@ -201,7 +214,8 @@ fn written_lengths(rt: HostRuntime) {
             fields: &fields[..*count],
         };
         let mut out = Vec::new(rt.alloc());
-        write_body(&mut room, &mut out, &head(b'0', 2, false), &list).expect(&rt, "memory");
+        let given = head(b'0', 2, false);
+        write_body(&mut room, &mut out, &lent(&given), &list).expect(&rt, "memory");
         assert!(rt; out.as_slice().starts_with(begin));
         assert!(rt; Message::whole(&out).is_some());
         assert!(rt; list.count() == *count);

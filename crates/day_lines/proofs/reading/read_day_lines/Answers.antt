@@ -1,28 +1,30 @@
-use Rattle.std.proofs.Common.{ℕ, List}
+use Rattle.std.proofs.Common.{ℕ, List, Option, IfSome}
+use Rattle.std.proofs.lemmas.Option.{IfSome_then}
 use Rattle.std.proofs.lemmas.Result.{IfOk-weaker, IfErr-weaker}
 use Rattle.fix_frames.specs.Texts.{with_soh}
 use Rattle.day_lines.specs.Reading.{IsJournalOf, HasParts, IsLinesFault}
 use Rattle.day_lines.specs.code.PiecesRead.{HasRead}
-use Rattle.day_lines.proofs.PiecesReadInTurn.{known}
+use Rattle.day_lines.specs.declared.day_reader.DayReader.{DayReader}
 use Rattle.day_lines.proofs.reading.read_day_lines.Goals as goal
+
+-- what a reader answers of each input that it may have read is so of what its source had left, where that is known
+of_source : {A X : Type 0} (reader : DayReader A) (left : Option (List ℕ)) → IfSome left (λ input. HasRead (with_soh input) reader) → (P : List ℕ → X → Type 0) (x : X) → ((input : List ℕ) → HasRead (with_soh input) reader → P input x) → IfSome left (λ input. P input x)
+of_source reader left whole P x of = IfSome_then left whole of
 
 pub returns-clause-journal : goal.returns-clause-journal
 returns-clause-journal g c =
-    let reader = c.in_ok-reader.reader in
     IfOk-weaker c.into_journal.result _ _
-    (λ journal of. known (λ (input : List ℕ). HasRead (with_soh input) reader) (λ (input : List ℕ). IsJournalOf input journal.items) of (g.S.Source.left c.args.source.now) c.in_ok-reader.ensures.whole)
+    (λ journal. of_source c.in_ok-reader.reader (g.S.Source.left c.args.source.now) c.in_ok-reader.ensures.whole (λ input es. IsJournalOf input es.items) journal)
     c.into_journal.ensures.journal
 
 pub returns-clause-parts : goal.returns-clause-parts
 returns-clause-parts g c =
-    let reader = c.in_ok-reader.reader in
     IfOk-weaker c.into_journal.result _ _
-    (λ journal of. known (λ (input : List ℕ). HasRead (with_soh input) reader) (λ (input : List ℕ). HasParts input journal.items) of (g.S.Source.left c.args.source.now) c.in_ok-reader.ensures.whole)
+    (λ journal. of_source c.in_ok-reader.reader (g.S.Source.left c.args.source.now) c.in_ok-reader.ensures.whole (λ input es. HasParts input es.items) journal)
     c.into_journal.ensures.parts
 
 pub returns-clause-fault : goal.returns-clause-fault
 returns-clause-fault g c =
-    let reader = c.in_ok-reader.reader in
     IfErr-weaker c.into_journal.result _ _
-    (λ f of. known (λ (input : List ℕ). HasRead (with_soh input) reader) (λ (input : List ℕ). IsLinesFault input f) of (g.S.Source.left c.args.source.now) c.in_ok-reader.ensures.whole)
+    (λ fault. of_source c.in_ok-reader.reader (g.S.Source.left c.args.source.now) c.in_ok-reader.ensures.whole IsLinesFault fault)
     c.into_journal.ensures.fault

@@ -1,6 +1,7 @@
 use Rattle.std.proofs.Common.{ℕ, List, sym, subst}
 use Rattle.std.specs.Prelude.{IsErrOf}
 use Rattle.std.specs.Io.KnownBytes.{Appends}
+use Rattle.std.proofs.lemmas.Option.{IfSome_then}
 use Rattle.std.proofs.lemmas.Result.{err_from_is_err_and}
 use Rattle.host_base.specs.Ends.{AppendsPrefix}
 use Rattle.spread_rules.specs.declared.event.Entry.{Entry}
@@ -8,7 +9,7 @@ use Rattle.day_lines.specs.Reading.{IsJournalOf, HasParts}
 use Rattle.spread_host.specs.Days.{IsPartOut}
 use Rattle.spread_host.specs.Headline.{IsJournalOfText}
 use Rattle.spread_host.specs.declared.fault.HostFault.TheVariants as faults
-use Rattle.spread_host.proofs.LawfulJournals.{text_is, if_some, if_some_both}
+use Rattle.spread_host.proofs.LawfulJournals.{text_is, if_some_both}
 use Rattle.spread_host.proofs.from_lines.replay.Goals as goal
 
 pub day_of-requires : goal.day_of-requires
@@ -43,13 +44,12 @@ returns-in_err-write_day-clause-write g c e =
     let journal = c.in_ok-day.day.journal.items in
     let text = text_is c.args.journal_only rules c.args.stamp journal _ _ c.in_ok-day.ensures.fills c.in_ok-day.ensures.day.texts in (
       w.0,
-      if_some (λ (input : List ℕ). IsJournalOf input c.in_ok-journal.journal.items) (λ (input : List ℕ). IsPartOut c.args.journal_only rules c.args.stamp input (told c.args.sink.now) (told c.write_day.new.sink))
+      IfSome_then (g.S.Source.left c.args.source.now) {P = λ (input : List ℕ). IsJournalOf input c.in_ok-journal.journal.items} {Q = λ (input : List ℕ). IsPartOut c.args.journal_only rules c.args.stamp input (told c.args.sink.now) (told c.write_day.new.sink)} c.in_ok-journal.ensures.journal
           (λ input entries. record {
             journal = journal;
             is_of = subst (λ (es : List Entry). IsJournalOf input es) (sym c.in_ok-day.ensures.journal) entries;
             part = subst (λ (t : List ℕ). AppendsPrefix (told c.args.sink.now) (told c.write_day.new.sink) t) text w.1;
-          })
-          (g.S.Source.left c.args.source.now) c.in_ok-journal.ensures.journal,
+          }),
     )
 
 pub returns-clause-read_again : goal.returns-clause-read_again

@@ -7,4 +7,4 @@ pub returns-clause-sent : goal.returns-clause-sent
 returns-clause-sent g c =
     let o = c.args.order.now in
     sends_after c.args.self.now c.accepted.new.self c.all_fills.new.self c.args.lists.now c.accepted.new.lists c.all_fills.new.lists
-    (report o.session (new_report o.place o.ticket) ∷ []) (fills_reports c.args.rules.now o.place 2 c.args.fills.now) tt c.all_fills.result c.in_ok-accepted.ensures c.all_fills.ensures.sent
+    (report o.session (new_report o.place o.ticket.now) ∷ []) (fills_reports c.args.rules.now o.place 2 c.args.fills.now) tt c.all_fills.result c.in_ok-accepted.ensures c.all_fills.ensures.sent

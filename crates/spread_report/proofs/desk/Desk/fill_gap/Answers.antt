@@ -30,9 +30,9 @@ returns-in_ok-write_message-in-Some g c =
           gap_line i.stamp i.sessions c.args.lists.now c.args.session c.args.first c.args.last r c.index-lists-at.result c.in-Some.ids c.write_message.new.out _
           c.self.invariant.count c.requires.lists c.requires.session is_r c.in-Some.is
           c.in_ok-write_message-in-Some.ensures.ok
-          (gap_text i.stamp c.in-Some.ids r.next c.args.first c.args.last c.from-number.result c.new_seq_no-next.result c.from.result c.known_id.result
-          c.from-number.ensures c.new_seq_no-next.ensures c.from.ensures c.known_id.ensures below)
-          (written_row (head_of i.stamp c.in-Some.ids 52 c.from-number.result true) (number_field 36 c.new_seq_no-next.result ∷ text_field 123 c.known_id.result ∷ []) (omega arith) refl (omega arith) c.in_ok-write_message-in-Some.ensures.short c.in_ok-write_message-in-Some.ensures.lawful);
+          (gap_text i.stamp c.in-Some.ids r.next c.args.first c.args.last c.from-number.result c.new_seq_no-next.result c.from.result c.of.result
+          c.from-number.ensures c.new_seq_no-next.ensures c.from.ensures c.of.ensures below)
+          (written_row (head_of i.stamp c.in-Some.ids 52 c.from-number.result true) (number_field 36 c.new_seq_no-next.result ∷ text_field 123 c.of.result ∷ []) (omega arith) refl (omega arith) c.in_ok-write_message-in-Some.ensures.short c.in_ok-write_message-in-Some.ensures.lawful);
     })
 
 pub returns-in_err-write_message-in-Some : goal.returns-in_err-write_message-in-Some

@@ -11,8 +11,8 @@ returns-in_ok-index-in-Ended g c =
     let o = c.args.order.now in
     let e = rw c.in_ok-index-in-Ended.ensures.index at c.ended.ensures in
     let all = sends_after c.args.self.now c.accepted_with_fills-in-Ended.new.self c.ended.new.self c.args.lists.now c.accepted_with_fills-in-Ended.new.lists c.ended.new.lists
-    (report o.session (new_report o.place o.ticket) ∷ fills_reports c.args.rules.now o.place 2 c.args.fills.now)
-    (report o.session (ended_report o.place (2 + reports_of c.args.fills.now) o.ticket c.in-Ended.left) ∷ []) c.in_ok-index-in-Ended.index c.ended.result c.in_ok-index-in-Ended.ensures.sent e in
+    (report o.session (new_report o.place o.ticket.now) ∷ fills_reports c.args.rules.now o.place 2 c.args.fills.now)
+    (report o.session (ended_report o.place (2 + reports_of c.args.fills.now) o.ticket.now c.in-Ended.left) ∷ []) c.in_ok-index-in-Ended.index c.ended.result c.in_ok-index-in-Ended.ensures.sent e in
     rw (c.in-Ended.is, ← c.in-Ended.left-is) all
 
 pub returns-in_err-index-in-Ended : goal.returns-in_err-index-in-Ended
@@ -21,11 +21,11 @@ returns-in_err-index-in-Ended g c =
     let p = err_from_is_err_and c.from_residual-in_err-index-in-Ended.result c.from_residual-in_err-index-in-Ended.ensures.1 in
     let fault = c.in_err-index-in-Ended.field-0.0 in
     let all = sends_no_more c.args.self.now c.accepted_with_fills-in-Ended.new.self c.args.lists.now c.accepted_with_fills-in-Ended.new.lists
-    (report o.session (new_report o.place o.ticket) ∷ fills_reports c.args.rules.now o.place 2 c.args.fills.now)
-    (report o.session (ended_report o.place (2 + reports_of c.args.fills.now) o.ticket c.in-Ended.left) ∷ []) ℕ (Unit {0}) fault c.in_err-index-in-Ended.ensures.sent in
+    (report o.session (new_report o.place o.ticket.now) ∷ fills_reports c.args.rules.now o.place 2 c.args.fills.now)
+    (report o.session (ended_report o.place (2 + reports_of c.args.fills.now) o.ticket.now c.in-Ended.left) ∷ []) ℕ (Unit {0}) fault c.in_err-index-in-Ended.ensures.sent in
     let ended : c.args.outcome.now ≡ Ended c.in-Ended.left = rw c.in-Ended.left-is c.in-Ended.is in
     rw (p.1, p.2)
     (sends_same c.args.self.now c.accepted_with_fills-in-Ended.new.self c.args.lists.now c.accepted_with_fills-in-Ended.new.lists
-    (new_messages c.args.rules.now o.place o.session o.ticket (Ended c.in-Ended.left) c.args.fills.now)
-    (new_messages c.args.rules.now o.place o.session o.ticket c.args.outcome.now c.args.fills.now) {T = Unit {0}} (Err fault)
-    (ap (λ (out : Outcome). new_messages c.args.rules.now o.place o.session o.ticket out c.args.fills.now) (sym ended)) all)
+    (new_messages c.args.rules.now o.place o.session o.ticket.now (Ended c.in-Ended.left) c.args.fills.now)
+    (new_messages c.args.rules.now o.place o.session o.ticket.now c.args.outcome.now c.args.fills.now) {T = Unit {0}} (Err fault)
+    (ap (λ (out : Outcome). new_messages c.args.rules.now o.place o.session o.ticket.now out c.args.fills.now) (sym ended)) all)
