@@ -28,18 +28,6 @@ fn head(kind: u8, number: u64, duplicate: bool) -> Head {
     }
 }
 
-/// The same head, its ids lent.
-fn lent(head: &Head) -> LentHead<'_> {
-    LentHead {
-        kind: head.kind,
-        number: head.number,
-        duplicate: head.duplicate,
-        sender: &head.sender,
-        target: &head.target,
-        stamp: &head.stamp,
-    }
-}
-
 /// What a field holds.
 enum Content {
     Text(&'static [u8]),
@@ -208,14 +196,22 @@ const LENGTHS: &[(usize, &[u8])] = &[
 fn written_lengths(rt: HostRuntime) {
     let fields = [field_of(11, &Text(b"ABCDEFGHIJKLMNOPQRSTUVWXYZ012345")); 30];
     let mut room = [7; 2000];
+    let (host, client, stamp) = (id(b"HOST"), id(b"C1"), id(b"20260105-14:30:00"));
+    let head = LentHead {
+        kind: b'0',
+        number: 2,
+        duplicate: false,
+        sender: &host,
+        target: &client,
+        stamp: &stamp,
+    };
     for (count, begin) in LENGTHS {
         assert!(rt; *count <= 27);
         let list = FieldList {
             fields: &fields[..*count],
         };
         let mut out = Vec::new(rt.alloc());
-        let given = head(b'0', 2, false);
-        write_body(&mut room, &mut out, &lent(&given), &list).expect(&rt, "memory");
+        write_body(&mut room, &mut out, &head, &list).expect(&rt, "memory");
         assert!(rt; out.as_slice().starts_with(begin));
         assert!(rt; Message::whole(&out).is_some());
         assert!(rt; list.count() == *count);
