@@ -1,5 +1,5 @@
 //! Matching, and what the sessions are sent.
-ghost use Rattle.std.specs.Prelude.{◌≡◌, ◌<◌, [], All, OnOk};
+ghost use Rattle.std.specs.Prelude.{◌≡◌, ◌<◌, [], All, OnOk, IfOk};
 ghost use Rattle.spread_rules.specs.Journal.{FitsEntry};
 ghost use Rattle.spread_match.specs.State.{empty_state};
 
@@ -15,8 +15,13 @@ use spread_rules::{Entry, Fill, Outcome, Rulebook};
 use std::alloc::{AllocGlobal, Allocator, Global};
 use std::time::CpuClock;
 
-fn rulebook_of(text: &[u8]) -> Result<Rulebook, Fault> {
-    Rulebook::read(text).map_err(|_| Fault::Input)
+/// A rulebook and a journal, of their texts.
+fn read_inputs(alloc: Global, rules: &[u8], text: &[u8]) -> Result<(Rulebook, Vec<Entry>), Fault>
+    ensures { IfOk result (λ inputs. All FitsEntry inputs.1.items) }
+{
+    let rulebook = Rulebook::read(rules).map_err(|_| Fault::Input)?;
+    let journal = read_journal(alloc, text)?;
+    Ok((rulebook, journal))
 }
 
 /// Applies an entry that fits: a new order's price is then within the limits that the market asks for.
@@ -116,8 +121,7 @@ pub fn time_match(
     rules: &[u8],
     text: &[u8],
 ) -> Result<(), Fault> {
-    let rulebook = rulebook_of(rules)?;
-    let journal = read_journal(rt.alloc(), text)?;
+    let (rulebook, journal) = read_inputs(rt.alloc(), rules, text)?;
     let mut fills = 0;
     let mut least = u64::MAX;
     for _ in 0..RUNS {
@@ -175,8 +179,7 @@ pub fn time_report(
     rules: &[u8],
     text: &[u8],
 ) -> Result<(), Fault> {
-    let rulebook = rulebook_of(rules)?;
-    let journal = read_journal(rt.alloc(), text)?;
+    let (rulebook, journal) = read_inputs(rt.alloc(), rules, text)?;
     let book = IndexBook::new(rt.alloc(), &rulebook)?;
     time_messages_over(rt, &rulebook, book, &journal)
 }

@@ -1,5 +1,5 @@
 -- How a message is written, and that it is read back.
-use Rattle.std.specs.Prelude.{◌≡◌, ◌≢◌, ℕ, ◌%◌, ◌<◌, ◌≤◌, ◌^◌, Bool, true, false, List, [], ◌∷◌, ◌++◌, map, length, sum, decimal, unsigned_abs, codes}
+use Rattle.std.specs.Prelude.{◌≡◌, ◌≢◌, ℕ, ◌%◌, ◌<◌, ◌≤◌, ◌^◌, Bool, true, false, if◌then◌else◌, Option, Some, None, option_map, take, List, [], ◌∷◌, ◌++◌, map, length, sum, decimal, unsigned_abs, codes}
 use Rattle.std.specs.List.{flat_map, AllByRecursion}
 use Rattle.host_base.specs.declared.bytes.TheConstants.{SOH}
 use Rattle.host_base.specs.declared.limits.TheConstants.{MAX_BODY_LENGTH}
@@ -11,7 +11,9 @@ use Rattle.fix_wire.specs.declared.writer.Value.{Value}
 use Rattle.fix_wire.specs.declared.writer.Value.TheVariants.{Text, Number, Price, Pair}
 use Rattle.fix_wire.specs.declared.writer.Field as given
 use Rattle.fix_wire.specs.declared.writer.Head.{Head}
-use Rattle.fix_wire.specs.declared.writer.LentHead.{LentHead}
+use Rattle.fix_wire.specs.declared.writer.SpelledHead.{SpelledHead}
+use Rattle.fix_wire.specs.declared.parties.SpelledParties.{SpelledParties}
+use Rattle.fix_wire.specs.declared.parties.TheConstants.{MAX_PARTIES_LENGTH}
 use Rattle.fix_values.specs.Values.{price_text}
 use Rattle.fix_frames.specs.Fields.{TagValue}
 use Rattle.fix_frames.specs.Frames.{begin_text, checksum_field, IsFrame, frames}
@@ -30,17 +32,6 @@ field_text f = (decimal f.tag ++ (equals ∷ f.value)) ++ (SOH ∷ [])
 
 abbrev pub field : ℕ → List ℕ → TagValue
 field tag value = record { tag = tag; value = value }
-
--- a head whose ids are lent, as a head
-abbrev pub head_lent : LentHead → Head
-head_lent h = record {
-  kind = h.kind;
-  number = h.number;
-  duplicate = h.duplicate;
-  sender = h.sender.now;
-  target = h.target.now;
-  stamp = h.stamp.now;
-}
 
 -- the fields of a duplicate alone
 abbrev pub only_if : Bool → TagValue → List TagValue
@@ -80,6 +71,29 @@ frame_text body = summed_text body ++ checksum_field (sum (summed_text body) % 2
 -- the one text of a message
 abbrev pub message_text : Head → List given.Field → List ℕ
 message_text h fs = frame_text (body_text h fs)
+
+-- ---- a head that is spelled in part
+
+-- these bytes are SenderCompID, SendingTime and TargetCompID
+pub record SpellsParties (p : SpelledParties) (sender target stamp : List ℕ) : Type 0 where
+  pub text : take p.len p.bytes ≡ flat_map field_text
+      (field tags.SENDER_COMP_ID sender ∷ field tags.SENDING_TIME stamp
+      ∷ field tags.TARGET_COMP_ID target ∷ [])
+  pub short : p.len ≤ MAX_PARTIES_LENGTH
+  pub sender_plain : is_plain sender ≡ true
+  pub target_plain : is_plain target ≡ true
+  pub stamp_plain : is_plain stamp ≡ true
+
+-- the OrigSendingTime that a duplicate bears
+abbrev pub orig_time : SpelledHead → Option (List ℕ)
+orig_time l = option_map (λ t. t.now) l.orig_time
+
+-- it is that head
+pub record SpellsHead (l : SpelledHead) (h : Head) : Type 0 where
+  pub kind : l.kind ≡ h.kind
+  pub number : l.number ≡ h.number
+  pub duplicate : orig_time l ≡ (if h.duplicate then Some h.stamp else None)
+  pub parties : SpellsParties l.parties.now h.sender h.target h.stamp
 
 -- ---- which messages are read back
 

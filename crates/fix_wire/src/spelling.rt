@@ -1,17 +1,18 @@
 //! The parts of a message, each written into room behind the part before it. A writer is told where to begin, and tells where
 //! it ended: so the place stays in a register, which a list's own length would not.
-ghost use Rattle.std.specs.Prelude.{◌≡◌, ◌++◌, ◌∷◌, [], ◌<◌, ◌≤◌, ◌*◌, ◌+◌, ◌%◌, true, sum, set, take, drop, length, decimal, ◌/◌, ◌^◌};
+ghost use Rattle.std.specs.Prelude.{◌≡◌, ◌++◌, ◌∷◌, [], ◌<◌, ◌≤◌, ◌*◌, ◌+◌, ◌%◌, true, is_some, sum, set, take, drop, length, decimal, ◌/◌, ◌^◌};
 ghost use Rattle.std.specs.List.{flat_map, AllByRecursion};
 ghost use Rattle.host_base.specs.declared.limits.TheConstants.{MAX_ID_LENGTH};
 ghost use Rattle.fix_frames.specs.Frames.{begin_text, checksum_field};
 ghost use Rattle.host_base.specs.Ascii.{digit_zero};
 ghost use Rattle.host_base.specs.Ids.{is_plain};
-ghost use Rattle.fix_wire.specs.Layout.{head_lent, value_text, field_text, head_fields, field_of_given, body_text, summed_text, FitsTypes, FitsValueOf, FitsValue};
+ghost use Rattle.fix_wire.specs.Layout.{value_text, field_text, field_of_given, orig_time, summed_text, FitsValueOf, FitsValue};
 ghost use Rattle.fix_values.specs.Values.{price_text};
-ghost use Rattle.fix_wire.specs.code.Spelling.{kind_text, orig_text};
+ghost use Rattle.fix_wire.specs.code.Spelling.{kind_text, orig_text, spelled, spelled_head, spelled_body};
 
 use crate::body::Body;
-use crate::writer::{Field, LentHead, Value};
+use crate::parties::{MAX_PARTIES_LENGTH, PARTIES_ROOM, SpelledParties};
+use crate::writer::{Field, SpelledHead, Value};
 use fix_frames::{BEGIN_BYTES, BEGIN_TEXT, CHECKSUM_BYTES, checksum, checksum_digits};
 use fix_values::{put, put_byte, put_number, put_price};
 use host_base::Id;
@@ -20,7 +21,7 @@ use host_base::limits::MAX_ID_LENGTH;
 
 /// An id. All 32 bytes that hold it are copied, since a length that is known costs less than a short one.
 #[inline(always)]
-fn put_id(room: &mut [u8], at: usize, id: &Id) -> usize
+pub(crate) fn put_id(room: &mut [u8], at: usize, id: &Id) -> usize
     requires within { at + MAX_ID_LENGTH ≤ length room.old }
     ensures text { take result room.new ≡ take at room.old ++ id.now }
     ensures end { result ≡ at + length id.now }
@@ -83,66 +84,78 @@ pub(crate) fn put_fields(room: &mut [u8], at: usize, fields: &[Field]) -> usize
     end
 }
 
-/// MsgType, MsgSeqNum, and PossDupFlag in a duplicate; then the tag of SenderCompID.
-fn put_kind(room: &mut [u8], at: usize, head: &LentHead<'_>) -> usize
-    requires within { at + 37 ≤ length room.old }
-    ensures text { take result room.new ≡ take at room.old ++ kind_text (head_lent head.now) }
-    ensures most { result ≤ at + 37 }
+/// MsgType, MsgSeqNum, and PossDupFlag in a duplicate.
+fn put_kind(room: &mut [u8], at: usize, head: &SpelledHead<'_>) -> usize
+    requires within { at + 34 ≤ length room.old }
+    ensures text { take result room.new ≡ take at room.old
+        ++ kind_text head.now.kind head.now.number (is_some (orig_time head.now)) }
+    ensures most { result ≤ at + 34 }
     ensures range { head.now.number < 2 ^ 64 }
     ensures size { length room.new ≡ length room.old }
 {
     let kind = [b'3', b'5', b'=', head.kind, SOH, b'3', b'4', b'='];
     let number = put(room, at, &kind);
     let end = put_number(room, number, head.number);
-    if head.duplicate {
-        put(room, end, b"\x0143=Y\x0149=")
+    if head.orig_time.is_some() {
+        put(room, end, b"\x0143=Y\x01")
     } else {
-        put(room, end, b"\x0149=")
+        put_byte(room, end, SOH)
     }
 }
 
-/// OrigSendingTime in a duplicate, up to its SOH.
-fn put_orig_time(room: &mut [u8], at: usize, head: &LentHead<'_>) -> usize
+/// SenderCompID, SendingTime and TargetCompID. All the bytes that hold them are copied, as those of an id are.
+#[inline(always)]
+fn put_parties(room: &mut [u8], at: usize, parties: &SpelledParties) -> usize
+    requires within { at + PARTIES_ROOM ≤ length room.old }
+    requires short { parties.now.len ≤ MAX_PARTIES_LENGTH }
+    ensures text { take result room.new ≡ take at room.old ++ spelled parties.now }
+    ensures most { result ≤ at + MAX_PARTIES_LENGTH }
+    ensures size { length room.new ≡ length room.old }
+{
+    room[at..at + PARTIES_ROOM].copy_from_slice(&parties.bytes);
+    at + parties.len
+}
+
+/// OrigSendingTime, in a duplicate.
+fn put_orig_time(room: &mut [u8], at: usize, head: &SpelledHead<'_>) -> usize
     requires within { at + 37 ≤ length room.old }
-    ensures text { take result room.new ≡ take at room.old ++ orig_text (head_lent head.now) }
+    ensures text { take result room.new ≡ take at room.old ++ orig_text (orig_time head.now) }
     ensures most { result ≤ at + 37 }
     ensures size { length room.new ≡ length room.old }
 {
-    if head.duplicate {
-        let stamp = put(room, at, b"\x01122=");
-        put_id(room, stamp, head.stamp)
-    } else {
-        at
+    match head.orig_time {
+        None => at,
+        Some(time) => {
+            let from = put(room, at, b"122=");
+            let end = put_id(room, from, time);
+            put_byte(room, end, SOH)
+        }
     }
 }
 
-fn put_head(room: &mut [u8], at: usize, head: &LentHead<'_>) -> usize
+fn put_head(room: &mut [u8], at: usize, head: &SpelledHead<'_>) -> usize
     requires within { at + 180 ≤ length room.old }
-    ensures text { take result room.new
-        ≡ take at room.old ++ flat_map field_text (head_fields (head_lent head.now)) }
+    requires short { head.now.parties.now.len ≤ MAX_PARTIES_LENGTH }
+    ensures text { take result room.new ≡ take at room.old ++ spelled_head head.now }
     ensures most { result ≤ at + 180 }
-    ensures types { FitsTypes (head_lent head.now) }
+    ensures range { head.now.number < 2 ^ 64 }
     ensures size { length room.new ≡ length room.old }
 {
-    let sender = put_kind(room, at, head);
-    let time = put_id(room, sender, head.sender);
-    let stamp = put(room, time, b"\x0152=");
-    let to = put_id(room, stamp, head.stamp);
-    let target = put(room, to, b"\x0156=");
-    let rest = put_id(room, target, head.target);
-    let end = put_orig_time(room, rest, head);
-    put_byte(room, end, SOH)
+    let parties = put_kind(room, at, head);
+    let rest = put_parties(room, parties, head.parties);
+    put_orig_time(room, rest, head)
 }
 
 /// MsgType to the last field.
-fn put_body<B: Body>(room: &mut [u8], at: usize, head: &LentHead<'_>, body: &B) -> usize
+fn put_body<B: Body>(room: &mut [u8], at: usize, head: &SpelledHead<'_>, body: &B) -> usize
     requires within { at + 64 * length (B.fields body.now) + 180 ≤ length room.old }
+    requires short { head.now.parties.now.len ≤ MAX_PARTIES_LENGTH }
     ensures text { take result room.new
-        ≡ take at room.old ++ body_text (head_lent head.now) (B.fields body.now) }
-    ensures end { result ≡ at + length (body_text (head_lent head.now) (B.fields body.now)) }
+        ≡ take at room.old ++ spelled_body head.now (B.fields body.now) }
+    ensures end { result ≡ at + length (spelled_body head.now (B.fields body.now)) }
     ensures most { result ≤ at + 64 * length (B.fields body.now) + 180 }
     ensures size { length room.new ≡ length room.old }
-    ensures types { FitsTypes (head_lent head.now) }
+    ensures range { head.now.number < 2 ^ 64 }
     ensures values { AllByRecursion FitsValueOf (B.fields body.now) }
 {
     let rest = put_head(room, at, head);
@@ -180,18 +193,19 @@ fn set_three(room: &mut [u8], at: usize, number: usize)
 pub(crate) fn put_summed<B: Body>(
     room: &mut [u8],
     start: usize,
-    head: &LentHead<'_>,
+    head: &SpelledHead<'_>,
     body: &B,
 ) -> usize
     requires within { start + 64 * length (B.fields body.now) + 220 ≤ length room.old }
+    requires short { head.now.parties.now.len ≤ MAX_PARTIES_LENGTH }
     ensures text { take result room.new
-        ≡ take start room.old ++ summed_text (body_text (head_lent head.now) (B.fields body.now)) }
+        ≡ take start room.old ++ summed_text (spelled_body head.now (B.fields body.now)) }
     ensures least { start ≤ result }
     ensures most { result ≤ start + 64 * length (B.fields body.now) + 220 }
     ensures size { length room.new ≡ length room.old }
-    ensures short { length (body_text (head_lent head.now) (B.fields body.now))
+    ensures body { length (spelled_body head.now (B.fields body.now))
         ≤ 64 * length (B.fields body.now) + 180 }
-    ensures types { FitsTypes (head_lent head.now) }
+    ensures range { head.now.number < 2 ^ 64 }
     ensures values { AllByRecursion FitsValueOf (B.fields body.now) }
 {
     let first = put(room, start, b"8=FIX.4.2\x019=000\x01");
@@ -205,15 +219,21 @@ pub(crate) fn put_summed<B: Body>(
     put_body(room, second, head, body)
 }
 
-/// The CheckSum of all bytes from one place to the other.
+/// How many bytes CheckSum is summed of at a time.
+const SUM_BLOCK: usize = 32;
+
+/// The CheckSum of all bytes from one place to the other. Zeros are put behind them, so that whole blocks are summed: a sum
+/// of what is left of a block, byte by byte, would take a good part of the time of them all.
 pub(crate) fn put_checksum(room: &mut [u8], start: usize, end: usize) -> usize
     requires start { start ≤ end }
-    requires within { end + CHECKSUM_BYTES ≤ length room.old }
+    requires within { end + SUM_BLOCK ≤ length room.old }
     ensures text { take result room.new
         ≡ take end room.old ++ checksum_field (sum (drop start (take end room.old)) % 256) }
     ensures end { result ≡ end + CHECKSUM_BYTES }
     ensures size { length room.new ≡ length room.old }
 {
-    let sum = checksum(&room[start..end]);
+    let _ = put(room, end, &[0; SUM_BLOCK]);
+    let whole = (end - start + SUM_BLOCK - 1) / SUM_BLOCK * SUM_BLOCK;
+    let sum = checksum(&room[start..start + whole]);
     put(room, end, &checksum_digits(sum))
 }

@@ -1,10 +1,12 @@
 //! A message in its one spelling: its parts, and the call that appends it.
-ghost use Rattle.std.specs.Prelude.{◌≡◌, ◌++◌, ◌≤◌, ◌*◌, ◌+◌, ◌^◌, ◌-◌, min, OnOk, OnErr, length, take};
+ghost use Rattle.std.specs.Prelude.{◌≡◌, ◌++◌, ◌<◌, ◌≤◌, ◌*◌, ◌+◌, ◌^◌, ◌-◌, min, if◌then◌else◌, Option, Some, None, option_map, OnOk, OnErr, length, take};
 ghost use Rattle.std.specs.List.{AllByRecursion};
 ghost use Rattle.std.specs.Vec.{vec_len, vec_capacity};
-ghost use Rattle.fix_wire.specs.Layout.{head_lent, body_text, message_text, FitsKind, FitsTags, FitsBody, FitsTypes, FitsValueOf, IsReadBack};
+ghost use Rattle.fix_wire.specs.Layout.{body_text, frame_text, message_text, FitsKind, FitsTags, FitsBody, FitsValueOf, IsReadBack, SpellsHead};
+ghost use Rattle.fix_wire.specs.code.Spelling.{spelled_body};
 
 use crate::body::{Body, FieldList};
+use crate::parties::{MAX_PARTIES_LENGTH, SpelledParties};
 use crate::spelling::{put_checksum, put_summed};
 use host_base::{Id, NoMemory};
 use std::alloc::Allocator;
@@ -36,22 +38,33 @@ pub struct Head {
     pub stamp: Id,
 }
 
-/// A head whose ids stay where they are: who sends many messages copies no id into each head.
+/// A head whose SenderCompID, SendingTime and TargetCompID are spelled already, for all messages of a session.
 #[derive(Clone, Copy)]
-pub struct LentHead<'a> {
+pub struct SpelledHead<'a> {
     pub kind: u8,
     pub number: u64,
-    pub duplicate: bool,
-    pub sender: &'a Id,
-    pub target: &'a Id,
-    pub stamp: &'a Id,
+    /// OrigSendingTime (tag 122), of a duplicate alone.
+    pub orig_time: Option<&'a Id>,
+    pub parties: &'a SpelledParties,
 }
 
 /// Room for a message with so many fields, whatever they hold.
 fn room_for(fields: usize) -> usize
-    ensures { result ≡ min (64 * fields + 240) (2 ^ 64 - 1) }
+    ensures { result ≡ min (64 * fields + 256) (2 ^ 64 - 1) }
 {
-    fields.saturating_mul(64).saturating_add(240)
+    fields.saturating_mul(64).saturating_add(256)
+}
+
+/// The OrigSendingTime that a duplicate bears: its SendingTime.
+fn orig_time(head: &Head) -> Option<&Id>
+    ensures { option_map (λ t. t.now) result
+        ≡ (if head.now.duplicate then Some head.now.stamp else None) }
+{
+    if head.duplicate {
+        Some(&head.stamp)
+    } else {
+        None
+    }
 }
 
 /// Appends one message, in its one spelling. Where no room for it can be had, nothing changes.
@@ -72,38 +85,36 @@ pub fn write_message<A: Allocator>(
     out.reserve(most)?;
     let start = out.as_slice().len();
     let _ = out.resize(start + most, 0);
-    let lent = LentHead {
+    let parties = SpelledParties::new(&head.sender, &head.target, &head.stamp);
+    let lent = SpelledHead {
         kind: head.kind,
         number: head.number,
-        duplicate: head.duplicate,
-        sender: &head.sender,
-        target: &head.target,
-        stamp: &head.stamp,
+        orig_time: orig_time(head),
+        parties: &parties,
     };
     let end = put_message(out.as_mut_slice(), start, &lent, &FieldList { fields });
     out.truncate(end);
     Ok(())
 }
 
-/// The same of fields that write themselves, into a room of the caller's first: 64 bytes for each field, and 240. A
+/// The same of fields that write themselves, into a room of the caller's first: 64 bytes for each field, and 256. A
 /// caller that keeps its room from message to message fills no bytes that no message has.
 pub fn write_body<A: Allocator, B: Body>(
     room: &mut [u8],
     out: &mut Vec<u8, A>,
-    head: &LentHead<'_>,
+    head: &SpelledHead<'_>,
     body: &B,
 ) -> Result<(), NoMemory>
-    requires room { 64 * length (B.fields body.now) + 240 ≤ length room.old }
-    ensures ok { OnOk result
-        (out.new.items ≡ out.old.items ++ message_text (head_lent head.now) (B.fields body.now)) }
+    requires room { 64 * length (B.fields body.now) + 256 ≤ length room.old }
+    requires parties { head.now.parties.now.len ≤ MAX_PARTIES_LENGTH }
+    ensures ok { OnOk result ((h : Head) → SpellsHead head.now h →
+        out.new.items ≡ out.old.items ++ message_text h (B.fields body.now)) }
     ensures err { OnErr result (out.new.items ≡ out.old.items) }
     ensures size { length room.new ≡ length room.old }
-    ensures short { OnOk result
-        (length (body_text (head_lent head.now) (B.fields body.now))
-        ≤ 64 * length (B.fields body.now) + 180) }
-    ensures lawful { OnOk result (FitsKind (head_lent head.now) → FitsTags (B.fields body.now) →
-        FitsBody (head_lent head.now) (B.fields body.now) →
-        IsReadBack (head_lent head.now) (B.fields body.now)) }
+    ensures short { OnOk result ((h : Head) → SpellsHead head.now h →
+        length (body_text h (B.fields body.now)) ≤ 64 * length (B.fields body.now) + 180) }
+    ensures lawful { OnOk result ((h : Head) → SpellsHead head.now h → FitsKind h →
+        FitsTags (B.fields body.now) → FitsBody h (B.fields body.now) → IsReadBack h (B.fields body.now)) }
 {
     let end = put_message(room, 0, head, body);
     out.extend_from_slice(&room[..end])?;
@@ -111,15 +122,16 @@ pub fn write_body<A: Allocator, B: Body>(
 }
 
 /// Writes a message at that place, and tells where it ends.
-fn put_message<B: Body>(room: &mut [u8], start: usize, head: &LentHead<'_>, body: &B) -> usize
-    requires within { start + 64 * length (B.fields body.now) + 240 ≤ length room.old }
+fn put_message<B: Body>(room: &mut [u8], start: usize, head: &SpelledHead<'_>, body: &B) -> usize
+    requires within { start + 64 * length (B.fields body.now) + 256 ≤ length room.old }
+    requires short { head.now.parties.now.len ≤ MAX_PARTIES_LENGTH }
     ensures text { take result room.new
-        ≡ take start room.old ++ message_text (head_lent head.now) (B.fields body.now) }
+        ≡ take start room.old ++ frame_text (spelled_body head.now (B.fields body.now)) }
     ensures end { result ≤ length room.new }
     ensures size { length room.new ≡ length room.old }
-    ensures short { length (body_text (head_lent head.now) (B.fields body.now))
+    ensures body { length (spelled_body head.now (B.fields body.now))
         ≤ 64 * length (B.fields body.now) + 180 }
-    ensures types { FitsTypes (head_lent head.now) }
+    ensures range { head.now.number < 2 ^ 64 }
     ensures values { AllByRecursion FitsValueOf (B.fields body.now) }
 {
     let end = put_summed(room, start, head, body);

@@ -1,16 +1,62 @@
 //! Where an order stands in its queue, as a rank to be compared.
 ghost use Rattle.std.specs.Prelude.{◌≡◌};
-ghost use Rattle.order_tables.specs.QueueRanks.{queue_number, queue_cost, rank_of, is_rank, HasMonths};
+ghost use Rattle.std.specs.Cmp.{partial_order_from_own_ties};
+ghost use Rattle.std.specs.Cmp.Rules.{comparing};
+ghost use Rattle.std.specs.Ordering.{is_lt, int_cmp, nat_cmp, on, then_cmp, as_partial_cmp};
+ghost use Rattle.std.proofs.Common.{rules};
+ghost use Rattle.order_tables.specs.QueueRanks.{queue_number, queue_cost, rank_of, rank_cmp, is_rank, HasMonths};
 
 use crate::front_table::BestPrice;
 use spread_rules::{Instrument, Order, Side};
+use std::cmp::Ordering;
 
 /// Of two orders of one queue, the one ahead has the lesser rank.
-#[derive(Clone, Copy, PartialEq, Eq, PartialOrd, Ord)]
+#[derive(Clone, Copy, PartialEq, Eq)]
 pub struct QueueRank {
     // The price as who meets it pays it: what is worse is greater.
     cost: i64,
     place: u64,
+}
+
+impl QueueRank {
+    /// Whether it is the lesser one. Both parts are compared, since a branch on the first would be guessed wrong one time
+    /// in three.
+    #[inline(always)]
+    fn is_less(&self, other: &QueueRank) -> bool
+        ensures { result ≡ is_lt (rank_cmp self.now other.now) }
+    {
+        (self.cost < other.cost) | ((self.cost == other.cost) & (self.place < other.place))
+    }
+}
+
+impl Ord for QueueRank {
+    ghost cmp = { then_cmp (on (λ r. r.cost) int_cmp) (on (λ r. r.place) nat_cmp) };
+
+    ghost total = { Prim.search (comparing, rules) };
+
+    ghost matches_partial_cmp = { Prim.search (comparing, rules) };
+
+    ghost matches_eq = { Prim.search (comparing, rules) };
+
+    fn cmp(&self, other: &QueueRank) -> Ordering {
+        if self.is_less(other) {
+            Ordering::Less
+        } else if other.is_less(self) {
+            Ordering::Greater
+        } else {
+            Ordering::Equal
+        }
+    }
+}
+
+impl PartialOrd for QueueRank {
+    ghost partial_cmp = { as_partial_cmp (then_cmp (on (λ r. r.cost) int_cmp) (on (λ r. r.place) nat_cmp)) };
+
+    ghost laws = { partial_order_from_own_ties (Prim.search (comparing, rules)) (Prim.search (comparing, rules)) };
+
+    fn partial_cmp(&self, other: &QueueRank) -> Option<Ordering> {
+        Some(self.cmp(other))
+    }
 }
 
 /// One number for each instrument and side.

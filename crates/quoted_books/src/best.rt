@@ -157,10 +157,13 @@ fn is_better(new: &Order, best: &Option<Candidate>, price: i64) -> bool
 {
     match best {
         None => is_within(new, price),
-        Some(direct) => match new.side {
-            Side::Buy => price < direct.price,
-            Side::Sell => direct.price < price,
-        },
+        Some(direct) => {
+            let (cheaper, dearer) = match new.side {
+                Side::Buy => (price, direct.price),
+                Side::Sell => (direct.price, price),
+            };
+            cheaper < dearer
+        }
     }
 }
 

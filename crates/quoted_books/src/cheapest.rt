@@ -85,11 +85,7 @@ pub fn spreads_with(side: Side, month: u8, other_month: u8) -> Queue
 pub fn is_pair_on(rules: &Rulebook, month: u8, other_month: u8) -> bool
     ensures { result ≡ is_pair_on (implied rules.now) month other_month }
 {
-    if month < other_month {
-        rules.implied(month, other_month)
-    } else {
-        rules.implied(other_month, month)
-    }
+    rules.implied(month.min(other_month), month.max(other_month))
 }
 
 /// What the fronts of an other month's two queues together cost an order of that side and month, where the pair of

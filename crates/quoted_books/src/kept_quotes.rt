@@ -39,10 +39,13 @@ fn is_as_good(level: Option<Level>, order: &Order) -> bool
 {
     match level {
         None => false,
-        Some(level) => match order.side {
-            Side::Sell => level.price <= order.price,
-            Side::Buy => order.price <= level.price,
-        },
+        Some(level) => {
+            let (cheaper, dearer) = match order.side {
+                Side::Sell => (level.price, order.price),
+                Side::Buy => (order.price, level.price),
+            };
+            cheaper <= dearer
+        }
     }
 }
 

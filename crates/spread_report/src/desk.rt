@@ -13,20 +13,22 @@ ghost use Rattle.spread_report.specs.declared.fault.DeskFault.TheVariants.{Numbe
 mod admin;
 mod entry;
 mod execution_report;
+mod parties;
 mod report_body;
 
 use crate::fault::DeskFault;
 use crate::outbound::{CompIds, OutboundSession};
 use entry::AppliedEntry;
-use fix_wire::{Body, Field, FieldList, LentHead, write_body};
+use fix_wire::{Body, Field, FieldList, SpelledHead, SpelledParties, write_body};
 use host_base::Id;
 use host_base::limits::{MAX_MSG_SEQ_NUM, SESSIONS};
+use parties::{spell_parties, spelled_parties};
 use spread_rules::{Entry, Fill, Outcome, Rulebook};
 use std::alloc::Allocator;
 use std::marker::Model;
 
 /// Room for one message of up to 18 fields.
-const MESSAGE_ROOM: usize = 1392;
+const MESSAGE_ROOM: usize = 1408;
 
 /// Publishes execution reports and session messages. For each of the sixteen sessions it keeps the next
 /// outgoing number, and the CompIDs of the last Logon.
@@ -34,6 +36,8 @@ const MESSAGE_ROOM: usize = 1392;
 pub struct Desk {
     stamp: Id,
     sessions: [OutboundSession; SESSIONS],
+    // Of each session that has CompIDs, these and the stamp, as its messages bear them.
+    parties: [SpelledParties; SESSIONS],
     // Each message is written here first.
     room: [u8; MESSAGE_ROOM],
 }
@@ -55,12 +59,14 @@ impl Desk {
     pub fn new(stamp: Id) -> Desk
         ensures { result ≡ desk_starting stamp 1 }
     {
+        let outbound = OutboundSession {
+            next: 1,
+            comp_ids: None,
+        };
         Desk {
             stamp,
-            sessions: [OutboundSession {
-                next: 1,
-                comp_ids: None,
-            }; SESSIONS],
+            sessions: [outbound; SESSIONS],
+            parties: [spelled_parties(&outbound, &stamp); SESSIONS],
             room: [0; MESSAGE_ROOM],
         }
     }
@@ -71,12 +77,14 @@ impl Desk {
         ensures { result ≡ desk_at stamp next }
     {
         if 1 <= next && next <= MAX_MSG_SEQ_NUM {
+            let outbound = OutboundSession {
+                next: u64::from(next),
+                comp_ids: None,
+            };
             Some(Desk {
                 stamp,
-                sessions: [OutboundSession {
-                    next: u64::from(next),
-                    comp_ids: None,
-                }; SESSIONS],
+                sessions: [outbound; SESSIONS],
+                parties: [spelled_parties(&outbound, &stamp); SESSIONS],
                 room: [0; MESSAGE_ROOM],
             })
         } else {
@@ -134,6 +142,7 @@ impl Desk {
         let result = self.send_entry(lists, rules, &applied);
         if result.is_err() {
             restore(&mut self.sessions, &numbers, entry.session, comp_ids);
+            spell_parties(&mut self.parties, &self.sessions, &self.stamp);
             cut_back(lists, &lengths);
         }
         result
@@ -156,24 +165,21 @@ impl Desk {
             (numbered_message session kind (B.fields body.now) ∷ []) result }
     {
         let at = session as usize;
-        let outbound = self.sessions[at];
-        let stamp = self.stamp;
-        match &outbound.comp_ids {
+        match self.sessions[at].comp_ids {
             None => Ok(()),
-            Some(ids) => {
-                if outbound.next > u64::from(MAX_MSG_SEQ_NUM) {
+            Some(_) => {
+                let number = self.sessions[at].next;
+                if number > u64::from(MAX_MSG_SEQ_NUM) {
                     return Err(DeskFault::NumbersSpent);
                 }
-                let head = LentHead {
+                let head = SpelledHead {
                     kind,
-                    number: outbound.next,
-                    duplicate: false,
-                    sender: &ids.host,
-                    target: &ids.client,
-                    stamp: &stamp,
+                    number,
+                    orig_time: None,
+                    parties: &self.parties[at],
                 };
                 write_body(&mut self.room, &mut lists[at], &head, body)?;
-                self.sessions[at].next = outbound.next + 1;
+                self.sessions[at].next = number + 1;
                 Ok(())
             }
         }

@@ -1,13 +1,14 @@
 -- The fields of a head, as they are written one after another.
 use Rattle.std.proofs.Common.{◌≡◌, ℕ, ◌+◌, Bool, true, false, cond, List, [], ◌∷◌, ◌++◌, length, refl, sym, ap, ◌∙◌, arith, length-append}
-use Rattle.std.specs.Prelude.{decimal}
+use Rattle.std.specs.Prelude.{decimal, is_some, Some, None}
 use Rattle.std.specs.List.{flat_map}
 use Rattle.std.proofs.lemmas.List.{append_assoc}
 use Rattle.std.proofs.lemmas.Fmt.{decimal_step, decimal_digit}
 use Rattle.fix_wire.specs.declared.writer.Head.{Head}
+use Rattle.fix_wire.specs.declared.writer.SpelledHead.{SpelledHead}
 use Rattle.fix_frames.specs.Fields.{TagValue}
-use Rattle.fix_wire.specs.Layout.{field, field_text, only_if, head_fields}
-use Rattle.fix_wire.specs.code.Spelling.{kind_text, orig_text}
+use Rattle.fix_wire.specs.Layout.{field, field_text, only_if, head_fields, orig_time, SpellsHead}
+use Rattle.fix_wire.specs.code.Spelling.{kind_text, orig_text, spelled, spelled_head}
 use Rattle.fix_values.proofs.Appended.{step}
 
 -- ---- the tags in digits
@@ -89,17 +90,41 @@ head_size h = ap length (line_is h.duplicate h.kind (decimal h.number) h.sender 
     by_flag true n sender stamp target = grind (arith, length-append)
     by_flag false n sender stamp target = grind (arith, length-append)
 
--- ---- as the code appends them
+-- ---- as they are spelled
 
-pub head_appended : (h : Head) (o o1 o2 o3 o4 o5 o6 o7 o8 : List ℕ) →
-    o1 ≡ o ++ kind_text h → o2 ≡ o1 ++ h.sender → o3 ≡ o2 ++ (1 ∷ 53 ∷ 50 ∷ 61 ∷ []) → o4 ≡ o3 ++ h.stamp → o5 ≡ o4 ++ (1 ∷ 53 ∷ 54 ∷ 61 ∷ []) → o6 ≡ o5 ++ h.target → o7 ≡ o6 ++ orig_text h → o8 ≡ o7 ++ (1 ∷ []) →
-    o8 ≡ o ++ flat_map field_text (head_fields h)
-head_appended h o o1 o2 o3 o4 o5 o6 o7 o8 e1 e2 e3 e4 e5 e6 e7 e8 =
-    step o o7 o8 _ _ e8 (step o o6 o7 _ _ e7 (step o o5 o6 _ _ e6 (step o o4 o5 _ _ e5 (step o o3 o4 _ _ e4 (step o o2 o3 _ _ e3 (step o o1 o2 _ _ e2 e1))))))
-    ∙ ap (λ t. o ++ t) (nested h.duplicate h.kind (decimal h.number) h.sender h.stamp h.target ∙ sym (line_is h.duplicate h.kind (decimal h.number) h.sender h.stamp h.target))
+pub parties_are : (sender stamp target : List ℕ) → flat_map field_text (field 49 sender ∷ field 52 stamp ∷ field 56 target ∷ []) ≡ 52 ∷ 57 ∷ 61 ∷ (sender ++ 1 ∷ 53 ∷ 50 ∷ 61 ∷ (stamp ++ 1 ∷ 53 ∷ 54 ∷ 61 ∷ (target ++ 1 ∷ [])))
+parties_are sender stamp target =
+    text_of 49 (52 ∷ 57 ∷ []) sender _ d49
+    ∙ ap (λ t. 52 ∷ 57 ∷ 61 ∷ (sender ++ 1 ∷ t)) (text_of 52 (53 ∷ 50 ∷ []) stamp _ d52
+    ∙ ap (λ t. 53 ∷ 50 ∷ 61 ∷ (stamp ++ 1 ∷ t)) (text_of 56 (53 ∷ 54 ∷ []) target [] d56))
+
+pub head_spelled : (l : SpelledHead) (h : Head) → SpellsHead l h → spelled_head l ≡ flat_map field_text (head_fields h)
+head_spelled l h same =
+    let ids = same.parties.text ∙ parties_are h.sender h.stamp h.target in
+    ap (λ k. kind_text k l.number (is_some (orig_time l)) ++ (spelled l.parties.now ++ orig_text (orig_time l))) same.kind
+    ∙ ap (λ n. kind_text h.kind n (is_some (orig_time l)) ++ (spelled l.parties.now ++ orig_text (orig_time l))) same.number
+    ∙ ap (λ o. kind_text h.kind h.number (is_some o) ++ (spelled l.parties.now ++ orig_text o)) same.duplicate
+    ∙ ap (λ t. kind_text h.kind h.number (is_some (cond h.duplicate (Some h.stamp) None)) ++ (t ++ orig_text (cond h.duplicate (Some h.stamp) None))) ids
+    ∙ nested h.duplicate h.kind (decimal h.number) h.sender h.stamp h.target
+    ∙ sym (line_is h.duplicate h.kind (decimal h.number) h.sender h.stamp h.target)
   where
     nested : (d : Bool) (k : ℕ) (n sender stamp target : List ℕ) →
-        ((((((((51 ∷ 53 ∷ 61 ∷ k ∷ 1 ∷ 51 ∷ 52 ∷ 61 ∷ []) ++ (n ++ cond d (1 ∷ 52 ∷ 51 ∷ 61 ∷ 89 ∷ 1 ∷ 52 ∷ 57 ∷ 61 ∷ []) (1 ∷ 52 ∷ 57 ∷ 61 ∷ []))) ++ sender) ++ (1 ∷ 53 ∷ 50 ∷ 61 ∷ [])) ++ stamp) ++ (1 ∷ 53 ∷ 54 ∷ 61 ∷ [])) ++ target) ++ cond d (1 ∷ 49 ∷ 50 ∷ 50 ∷ 61 ∷ stamp) []) ++ (1 ∷ [])
+        ((51 ∷ 53 ∷ 61 ∷ k ∷ 1 ∷ 51 ∷ 52 ∷ 61 ∷ []) ++ (n ++ cond (is_some (cond d (Some stamp) None)) (1 ∷ 52 ∷ 51 ∷ 61 ∷ 89 ∷ 1 ∷ []) (1 ∷ [])))
+        ++ ((52 ∷ 57 ∷ 61 ∷ (sender ++ 1 ∷ 53 ∷ 50 ∷ 61 ∷ (stamp ++ 1 ∷ 53 ∷ 54 ∷ 61 ∷ (target ++ 1 ∷ [])))) ++ orig_text (cond d (Some stamp) None))
         ≡ line_by d k n sender stamp target
     nested true k n sender stamp target = simp append_assoc refl
     nested false k n sender stamp target = simp append_assoc refl
+
+-- the parties as the code writes them
+pub parties_written : (sender stamp target o1 o2 o3 o4 o5 o6 o7 : List ℕ) →
+    o1 ≡ 52 ∷ 57 ∷ 61 ∷ [] → o2 ≡ o1 ++ sender → o3 ≡ o2 ++ (1 ∷ 53 ∷ 50 ∷ 61 ∷ []) → o4 ≡ o3 ++ stamp → o5 ≡ o4 ++ (1 ∷ 53 ∷ 54 ∷ 61 ∷ []) → o6 ≡ o5 ++ target → o7 ≡ o6 ++ (1 ∷ []) →
+    o7 ≡ flat_map field_text (field 49 sender ∷ field 52 stamp ∷ field 56 target ∷ [])
+parties_written sender stamp target o1 o2 o3 o4 o5 o6 o7 e1 e2 e3 e4 e5 e6 e7 =
+    step [] o6 o7 _ _ e7 (step [] o5 o6 _ _ e6 (step [] o4 o5 _ _ e5 (step [] o3 o4 _ _ e4 (step [] o2 o3 _ _ e3 (step [] o1 o2 _ _ e2 e1)))))
+    ∙ nested sender stamp target
+    ∙ sym (parties_are sender stamp target)
+  where
+    nested : (sender stamp target : List ℕ) →
+        ((((((52 ∷ 57 ∷ 61 ∷ []) ++ sender) ++ (1 ∷ 53 ∷ 50 ∷ 61 ∷ [])) ++ stamp) ++ (1 ∷ 53 ∷ 54 ∷ 61 ∷ [])) ++ target) ++ (1 ∷ [])
+        ≡ 52 ∷ 57 ∷ 61 ∷ (sender ++ 1 ∷ 53 ∷ 50 ∷ 61 ∷ (stamp ++ 1 ∷ 53 ∷ 54 ∷ 61 ∷ (target ++ 1 ∷ [])))
+    nested sender stamp target = simp append_assoc refl

@@ -1,6 +1,10 @@
 -- Parts written one behind the other into room.
-use Rattle.std.proofs.Common.{◌≡◌, ℕ, zero, suc, ◌+◌, ◌/◌, ◌%◌, ◌<◌, ◌≤◌, Bool, true, false, cond, List, [], ◌∷◌, ◌++◌, length, take, drop, set, refl, sym, ap, ◌∙◌, arith, length-append, append_assoc, decimal}
-use Rattle.std.proofs.lemmas.List.{take_at, take_all, take-take, length-take-le, set_at}
+use Rattle.std.proofs.Common.{◌≡◌, ℕ, zero, suc, ◌+◌, ◌-◌, ◌/◌, ◌%◌, ◌<◌, ◌≤◌, sum, replicate, Bool, true, false, cond, List, [], ◌∷◌, ◌++◌, length, take, drop, set, refl, sym, ap, ◌∙◌, arith, length-append, append_assoc, decimal}
+use Rattle.std.proofs.lemmas.List.{take_at, drop_at, drop-append-le, take-replicate, take_all, take-take, length-take-le, set_at}
+use Rattle.std.specs.List.{fold}
+use Rattle.std.proofs.lemmas.Slice.{take-put_mid}
+use Rattle.std.proofs.Math.Seq.{take-add}
+use borrow.Rule.Slice.PartMut.{put_mid}
 use Rattle.fix_frames.specs.Frames.{begin_text}
 use Rattle.fix_wire.specs.Layout.{summed_text}
 use Rattle.fix_values.proofs.LastTwoDigits.{three_digits}
@@ -9,6 +13,11 @@ use Rattle.fix_values.proofs.LastTwoDigits.{three_digits}
 pub ends : (r r0 x : List ℕ) (end at : ℕ) → take end r ≡ take at r0 ++ x → end ≤ length r → at ≤ length r0 → end ≡ at + length x
 ends r r0 x end at e l m =
     sym (length-take-le end r l) ∙ ap length e ∙ length-append (take at r0) x ∙ ap (λ n. n + length x) (length-take-le at r0 m)
+
+-- three parts, one behind the other
+pub three_parts : (o o1 o2 o3 a b c : List ℕ) → o1 ≡ o ++ a → o2 ≡ o1 ++ b → o3 ≡ o2 ++ c → o3 ≡ o ++ (a ++ (b ++ c))
+three_parts o o1 o2 o3 a b c e1 e2 e3 =
+    e3 ∙ ap (λ t. t ++ c) (e2 ∙ ap (λ t. t ++ b) e1 ∙ append_assoc o a b) ∙ append_assoc o (a ++ b) c ∙ ap (λ t. o ++ t) (append_assoc a b c)
 
 -- what stands before stays
 pub front_same : (r o x : List ℕ) (start end : ℕ) → take end r ≡ o ++ x → length o ≡ start → start ≤ end → take start r ≡ o
@@ -22,6 +31,17 @@ front_stays false o r fill start n e s l = ap (take start) e ∙ take_all start 
 -- what was written to all of a list's places is what it has
 pub written_back : (r x : List ℕ) (k end : ℕ) → length r ≡ k → take end (take k (r ++ drop (length r) x)) ≡ take end r
 written_back r x k end e = ap (take end) (take_at r (drop (length r) x) k e)
+
+-- of a text that is copied with what stands behind it, the front
+pub front_copied : (at k n : ℕ) (room new : List ℕ) → at ≤ length room → n ≤ length new → take (at + n) (put_mid at k room new) ≡ take at room ++ take n new
+front_copied at k n room new within m =
+    let o = take at room in
+    let size : length o ≡ at = length-take-le at room within in
+    sym (take-take (at + n) (at + length new) (put_mid at k room new) (omega (arith, m)))
+    ∙ ap (take (at + n)) (take-put_mid at k room new (at + length new) refl within)
+    ∙ take-add at n (o ++ new)
+    ∙ ap (λ t. t ++ take n (drop at (o ++ new))) (take_at o new at size)
+    ∙ ap (λ t. o ++ take n t) (drop_at o new at size)
 
 -- ---- three bytes set
 
@@ -72,3 +92,34 @@ behind o o1 o2 body n e f len =
     e ∙ ap (λ t. t ++ body) f ∙ append_assoc o (begin_text ++ (decimal n ++ 1 ∷ [])) body
     ∙ ap (λ t. o ++ (begin_text ++ t)) (append_assoc (decimal n) (1 ∷ []) body)
     ∙ ap (λ k. o ++ (begin_text ++ (decimal k ++ 1 ∷ body))) len
+
+-- ---- zeros behind a text add nothing to its sum
+
+sum_from_append : (a : ℕ) (xs ys : List ℕ) → fold ◌+◌ a (xs ++ ys) ≡ fold ◌+◌ (fold ◌+◌ a xs) ys
+sum_from_append a [] ys = refl
+sum_from_append a (x ∷ xs) ys = sum_from_append (a + x) xs ys
+
+sum_from_zeros : (a n : ℕ) → fold ◌+◌ a (replicate n 0) ≡ a
+sum_from_zeros a zero = refl
+sum_from_zeros a (suc n) = ap (λ b. fold ◌+◌ b (replicate n 0)) (omega arith) ∙ sum_from_zeros a n
+
+-- a text in room, with k zeros behind it, and a part that begins in the text and ends among the zeros
+pub sum_padded : (r o : List ℕ) (start end k n : ℕ) → take (end + k) r ≡ take end o ++ replicate k 0 → end ≤ length o → start ≤ end →
+    end ≤ start + n → start + n ≤ end + k → sum (drop start (take (start + n) r)) ≡ sum (drop start (take end o))
+sum_padded r o start end k n e within before low high =
+    let text = take end o in
+    let size : length text ≡ end = length-take-le end o within in
+    let m = start + n - end in
+    let reach : start + n ≡ end + m = omega (arith, low) in
+    let front : take (start + n) r ≡ text ++ replicate m 0 =
+    sym (take-take (start + n) (end + k) r high)
+    ∙ ap (take (start + n)) e
+    ∙ ap (λ j. take j (text ++ replicate k 0)) reach
+    ∙ take-add end m (text ++ replicate k 0)
+    ∙ ap (λ t. t ++ take m (drop end (text ++ replicate k 0))) (take_at text (replicate k 0) end size)
+    ∙ ap (λ t. text ++ take m t) (drop_at text (replicate k 0) end size)
+    ∙ ap (λ t. text ++ t) (take-replicate m k 0 (omega (arith, high, low))) in
+    ap (λ t. sum (drop start t)) front
+    ∙ ap sum (drop-append-le start text (replicate m 0) (omega (arith, size, before)))
+    ∙ sum_from_append 0 (drop start text) (replicate m 0)
+    ∙ sum_from_zeros (sum (drop start text)) m

@@ -16,13 +16,16 @@ use Rattle.fix_wire.specs.declared.writer.Value.{Value}
 use Rattle.fix_wire.specs.declared.writer.Value.TheVariants.{Text, Number, Price, Pair}
 use Rattle.fix_wire.specs.declared.writer.Field as given
 use Rattle.fix_wire.specs.declared.writer.Head.{Head}
+use Rattle.fix_wire.specs.declared.writer.SpelledHead.{SpelledHead}
 use Rattle.fix_frames.specs.Texts.{is_soh, strip_prefix}
 use Rattle.fix_values.specs.Digits.{number_after, number_of, two_digits}
 use Rattle.fix_frames.specs.Fields.{TagValue, is_tag, fields_of_body}
 use Rattle.fix_frames.specs.Frames.{begin_text, header, header_after, header_with, is_body_length, is_body, is_intact, body_at, frame_length, intact_length, frame_at, frames, checksum_field}
 use Rattle.fix_frames.specs.Messages.{fields}
 use Rattle.host_base.specs.Ids.{is_plain}
-use Rattle.fix_wire.specs.Layout.{field, field_text, only_if, head_fields, field_of_given, all_fields, body_text, summed_text, message_text, value_text, FitsValue, FitsValueOf, FitsTags, FitsField, FitsHead, FitsMessage, IsReadBack}
+use Rattle.fix_wire.specs.Layout.{field, field_text, only_if, head_fields, field_of_given, all_fields, body_text, summed_text, frame_text, message_text, value_text, FitsTypes, FitsValue, FitsValueOf, FitsTags, FitsField, FitsHead, FitsMessage, IsReadBack, SpellsHead}
+use Rattle.fix_wire.specs.code.Spelling.{spelled_body}
+use Rattle.fix_wire.proofs.writing.HeadFields.{head_spelled}
 use Rattle.fix_wire.proofs.writing.SpelledRow as spelled
 use Rattle.fix_frames.proofs.framing.FramesHeld.{scan_frame}
 
@@ -56,13 +59,20 @@ all_more P fs i f l e all one = subst (AllByRecursion P) (sym (take_more fs i f 
     all_append (x ∷ xs) h = (h.0, all_append xs h.1)
 
 -- the CheckSum behind what it sums
-pub message_closed : (h : Head) (fs : List given.Field) (start : ℕ) (o o3 o4 : List ℕ) → start ≡ length o → o3 ≡ o ++ summed_text (body_text h fs) →
-    o4 ≡ o3 ++ checksum_field (sum (drop start o3) % 256) → o4 ≡ o ++ message_text h fs
-message_closed h fs start o o3 o4 begins written e4 =
-    let summed = ap (drop start) written ∙ drop_at o (summed_text (body_text h fs)) start (sym begins) in
+pub frame_closed : (body : List ℕ) (start : ℕ) (o o3 o4 : List ℕ) → start ≡ length o → o3 ≡ o ++ summed_text body →
+    o4 ≡ o3 ++ checksum_field (sum (drop start o3) % 256) → o4 ≡ o ++ frame_text body
+frame_closed body start o o3 o4 begins written e4 =
+    let summed = ap (drop start) written ∙ drop_at o (summed_text body) start (sym begins) in
     e4 ∙ ap (λ t. o3 ++ checksum_field (sum t % 256)) summed
-    ∙ ap (λ t. t ++ checksum_field (sum (summed_text (body_text h fs)) % 256)) written
-    ∙ append_assoc o (summed_text (body_text h fs)) (checksum_field (sum (summed_text (body_text h fs)) % 256))
+    ∙ ap (λ t. t ++ checksum_field (sum (summed_text body) % 256)) written
+    ∙ append_assoc o (summed_text body) (checksum_field (sum (summed_text body) % 256))
+
+-- what was spelled is the body of that message
+pub body_spelled : (l : SpelledHead) (h : Head) (fs : List given.Field) → SpellsHead l h → spelled_body l fs ≡ body_text h fs
+body_spelled l h fs same = ap (λ t. t ++ flat_map (λ f. field_text (field_of_given f)) fs) (head_spelled l h same) ∙ body_is h fs
+
+pub types_spelled : (l : SpelledHead) (h : Head) → SpellsHead l h → l.number < 2 ^ 64 → FitsTypes h
+types_spelled l h same range = (subst (λ n. n < 2 ^ 64) same.number range, same.parties.sender_plain, same.parties.target_plain, same.parties.stamp_plain)
 
 -- ---- decimal numbers
 

@@ -1,8 +1,11 @@
 -- What sending some messages does to the sessions, `a` before and `b` after, and to their lists, `x` before and `y` after.
 -- Words of the code alone.
-use Rattle.std.specs.Prelude.{◌≡◌, ℕ, ◌<◌, true, false, List, ◌++◌, length, take, Result, Ok, Err}
+use Rattle.std.specs.Prelude.{◌≡◌, ℕ, ◌<◌, true, false, List, ◌++◌, length, take, slice_index_or, Some, Result, Ok, Err}
 use Rattle.std.specs.declared.vec.Vec.{Vec}
 use Rattle.host_base.specs.declared.limits.TheConstants.{SESSIONS}
+use Rattle.fix_wire.specs.declared.parties.SpelledParties.{SpelledParties}
+use Rattle.fix_wire.specs.Layout.{SpellsParties}
+use Rattle.spread_report.specs.declared.outbound.CompIds.{CompIds}
 use Rattle.spread_report.specs.declared.outbound.OutboundSession.{OutboundSession}
 use Rattle.spread_report.specs.declared.fault.DeskFault.{DeskFault}
 use Rattle.spread_report.specs.declared.fault.DeskFault.TheVariants.{NoMemory, NumbersSpent}
@@ -17,9 +20,16 @@ use Rattle.spread_report.specs.Sessions.{bytes_of, outbound_at}
 abbrev pub state_of : Inside → DeskState
 state_of d = record { stamp = d.stamp; sessions = d.sessions }
 
--- a desk has a state for each session
+-- of each session that has CompIDs, these and the stamp are spelled
+abbrev pub AreSpelled : List ℕ → List OutboundSession → List SpelledParties → Type 0
+AreSpelled stamp sessions parties = (s : ℕ) → s < SESSIONS → (ids : CompIds)
+    → (outbound_at sessions s).comp_ids ≡ Some ids → (p : SpelledParties)
+    → SpellsParties (slice_index_or parties s p) ids.host ids.client stamp
+
+-- a desk has a state for each session, and its CompIDs spelled where it has them
 pub record IsDesk (d : Inside) : Type 0 where
   pub count : length d.sessions ≡ SESSIONS
+  pub spelled : AreSpelled d.stamp d.sessions d.parties
 
 -- to each session exactly what these messages send it was appended, a row of whole frames, and its
 -- outbound state went on with them

@@ -9,6 +9,7 @@ ghost use Rattle.spread_report.specs.Outgoing.{outbound_at_entry};
 ghost use Rattle.spread_report.specs.Sessions.{outbound_at};
 
 use super::Desk;
+use super::parties::spell_parties;
 use crate::codes::{CXL_REJ_RESPONSE_TO_CANCEL, CXL_REJ_RESPONSE_TO_REPLACE};
 use crate::fault::DeskFault;
 use crate::outbound::CompIds;
@@ -70,6 +71,7 @@ impl Desk {
     {
         if let Event::Logon { client, host, .. } = entry.event {
             self.sessions[entry.session as usize].comp_ids = Some(CompIds { client, host });
+            spell_parties(&mut self.parties, &self.sessions, &self.stamp);
         }
     }
 

@@ -1,6 +1,6 @@
 //! Messages as they are written.
 use fix_wire::{
-    Body, Field, FieldList, Head, LentHead, Message, Value, put_field, read_price, write_body,
+    Body, Field, FieldList, Head, SpelledHead, Message, SpelledParties, Value, put_field, read_price, write_body,
     write_message,
 };
 use host_base::Id;
@@ -197,13 +197,12 @@ fn written_lengths(rt: HostRuntime) {
     let fields = [field_of(11, &Text(b"ABCDEFGHIJKLMNOPQRSTUVWXYZ012345")); 30];
     let mut room = [7; 2000];
     let (host, client, stamp) = (id(b"HOST"), id(b"C1"), id(b"20260105-14:30:00"));
-    let head = LentHead {
+    let parties = SpelledParties::new(&host, &client, &stamp);
+    let head = SpelledHead {
         kind: b'0',
         number: 2,
-        duplicate: false,
-        sender: &host,
-        target: &client,
-        stamp: &stamp,
+        orig_time: None,
+        parties: &parties,
     };
     for (count, begin) in LENGTHS {
         assert!(rt; *count <= 27);

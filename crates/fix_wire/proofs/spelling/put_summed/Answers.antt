@@ -1,14 +1,14 @@
 use Rattle.std.proofs.Common.{◌++◌, ◌-◌, ◌≡◌, ◌≤◌, ◌∷◌, [], take, length, decimal, ap, ◌∙◌, arith}
 use Rattle.std.proofs.lemmas.List.{length-take-le}
 use Rattle.fix_frames.specs.Frames.{begin_text}
-use Rattle.fix_wire.specs.Layout.{head_lent, body_text}
+use Rattle.fix_wire.specs.code.Spelling.{spelled_body}
 use Rattle.fix_values.proofs.Appended.{step}
 use Rattle.fix_wire.proofs.writing.PartsInRoom.{ends, front_same, counted, behind, open_text}
 use Rattle.fix_wire.proofs.spelling.put_summed.Goals as goal
 
 pub returns-then-count-lt1000-clause-text : goal.returns-then-count-lt1000-clause-text
 returns-then-count-lt1000-clause-text g c =
-    let body = body_text (head_lent c.args.head.now) (g.B.Body.fields c.args.body.now) in
+    let body = spelled_body c.args.head.now (g.B.Body.fields c.args.body.now) in
     let start = length-take-le c.args.start c.args.room.now (omega (arith, c.requires.within)) in
     let count : c.put_body-end.result - c.put-first.result ≡ length body = omega (arith, c.put_body-end.ensures.end) in
     counted (take c.args.start c.args.room.now) c.put_body-end.new.room c.set_three.new.room body c.args.start c.put_body-end.result (c.put_body-end.result - c.put-first.result)
@@ -16,7 +16,7 @@ returns-then-count-lt1000-clause-text g c =
 
 pub returns-clause-text : goal.returns-clause-text
 returns-clause-text g c =
-    let body = body_text (head_lent c.args.head.now) (g.B.Body.fields c.args.body.now) in
+    let body = spelled_body c.args.head.now (g.B.Body.fields c.args.body.now) in
     let o = take c.args.start c.args.room.now in
     let start = length-take-le c.args.start c.args.room.now (omega (arith, c.requires.within)) in
     let n = c.put_body-end.result - c.put-first.result in
