@@ -88,6 +88,7 @@ fn judge(stream: &[u8]) -> u64 {
 }
 
 /// Scans streams, and counts their messages.
+#[inline(always)]
 pub fn scanned(streams: &[Vec<u8>]) -> u64 {
     let mut passed = 0u64;
     for stream in streams {

@@ -1,7 +1,7 @@
 //! Messages as they are written.
 use fix_wire::{
-    Body, Field, FieldList, Head, SpelledHead, Message, SpelledParties, Value, put_field, read_price, write_body,
-    write_message,
+    Body, Field, FieldList, Head, Message, SpelledHead, SpelledParties, Value, put_field,
+    read_price, write_body, write_message,
 };
 use host_base::Id;
 use std::alloc::Allocator;
