@@ -3,3 +3,4 @@ pub mod Next
 pub mod FramePlaces
 pub mod Layout
 pub mod Pieces
+pub mod Spelling

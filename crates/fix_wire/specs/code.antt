@@ -1,2 +1,1 @@
 pub mod FramerFields
-pub mod Spelling

@@ -1,9 +1,11 @@
 //! A message in its one spelling: its parts, and the call that appends it.
-ghost use Rattle.std.specs.Prelude.{◌≡◌, ◌++◌, ◌<◌, ◌≤◌, ◌*◌, ◌+◌, ◌^◌, ◌-◌, min, if◌then◌else◌, Option, Some, None, option_map, OnOk, OnErr, length, take};
+ghost use Rattle.std.specs.Prelude.{◌≡◌, ◌++◌, ◌<◌, ◌≤◌, ◌*◌, ◌+◌, ◌^◌, ◌-◌, min, length, take};
+ghost use Rattle.std.specs.Prelude.{if◌then◌else◌, Option, Some, None, option_map, OnOk, OnErr};
 ghost use Rattle.std.specs.List.{AllByRecursion};
 ghost use Rattle.std.specs.Vec.{vec_len, vec_capacity};
-ghost use Rattle.fix_wire.specs.Layout.{body_text, frame_text, message_text, FitsKind, FitsTags, FitsBody, FitsValueOf, IsReadBack, SpellsHead};
-ghost use Rattle.fix_wire.specs.code.Spelling.{spelled_body};
+ghost use Rattle.fix_wire.specs.Layout.{body_text, frame_text, message_text, SpellsHead};
+ghost use Rattle.fix_wire.specs.Layout.{FitsKind, FitsTags, FitsBody, FitsValueOf, IsReadBack};
+ghost use Rattle.fix_wire.specs.Spelling.{spelled_body};
 
 use crate::body::{Body, FieldList};
 use crate::parties::{MAX_PARTIES_LENGTH, SpelledParties};
@@ -56,7 +58,7 @@ fn room_for(fields: usize) -> usize
 }
 
 /// The OrigSendingTime that a duplicate bears: its SendingTime.
-fn orig_time(head: &Head) -> Option<&Id>
+fn time_of_duplicate(head: &Head) -> Option<&Id>
     ensures { option_map (λ t. t.now) result
         ≡ (if head.now.duplicate then Some head.now.stamp else None) }
 {
@@ -89,7 +91,7 @@ pub fn write_message<A: Allocator>(
     let lent = SpelledHead {
         kind: head.kind,
         number: head.number,
-        orig_time: orig_time(head),
+        orig_time: time_of_duplicate(head),
         parties: &parties,
     };
     let end = put_message(out.as_mut_slice(), start, &lent, &FieldList { fields });
@@ -109,6 +111,8 @@ pub fn write_body<A: Allocator, B: Body>(
     requires parties { head.now.parties.now.len ≤ MAX_PARTIES_LENGTH }
     ensures ok { OnOk result ((h : Head) → SpellsHead head.now h →
         out.new.items ≡ out.old.items ++ message_text h (B.fields body.now)) }
+    ensures bytes { OnOk result (out.new.items
+        ≡ out.old.items ++ frame_text (spelled_body head.now (B.fields body.now))) }
     ensures err { OnErr result (out.new.items ≡ out.old.items) }
     ensures size { length room.new ≡ length room.old }
     ensures short { OnOk result ((h : Head) → SpellsHead head.now h →

@@ -8,7 +8,7 @@ use Rattle.fix_wire.specs.declared.writer.Head.{Head}
 use Rattle.fix_wire.specs.declared.writer.SpelledHead.{SpelledHead}
 use Rattle.fix_frames.specs.Fields.{TagValue}
 use Rattle.fix_wire.specs.Layout.{field, field_text, only_if, head_fields, orig_time, SpellsHead}
-use Rattle.fix_wire.specs.code.Spelling.{kind_text, orig_text, spelled, spelled_head}
+use Rattle.fix_wire.specs.Spelling.{kind_text, orig_text, spelled, spelled_head}
 use Rattle.fix_values.proofs.Appended.{step}
 
 -- ---- the tags in digits
@@ -80,15 +80,6 @@ line_is false k n sender stamp target =
     text_of 35 (51 ∷ 53 ∷ []) (k ∷ []) _ d35
     ∙ ap (λ t. 51 ∷ 53 ∷ 61 ∷ k ∷ 1 ∷ t) (text_of 34 (51 ∷ 52 ∷ []) n _ d34
     ∙ ap (λ t. 51 ∷ 52 ∷ 61 ∷ (n ++ 1 ∷ t)) (line_ids false sender stamp target))
-
--- ---- how long they are
-
-pub head_size : (h : Head) → length (flat_map field_text (head_fields h)) ≡ length (decimal h.number) + length h.sender + length h.target + length h.stamp + 21 + cond h.duplicate (length h.stamp + 10) 0
-head_size h = ap length (line_is h.duplicate h.kind (decimal h.number) h.sender h.stamp h.target) ∙ by_flag h.duplicate (decimal h.number) h.sender h.stamp h.target
-  where
-    by_flag : (d : Bool) (n sender stamp target : List ℕ) → length (line_by d h.kind n sender stamp target) ≡ length n + length sender + length target + length stamp + 21 + cond d (length stamp + 10) 0
-    by_flag true n sender stamp target = grind (arith, length-append)
-    by_flag false n sender stamp target = grind (arith, length-append)
 
 -- ---- as they are spelled
 

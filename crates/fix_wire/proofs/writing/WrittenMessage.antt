@@ -24,7 +24,7 @@ use Rattle.fix_frames.specs.Frames.{begin_text, header, header_after, header_wit
 use Rattle.fix_frames.specs.Messages.{fields}
 use Rattle.host_base.specs.Ids.{is_plain}
 use Rattle.fix_wire.specs.Layout.{field, field_text, only_if, head_fields, field_of_given, all_fields, body_text, summed_text, frame_text, message_text, value_text, FitsTypes, FitsValue, FitsValueOf, FitsTags, FitsField, FitsHead, FitsMessage, IsReadBack, SpellsHead}
-use Rattle.fix_wire.specs.code.Spelling.{spelled_body}
+use Rattle.fix_wire.specs.Spelling.{spelled_body}
 use Rattle.fix_wire.proofs.writing.HeadFields.{head_spelled}
 use Rattle.fix_wire.proofs.writing.SpelledRow as spelled
 use Rattle.fix_frames.proofs.framing.FramesHeld.{scan_frame}

@@ -42,12 +42,3 @@ spelled_numbered stamp a ps i n r below same = spelled_still stamp a (set a i (r
       | inl e ↦ rw (e, get_or-set_same a i (record { next = n; comp_ids = r.comp_ids }) (outbound_before_logon 1) below) (sym (ap (λ (l : OutboundSession). l.comp_ids) (get_or_default a i (outbound_before_logon 1) r below) ∙ same))
       | inr apart ↦ ap (λ (l : OutboundSession). l.comp_ids) (get_or-set_other a i s (record { next = n; comp_ids = r.comp_ids }) (outbound_before_logon 1) apart)
     ])
-
--- before anyone's Logon
-nobody : (k s n m : ℕ) → (get_or (replicate k (outbound_before_logon n)) s (outbound_before_logon m)).comp_ids ≡ None
-nobody zero s n m = refl
-nobody (suc k) zero n m = refl
-nobody (suc k) (suc s) n m = nobody k s n m
-
-pub spelled_of_nobody : (stamp : List ℕ) (n : ℕ) (ps : List SpelledParties) → AreSpelled stamp (replicate 16 (outbound_before_logon n)) ps
-spelled_of_nobody stamp n ps s below ids there p = absurd (none-some ids (sym (nobody 16 s n 1) ∙ there))

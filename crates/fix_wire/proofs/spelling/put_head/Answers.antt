@@ -1,7 +1,7 @@
 use Rattle.std.proofs.Common.{take}
 use Rattle.std.specs.Prelude.{is_some}
 use Rattle.fix_wire.specs.Layout.{orig_time}
-use Rattle.fix_wire.specs.code.Spelling.{kind_text, spelled, orig_text}
+use Rattle.fix_wire.specs.Spelling.{kind_text, spelled, orig_text}
 use Rattle.fix_wire.proofs.writing.PartsInRoom.{three_parts}
 use Rattle.fix_wire.proofs.spelling.put_head.Goals as goal
 

@@ -1,6 +1,6 @@
 use Rattle.std.proofs.Common.{sym, arith}
 use Rattle.std.proofs.lemmas.List.{length-take-le}
-use Rattle.fix_wire.specs.code.Spelling.{spelled_body}
+use Rattle.fix_wire.specs.Spelling.{spelled_body}
 use Rattle.fix_wire.proofs.writing.WrittenMessage.{frame_closed}
 use Rattle.fix_wire.proofs.writer.put_message.Goals as goal
 

@@ -8,6 +8,11 @@ returns-clause-ok g c = λ h same.
     c.in_ok-extend_from_slice.ensures.items
     ∙ ap (λ t. c.args.out.now.items ++ t) (c.put_message-end.ensures.text ∙ ap frame_text (body_spelled c.args.head.now h (g.B.Body.fields c.args.body.now) same))
 
+pub returns-clause-bytes : goal.returns-clause-bytes
+returns-clause-bytes g c =
+    c.in_ok-extend_from_slice.ensures.items
+    ∙ ap (λ t. c.args.out.now.items ++ t) c.put_message-end.ensures.text
+
 pub returns-clause-short : goal.returns-clause-short
 returns-clause-short g c = λ h same.
     subst (λ t. length t ≤ 64 * length (g.B.Body.fields c.args.body.now) + 180) (body_spelled c.args.head.now h (g.B.Body.fields c.args.body.now) same) c.put_message-end.ensures.body

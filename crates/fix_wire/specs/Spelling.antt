@@ -1,5 +1,5 @@
 -- The parts of a message as they are written, one behind the other.
--- Words of the code alone.
+-- `write_body` says by these words what it writes of a head that is spelled already.
 use Rattle.std.specs.Prelude.{ℕ, Bool, if◌then◌else◌, List, [], ◌∷◌, ◌++◌, take, decimal, codes, Option, Some, None, is_some}
 use Rattle.std.specs.List.{flat_map}
 use Rattle.host_base.specs.declared.bytes.TheConstants.{SOH}
