@@ -75,10 +75,11 @@ impl From<Error> for Refused {
 const RULES_HELP: &str =
     "The rulebook: a line `tick N`, then a line `month NAME REFERENCE` for each month in order of expiry";
 
-fn rules_word<'a>(alloc: Global) -> Arg<'a> {
-    Arg::new(alloc, "RULES")
+/// A file that a command asks for.
+fn file_word<'a>(alloc: Global, name: &'a str, help: &'a str) -> Arg<'a> {
+    Arg::new(alloc, name)
         .required(true)
-        .help(RULES_HELP)
+        .help(help)
         .action(ArgAction::Set)
 }
 
@@ -102,18 +103,37 @@ fn number_word<'a>(alloc: Global, name: &'a str, default: &'a str, help: &'a str
         .action(ArgAction::Set)
 }
 
-fn replay_command<'a>(alloc: Global) -> Result<Command<'a>, AllocError> {
-    let journal_only = Arg::new(alloc, "journal-only")
+fn journal_only_word<'a>(alloc: Global) -> Arg<'a> {
+    Arg::new(alloc, "journal-only")
         .long("journal-only")
         .help("Write the journal text alone")
-        .action(ArgAction::SetTrue);
+        .action(ArgAction::SetTrue)
+}
+
+fn sessions_word<'a>(alloc: Global) -> Arg<'a> {
+    Arg::new(alloc, "SESSION")
+        .required(true)
+        .num_args(1..)
+        .help("A file of raw bytes for each session, session 0 first")
+        .action(ArgAction::Append)
+}
+
+fn place_word<'a>(alloc: Global) -> Arg<'a> {
+    Arg::new(alloc, "PLACE")
+        .required(true)
+        .help("The entry's place in the journal, counted from 1")
+        .value_parser(ValueParser::unsigned(0, 4_294_967_295))
+        .action(ArgAction::Set)
+}
+
+fn replay_command<'a>(alloc: Global) -> Result<Command<'a>, AllocError> {
     Command::new(alloc, "replay")
         .about(
             "Reads day lines from standard input, and writes the journal, fills, outgoing messages and month totals",
         )
-        .arg(rules_word(alloc))?
+        .arg(file_word(alloc, "RULES", RULES_HELP))?
         .arg(stamp_word(alloc))?
-        .arg(journal_only)
+        .arg(journal_only_word(alloc))
 }
 
 const RING_HELP: &str = "How many items each ring between two threads has room for, 1 to 4096";
@@ -121,36 +141,22 @@ const RING_HELP: &str = "How many items each ring between two threads has room f
 const ENTRIES_HELP: &str = "How many entries the journal has room for, at most 1000000";
 
 fn live_command<'a>(alloc: Global) -> Result<Command<'a>, AllocError> {
-    let sessions = Arg::new(alloc, "SESSION")
-        .required(true)
-        .num_args(1..)
-        .help("A file of raw bytes for each session, session 0 first")
-        .action(ArgAction::Append);
     Command::new(alloc, "live")
         .about("Runs a thread for each session's file, and writes what `replay` writes")
-        .arg(rules_word(alloc))?
-        .arg(sessions)?
+        .arg(file_word(alloc, "RULES", RULES_HELP))?
+        .arg(sessions_word(alloc))?
         .arg(stamp_word(alloc))?
         .arg(number_word(alloc, "ring", "256", RING_HELP))?
         .arg(number_word(alloc, "entries", "100000", ENTRIES_HELP))
 }
 
-/// A file that a command asks for.
-fn file_word<'a>(alloc: Global, name: &'a str, help: &'a str) -> Arg<'a> {
-    Arg::new(alloc, name)
-        .required(true)
-        .help(help)
-        .action(ArgAction::Set)
-}
-
 const JOURNAL_HELP: &str = "A journal text, as `replay` writes it";
 
 fn check_command<'a>(alloc: Global) -> Result<Command<'a>, AllocError> {
-    let journal = file_word(alloc, "JOURNAL", JOURNAL_HELP);
     Command::new(alloc, "check")
         .about("Reads a journal text, works it again, and writes its fills and month totals")
-        .arg(rules_word(alloc))?
-        .arg(journal)
+        .arg(file_word(alloc, "RULES", RULES_HELP))?
+        .arg(file_word(alloc, "JOURNAL", JOURNAL_HELP))
 }
 
 const CLAIM_HELP: &str =
@@ -161,44 +167,47 @@ fn audit_command<'a>(alloc: Global) -> Result<Command<'a>, AllocError> {
         .about(
             "Says whether a claim is exactly the fills and month totals of a journal, or the first line that is another",
         )
-        .arg(rules_word(alloc))?
+        .arg(file_word(alloc, "RULES", RULES_HELP))?
         .arg(file_word(alloc, "JOURNAL", JOURNAL_HELP))?
         .arg(file_word(alloc, "CLAIM", CLAIM_HELP))
 }
 
 fn explain_command<'a>(alloc: Global) -> Result<Command<'a>, AllocError> {
-    let place = Arg::new(alloc, "PLACE")
-        .required(true)
-        .help("The entry's place in the journal, counted from 1")
-        .value_parser(ValueParser::unsigned(0, 4_294_967_295))
-        .action(ArgAction::Set);
     Command::new(alloc, "explain")
         .about("Says in words why an entry of a journal came to what it came to")
-        .arg(rules_word(alloc))?
+        .arg(file_word(alloc, "RULES", RULES_HELP))?
         .arg(file_word(alloc, "JOURNAL", JOURNAL_HELP))?
-        .arg(place)
+        .arg(place_word(alloc))
 }
 
 fn draw_command<'a>(alloc: Global) -> Result<Command<'a>, AllocError> {
     Command::new(alloc, "draw")
         .about("Draws the day of a journal, prices and fills over places, as an SVG picture")
-        .arg(rules_word(alloc))?
+        .arg(file_word(alloc, "RULES", RULES_HELP))?
         .arg(file_word(alloc, "JOURNAL", JOURNAL_HELP))
 }
 
+/// A command with this one below it, if there was memory to make it.
+fn with<'a>(
+    command: Command<'a>,
+    below: Result<Command<'a>, AllocError>,
+) -> Result<Command<'a>, AllocError> {
+    command.subcommand(below?)
+}
+
 fn exchange_command<'a>(alloc: Global) -> Result<Command<'a>, AllocError> {
-    Command::new(alloc, "exchange")
+    let command = Command::new(alloc, "exchange")
         .about(
             "A matching host for futures months and calendar spreads, reached by FIX 4.2 messages",
         )
         .version(VERSION)
-        .subcommand_required(true)
-        .subcommand(replay_command(alloc)?)?
-        .subcommand(live_command(alloc)?)?
-        .subcommand(check_command(alloc)?)?
-        .subcommand(audit_command(alloc)?)?
-        .subcommand(explain_command(alloc)?)?
-        .subcommand(draw_command(alloc)?)
+        .subcommand_required(true);
+    let command = with(command, replay_command(alloc))?;
+    let command = with(command, live_command(alloc))?;
+    let command = with(command, check_command(alloc))?;
+    let command = with(command, audit_command(alloc))?;
+    let command = with(command, explain_command(alloc))?;
+    with(command, draw_command(alloc))
 }
 
 fn text_of<'a>(found: &ArgMatches<'a>, name: &str) -> &'a str {
