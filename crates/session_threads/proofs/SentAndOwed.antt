@@ -1,5 +1,5 @@
 -- What a worker hands back.
-use Rattle.std.proofs.Common.{◌≡◌, ℕ, ◌+◌, ◌-◌, List, ◌++◌, length, take, drop, sym, ap, ◌∙◌}
+use Rattle.std.proofs.Common.{◌≡◌, ℕ, ◌+◌, ◌-◌, List, ◌++◌, length, take, drop, sym, ap, subst, ◌∙◌}
 use Rattle.std.proofs.lemmas.List.{drop-drop, length-drop, take-append-drop}
 use Rattle.std.proofs.Math.Seq.{take-length}
 use Rattle.fix_session.specs.Steps.{new_session}
@@ -12,7 +12,7 @@ use Rattle.fix_session.specs.Streams.{whole}
 use Rattle.gate_link.specs.Gateways.{events_sent, pending_events, session_state, bytes_held, SameGateway}
 use Rattle.gate_link.specs.declared.gateway.Gateway.{Gateway}
 use Rattle.gate_link.proofs.gateways.SentAndOwed.{kept_of_put, sent_is_prefix, sent_is_whole}
-use Rattle.session_threads.specs.code.Workers.{HasSent, IsUnused, sent_and_pending}
+use Rattle.session_threads.specs.code.Workers.{HasSent, IsUnused, SameEvents, sent_and_pending}
 
 pub sent_of : {A : Type 0} (stream : List ℕ) (a b : Gateway A) (rest : List ℕ) → SameGateway a b → sent_and_pending b rest ≡ whole stream → HasSent stream a b
 sent_of stream a b rest same total = (same, sent_is_prefix b rest (whole stream) total, sent_is_whole b rest (whole stream) total)
@@ -37,3 +37,18 @@ fed a b stream put n sent owed =
     ∙ (ap (λ (t : List ℕ). events_sent a ++ pending_events a (take n t ++ later)) all
     ∙ (ap (λ (t : List ℕ). events_sent a ++ pending_events a (take n rest ++ t)) (sym (drop-drop n put stream))
     ∙ ap (λ (t : List ℕ). events_sent a ++ pending_events a t) (take-append-drop n rest)))
+
+pub same_gateway_trans : {A : Type 0} (a b d : Gateway A) → SameGateway a b → SameGateway b d → SameGateway a d
+same_gateway_trans a b d p q = (q.0 ∙ p.0, ((q.1.0.0 ∙ p.1.0.0, q.1.0.1 ∙ p.1.0.1, q.1.0.2 ∙ p.1.0.2, q.1.0.3 ∙ p.1.0.3), q.1.1 ∙ p.1.1))
+
+-- after a step on what is held, the same of a slice to the end as of what is left
+pub stepped : {A : Type 0} (a b d e : Gateway A) (stream : List ℕ) (put : ℕ) (all : List Event) → SameGateway a b → sent_and_pending b (drop put stream) ≡ all → d ≡ b
+    → SameEvents d (take (length stream - put) (drop put stream)) e (take (length stream - put) (drop put stream))
+    → SameGateway a e × (sent_and_pending e (drop put stream) ≡ all)
+stepped {A} a b d e stream put all gate total same step =
+    let rest = drop put stream in
+    let piece = take (length stream - put) rest in
+    let tail : piece ≡ rest = ap (λ (k : ℕ). take k rest) (sym (length-drop put stream)) ∙ take-length rest in
+    let was : SameEvents b piece e piece = subst (λ (g : Gateway A). SameEvents g piece e piece) same step in
+    let now : SameEvents b rest e rest = subst (λ (t : List ℕ). SameEvents b t e t) tail was in
+    (same_gateway_trans a b e gate now.0, now.1 ∙ total)

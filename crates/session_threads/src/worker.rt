@@ -64,26 +64,41 @@ pub fn run_gateway<R: Wait, G: Gate, A: Allocator>(
     ensures { HasSent stream.now gateway result }
 {
     let mut gateway = gateway;
+    send_stream(rt, gate, stop, most, &mut gateway, stream);
+    gateway
+}
+
+/// Does so with a gateway that is lent.
+fn send_stream<R: Wait, G: Gate, A: Allocator>(
+    rt: &R,
+    gate: &G,
+    stop: &AtomicBool,
+    most: u32,
+    gateway: &mut Gateway<A>,
+    stream: &[u8],
+)
+    requires unused { IsUnused gateway.old }
+    requires most { most ≤ MAX_SLICE }
+    ensures sent { HasSent stream.now gateway.old gateway.new }
+{
     let mut put = 0usize;
     let mut message = 0u32;
     let mut seen = 0u32;
     let mut looks = 0u32;
     for _ in rt.forever() {
         if stop.load(Ordering::SeqCst) {
-            return gateway;
+            return;
         }
-        if seen == 0 {
-            seen = call_gate(gate, &mut gateway, most, message);
-        }
-        match step_or_end(&mut gateway, seen, &stream[put..]) {
+        seen = see(gate, gateway, most, message, seen);
+        match step_or_end(gateway, seen, &stream[put..]) {
             Step::Sent | Step::Skipped => {
                 message = message.saturating_add(seen);
                 seen = 0;
                 looks = found(looks);
             }
-            Step::Need => put = put_bytes(&mut gateway, stream, put),
+            Step::Need => put = put_bytes(gateway, stream, put),
             Step::Full => looks = rest(rt, looks),
-            Step::Closed => return gateway,
+            Step::Closed => return,
         }
     }
     unreachable!()
@@ -99,21 +114,32 @@ fn put_bytes<A: Allocator>(gateway: &mut Gateway<A>, stream: &[u8], put: usize) 
     put + gateway.put(&stream[put..])
 }
 
-/// Calls the gate for each message that is held, at most so many, and says how many they are.
-fn call_gate<G: Gate, A: Allocator>(
+/// How many messages the next step is made on: those that were seen, or where none is left of
+/// them the next that are held, at most so many, each named to the gate.
+fn see<G: Gate, A: Allocator>(
     gate: &G,
     gateway: &mut Gateway<A>,
     most: u32,
     message: u32,
+    seen: u32,
 ) -> u32
-    ensures few { result ≤ most }
+    requires few { (most ≤ MAX_SLICE) × (seen ≤ MAX_SLICE) }
+    ensures few { result ≤ MAX_SLICE }
     ensures same { gateway.new ≡ gateway.old }
 {
-    let held = gateway.standing(most);
-    for k in 0..held {
-        gate.before(gateway.session(), message.saturating_add(k));
+    if 0 < seen {
+        return seen;
     }
+    let held = gateway.standing(most);
+    call_gate(gate, gateway.session(), message, held);
     held
+}
+
+/// Names so many of a session's messages to the gate, from this one on.
+fn call_gate<G: Gate>(gate: &G, session: u8, message: u32, count: u32) {
+    for k in 0..count {
+        gate.before(session, message.saturating_add(k));
+    }
 }
 
 /// Makes a step on the messages that were seen, or where there are none on what is held, which is the end where nothing

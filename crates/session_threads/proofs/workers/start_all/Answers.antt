@@ -1,4 +1,4 @@
-use Rattle.std.proofs.Common.{rules, arith, ◌≡◌, ◌<◌, ◌∙◌, ℕ, ap, refl, sym, length, vec_len, Vec}
+use Rattle.std.proofs.Common.{rules, arith, ◌≡◌, ◌<◌, ◌∙◌, ℕ, List, ap, refl, sym, length, vec_len, Vec}
 use Rattle.std.proofs.lemmas.List.{length-drop}
 use Rattle.std.specs.Vec.Iter.{into_iter_items}
 use Rattle.gate_link.specs.Opening.{IsFresh}
@@ -15,7 +15,7 @@ loop-gateway-init g c =
     record {
       count = omega (arith, none, gives.1);
       left = rw none gives.0;
-      streams = rw none refl;
+      streams = rw none (refl {A = List (Vec ℕ g.row.A.Denot)});
       room = c.requires.room.1;
       started = λ s v d h below. absurd (omega (arith, none, n));
     }
@@ -80,3 +80,39 @@ loop-gateway-preserved g c =
           (started_snoc streams gs handles.items c.in-Some-start.handle gateway stream (rw n here) (rw n there) was.started
           (rw n next.0) (rw n after.0) promised.0 (ap (λ (v : Vec ℕ _). v.items) promised.1));
     }
+
+pub returns-in-None-start-clause-most : goal.returns-in-None-start-clause-most
+returns-in-None-start-clause-most g c = omega (arith, c.loop-gateway.invariant.count)
+
+pub returns-in-None-start-clause-all : goal.returns-in-None-start-clause-all
+returns-in-None-start-clause-all g c = tt
+
+pub returns-in-None-start-clause-started : goal.returns-in-None-start-clause-started
+returns-in-None-start-clause-started g c = c.loop-gateway.invariant.started
+
+pub returns-in-None-start-clause-room : goal.returns-in-None-start-clause-room
+returns-in-None-start-clause-room g c = refl
+
+pub returns-clause-most : goal.returns-clause-most
+returns-clause-most g c = omega (arith, c.loop-gateway.invariant.count)
+
+pub returns-clause-refused : goal.returns-clause-refused
+returns-clause-refused g c = tt
+
+pub returns-clause-started : goal.returns-clause-started
+returns-clause-started g c = c.loop-gateway.invariant.started
+
+pub returns-clause-room : goal.returns-clause-room
+returns-clause-room g c = refl
+
+pub remove-requires : goal.remove-requires
+remove-requires g c =
+    let was = c.loop-gateway.invariant in
+    let n = ap length was.streams ∙ length-drop (vec_len c.loop-gateway.handles) c.args.streams.items in
+    omega (arith, n, c.requires.streams, c.args.streams.ok.0, c.loop-gateway.streams.ok.0, was.count, c.in-Some.ensures.steps.1)
+
+pub push_reserved-requires : goal.push_reserved-requires
+push_reserved-requires g c = omega (arith, c.loop-gateway.invariant.room, c.loop-gateway.invariant.count, c.in-Some.ensures.steps.1)
+
+pub overflow_cast-refused : goal.overflow_cast-refused
+overflow_cast-refused g c = omega (arith, c.requires.few, c.loop-gateway.invariant.count)

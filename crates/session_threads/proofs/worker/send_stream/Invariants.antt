@@ -2,7 +2,7 @@ use Rattle.std.proofs.Common.{◌≡◌, ◌≤◌, ◌++◌, length, drop}
 use Rattle.fix_session.specs.Streams.{whole}
 use Rattle.gate_link.specs.Gateways.{events_sent, pending_events, SameGateway}
 use Rattle.gate_link.specs.declared.gateway.TheConstants.{MAX_SLICE}
-use Rattle.session_threads.proofs.worker.run_gateway.Given as goal
+use Rattle.session_threads.proofs.worker.send_stream.Given as goal
 
 abbrev pub invariant-loop : goal.invariant-loop
 invariant-loop g l = record {
