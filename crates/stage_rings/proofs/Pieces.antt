@@ -1,8 +1,10 @@
 -- The bytes of pieces.
-use Rattle.std.proofs.Common.{◌≡◌, ◌∙◌, sym, ap, refl, Bool, true, false, ℕ, List, [], ◌∷◌, ◌++◌, append-nil, append_assoc, take, arith, ◌<◌, ◌≤◌, nat_lt, ◌+◌, ◌*◌, Result, Ok, Err, OnOk, IfErr}
+use Rattle.std.proofs.Common.{◌≡◌, ◌∙◌, sym, ap, refl, zero, suc, get_or, length, Bool, true, false, ℕ, List, [], ◌∷◌, ◌++◌, append-nil, append_assoc, take, arith, ◌<◌, ◌≤◌, nat_lt, ◌+◌, ◌*◌, Result, Ok, Err, OnOk, IfErr}
 use Rattle.rtrb.specs.declared.errors.PushError.{PushError}
 use Rattle.rtrb.specs.declared.errors.PushError.TheVariants.{Full}
+use Rattle.std.specs.Simd.{first_chunks}
 use Rattle.std.proofs.lemmas.Bool.Decides.{nat_tests}
+use Rattle.std.proofs.lemmas.List.{take_all}
 use Rattle.stage_rings.specs.declared.post.Piece.{Piece}
 use Rattle.stage_rings.specs.declared.post.TheConstants.{PIECE_BYTES}
 use Rattle.stage_rings.specs.Marks.{ends}
@@ -54,6 +56,18 @@ is_within n h = grind (arith, nat_tests)
 -- the bytes of a piece that is no mark
 pub plain_bytes : (p : Piece) → is_mark p ≡ false → bytes_of_piece p ≡ take p.length p.bytes
 plain_bytes p h = rw h refl
+
+-- the first of some chunks is a front
+first_chunk : (n k : ℕ) (xs chunk : List ℕ) → 0 < length (first_chunks n k xs) → chunk ≡ get_or (first_chunks n k xs) 0 chunk → chunk ≡ take n xs
+first_chunk n zero xs chunk some is = absurd (omega (arith, some))
+first_chunk n (suc k) xs chunk some is = is
+
+-- a chunk of these bytes that is as long as a piece is all of them
+pub whole_piece : (n k : ℕ) (bytes chunk : List ℕ) → n ≡ PIECE_BYTES → length bytes ≤ PIECE_BYTES → 0 < length (first_chunks n k bytes) → chunk ≡ get_or (first_chunks n k bytes) 0 chunk
+    → bytes_of_piece (record { length = length bytes; bytes = chunk }) ≡ bytes
+whole_piece n k bytes chunk size few some is =
+    let all : chunk ≡ bytes = first_chunk n k bytes chunk some is ∙ take_all n bytes (omega (arith, size, few)) in
+    plain_bytes (record { length = length bytes; bytes = chunk }) (is_within (length bytes) few) ∙ (ap (λ t. take (length bytes) t) all ∙ take_all (length bytes) bytes (omega arith))
 
 -- after a push, whatever came of it
 pub pushed_or_not : (r : Result (Unit {0}) (PushError Piece)) (xs ys : List Piece) (p : Piece) (b : Bool) (k m n : ℕ) → ends is_mark xs b ≡ true → b ≡ false → is_mark p ≡ false

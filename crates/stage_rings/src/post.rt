@@ -81,7 +81,12 @@ fn put_piece(piece: &mut Piece, bytes: &[u8])
     ensures plain { is_mark piece.new ≡ false }
 {
     piece.length = bytes.len() as u8;
-    piece.bytes[..bytes.len()].copy_from_slice(bytes);
+    let (whole, _) = bytes.as_chunks();
+    match whole.first() {
+        // All that a piece takes, as most are: a copy of a length that is known.
+        Some(whole) => piece.bytes = *whole,
+        None => piece.bytes[..bytes.len()].copy_from_slice(bytes),
+    }
 }
 
 /// Lays these bytes out in the first of these pieces, and says in how many.

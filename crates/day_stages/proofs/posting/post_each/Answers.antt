@@ -38,7 +38,7 @@ loop-s-preserved g c =
     let texts = c.loop-s.reported.texts in
     let low : i < length texts = omega (arith, here g at, was.same.0, was.count, c.requires.count) in
     let step : posted q ≡ posted (get_or ps i d) ++ session_text texts i =
-    c.post_all.ensures.whole c.if-not-post_all.false ∙ ap (λ (t : List ℕ). posted (get_or ps i d) ++ t) c.bytes.ensures in
+    c.post_all.ensures.whole c.if-not-post_all.false ∙ ap (λ (t : List ℕ). posted (get_or ps i d) ++ t) c.bytes-bytes.ensures in
     let left = sym c.clear.ensures.texts in
     record {
       same = same g at;

@@ -1,0 +1,12 @@
+use Rattle.std.proofs.Common.{refl, ap, subst, length, ◌/◌, ◌<◌, ◌≡◌, List, ℕ, get_or}
+use Rattle.stage_rings.proofs.Pieces.{whole_piece}
+use Rattle.stage_rings.proofs.post.put_piece.Goals as goal
+
+pub returns-in-Some-clause-bytes : goal.returns-in-Some-clause-bytes
+returns-in-Some-clause-bytes c =
+    let bytes = c.args.bytes.now in
+    let chunk = c.in-Some.whole.now in
+    let found = c.in-Some.ensures.item in
+    let some = subst (λ (xs : List (List ℕ)). 0 < length xs) c.as_chunks.ensures.front found.3.0 in
+    let is = found.1 in
+    whole_piece 63 (length bytes / 63) bytes chunk refl c.requires some (subst (λ (xs : List (List ℕ)). chunk ≡ get_or xs 0 chunk) c.as_chunks.ensures.front is)
