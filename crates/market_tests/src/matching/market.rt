@@ -1,21 +1,35 @@
 //! The calls of a market.
+ghost use Rattle.std.specs.Prelude.{◌<◌, ◌≡◌};
+ghost use Rattle.spread_match.specs.State.{empty_state};
+
 use super::{H6_M6, buy, is_priced, sell};
 use spread_books::ListBook;
 use spread_match::Market;
 use spread_match::laws::{lawful, ranges, without_replace};
-use spread_rules::{Choice, Members, Order, Outcome, Rulebook, Side};
+use spread_rules::{Choice, Entry, Fill, Members, Order, Outcome, Rulebook, Side};
+use std::alloc::Global;
+use std::process::Abort;
 use test_support::{THREE_MONTHS, id};
 
-#[test]
-fn best_and_apply(rt: HostRuntime) {
-    lawful();
-    ranges();
-    without_replace();
-    let rules = Rulebook::read(THREE_MONTHS).expect(&rt, "a rulebook");
-    let mut market = Market::new(rt.alloc(), &rules, ListBook::new(rt.alloc()));
-    market.reserve(2).expect(&rt, "memory");
-    let mut fills = Vec::new(rt.alloc());
-    let order = Order {
+/// The entry of that place comes to rest.
+fn expect_rested(
+    rt: &impl Abort,
+    market: &mut Market<'_, ListBook<Global>, Global>,
+    place: u64,
+    entry: &Entry,
+    fills: &mut Vec<Fill>,
+)
+    requires { market.old.state.last < place }
+    ensures { market.new.state.last ≡ place }
+{
+    assert!(rt; is_priced(entry));
+    let outcome = market.apply(place, entry, fills).expect(rt, "memory");
+    assert!(rt; outcome == Outcome::Rested);
+}
+
+/// A buyer of the spread.
+fn buyer() -> Order {
+    Order {
         place: 9,
         session: 1,
         id: id(b"x"),
@@ -24,18 +38,39 @@ fn best_and_apply(rt: HostRuntime) {
         price: 200,
         quantity: 4,
         leaves: 4,
-    };
-    assert!(rt; market.best(&order) == None);
-    let first = sell(b"a", b"H6", 3, 10000);
-    let second = buy(b"b", b"M6", 2, 9800);
-    assert!(rt; is_priced(&first));
-    assert!(rt; is_priced(&second));
-    assert!(rt; market.apply(2, &first, &mut fills).expect(&rt, "memory") == Outcome::Rested);
-    assert!(rt; market.apply(7, &second, &mut fills).expect(&rt, "memory") == Outcome::Rested);
+    }
+}
+
+/// In a market before its first entry the buyer meets no one, and then the two orders that come to rest.
+fn expect_best(
+    rt: &impl Abort,
+    market: &mut Market<'_, ListBook<Global>, Global>,
+    fills: &mut Vec<Fill>,
+)
+    requires { market.old.state ≡ empty_state }
+{
+    market.reserve(2).expect(rt, "memory");
+    assert!(rt; market.best(&buyer()) == None);
+    expect_rested(rt, market, 2, &sell(b"a", b"H6", 3, 10000), fills);
+    expect_rested(rt, market, 7, &buy(b"b", b"M6", 2, 9800), fills);
     let wanted = Choice {
         price: 200,
         quantity: 2,
         members: Members::Implied(2, 7),
     };
-    assert!(rt; market.best(&order) == Some(wanted));
+    assert!(rt; market.best(&buyer()) == Some(wanted));
+}
+
+#[test]
+fn best_and_apply(rt: HostRuntime) {
+    let rules = Rulebook::read(THREE_MONTHS).expect(&rt, "a rulebook");
+    let mut market = Market::new(rt.alloc(), &rules, ListBook::new(rt.alloc()));
+    expect_best(&rt, &mut market, &mut Vec::new(rt.alloc()));
+}
+
+#[test]
+fn laws_are_called() {
+    lawful();
+    ranges();
+    without_replace();
 }

@@ -1,5 +1,5 @@
 //! Implied quotes of a market's book.
-ghost use Rattle.std.specs.Prelude.{◌≡◌};
+ghost use Rattle.std.specs.Prelude.{◌≡◌, []};
 ghost use Rattle.spread_match.specs.State.{empty_state};
 
 use super::cases::Came::{Cancelled, Rested, Session};
@@ -65,6 +65,18 @@ fn expect_quote_case(
     expect_quotes_of(rt, market, quoted.quotes);
 }
 
+/// A market before its first entry, over the index book.
+fn market_over_index<'r>(
+    rt: &impl Abort,
+    alloc: Global,
+    rules: &'r Rulebook,
+) -> Market<'r, IndexBook<'r, Global>, Global>
+    ensures { result.state ≡ empty_state }
+{
+    let book = IndexBook::new(alloc, rules).expect(rt, "memory");
+    Market::new(alloc, rules, book)
+}
+
 /// The same in a market over the index book.
 fn expect_over_index(
     rt: &impl Abort,
@@ -73,8 +85,7 @@ fn expect_over_index(
     quoted: &QuoteCase,
     fills: &mut Vec<Fill>,
 ) {
-    let book = IndexBook::new(alloc, rules).expect(rt, "memory");
-    let mut market = Market::new(alloc, rules, book);
+    let mut market = market_over_index(rt, alloc, rules);
     expect_quote_case(rt, &mut market, quoted, fills)
 }
 
@@ -182,8 +193,8 @@ static AT_HAND: Case = Case {
 };
 
 /// What a buyer of U6 pays the least, and by which other month, where the book has it at hand.
-fn at_hand(
-    market: &Market<'_, IndexBook<'_, Global>, Global>,
+fn at_hand<B: Book>(
+    market: &Market<'_, B, Global>,
     rules: &Rulebook,
 ) -> Option<Option<(i64, u64)>> {
     let least = market.book().pair_at_hand(rules, Side::Buy, 2)?;
@@ -193,16 +204,28 @@ fn at_hand(
     }
 }
 
+/// In a market over that book the pair of H6 is at hand. Under the rules without it it has to be searched for.
+fn expect_at_hand<B: Book + Drop>(
+    rt: &impl Abort,
+    alloc: Global,
+    rules: &Rulebook,
+    without: &Rulebook,
+    book: B,
+)
+    requires { B.orders book ≡ [] }
+{
+    let mut market = Market::new(alloc, rules, book);
+    expect_case(rt, &mut market, &AT_HAND, &mut Vec::new(alloc));
+    assert!(rt; at_hand(&market, rules) == Some(Some((9500, 0))));
+    assert!(rt; at_hand(&market, without) == None);
+}
+
 #[test]
 fn pair_at_hand(rt: HostRuntime) {
     let rules = Rulebook::read(THREE_MONTHS).expect(&rt, "rulebook");
     let without = Rulebook::read(H6_U6_OFF).expect(&rt, "rulebook");
     let book = IndexBook::new(rt.alloc(), &rules).expect(&rt, "memory");
-    let mut market = Market::new(rt.alloc(), &rules, book);
-    expect_case(&rt, &mut market, &AT_HAND, &mut Vec::new(rt.alloc()));
-    assert!(rt; at_hand(&market, &rules) == Some(Some((9500, 0))));
-    // Under a rulebook without that pair it has to be searched for.
-    assert!(rt; at_hand(&market, &without) == None);
+    expect_at_hand(&rt, rt.alloc(), &rules, &without, book)
 }
 
 /// What two orders together cost an order of that instrument and side, a case for each line of the rule.
@@ -391,8 +414,7 @@ fn quotes_of_a_run(
     chance: &mut Chance,
     fills: &mut Vec<Fill>,
 ) -> usize {
-    let book = IndexBook::new(alloc, rules).expect(rt, "memory");
-    let mut market = Market::new(alloc, rules, book);
+    let mut market = market_over_index(rt, alloc, rules);
     quotes_behind(rt, alloc, &mut market, chance, fills)
 }
 

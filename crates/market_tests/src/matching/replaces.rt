@@ -9,7 +9,8 @@ use test_support::THREE_MONTHS;
 
 const TICK_OF_FIVE: &[u8] = b"tick 5\nmonth H6 10000\nmonth M6 9800\n";
 
-static REPLACES: &[Case] = &[
+/// An order that wants no more than before, at its price, keeps its place.
+static KEPT: &[Case] = &[
     Case {
         name: "the kept place is bought first: one order keeps its place with 3 lots, the other loses its with 6",
         rulebook: THREE_MONTHS,
@@ -77,44 +78,6 @@ static REPLACES: &[Case] = &[
         resting: &[(5, 5)],
     },
     Case {
-        name: "a refused request has used up its id, whatever refused it",
-        rulebook: THREE_MONTHS,
-        journal: &[
-            (0, Sell(b"a", b"H6", 5, 10000), Rested),
-            (
-                0,
-                ReplaceSell(b"z", b"b", b"H6", 4, 10000),
-                RequestRefused(1, 0, 8),
-            ),
-            (
-                0,
-                ReplaceSell(b"a", b"c", b"M6", 4, 10000),
-                RequestRefused(2, 1, 0),
-            ),
-            (
-                0,
-                ReplaceSell(b"a", b"b", b"H6", 4, 10000),
-                RequestRefused(2, 1, 0),
-            ),
-            (
-                0,
-                ReplaceSell(b"a", b"c", b"H6", 4, 10000),
-                RequestRefused(2, 1, 0),
-            ),
-            (0, Sell(b"b", b"H6", 1, 10000), Refused(6)),
-            (0, Sell(b"c", b"H6", 1, 10000), Refused(6)),
-            (0, Cancel(b"d", b"b"), RequestRefused(0, 2, 8)),
-            (0, Cancel(b"e", b"c"), RequestRefused(0, 3, 8)),
-            (
-                0,
-                ReplaceSell(b"a", b"d", b"H6", 4, 10000),
-                Replaced(Kept(1, b"d", H6, Side::Sell, 10000, 4, 4)),
-            ),
-        ],
-        fills: &[],
-        resting: &[(1, 4)],
-    },
-    Case {
         name: "a later order does not go ahead of one that is amended twice, once with two of its lots filled",
         rulebook: THREE_MONTHS,
         journal: &[
@@ -143,6 +106,10 @@ static REPLACES: &[Case] = &[
         ],
         resting: &[(2, 4)],
     },
+];
+
+/// One that wants more, or another price, loses its place.
+static LOST: &[Case] = &[
     Case {
         name: "an order that wants one lot more goes behind, with two of its lots filled",
         rulebook: THREE_MONTHS,
@@ -197,6 +164,48 @@ static REPLACES: &[Case] = &[
             Of(4, 2, M6, Side::Buy, 1, 9800),
         ],
         resting: &[],
+    },
+];
+
+/// Which ids a request uses up, and what the ids of a chain of requests stand for, in each session by itself.
+static IDS: &[Case] = &[
+    Case {
+        name: "a refused request has used up its id, whatever refused it",
+        rulebook: THREE_MONTHS,
+        journal: &[
+            (0, Sell(b"a", b"H6", 5, 10000), Rested),
+            (
+                0,
+                ReplaceSell(b"z", b"b", b"H6", 4, 10000),
+                RequestRefused(1, 0, 8),
+            ),
+            (
+                0,
+                ReplaceSell(b"a", b"c", b"M6", 4, 10000),
+                RequestRefused(2, 1, 0),
+            ),
+            (
+                0,
+                ReplaceSell(b"a", b"b", b"H6", 4, 10000),
+                RequestRefused(2, 1, 0),
+            ),
+            (
+                0,
+                ReplaceSell(b"a", b"c", b"H6", 4, 10000),
+                RequestRefused(2, 1, 0),
+            ),
+            (0, Sell(b"b", b"H6", 1, 10000), Refused(6)),
+            (0, Sell(b"c", b"H6", 1, 10000), Refused(6)),
+            (0, Cancel(b"d", b"b"), RequestRefused(0, 2, 8)),
+            (0, Cancel(b"e", b"c"), RequestRefused(0, 3, 8)),
+            (
+                0,
+                ReplaceSell(b"a", b"d", b"H6", 4, 10000),
+                Replaced(Kept(1, b"d", H6, Side::Sell, 10000, 4, 4)),
+            ),
+        ],
+        fills: &[],
+        resting: &[(1, 4)],
     },
     Case {
         name: "statuses of a chain: a place kept, then lost, then the last order filled or cancelled",
@@ -276,7 +285,7 @@ static REPLACES: &[Case] = &[
 ];
 
 /// Every request for the seller is refused, and leaves it as it was: a cancel ends it at last.
-static REFUSED: &[Case] = &[
+static UNFIT: &[Case] = &[
     Case {
         name: "what does not fit is refused: a used id first, then one thing of each that does not fit",
         rulebook: TICK_OF_FIVE,
@@ -392,6 +401,44 @@ static REFUSED: &[Case] = &[
         ],
         resting: &[(2, 1)],
     },
+    Case {
+        name: "what does not fit is refused as such, also where no more is wanted than is filled",
+        rulebook: TICK_OF_FIVE,
+        journal: &[
+            (0, Sell(b"a", b"H6", 5, 10000), Rested),
+            (0, Sell(b"z", b"M6", 1, 20000), Rested),
+            (0, Buy(b"y", b"H6", 3, 10000), Filled),
+            (
+                0,
+                ReplaceBuy(b"a", b"m", b"H6", 3, 10000),
+                RequestRefused(2, 1, 1),
+            ),
+            (
+                0,
+                ReplaceSell(b"a", b"n", b"H6", 1, 10001),
+                RequestRefused(2, 1, 1),
+            ),
+            (
+                0,
+                ReplaceSellNow(b"a", b"o", b"H6", 2, 10000),
+                RequestRefused(2, 1, 1),
+            ),
+            (
+                0,
+                Cancel(b"x", b"a"),
+                Cancelled(Kept(1, b"a", H6, Side::Sell, 10000, 5, 2)),
+            ),
+        ],
+        fills: &[
+            Of(3, 3, H6, Side::Buy, 3, 10000),
+            Of(3, 1, H6, Side::Sell, 3, 10000),
+        ],
+        resting: &[(2, 1)],
+    },
+];
+
+/// The same where a used id or too late a request refuses them.
+static USED_OR_LATE: &[Case] = &[
     Case {
         name: "a used id is refused before all else, also where nothing else fits",
         rulebook: TICK_OF_FIVE,
@@ -511,48 +558,29 @@ static REFUSED: &[Case] = &[
         ],
         resting: &[(2, 1)],
     },
-    Case {
-        name: "what does not fit is refused as such, also where no more is wanted than is filled",
-        rulebook: TICK_OF_FIVE,
-        journal: &[
-            (0, Sell(b"a", b"H6", 5, 10000), Rested),
-            (0, Sell(b"z", b"M6", 1, 20000), Rested),
-            (0, Buy(b"y", b"H6", 3, 10000), Filled),
-            (
-                0,
-                ReplaceBuy(b"a", b"m", b"H6", 3, 10000),
-                RequestRefused(2, 1, 1),
-            ),
-            (
-                0,
-                ReplaceSell(b"a", b"n", b"H6", 1, 10001),
-                RequestRefused(2, 1, 1),
-            ),
-            (
-                0,
-                ReplaceSellNow(b"a", b"o", b"H6", 2, 10000),
-                RequestRefused(2, 1, 1),
-            ),
-            (
-                0,
-                Cancel(b"x", b"a"),
-                Cancelled(Kept(1, b"a", H6, Side::Sell, 10000, 5, 2)),
-            ),
-        ],
-        fills: &[
-            Of(3, 3, H6, Side::Buy, 3, 10000),
-            Of(3, 1, H6, Side::Sell, 3, 10000),
-        ],
-        resting: &[(2, 1)],
-    },
 ];
 
 #[test]
-fn requests_are_met(rt: HostRuntime) {
-    expect_cases(&rt, rt.alloc(), REPLACES)
+fn places_are_kept(rt: HostRuntime) {
+    expect_cases(&rt, rt.alloc(), KEPT)
 }
 
 #[test]
-fn requests_are_refused(rt: HostRuntime) {
-    expect_cases(&rt, rt.alloc(), REFUSED)
+fn places_are_lost(rt: HostRuntime) {
+    expect_cases(&rt, rt.alloc(), LOST)
+}
+
+#[test]
+fn ids_are_used_up(rt: HostRuntime) {
+    expect_cases(&rt, rt.alloc(), IDS)
+}
+
+#[test]
+fn unfit_requests_are_refused(rt: HostRuntime) {
+    expect_cases(&rt, rt.alloc(), UNFIT)
+}
+
+#[test]
+fn used_ids_and_late_requests_are_refused(rt: HostRuntime) {
+    expect_cases(&rt, rt.alloc(), USED_OR_LATE)
 }

@@ -1,33 +1,68 @@
 //! Candidates and their rank.
+ghost use Rattle.spread_rules.specs.Candidates.{HasOrderPrice};
+
 use super::{H6, M6, THREE_MONTHS, order};
 use spread_rules::{
-    Candidate, Choice, Counterparty, Instrument, Level, Members, Rank, Rulebook, Side, better,
-    candidate_for, chosen, is_within, leg_prices, levels_meet, plain_candidate, price_at, ranking,
+    Candidate, Choice, Counterparty, Instrument, Level, Members, Order, Rank, Rulebook, Side,
+    better, candidate_for, chosen, is_within, leg_prices, levels_meet, plain_candidate, price_at,
+    ranking,
 };
 use std::test::Fail;
 
+/// A buyer of H6.
+fn buyer() -> Order
+    ensures { HasOrderPrice result }
+{
+    order(5, H6, Side::Buy, 6, 10000)
+}
+
+/// A seller of H6.
+fn seller() -> Order
+    ensures { HasOrderPrice result }
+{
+    order(2, H6, Side::Sell, 2, 10000)
+}
+
+/// A seller of the spread from H6 to M6.
+fn spread_seller() -> Order
+    ensures { HasOrderPrice result }
+{
+    order(3, Instrument::Spread(0, 1), Side::Sell, 3, 200)
+}
+
+/// A seller of M6.
+fn far_seller() -> Order
+    ensures { HasOrderPrice result }
+{
+    order(4, M6, Side::Sell, 4, 9700)
+}
+
 #[test]
-fn candidates_ranked(rt: HostRuntime) -> Result<(), Fail> {
-    let buy = order(5, H6, Side::Buy, 6, 10000);
-    let spread = order(3, Instrument::Spread(0, 1), Side::Sell, 3, 200);
-    let far = order(4, M6, Side::Sell, 4, 9700);
+fn levels_that_meet(rt: HostRuntime) {
     let spread_level = Level {
         instrument: Instrument::Spread(0, 1),
         side: Side::Sell,
         price: 200,
     };
-    assert!(rt; spread.level() == spread_level);
-    let far_level = far.level();
-    assert!(rt; levels_meet(&buy, &spread_level, &far_level));
+    assert!(rt; spread_seller().level() == spread_level);
+    let far_level = far_seller().level();
+    assert!(rt; levels_meet(&buyer(), &spread_level, &far_level));
     assert!(rt; !levels_meet(&order(5, H6, Side::Buy, 6, 9899), &spread_level, &far_level));
-    let pair = Counterparty::Implied(spread, far);
-    assert!(rt; price_at(&buy, &pair) == Some(9900));
-    assert!(rt; is_within(&buy, 10000));
-    assert!(rt; !is_within(&buy, 10001));
-    let direct = candidate_for(
-        &buy,
-        Counterparty::Direct(order(2, H6, Side::Sell, 2, 10000)),
-    );
+}
+
+#[test]
+fn price_of_a_pair(rt: HostRuntime) {
+    let pair = Counterparty::Implied(spread_seller(), far_seller());
+    assert!(rt; price_at(&buyer(), &pair) == Some(9900));
+    assert!(rt; is_within(&buyer(), 10000));
+    assert!(rt; !is_within(&buyer(), 10001));
+}
+
+#[test]
+fn candidates_ranked(rt: HostRuntime) {
+    let buy = buyer();
+    let direct = candidate_for(&buy, Counterparty::Direct(seller()));
+    let pair = Counterparty::Implied(spread_seller(), far_seller());
     match better(&buy, direct, candidate_for(&buy, pair)) {
         None => assert!(rt; false, "no candidate"),
         Some(best) => {
@@ -47,9 +82,12 @@ fn candidates_ranked(rt: HostRuntime) -> Result<(), Fail> {
             assert!(rt; chosen(&buy, &best) == choice);
         }
     }
-    let resting = [order(2, H6, Side::Sell, 2, 10000)];
+}
+
+#[test]
+fn plain_candidate_found(rt: HostRuntime) -> Result<(), Fail> {
     let rules = Rulebook::read(THREE_MONTHS)?;
-    match plain_candidate(&rules, &resting, &buy) {
+    match plain_candidate(&rules, &[seller()], &buyer()) {
         None => assert!(rt; false, "no candidate"),
         Some(found) => assert!(rt; found.price == 10000),
     }
