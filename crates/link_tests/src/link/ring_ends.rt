@@ -65,17 +65,40 @@ fn entries_end_with_a_mark(rt: HostRuntime) {
     assert!(rt; agree(&mut feeder, &mut matcher));
 }
 
+fn expect_posted<A: Allocator>(rt: &impl Abort, poster: &mut Poster<A>, bytes: &[u8], want: Post) {
+    assert!(rt; poster.post(bytes) == want);
+}
+
+/// The same of several pieces at once.
+fn expect_posted_many<A: Allocator>(
+    rt: &impl Abort,
+    poster: &mut Poster<A>,
+    bytes: &[u8],
+    want: Post,
+) {
+    assert!(rt; poster.post_many(bytes) == want);
+}
+
+/// The poster ends, or cannot yet.
+fn expect_end<A: Allocator>(rt: &impl Abort, poster: &mut Poster<A>, want: Post) {
+    assert!(rt; poster.end() == want);
+}
+
+fn expect_taken<A: Allocator>(rt: &impl Abort, writer: &mut Writer<A>, want: Wrote) {
+    assert!(rt; writer.take() == Ok(want));
+}
+
 /// A piece has at most 63 bytes. The ring has room for one.
 fn expect_pieces<A: Allocator>(rt: &impl Abort, poster: &mut Poster<A>, writer: &mut Writer<A>) {
     let bytes = [b'x'; 100];
-    assert!(rt; poster.post(&[]) == Post::Posted(0));
-    assert!(rt; poster.post(&bytes) == Post::Posted(63));
-    assert!(rt; poster.post(&bytes[63..]) == Post::Full);
-    assert!(rt; writer.take() == Ok(Wrote::Bytes(63)));
-    assert!(rt; poster.post(&bytes[63..]) == Post::Posted(37));
-    assert!(rt; poster.end() == Post::Full);
-    assert!(rt; writer.take() == Ok(Wrote::Bytes(37)));
-    assert!(rt; writer.take() == Ok(Wrote::Empty));
+    expect_posted(rt, poster, &[], Post::Posted(0));
+    expect_posted(rt, poster, &bytes, Post::Posted(63));
+    expect_posted(rt, poster, &bytes[63..], Post::Full);
+    expect_taken(rt, writer, Wrote::Bytes(63));
+    expect_posted(rt, poster, &bytes[63..], Post::Posted(37));
+    expect_end(rt, poster, Post::Full);
+    expect_taken(rt, writer, Wrote::Bytes(37));
+    expect_taken(rt, writer, Wrote::Empty);
     assert!(rt; writer.bytes() == bytes.as_slice());
 }
 
@@ -88,16 +111,16 @@ fn bytes_are_posted_in_pieces(rt: HostRuntime) {
 /// Several pieces are posted at once or none: 8 at most, and no more than a ring of 2 and then one of 16 holds.
 fn expect_many<A: Allocator>(rt: &impl Abort, poster: &mut Poster<A>, writer: &mut Writer<A>) {
     let bytes = [b'x'; 130];
-    assert!(rt; poster.post_many(&[]) == Post::Posted(0));
-    assert!(rt; poster.post_many(&bytes) == Post::Posted(126));
-    assert!(rt; writer.take() == Ok(Wrote::Bytes(63)));
-    assert!(rt; poster.post_many(&bytes) == Post::Full);
-    assert!(rt; poster.post_many(&bytes[126..]) == Post::Posted(4));
-    assert!(rt; poster.end() == Post::Full);
-    assert!(rt; writer.take() == Ok(Wrote::Bytes(63)));
-    assert!(rt; poster.end() == Post::Posted(0));
-    assert!(rt; poster.post_many(&bytes) == Post::Ended);
-    assert!(rt; writer.take() == Ok(Wrote::Bytes(4)));
+    expect_posted_many(rt, poster, &[], Post::Posted(0));
+    expect_posted_many(rt, poster, &bytes, Post::Posted(126));
+    expect_taken(rt, writer, Wrote::Bytes(63));
+    expect_posted_many(rt, poster, &bytes, Post::Full);
+    expect_posted_many(rt, poster, &bytes[126..], Post::Posted(4));
+    expect_end(rt, poster, Post::Full);
+    expect_taken(rt, writer, Wrote::Bytes(63));
+    expect_end(rt, poster, Post::Posted(0));
+    expect_posted_many(rt, poster, &bytes, Post::Ended);
+    expect_taken(rt, writer, Wrote::Bytes(4));
     assert!(rt; writer.bytes() == bytes.as_slice());
 }
 
