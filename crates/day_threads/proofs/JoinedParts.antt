@@ -1,5 +1,5 @@
 -- What the joined parts of a day come to.
-use Rattle.std.proofs.Common.{◌≡◌, ◌∙◌, sym, ap, ℕ, ◌+◌, ◌<◌, Bool, true, false, List, [], length, arith, append-nil, inl, inr, Vec}
+use Rattle.std.proofs.Common.{◌≡◌, ◌∙◌, sym, ap, ℕ, ◌+◌, ◌<◌, ◌≤◌, Bool, true, false, List, [], length, get_or, subst, arith, append-nil, inl, inr, Vec}
 use Rattle.std.proofs.Math.ListN.{set}
 use Rattle.std.proofs.lemmas.Bool.{cases_eq}
 use mathlib.Core.List.{IsPrefix}
@@ -16,8 +16,24 @@ use Rattle.day_apply.specs.Applied.{IsApplyFault}
 use Rattle.day_apply.specs.declared.fault.ApplyFault.{ApplyFault}
 use Rattle.day_apply.specs.declared.fault.ApplyFault.TheVariants.{NoMemory, NumbersSpent}
 use Rattle.session_threads.specs.Streams.{IsBeginningOf, whole_at}
+use Rattle.session_threads.specs.code.Sequencing.{SequenceEnds}
+use Rattle.session_threads.specs.code.Writing.{AreJoinedPairs}
+use Rattle.session_threads.specs.declared.sequencing.Sequenced.{Sequenced}
+use Rattle.session_threads.specs.declared.sequencing.SequenceEnd.{SequenceEnd}
+use Rattle.session_threads.specs.declared.writing.Written.{Written}
+use Rattle.stage_rings.specs.Feeding.{taken}
+use Rattle.stage_rings.specs.Posting.{ArePostPair}
+use Rattle.stage_rings.specs.declared.post.Poster.{Poster}
 use Rattle.day_threads.specs.Streams.{IsThreadsFault}
+use Rattle.day_threads.specs.code.Concluding.{IsFaultOfEnds}
 use Rattle.day_stages.specs.code.Making.{of_apply}
+use Rattle.day_stages.specs.code.Matching.{MatchEnds}
+use Rattle.day_stages.specs.declared.fault.ThreadsFault.{ThreadsFault}
+use Rattle.day_stages.specs.declared.fault.ThreadsFault.TheVariants as threads
+use Rattle.day_stages.specs.declared.matching.Matched.{Matched}
+use Rattle.day_stages.specs.declared.matching.MatchEnd.{MatchEnd}
+use Rattle.day_stages.specs.declared.matching.MatchEnd.TheVariants.{Fault}
+use Rattle.day_apply.specs.Sending.{sending_rules}
 
 pub agrees_prefix : (b ended : Bool) (gave took : List Entry) → Agrees b ended gave took → IsPrefix took gave
 agrees_prefix true ended gave took h = ([], append-nil took ∙ h.1)
@@ -39,6 +55,32 @@ pub live_fault : {A : Type 0} (rules : Rules) (streams : List (Vec ℕ A)) (ring
     → IsBeginningOf streams took → IsApplyFault rules took f → IsThreadsFault rules streams ring room (of_apply f)
 live_fault rules streams ring room took (NoMemory place) parts is = inr record { journal = took; parts = parts; within = omega (arith, is) }
 live_fault rules streams ring room took (NumbersSpent place) parts is = record { journal = took; parts = parts; spends = is }
+
+-- the matching thread's fault is one of how the two ended
+pub fault_named : (q : SequenceEnd) (m : MatchEnd) (place : ℕ) (f : ApplyFault) → m ≡ Fault f → IsFaultOfEnds q m place (of_apply f)
+fault_named q m place (NoMemory p) is = inr is
+fault_named q m place (NumbersSpent p) is = is
+
+-- a fault of how the two ended is one of the day
+pub fault_of_day : {A : Type 0} (room ring : ℕ) (streams : List (Vec ℕ A)) (q : Sequenced A) (m : Matched A) (place : ℕ)
+    → SequenceEnds q.end room streams q.journal.items q.feeder → MatchEnds m.end (taken m.matcher) m.posted → IsBeginningOf streams (taken m.matcher)
+    → place ≤ length (taken m.matcher) + 1 → (f : ThreadsFault) → IsFaultOfEnds q.end m.end place f → IsThreadsFault (sending_rules m.posted.reported) streams ring room f
+fault_of_day room ring streams q m place sequenced matched parts within threads.JournalFull is =
+    subst (λ (e : SequenceEnd). SequenceEnds e room streams q.journal.items q.feeder) is sequenced
+fault_of_day room ring streams q m place sequenced matched parts within (threads.NoMemory p) (inl same) =
+    inr record { journal = taken m.matcher; parts = parts; within = omega (arith, same, within) }
+fault_of_day room ring streams q m place sequenced matched parts within (threads.NoMemory p) (inr is) =
+    live_fault (sending_rules m.posted.reported) streams ring room (taken m.matcher) (NoMemory p) parts (subst (λ (e : MatchEnd). MatchEnds e (taken m.matcher) m.posted) is matched)
+fault_of_day room ring streams q m place sequenced matched parts within (threads.NumbersSpent p) is =
+    live_fault (sending_rules m.posted.reported) streams ring room (taken m.matcher) (NumbersSpent p) parts (subst (λ (e : MatchEnd). MatchEnds e (taken m.matcher) m.posted) is matched)
+fault_of_day room ring streams q m place sequenced matched parts within (threads.Link fault) is = absurd is
+fault_of_day room ring streams q m place sequenced matched parts within (threads.Spawn k) is = absurd is
+
+-- two ends that were not looked at yet are of one ring
+pub pair_left : {A : Type 0} (ps₀ ps : List (Poster A)) (ws₀ ws : List (Written A)) (i : ℕ) (p : Poster A) (w : Written A)
+    → AreJoinedPairs ps₀ ws₀ → i < length ws₀ → get_or ps i p ≡ get_or ps₀ i p → get_or ws i w ≡ get_or ws₀ i w
+    → ArePostPair (get_or ps i p) (get_or ws i w).writer
+pair_left ps₀ ps ws₀ ws i p w pairs here same_p same_w = rw (same_p, same_w) (pairs.1 i p w here)
 
 -- a writer that took its end mark has what was given to it
 pub finishes_whole : (b ended : Bool) (gave wrote : List ℕ) → b ≡ true → Finishes b ended gave wrote → wrote ≡ gave

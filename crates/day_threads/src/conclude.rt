@@ -3,9 +3,10 @@ ghost use Rattle.std.specs.Prelude.{◌≡◌, ◌≤◌, ◌<◌, ℕ, length, 
 ghost use Rattle.spread_report.specs.Sessions.{bytes_of};
 ghost use Rattle.day_apply.specs.Sending.{sending_rules, stamp_of};
 ghost use Rattle.day_threads.specs.Streams.{IsDayOfSessions, IsThreadsFault};
-ghost use Rattle.day_threads.specs.code.Concluding.{AreJoined, IsWhole};
-ghost use Rattle.day_stages.specs.code.Making.{of_apply};
+ghost use Rattle.day_threads.specs.code.Concluding.{AreJoined, IsFaultOfEnds, IsWhole};
+ghost use Rattle.day_stages.specs.declared.matching.MatchEnd.TheVariants as matched_end;
 ghost use Rattle.day_stages.specs.code.Posting.{posted_at};
+ghost use Rattle.session_threads.specs.declared.sequencing.SequenceEnd.TheVariants as sequence_end;
 ghost use Rattle.session_threads.specs.code.Writing.{AreJoinedPairs, written_at};
 
 use day_apply::FillsAndMessages;
@@ -70,6 +71,36 @@ fn with_written<A: Allocator>(
     out
 }
 
+/// The fault with the least number, by how the sequencer and the matching thread ended, whether a
+/// writer found no memory, and whether the end mark of the entries was taken. Where no memory was
+/// found, this is the place.
+fn first_fault(
+    sequenced: SequenceEnd,
+    matched: MatchEnd,
+    refused: bool,
+    agreed: bool,
+    place: u64,
+) -> Option<ThreadsFault>
+    ensures fault { IfSome result (IsFaultOfEnds sequenced matched place) }
+    ensures whole { IfNone result
+        ((sequenced ≡ sequence_end.Whole) × (matched ≡ matched_end.Whole) × (agreed ≡ true)) }
+{
+    if let SequenceEnd::JournalFull = sequenced {
+        return Some(ThreadsFault::JournalFull);
+    }
+    if refused {
+        return Some(ThreadsFault::NoMemory(place));
+    }
+    if let MatchEnd::Fault(fault) = matched {
+        return Some(of_apply(fault));
+    }
+    // No thread stops but for a fault of its own or of another.
+    match (sequenced, matched) {
+        (SequenceEnd::Whole, MatchEnd::Whole) if agreed => None,
+        _ => Some(ThreadsFault::NoMemory(place)),
+    }
+}
+
 /// The fault with the least number, if there is any. Else each part has ended, and has what the others gave it.
 fn fault_of<A: Allocator + Copy>(
     sequenced: &mut Sequenced<A>,
@@ -88,29 +119,17 @@ fn fault_of<A: Allocator + Copy>(
     ensures whole { IfNone result
         (IsWhole streams.now.value.items sequenced.old.journal.items matched.old.posted written.new) }
 {
-    if let SequenceEnd::JournalFull = sequenced.end {
-        return Some(ThreadsFault::JournalFull);
-    }
     let agreed = agree(&mut sequenced.feeder, &mut matched.matcher);
+    let refused = any_refused(written);
     // Where the matching thread found no memory, its place is the same.
-    let refused = ThreadsFault::NoMemory(matched.worked.saturating_add(1));
-    if any_refused(written) {
-        return Some(refused);
-    }
-    if let MatchEnd::Fault(fault) = matched.end {
-        return Some(of_apply(fault));
-    }
-    // No thread stops but for a fault of its own or of another.
-    if !agreed {
-        return Some(refused);
+    let place = matched.worked.saturating_add(1);
+    if let Some(fault) = first_fault(sequenced.end, matched.end, refused, agreed, place) {
+        return Some(fault);
     }
     if !all_finished(matched.posted.posters.as_mut_slice(), written) {
-        return Some(refused);
+        return Some(ThreadsFault::NoMemory(place));
     }
-    match (sequenced.end, matched.end) {
-        (SequenceEnd::Whole, MatchEnd::Whole) => None,
-        _ => Some(refused),
-    }
+    None
 }
 
 /// The day, or of the faults that arose the one with the least number.

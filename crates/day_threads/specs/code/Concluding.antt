@@ -1,6 +1,6 @@
 -- The ends of a day's rings, before any thread is started and in one thread again.
 -- Words of the code alone.
-use Rattle.std.specs.Prelude.{◌≡◌, ℕ, ◌<◌, ◌≤◌, List, length, Vec}
+use Rattle.std.specs.Prelude.{◌≡◌, ℕ, ◌<◌, ◌≤◌, ◌⊎◌, List, length, Vec}
 use mathlib.Core.List.{IsPrefix}
 use Rattle.host_base.specs.declared.limits.TheConstants.{SESSIONS}
 use Rattle.stage_rings.specs.Feeding.{given, taken, AreFeedPair}
@@ -10,11 +10,18 @@ use Rattle.session_threads.specs.Streams.{IsBeginningOf, whole_at}
 use Rattle.session_threads.specs.code.Sequencing.{SequenceEnds}
 use Rattle.session_threads.specs.code.Writing.{AreJoinedPairs, written_at}
 use Rattle.session_threads.specs.declared.sequencing.Sequenced.{Sequenced}
+use Rattle.session_threads.specs.declared.sequencing.SequenceEnd.{SequenceEnd}
+use Rattle.session_threads.specs.declared.sequencing.SequenceEnd.TheVariants.{JournalFull as Full}
 use Rattle.session_threads.specs.declared.writing.Written.{Written}
+use Rattle.day_apply.specs.declared.fault.ApplyFault.TheVariants as apply
 use Rattle.day_stages.specs.code.Making.{IsMade}
 use Rattle.day_stages.specs.code.Matching.{MatchEnds}
 use Rattle.day_stages.specs.code.Posting.{HasPosted, posted_at}
+use Rattle.day_stages.specs.declared.fault.ThreadsFault.{ThreadsFault}
+use Rattle.day_stages.specs.declared.fault.ThreadsFault.TheVariants.{Link, Spawn, JournalFull, NoMemory, NumbersSpent}
 use Rattle.day_stages.specs.declared.matching.Matched.{Matched}
+use Rattle.day_stages.specs.declared.matching.MatchEnd.{MatchEnd}
+use Rattle.day_stages.specs.declared.matching.MatchEnd.TheVariants.{Fault}
 use Rattle.day_stages.specs.declared.posting.PostedEntries.{PostedEntries}
 use Rattle.day_stages.specs.declared.stages.Stages.{Stages}
 
@@ -45,3 +52,12 @@ pub record IsWhole {A : Type 0} (streams : List (Vec ℕ A)) (journal : List Ent
   pub posted : HasPosted journal p
   pub count : length p.posters.items ≡ length ws
   pub written : (s : ℕ) → s < length ws → written_at ws s ≡ posted_at p.posters.items s
+
+-- a fault of a day whose sequencer and matching thread ended so; what else found no memory is told
+-- at this place
+abbrev pub IsFaultOfEnds : SequenceEnd → MatchEnd → ℕ → ThreadsFault → Type 0
+IsFaultOfEnds q m place JournalFull = q ≡ Full
+IsFaultOfEnds q m place (NoMemory p) = (p ≡ place) ⊎ (m ≡ Fault (apply.NoMemory p))
+IsFaultOfEnds q m place (NumbersSpent p) = m ≡ Fault (apply.NumbersSpent p)
+IsFaultOfEnds q m place (Link fault) = ⊥
+IsFaultOfEnds q m place (Spawn k) = ⊥

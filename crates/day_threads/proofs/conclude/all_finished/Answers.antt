@@ -3,8 +3,17 @@ use Rattle.stage_rings.specs.Posting.{posted, written}
 use Rattle.gate_link.proofs.inboxes.AlongTwoLists.{left_more}
 use Rattle.gate_link.proofs.links.PartOfASession.{row_at}
 use Rattle.session_threads.specs.code.Writing.{bytes_written}
-use Rattle.day_threads.proofs.JoinedParts.{row_written, finishes_whole}
+use Rattle.day_threads.proofs.JoinedParts.{row_written, finishes_whole, pair_left}
 use Rattle.day_threads.proofs.conclude.all_finished.Goals as goal
+
+pub finished-requires : goal.finished-requires
+finished-requires g c =
+    let i = c.loop-s.s in
+    let was = c.loop-s.invariant in
+    let here : i < length c.args.written.now = omega (arith, c.loop-s-test.true, c.loop-s.auto.written) in
+    let d = c.index-posters-s.result in
+    let w = c.index-written-s.result in
+    pair_left c.args.posters.now c.loop-s.posters c.args.written.now c.loop-s.written i d w c.requires here (was.posters_left i d (omega arith)) (was.written_left i w (omega arith))
 
 pub loop-s-preserved : goal.loop-s-preserved
 loop-s-preserved g c =
