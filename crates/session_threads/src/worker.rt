@@ -123,8 +123,8 @@ fn see<G: Gate, A: Allocator>(
     message: u32,
     seen: u32,
 ) -> u32
-    requires few { (most ≤ MAX_SLICE) × (seen ≤ MAX_SLICE) }
-    ensures few { result ≤ MAX_SLICE }
+    requires few { seen ≤ most }
+    ensures few { result ≤ most }
     ensures same { gateway.new ≡ gateway.old }
 {
     if 0 < seen {

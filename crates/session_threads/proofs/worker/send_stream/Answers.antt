@@ -55,7 +55,7 @@ pub put_bytes-put-requires : goal.put_bytes-put-requires
 put_bytes-put-requires g c = c.loop.invariant.put
 
 pub step_or_end-requires : goal.step_or_end-requires
-step_or_end-requires g c = c.see-seen.ensures.few
+step_or_end-requires g c = omega (arith, c.see-seen.ensures.few, c.requires.most)
 
 pub slice_bounds-step_or_end-start : goal.slice_bounds-step_or_end-start
 slice_bounds-step_or_end-start g c = omega (arith, c.loop.invariant.put)

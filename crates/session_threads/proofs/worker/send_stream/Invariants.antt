@@ -1,7 +1,6 @@
 use Rattle.std.proofs.Common.{◌≡◌, ◌≤◌, ◌++◌, length, drop}
 use Rattle.fix_session.specs.Streams.{whole}
 use Rattle.gate_link.specs.Gateways.{events_sent, pending_events, SameGateway}
-use Rattle.gate_link.specs.declared.gateway.TheConstants.{MAX_SLICE}
 use Rattle.session_threads.proofs.worker.send_stream.Given as goal
 
 abbrev pub invariant-loop : goal.invariant-loop
@@ -9,5 +8,5 @@ invariant-loop g l = record {
   gate : SameGateway l.initial.gateway l.gateway;
   put : l.put ≤ length l.stream;
   total : events_sent l.gateway ++ pending_events l.gateway (drop l.put l.stream) ≡ whole l.stream;
-  seen : l.seen ≤ MAX_SLICE;
+  seen : l.seen ≤ l.most;
 }
