@@ -49,6 +49,23 @@ fn put_two(room: &mut [u8], at: usize, number: u64) -> usize
     put_byte(room, rest, ones)
 }
 
+/// A number of at most two digits. That there are two is added to the place in which the last one stands: a branch on it would
+/// be guessed wrong as often as not.
+#[inline(always)]
+fn put_few(room: &mut [u8], at: usize, number: u64) -> usize
+    requires few { number < 100 }
+    requires within { at + 2 ≤ length room.old }
+    ensures text { take result room.new ≡ take at room.old ++ decimal number }
+    ensures most { result ≤ at + 2 }
+    ensures size { length room.new ≡ length room.old }
+{
+    let pair = (number % 100) as usize * 2;
+    let (tens, ones) = (PAIRS[pair], PAIRS[pair + 1]);
+    let last = at + usize::from(9 < number);
+    put_byte(room, at, tens);
+    put_byte(room, last, ones)
+}
+
 /// A number of at most four digits.
 #[inline(always)]
 fn put_short(room: &mut [u8], at: usize, number: u64) -> usize
@@ -58,10 +75,8 @@ fn put_short(room: &mut [u8], at: usize, number: u64) -> usize
     ensures most { result ≤ at + 4 }
     ensures size { length room.new ≡ length room.old }
 {
-    if number < 10 {
-        put_byte(room, at, b'0' + number as u8)
-    } else if number < 100 {
-        put_two(room, at, number)
+    if number < 100 {
+        put_few(room, at, number)
     } else if number < 1_000 {
         let rest = put_byte(room, at, b'0' + (number / 100) as u8);
         put_two(room, rest, number)
@@ -82,6 +97,27 @@ fn put_any(room: &mut [u8], at: usize, number: u64) -> usize
     put(room, at, Buffer::new().format(number).as_bytes())
 }
 
+/// What a number of five digits is multiplied by, so that its first digit stands over 2^32 and the others behind it: 2^32
+/// by 10,000, and a little more.
+const FIVE_DIGITS: u64 = 429_497;
+
+/// A number of five digits: each multiplication by a hundred brings two more over 2^32, which costs less than dividing.
+#[inline(always)]
+fn put_five(room: &mut [u8], at: usize, number: u64) -> usize
+    requires five { (10000 ≤ number) × (number < 100000) }
+    requires within { at + 5 ≤ length room.old }
+    ensures text { take result room.new ≡ take at room.old ++ decimal number }
+    ensures most { result ≤ at + 5 }
+    ensures size { length room.new ≡ length room.old }
+{
+    let first = number * FIVE_DIGITS;
+    let second = first % 4_294_967_296 * 100;
+    let third = second % 4_294_967_296 * 100;
+    let tens = put_byte(room, at, b'0' + (first / 4_294_967_296) as u8);
+    let ones = put_two(room, tens, second / 4_294_967_296);
+    put_two(room, ones, third / 4_294_967_296)
+}
+
 /// A number of at least five digits.
 fn put_long(room: &mut [u8], at: usize, number: u64) -> usize
     requires long { 10000 ≤ number }
@@ -90,7 +126,9 @@ fn put_long(room: &mut [u8], at: usize, number: u64) -> usize
     ensures most { result ≤ at + 20 }
     ensures size { length room.new ≡ length room.old }
 {
-    if number < 100_000_000 {
+    if number < 100_000 {
+        put_five(room, at, number)
+    } else if number < 100_000_000 {
         let tens = put_short(room, at, number / 10_000);
         let ones = put_two(room, tens, number / 100);
         put_two(room, ones, number)

@@ -4,7 +4,8 @@ ghost use Rattle.std.specs.Prelude.{◌≡◌, ◌++◌, ◌∷◌, [], ◌<◌,
 ghost use Rattle.std.specs.List.{flat_map, AllByRecursion};
 ghost use Rattle.host_base.specs.declared.limits.TheConstants.{MAX_ID_LENGTH};
 ghost use Rattle.fix_frames.specs.Frames.{begin_text, checksum_field};
-ghost use Rattle.host_base.specs.Ascii.{digit_zero};
+ghost use Rattle.host_base.specs.Ascii.{digit_zero, equals};
+ghost use Rattle.fix_wire.specs.declared.writer.Value.TheVariants.{Text};
 ghost use Rattle.host_base.specs.Ids.{is_plain};
 ghost use Rattle.fix_wire.specs.Layout.{value_text, field_text, field_of_given, orig_time, summed_text, FitsValueOf, FitsValue};
 ghost use Rattle.fix_values.specs.Values.{price_text};
@@ -53,6 +54,34 @@ fn put_value(room: &mut [u8], at: usize, value: &Value) -> usize
     }
 }
 
+/// A tag, and what stands between it and its value.
+#[inline(always)]
+fn put_tag(room: &mut [u8], at: usize, tag: u32) -> usize
+    requires within { at + 21 ≤ length room.old }
+    ensures text { take result room.new ≡ take at room.old ++ (decimal tag ++ equals ∷ []) }
+    ensures most { result ≤ at + 21 }
+    ensures size { length room.new ≡ length room.old }
+{
+    let end = put_number(room, at, u64::from(tag));
+    put_byte(room, end, b'=')
+}
+
+/// Writes a field of that text at that place, and tells where it ends. The text is copied from where it stands: in a `Value` it
+/// would be copied twice, in parts of odd lengths.
+#[inline(always)]
+pub fn put_text_field(room: &mut [u8], at: usize, tag: u32, text: &Id) -> usize
+    requires within { at + 63 ≤ length room.old }
+    ensures text { take result room.new
+        ≡ take at room.old ++ field_text (field_of_given (record { tag = tag; value = Text text.now })) }
+    ensures most { result ≤ at + 63 }
+    ensures fits { FitsValueOf (record { tag = tag; value = Text text.now }) }
+    ensures size { length room.new ≡ length room.old }
+{
+    let value = put_tag(room, at, tag);
+    let end = put_id(room, value, text);
+    put_byte(room, end, SOH)
+}
+
 /// Writes a field at that place, and tells where it ends.
 #[inline(always)]
 pub fn put_field(room: &mut [u8], at: usize, field: &Field) -> usize
@@ -63,8 +92,7 @@ pub fn put_field(room: &mut [u8], at: usize, field: &Field) -> usize
     ensures fits { FitsValueOf field.now }
     ensures size { length room.new ≡ length room.old }
 {
-    let equals = put_number(room, at, u64::from(field.tag));
-    let value = put_byte(room, equals, b'=');
+    let value = put_tag(room, at, field.tag);
     let end = put_value(room, value, &field.value);
     put_byte(room, end, SOH)
 }

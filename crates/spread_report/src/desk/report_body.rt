@@ -8,7 +8,7 @@ ghost use Rattle.spread_report.specs.code.ReportBodies.{left_fields, last_fields
 ghost use Rattle.spread_report.specs.code.ReportBodies.{fields_of_reject, fields_of_cancel, fields_of_fill};
 
 use crate::codes::{EXEC_TRANS_TYPE_NEW, MultiLegReportingType, OrdStatus, side_code};
-use fix_wire::{Body, Field, Value, put_field, tags};
+use fix_wire::{Body, Field, Value, put_field, put_text_field, tags};
 use host_base::Id;
 use spread_rules::Side;
 
@@ -77,7 +77,7 @@ fn put_order(room: &mut [u8], at: usize, report: &OrderReport<'_>) -> usize
     ensures size { length room.new ≡ length room.old }
 {
     let at = put_field(room, at, &number_field!(tags::ORDER_ID, report.order_id));
-    put_field(room, at, &text_field!(tags::CL_ORD_ID, *report.cl_ord_id))
+    put_text_field(room, at, tags::CL_ORD_ID, report.cl_ord_id)
 }
 
 #[inline(always)]
@@ -114,7 +114,7 @@ fn put_terms(room: &mut [u8], at: usize, report: &OrderReport<'_>) -> usize
     ensures values { AllByRecursion FitsValueOf (terms_fields report.now) }
     ensures size { length room.new ≡ length room.old }
 {
-    let at = put_field(room, at, &text_field!(tags::SYMBOL, *report.symbol));
+    let at = put_text_field(room, at, tags::SYMBOL, report.symbol);
     let at = put_field(room, at, &number_field!(tags::SIDE, side_code(report.side)));
     put_field(room, at, &number_field!(tags::ORDER_QTY, report.order_qty))
 }
@@ -199,7 +199,7 @@ impl<'a> Body for CancelReport<'a> {
 
     fn put(&self, room: &mut [u8], at: usize) -> usize {
         let at = put_order(room, at, &self.order);
-        let at = put_field(room, at, &text_field!(tags::ORIG_CL_ORD_ID, *self.original));
+        let at = put_text_field(room, at, tags::ORIG_CL_ORD_ID, self.original);
         let at = put_event(room, at, &self.order);
         let at = put_terms(room, at, &self.order);
         put_left(room, at, &self.order)

@@ -1,7 +1,7 @@
 //! Messages as they are written.
 use fix_wire::{
     Body, Field, FieldList, Head, Message, SpelledHead, SpelledParties, Value, put_field,
-    read_price, write_body, write_message,
+    put_text_field, read_price, write_body, write_message,
 };
 use host_base::Id;
 use std::alloc::Allocator;
@@ -181,6 +181,14 @@ fn written_numbers(rt: HostRuntime) {
         assert!(rt; end == 2 + text.len());
         assert!(rt; room[2..].starts_with(text));
     }
+}
+
+#[test]
+fn written_text(rt: HostRuntime) {
+    let mut room = [7; 80];
+    let end = put_text_field(&mut room, 2, 55, &id(b"H6-M6"));
+    assert!(rt; end == 11);
+    assert!(rt; room[2..].starts_with(b"55=H6-M6\x01"));
 }
 
 /// The number of fields and what the message begins with. The head has 45 bytes, each field 36.

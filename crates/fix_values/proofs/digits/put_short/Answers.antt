@@ -1,20 +1,11 @@
 use Rattle.std.proofs.Common.{◌++◌, take, sym, ap, ◌∙◌}
-use Rattle.std.proofs.lemmas.Fmt.{decimal_digit}
 use Rattle.fix_values.proofs.Appended.{step}
-use Rattle.fix_values.proofs.LastTwoDigits.{two_only, three_digits, four_digits}
+use Rattle.fix_values.proofs.LastTwoDigits.{three_digits, four_digits}
 use Rattle.fix_values.proofs.digits.put_short.Goals as goal
-
-pub returns-then-number-lt10-clause-text : goal.returns-then-number-lt10-clause-text
-returns-then-number-lt10-clause-text c =
-    c.put_byte.ensures.text ∙ ap (λ t. take c.args.at c.args.room.now ++ t) (sym (decimal_digit c.args.number c.if-number-lt10.true))
-
-pub returns-then-number-lt100-clause-text : goal.returns-then-number-lt100-clause-text
-returns-then-number-lt100-clause-text c =
-    c.put_two.ensures.text ∙ ap (λ t. take c.args.at c.args.room.now ++ t) (sym (two_only c.args.number c.if-number-lt10.false c.if-number-lt100.true))
 
 pub returns-then-number-lt1000-clause-text : goal.returns-then-number-lt1000-clause-text
 returns-then-number-lt1000-clause-text c =
-    step _ _ _ _ _ c.put_two-then-number-lt1000.ensures.text c.put_byte-rest.ensures.text
+    step _ _ _ _ _ c.put_two.ensures.text c.put_byte-rest.ensures.text
     ∙ ap (λ t. take c.args.at c.args.room.now ++ t) (sym (three_digits c.args.number c.if-number-lt100.false c.if-number-lt1000.true))
 
 pub returns-else-number-lt1000-clause-text : goal.returns-else-number-lt1000-clause-text
