@@ -2,13 +2,15 @@
 #![tactic(auto)]
 
 mod fault;
+mod printing;
 
 use command_line::{Request, read_words, refuse, words_of};
 use day_explain::explain;
 use day_picture::draw;
 use fault::Fault;
 use host_base::{FromReader, Id, ToWriter};
-use spread_host::{AuditFault, Caps, Gate, HostFault, audit, check, replay, run_day, write_day};
+use printing::print_day;
+use spread_host::{AuditFault, Caps, Gate, HostFault, audit, check, replay, run_day};
 use spread_rules::Rulebook;
 use std::fs::Files;
 use std::process::ExitCode;
@@ -98,8 +100,7 @@ fn run_live<'a>(
     let rulebook = read_rules(rt, rules)?;
     let streams = read_streams(rt, sessions)?;
     let day = run_day(rt, rt.alloc(), &rulebook, stamp, streams, &Open, caps)?;
-    let mut sink = ToWriter::new(io::writer(rt));
-    write_day(rt.alloc(), &rulebook, &day, false, &mut sink)?;
+    print_day(rt, &rulebook, &day)?;
     Ok(())
 }
 

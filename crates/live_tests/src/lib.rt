@@ -7,4 +7,6 @@ pub mod headline;
 #[cfg(test)]
 mod no_memory;
 #[cfg(test)]
+mod pieces;
+#[cfg(test)]
 mod watch;

@@ -14,6 +14,7 @@ use std::alloc::Allocator;
 use std::snapshot::Snapshot;
 use std::sync::Wait;
 use std::sync::atomic::{AtomicBool, Ordering};
+use std::thread;
 use std::thread::{Promise, Scope, Threads};
 
 /// Sees each message of each session before it is judged, each entry after it was matched, and each piece of a
@@ -95,6 +96,8 @@ fn send_stream<R: Wait, G: Gate, A: Allocator>(
                 message = message.saturating_add(seen);
                 seen = 0;
                 looks = found(looks);
+                // The thread that matches may wait for this processor, and the day waits for that thread.
+                thread::yield_now();
             }
             Step::Need => put = put_bytes(gateway, stream, put),
             Step::Full => looks = rest(rt, looks),

@@ -1,0 +1,85 @@
+//! A day's text on standard output: this thread makes it, and another writes it.
+ghost use Rattle.std.specs.Prelude.{◌≤◌, All, length};
+ghost use Rattle.host_base.specs.declared.limits.TheConstants.{SESSIONS};
+ghost use Rattle.fix_frames.specs.Frames.{IsFrameRow};
+ghost use Rattle.day_text.specs.DayText.{AreShown, texts_of};
+ghost use Rattle.piece_ring.specs.Ends.{IsUnread};
+
+use host_base::{Failed, ToWriter};
+use piece_ring::{PieceSource, piece_ring};
+use spread_host::{Day, HostFault, write_day};
+use spread_rules::Rulebook;
+use std::alloc::Global;
+use std::sync::Wait;
+use std::thread::{JoinHandle, Scope, Threads};
+use std::{io, thread};
+
+/// Starts the thread that writes the pieces of a text as they come.
+fn start_writing<'s, E, R: Print + Threads + Wait + Sync>(
+    scope: &Scope<'s, E>,
+    rt: &'s R,
+    source: PieceSource<Global>,
+) -> Option<JoinHandle<Result<(), Failed>>>
+    requires { IsUnread source }
+{
+    let started = scope.spawn(
+        move || -> Result<(), Failed>
+            requires { IsUnread source }
+        {
+            let mut source = source;
+            source.write_to(rt, &mut ToWriter::new(io::writer(rt)))
+        },
+    );
+    started.ok()
+}
+
+/// Makes the text of a day while another thread writes it; none, where there is no memory for the ring or no thread.
+fn print_beside<'s, E, R: Print + AllocGlobal + Threads + Wait + Sync>(
+    scope: &Scope<'s, E>,
+    rt: &'s R,
+    rulebook: &Rulebook,
+    day: &Day<Global>,
+) -> Option<Result<(), HostFault>>
+    requires lists { length day.now.out.items ≤ SESSIONS }
+    requires rows { All IsFrameRow (texts_of day.now.out.items) }
+    requires shown { AreShown rulebook.now day.now.fills.items }
+{
+    let (sink, source) = piece_ring(rt, rt.alloc()).ok()?;
+    let writing = start_writing(scope, rt, source)?;
+    let mut sink = sink;
+    let made = write_day(rt.alloc(), rulebook, day, false, &mut sink);
+    sink.end();
+    let written = writing.join(rt);
+    if made.is_ok() && written.is_err() {
+        return Some(Err(HostFault::Write));
+    }
+    Some(made)
+}
+
+/// Writes the text of a day to standard output.
+pub fn print_day<R: Print + AllocGlobal + Threads + Wait + Sync>(
+    rt: &R,
+    rulebook: &Rulebook,
+    day: &Day<Global>,
+) -> Result<(), HostFault>
+    requires lists { length day.now.out.items ≤ SESSIONS }
+    requires rows { All IsFrameRow (texts_of day.now.out.items) }
+    requires shown { AreShown rulebook.now day.now.fills.items }
+{
+    let printed = thread::scope(
+        thread::scope_env(),
+        rt,
+        |scope| -> Option<Result<(), HostFault>>
+            requires lists { length day.now.out.items ≤ SESSIONS }
+            requires rows { All IsFrameRow (texts_of day.now.out.items) }
+            requires shown { AreShown rulebook.now day.now.fills.items }
+        { print_beside(scope, rt, rulebook, day) },
+    );
+    match printed {
+        Some(result) => result,
+        None => {
+            let mut sink = ToWriter::new(io::writer(rt));
+            write_day(rt.alloc(), rulebook, day, false, &mut sink)
+        }
+    }
+}

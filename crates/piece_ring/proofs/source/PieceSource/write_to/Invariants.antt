@@ -1,0 +1,14 @@
+use Rattle.std.proofs.Common.{◌≡◌, true, false}
+use Rattle.rtrb.specs.Ring.{received}
+use Rattle.stage_rings.specs.Marks.{ends}
+use Rattle.day_text.specs.code.Pieces.{Writes}
+use Rattle.piece_ring.specs.Pieces.{is_mark, text_in}
+use Rattle.piece_ring.proofs.source.PieceSource.write_to.Given as goal
+
+abbrev pub invariant-loop : goal.invariant-loop
+invariant-loop g l = record {
+  plain : ends is_mark (received l.self.filled) false ≡ true;
+  writes :
+      Writes l.result (g.K.Sink.written l.fn.sink) (g.K.Sink.written l.sink) (g.K.Sink.has_failed l.sink)
+      (text_in (received l.self.filled));
+}

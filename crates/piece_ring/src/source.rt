@@ -1,0 +1,58 @@
+//! The end that the thread has that writes a text.
+ghost use Rattle.std.specs.Prelude.{◌≡◌, ◌<◌, false, vec_capacity};
+ghost use Rattle.day_text.specs.code.Pieces.{Writes};
+ghost use Rattle.piece_ring.specs.Ends.{text_taken, IsUnread, IsRead};
+
+use crate::piece::{Emptied, Piece};
+use host_base::{Failed, Sink, write_all};
+use rtrb::{Consumer, Producer};
+use session_threads::{found, rest};
+use std::alloc::Allocator;
+use std::sync::Wait;
+
+/// What takes the pieces of a text. It may move to another thread.
+#[derive(Drop)]
+pub struct PieceSource<A: Allocator> {
+    pub(crate) filled: Consumer<Piece<A>, A>,
+    pub(crate) emptied: Producer<Piece<A>, A, Emptied>,
+}
+
+/// Gives back a piece that was written.
+fn give_back<A: Allocator>(emptied: &mut Producer<Piece<A>, A, Emptied>, piece: Piece<A>)
+    requires { 0 < vec_capacity piece }
+{
+    let mut piece = piece;
+    piece.clear();
+    // There is room for all pieces.
+    let _ = emptied.push(piece);
+}
+
+impl<A: Allocator> PieceSource<A> {
+    /// Writes the pieces as they come, up to the mark. Behind a write that failed the others are taken, and not written.
+    pub fn write_to<R: Wait, K: Sink>(&mut self, rt: &R, sink: &mut K) -> Result<(), Failed>
+        requires works { K.has_failed sink.old ≡ false }
+        requires unread { IsUnread self.old }
+        ensures read { IsRead self.new }
+        ensures writes { Writes result (K.written sink.old) (K.written sink.new) (K.has_failed sink.new)
+            (text_taken self.new) }
+    {
+        let mut result = Ok(());
+        let mut looks = 0u32;
+        for _ in rt.forever() {
+            match self.filled.pop() {
+                Ok(piece) => {
+                    if piece.is_empty() {
+                        return result;
+                    }
+                    looks = found(looks);
+                    if result.is_ok() {
+                        result = write_all(sink, &piece);
+                    }
+                    give_back(&mut self.emptied, piece);
+                }
+                Err(_) => looks = rest(rt, looks),
+            }
+        }
+        unreachable!()
+    }
+}
