@@ -39,8 +39,8 @@ fn fit_fills(rules: &Rulebook, fills: &[Fill]) -> bool
     true
 }
 
-/// Whether what came of an entry fits its event. It is no part of its caller, so that the framing loop of `scan` begins at the
-/// half of 32 bytes at which it begins in the program `exchange` (docs/SPEED.md).
+/// Whether what came of an entry fits its event. It is no part of its caller, so that the framing loop of `scan` begins
+/// at the half of 32 bytes at which it begins in the program `exchange` (docs/SPEED.md).
 #[inline(never)]
 fn fits_outcome(rules: &Rulebook, event: &Event, outcome: &Outcome) -> bool
     ensures { OnTrue result (FitsOutcome rules.now event.now outcome.now) }

@@ -1,9 +1,6 @@
 //! A day's text on standard output: this thread makes it, and another writes it.
-ghost use Rattle.std.specs.Prelude.{◌≤◌, All, length};
-ghost use Rattle.host_base.specs.declared.limits.TheConstants.{SESSIONS};
-ghost use Rattle.fix_frames.specs.Frames.{IsFrameRow};
-ghost use Rattle.day_text.specs.DayText.{AreShown, texts_of};
 ghost use Rattle.piece_ring.specs.Ends.{IsUnread};
+ghost use Rattle.exchange.specs.Printing.{IsPrintable};
 
 use host_base::{Failed, ToWriter};
 use piece_ring::{PieceSource, piece_ring};
@@ -40,9 +37,7 @@ fn print_beside<'s, E, R: Print + AllocGlobal + Threads + Wait + Sync>(
     rulebook: &Rulebook,
     day: &Day<Global>,
 ) -> Option<Result<(), HostFault>>
-    requires lists { length day.now.out.items ≤ SESSIONS }
-    requires rows { All IsFrameRow (texts_of day.now.out.items) }
-    requires shown { AreShown rulebook.now day.now.fills.items }
+    requires { IsPrintable rulebook.now day.now }
 {
     let (sink, source) = piece_ring(rt, rt.alloc()).ok()?;
     let writing = start_writing(scope, rt, source)?;
@@ -62,17 +57,13 @@ pub fn print_day<R: Print + AllocGlobal + Threads + Wait + Sync>(
     rulebook: &Rulebook,
     day: &Day<Global>,
 ) -> Result<(), HostFault>
-    requires lists { length day.now.out.items ≤ SESSIONS }
-    requires rows { All IsFrameRow (texts_of day.now.out.items) }
-    requires shown { AreShown rulebook.now day.now.fills.items }
+    requires { IsPrintable rulebook.now day.now }
 {
     let printed = thread::scope(
         thread::scope_env(),
         rt,
         |scope| -> Option<Result<(), HostFault>>
-            requires lists { length day.now.out.items ≤ SESSIONS }
-            requires rows { All IsFrameRow (texts_of day.now.out.items) }
-            requires shown { AreShown rulebook.now day.now.fills.items }
+            requires { IsPrintable rulebook.now day.now }
         { print_beside(scope, rt, rulebook, day) },
     );
     match printed {

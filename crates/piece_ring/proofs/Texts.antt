@@ -1,7 +1,8 @@
 -- The text of pieces to which one is added, its mark, and how far it was written.
-use Rattle.std.proofs.Common.{◌≡◌, refl, ◌∙◌, ◌<◌, ◌++◌, ◌∷◌, [], ℕ, List, Option, Result, Ok, Err, Bool, true, false, OnOk, OnErr, length, vec_len, ◌==◌, is_ok, sym, ap, append_assoc, append-nil, arith}
+use Rattle.std.proofs.Common.{◌≡◌, refl, ◌∙◌, ◌<◌, ◌++◌, ◌∷◌, [], ℕ, List, Option, Result, Ok, Err, Bool, true, false, OnOk, OnErr, length, vec_len, ◌==◌, is_ok, sym, ap, append-nil, arith}
 use Rattle.std.proofs.KnownBytes.{Appends-trans}
 use Rattle.std.proofs.lemmas.Bool.Decides.{nat_tests}
+use Rattle.std.proofs.lemmas.Grind.{flat_map-append}
 use Rattle.std.proofs.lemmas.List.{nil_from_length}
 use Rattle.std.specs.Io.KnownBytes.{Appends}
 use Rattle.std.specs.declared.vec.Vec.{Vec}
@@ -12,14 +13,10 @@ use Rattle.day_text.specs.code.Pieces.{Writes}
 use Rattle.day_text.proofs.PiecesInTurn.{front_after, front_of_more}
 use Rattle.piece_ring.specs.Pieces.{is_mark, text_in}
 
-text_of_both : {A : Type 0} (xs ys : List (Vec ℕ A)) → text_in (xs ++ ys) ≡ text_in xs ++ text_in ys
-text_of_both [] ys = refl
-text_of_both (x ∷ xs) ys = ap (λ t. x.items ++ t) (text_of_both xs ys) ∙ sym (append_assoc x.items (text_in xs) (text_in ys))
-
 -- one piece more
 pub text_more : {A : Type 0} (xs ys : List (Vec ℕ A)) (p : Vec ℕ A) → ys ≡ xs ++ p ∷ [] → text_in ys ≡ text_in xs ++ p.items
 text_more xs ys p more =
-    ap text_in more ∙ (text_of_both xs (p ∷ []) ∙ ap (λ t. text_in xs ++ t) (append-nil p.items))
+    ap text_in more ∙ (flat_map-append (λ piece. piece.items) xs (p ∷ []) ∙ ap (λ t. text_in xs ++ t) (append-nil p.items))
 
 pub is_mark_of : {A : Type 0} (p : Vec ℕ A) → p.items ≡ [] → is_mark p ≡ true
 is_mark_of p none = rw none refl

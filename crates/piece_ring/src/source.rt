@@ -28,7 +28,7 @@ fn give_back<A: Allocator>(emptied: &mut Producer<Piece<A>, A, Emptied>, piece: 
 }
 
 impl<A: Allocator> PieceSource<A> {
-    /// Writes the pieces as they come, up to the mark. Behind a write that failed the others are taken, and not written.
+    /// Writes the pieces as they come, up to the mark. Behind a write that failed the others are taken, not written.
     pub fn write_to<R: Wait, K: Sink>(&mut self, rt: &R, sink: &mut K) -> Result<(), Failed>
         requires works { K.has_failed sink.old ≡ false }
         requires unread { IsUnread self.old }
