@@ -2,4 +2,5 @@ pub mod MonthLines
 pub mod PiecesInTurn
 pub mod SessionLines
 pub mod FirstLines
-pub mod FillLines
+pub mod LinesInTurn
+pub mod JournalLines

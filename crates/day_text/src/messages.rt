@@ -1,14 +1,14 @@
 //! The lines of outgoing messages, written in pieces. What stands in a piece is shown when the piece is written.
-ghost use Rattle.std.specs.Prelude.{◌≡◌, ◌<◌, ◌≤◌, ◌+◌, ◌++◌, ◌∷◌, [], All, map, length, OnOk, vec_len, vec_capacity, false};
+ghost use Rattle.std.specs.Prelude.{◌≡◌, ◌<◌, ◌≤◌, ◌+◌, ◌++◌, ◌∷◌, [], All, map, length, min, OnOk, vec_len, vec_capacity, false};
 ghost use Rattle.fix_frames.specs.Frames.{IsFrameRow};
 ghost use Rattle.day_text.specs.DayText.{texts_of};
 ghost use Rattle.day_text.specs.Messages.{shown_byte, line_lead, outgoing_line, outgoing_lines, outgoing_lines_from};
 ghost use Rattle.day_text.specs.code.Pieces.{Puts, Writes};
 
-use crate::pieces::{append, write_out};
+use crate::pieces::{PIECE_BYTES, TakesPieces, append};
 use fix_wire::first_of_row;
+use host_base::Failed;
 use host_base::limits::SESSIONS;
-use host_base::{Failed, Sink};
 use std::alloc::Allocator;
 
 /// Shows each byte 1 as `|`.
@@ -26,41 +26,44 @@ fn shown_byte(byte: u8) -> u8
     if byte == 1 { b'|' } else { byte }
 }
 
-/// Shows what stands in the piece, and writes it. The whole piece at once: a loop over each message alone would spend
+/// Shows what stands in the piece, which is then taken. The whole piece at once: a loop over each message alone would spend
 /// most of its time on its last few bytes.
-fn write_shown<K: Sink, A: Allocator>(piece: &mut Vec<u8, A>, sink: &mut K) -> Result<(), Failed>
+fn give_shown<K: TakesPieces<A>, A: Allocator>(
+    piece: &mut Vec<u8, A>,
+    sink: &mut K,
+) -> Result<(), Failed>
     requires works { K.has_failed sink.old ≡ false }
     ensures writes { Writes result (K.written sink.old) (K.written sink.new) (K.has_failed sink.new)
         (map shown_byte piece.old.items) }
     ensures items { OnOk result (piece.new.items ≡ []) }
     ensures len { OnOk result (vec_len piece.new ≡ 0) }
-    ensures room { vec_capacity piece.new ≡ vec_capacity piece.old }
+    ensures room { min PIECE_BYTES (vec_capacity piece.old) ≤ vec_capacity piece.new }
 {
     show_field_ends(&mut piece[..]);
-    write_out(piece, sink)
+    sink.take(piece)
 }
 
 /// Writes what stands in the piece, as it is shown, if it has no room for so many bytes more.
-fn make_room_shown<K: Sink, A: Allocator>(
+fn make_room_shown<K: TakesPieces<A>, A: Allocator>(
     piece: &mut Vec<u8, A>,
     sink: &mut K,
     bytes: usize,
 ) -> Result<(), Failed>
     requires works { K.has_failed sink.old ≡ false }
-    requires most { bytes ≤ vec_capacity piece.old }
+    requires most { bytes ≤ min PIECE_BYTES (vec_capacity piece.old) }
     ensures puts { Puts result (K.written sink.old) (K.written sink.new) (K.has_failed sink.new)
         (map shown_byte piece.new.items) (map shown_byte piece.old.items) }
     ensures room { OnOk result (vec_len piece.new + bytes ≤ vec_capacity piece.new) }
-    ensures capacity { vec_capacity piece.new ≡ vec_capacity piece.old }
+    ensures capacity { min PIECE_BYTES (vec_capacity piece.old) ≤ vec_capacity piece.new }
 {
     if piece.capacity() - piece.len() < bytes {
-        return write_shown(piece, sink);
+        return give_shown(piece, sink);
     }
     Ok(())
 }
 
 /// Puts bytes behind those of the piece, which are shown and written each time that it is full.
-fn put_part<K: Sink, A: Allocator>(
+fn put_part<K: TakesPieces<A>, A: Allocator>(
     piece: &mut Vec<u8, A>,
     sink: &mut K,
     bytes: &[u8],
@@ -110,7 +113,7 @@ fn lead(session: u8) -> &'static [u8]
 
 /// The line of a message that a whole piece has no room for. It is cut.
 #[inline(never)]
-fn put_long_message<K: Sink, A: Allocator>(
+fn put_long_message<K: TakesPieces<A>, A: Allocator>(
     piece: &mut Vec<u8, A>,
     sink: &mut K,
     session: u8,
@@ -141,7 +144,7 @@ fn append_line<A: Allocator>(piece: &mut Vec<u8, A>, lead: &[u8], message: &[u8]
 }
 
 /// One message's line. The piece is written first where it has no room for the line.
-fn put_message<K: Sink, A: Allocator>(
+fn put_message<K: TakesPieces<A>, A: Allocator>(
     piece: &mut Vec<u8, A>,
     sink: &mut K,
     session: u8,
@@ -157,7 +160,7 @@ fn put_message<K: Sink, A: Allocator>(
 {
     let lead = lead(session);
     let line = lead.len().saturating_add(message.len()).saturating_add(1);
-    if line > piece.capacity() {
+    if line > piece.capacity().min(PIECE_BYTES) {
         return put_long_message(piece, sink, session, message);
     }
     make_room_shown(piece, sink, line)?;
@@ -166,7 +169,7 @@ fn put_message<K: Sink, A: Allocator>(
 }
 
 /// A line for each message of these bytes, which this session is sent. They are whole frames.
-fn put_outgoing<K: Sink, A: Allocator>(
+fn put_outgoing<K: TakesPieces<A>, A: Allocator>(
     piece: &mut Vec<u8, A>,
     sink: &mut K,
     session: u8,
@@ -190,7 +193,7 @@ fn put_outgoing<K: Sink, A: Allocator>(
 }
 
 /// A line for each message of these lists, session 0 first.
-fn put_sessions<K: Sink, A: Allocator, B: Allocator>(
+fn put_sessions<K: TakesPieces<A>, A: Allocator, B: Allocator>(
     piece: &mut Vec<u8, A>,
     sink: &mut K,
     lists: &[Vec<u8, B>],
@@ -212,7 +215,7 @@ fn put_sessions<K: Sink, A: Allocator, B: Allocator>(
 /// Writes a line for each message of these lists, session 0 first, by way of a piece in which nothing stands yet, and
 /// takes no memory. The lists are sixteen at most, each of whole frames, or empty. Then the piece is empty again. Where a
 /// write fails, a front of the lines is out, and nothing is known of what stands in the piece.
-pub fn write_sessions<K: Sink, A: Allocator, B: Allocator>(
+pub fn write_sessions<K: TakesPieces<A>, A: Allocator, B: Allocator>(
     piece: &mut Vec<u8, A>,
     sink: &mut K,
     lists: &[Vec<u8, B>],
@@ -227,5 +230,5 @@ pub fn write_sessions<K: Sink, A: Allocator, B: Allocator>(
     ensures emptied { OnOk result (piece.new.items ≡ []) }
 {
     put_sessions(piece, sink, lists)?;
-    write_shown(piece, sink)
+    give_shown(piece, sink)
 }

@@ -108,9 +108,7 @@ fn sessions_in<'r: 's, 's, E, R: Wait + Threads + Sync, G: Gate, A: Allocator + 
         let unused = (sequencer, feeder, writers, writing);
         return Err(stop_workers(shared, workers, sessions as u8, unused));
     };
-    let StartedWriters { writing, refused } = start_writers(
-        scope, rt, gate, stop, writers, writing,
-    );
+    let StartedWriters { writing, refused } = start_writers(scope, shared, writers, writing);
     if let Some(session) = refused {
         let number = sessions as u8 + 1 + session;
         let fault = stop_workers(shared, workers, number, (sequencer, feeder));

@@ -2,7 +2,7 @@
 ghost use Rattle.std.specs.Prelude.{◌≡◌, false};
 ghost use Rattle.piece_ring.specs.Ends.{IsUnread};
 
-use host_base::{Sink, write_all};
+use day_text::{PIECE_BYTES, TakesPieces};
 use piece_ring::{PieceSink, PieceSource, piece_ring};
 use std::alloc::{Allocator, Global};
 use std::process::Abort;
@@ -13,13 +13,21 @@ use test_support::{Refusing, TestSink};
 
 const LINE: &[u8] = b"abcdefghi\n";
 
-/// Writes so many lines, and marks the end.
-fn write_lines<R: Wait + Abort, A: Allocator>(rt: &R, sink: PieceSink<'_, R, A>, lines: u32)
+/// Gives so many lines on, one in each piece, and marks the end. Each goes on whole, and an empty piece is back.
+fn give_lines<R: Wait + Abort, A: Allocator>(
+    rt: &R,
+    alloc: A,
+    sink: PieceSink<'_, R, A>,
+    lines: u32,
+)
     requires { sink.ended ≡ false }
 {
     let mut sink = sink;
+    let mut piece = Vec::with_capacity(alloc, PIECE_BYTES).expect(rt, "memory");
     for _ in 0..lines {
-        write_all(&mut sink, LINE).expect(rt, "no write fails");
+        piece.extend_from_slice(LINE).expect(rt, "memory");
+        sink.take(&mut piece).expect(rt, "no write fails");
+        assert!(rt; piece.is_empty());
     }
     sink.end();
     sink.end();
@@ -40,7 +48,7 @@ fn take_text<R: Wait + Abort>(
     (out, whole)
 }
 
-/// Writes so many lines while another thread takes them.
+/// Gives so many lines on while another thread takes them.
 fn pass_lines<R: Threads + Wait + Sync + Abort>(
     rt: &R,
     alloc: Global,
@@ -55,7 +63,7 @@ fn pass_lines<R: Threads + Wait + Sync + Abort>(
         { take_text(rt, source, alloc, fail) },
         move ||
             requires { sink.ended ≡ false }
-        { write_lines(rt, sink, lines) },
+        { give_lines(rt, alloc, sink, lines) },
     );
     taken
 }
@@ -74,7 +82,7 @@ fn expect_lines(rt: &impl Abort, text: &[u8], lines: u32) {
 #[test]
 fn pieces_in_one_thread(rt: HostRuntime) {
     let (sink, source) = piece_ring(&rt, rt.alloc()).expect(&rt, "memory");
-    write_lines(&rt, sink, 3);
+    give_lines(&rt, rt.alloc(), sink, 3);
     let (out, whole) = take_text(&rt, source, rt.alloc(), 0);
     assert!(rt; whole);
     expect_lines(&rt, out.bytes(), 3);
@@ -95,19 +103,37 @@ fn a_text_whose_writing_fails(rt: HostRuntime) {
     expect_lines(&rt, out.bytes(), 2);
 }
 
-/// More bytes than a piece takes are cut: the first write takes 65,536 of them.
+/// A piece of less room than the others has, one without bytes, and one of more.
 #[test]
-fn bytes_beyond_a_piece(rt: HostRuntime) {
+fn pieces_of_each_size(rt: HostRuntime) {
     let (sink, source) = piece_ring(&rt, rt.alloc()).expect(&rt, "memory");
     let mut sink = sink;
-    let mut text = Vec::new(rt.alloc());
-    text.resize(100_000, b'x').expect(&rt, "memory");
-    assert!(rt; sink.write(&text) == Ok(65_536));
-    assert!(rt; sink.write(&text[65_536..]) == Ok(34_464));
-    assert!(rt; sink.write(b"") == Ok(0));
+    let mut small = Vec::new(rt.alloc());
+    small.extend_from_slice(LINE).expect(&rt, "memory");
+    sink.take(&mut small).expect(&rt, "no write fails");
+    assert!(rt; small.is_empty());
+    sink.take(&mut small).expect(&rt, "no write fails");
+    let mut large = Vec::new(rt.alloc());
+    large.resize(100_000, b'x').expect(&rt, "memory");
+    sink.take(&mut large).expect(&rt, "no write fails");
+    assert!(rt; large.is_empty());
     sink.end();
     let (out, whole) = take_text(&rt, source, rt.alloc(), 0);
-    assert!(rt; whole && out.bytes() == text.as_slice());
+    assert!(rt; whole && out.bytes().len() == 100_010);
+    assert!(rt; out.bytes().starts_with(b"abcdefghi\nxx"));
+    assert!(rt; out.bytes().ends_with(b"xx"));
+}
+
+/// A sink takes pieces too: it writes them.
+#[test]
+fn pieces_of_a_sink(rt: HostRuntime) {
+    let mut out = TestSink::new(rt.alloc(), 100, 2).expect(&rt, "memory");
+    let mut piece = Vec::new(rt.alloc());
+    piece.extend_from_slice(LINE).expect(&rt, "memory");
+    assert!(rt; out.take(&mut piece).is_ok() && piece.is_empty());
+    piece.extend_from_slice(LINE).expect(&rt, "memory");
+    assert!(rt; out.take(&mut piece).is_err());
+    assert!(rt; out.bytes() == LINE);
 }
 
 /// Two rings and the pieces.

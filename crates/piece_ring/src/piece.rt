@@ -1,11 +1,9 @@
 //! What goes through the rings.
-ghost use Rattle.std.specs.Prelude.{◌≡◌, ◌<◌, [], vec_capacity};
+ghost use Rattle.std.specs.Prelude.{◌≡◌, ◌≤◌, [], vec_capacity};
+ghost use Rattle.day_text.specs.declared.pieces.TheConstants.{PIECE_BYTES};
 
 use rtrb::Protocol;
 use std::alloc::Allocator;
-
-/// How many bytes a piece has room for: as many as the text of a day is made in at once.
-pub const PIECE_BYTES: usize = 65_536;
 
 /// How many pieces there are: while one is written and one is made, the others let either thread run ahead.
 pub const PIECES: usize = 4;
@@ -13,9 +11,16 @@ pub const PIECES: usize = 4;
 /// A part of a text. A piece without bytes marks the end.
 pub type Piece<A> = Vec<u8, A>;
 
-/// What comes back is empty, and has room.
+/// What is given on has room for as many bytes as each other piece.
+pub struct Filled;
+
+impl<A: Allocator> Protocol<Piece<A>> for Filled {
+    ghost allows = { λ before piece. PIECE_BYTES ≤ vec_capacity piece };
+}
+
+/// What comes back is empty besides.
 pub struct Emptied;
 
 impl<A: Allocator> Protocol<Piece<A>> for Emptied {
-    ghost allows = { λ before piece. (piece.items ≡ []) × (0 < vec_capacity piece) };
+    ghost allows = { λ before piece. (piece.items ≡ []) × (PIECE_BYTES ≤ vec_capacity piece) };
 }

@@ -2,9 +2,10 @@
 ghost use Rattle.std.specs.Prelude.{◌≡◌, [], IfOk, false};
 ghost use Rattle.piece_ring.specs.Ends.{text_given, IsUnread};
 
-use crate::piece::{Emptied, PIECE_BYTES, PIECES, Piece};
+use crate::piece::{Emptied, Filled, PIECES, Piece};
 use crate::sink::PieceSink;
 use crate::source::PieceSource;
+use day_text::PIECE_BYTES;
 use rtrb::{Producer, RingBuffer};
 use std::alloc::{AllocError, Allocator};
 use std::sync::Wait;
@@ -29,7 +30,7 @@ pub fn piece_ring<'r, R: Wait, A: Allocator + Copy>(
     ensures sink { IfOk result (λ r. (text_given r.0 ≡ []) × (r.0.ended ≡ false)) }
     ensures source { IfOk result (λ r. IsUnread r.1) }
 {
-    let (filled, taken) = RingBuffer::<Piece<A>>::new(alloc, PIECES)?;
+    let (filled, taken) = RingBuffer::<Piece<A>>::with_protocol::<A, Filled>(alloc, PIECES)?;
     let (emptied, empty) = RingBuffer::<Piece<A>>::with_protocol::<A, Emptied>(alloc, PIECES)?;
     let mut emptied = emptied;
     put_empty(alloc, &mut emptied)?;

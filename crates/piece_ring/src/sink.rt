@@ -1,21 +1,24 @@
 //! The end that the thread has that makes a text.
-ghost use Rattle.std.specs.Prelude.{◌≡◌, ◌<◌, ◌≤◌, ◌++◌, ◌∷◌, [], Some, true, false, length, vec_capacity};
+ghost use Rattle.std.specs.Prelude.{◌≡◌, ◌≤◌, ◌++◌, ◌∷◌, [], Some, true, false, min, vec_len, vec_capacity};
 ghost use Rattle.rtrb.specs.Ring.{sent};
 ghost use Rattle.stage_rings.specs.Marks.{ends};
 ghost use Rattle.piece_ring.specs.Pieces.{is_mark};
+ghost use Rattle.day_text.specs.declared.pieces.TheConstants.{PIECE_BYTES};
 
-use crate::piece::{Emptied, Piece};
-use host_base::{Failed, Sink};
+use crate::piece::{Emptied, Filled, Piece};
+use day_text::{PIECE_BYTES, TakesPieces};
+use host_base::Failed;
 use rtrb::{Consumer, Producer, PushError};
 use session_threads::rest;
 use std::alloc::Allocator;
+use std::mem;
 use std::sync::Wait;
 
-/// A sink whose bytes go to another thread in pieces. It may move to another thread.
+/// Takes the pieces of a text, which go to another thread. It may move to another thread.
 #[derive(Drop)]
 pub struct PieceSink<'r, R, A: Allocator> {
     rt: &'r R,
-    filled: Producer<Piece<A>, A>,
+    filled: Producer<Piece<A>, A, Filled>,
     emptied: Consumer<Piece<A>, A, Emptied>,
     ended: bool,
     // The mark comes last, and only where it is ended.
@@ -23,7 +26,8 @@ pub struct PieceSink<'r, R, A: Allocator> {
 }
 
 /// Gives a piece on, as soon as the ring has room for it.
-fn give<R: Wait, A: Allocator>(rt: &R, filled: &mut Producer<Piece<A>, A>, piece: Piece<A>)
+fn give<R: Wait, A: Allocator>(rt: &R, filled: &mut Producer<Piece<A>, A, Filled>, piece: Piece<A>)
+    requires { PIECE_BYTES ≤ vec_capacity piece }
     ensures { sent filled.new ≡ sent filled.old ++ piece ∷ [] }
 {
     let mut piece = piece;
@@ -44,7 +48,7 @@ fn take_empty<R: Wait, A: Allocator>(
     emptied: &mut Consumer<Piece<A>, A, Emptied>,
 ) -> Piece<A>
     ensures empty { result.items ≡ [] }
-    ensures room { 0 < vec_capacity result }
+    ensures room { PIECE_BYTES ≤ vec_capacity result }
 {
     let mut looks = 0u32;
     for _ in rt.forever() {
@@ -56,16 +60,27 @@ fn take_empty<R: Wait, A: Allocator>(
     unreachable!()
 }
 
-/// Puts bytes into an empty piece that has room for them.
-fn fill<A: Allocator>(piece: &mut Piece<A>, bytes: &[u8])
-    requires empty { piece.old.items ≡ [] }
-    requires room { length bytes.now ≤ vec_capacity piece.old }
-    ensures { piece.new.items ≡ bytes.now }
+/// Takes a piece, and leaves an empty one in its place. One that has less room than the others stays, and its bytes are
+/// copied.
+fn exchange<A: Allocator>(piece: &mut Piece<A>, empty: Piece<A>) -> Piece<A>
+    requires empty { empty.items ≡ [] }
+    requires room { PIECE_BYTES ≤ vec_capacity empty }
+    ensures items { result.items ≡ piece.old.items }
+    ensures room { PIECE_BYTES ≤ vec_capacity result }
+    ensures emptied { piece.new.items ≡ [] }
+    ensures len { vec_len piece.new ≡ 0 }
+    ensures kept { min PIECE_BYTES (vec_capacity piece.old) ≤ vec_capacity piece.new }
 {
-    match piece.extend_from_slice(bytes) {
+    if PIECE_BYTES <= piece.capacity() {
+        return mem::replace(piece, empty);
+    }
+    let mut copy = empty;
+    match copy.extend_from_slice(piece) {
         Ok(()) => {}
         Err(_) => unreachable!(),
     }
+    piece.clear();
+    copy
 }
 
 impl<'r, R: Wait, A: Allocator> PieceSink<'r, R, A> {
@@ -73,7 +88,7 @@ impl<'r, R: Wait, A: Allocator> PieceSink<'r, R, A> {
 
     pub(crate) fn new(
         rt: &'r R,
-        filled: Producer<Piece<A>, A>,
+        filled: Producer<Piece<A>, A, Filled>,
         emptied: Consumer<Piece<A>, A, Emptied>,
     ) -> PieceSink<'r, R, A>
         requires { sent filled ≡ [] }
@@ -101,7 +116,7 @@ impl<'r, R: Wait, A: Allocator> PieceSink<'r, R, A> {
     }
 }
 
-impl<'r, R: Wait, A: Allocator> Sink for PieceSink<'r, R, A> {
+impl<'r, R: Wait, A: Allocator> TakesPieces<A> for PieceSink<'r, R, A> {
     ghost use Rattle.piece_ring.specs.Ends.{text_given};
 
     // The text of the pieces that were given on.
@@ -110,14 +125,13 @@ impl<'r, R: Wait, A: Allocator> Sink for PieceSink<'r, R, A> {
     // No write fails here; behind the mark none may be asked for.
     ghost has_failed = { λ s. s.ended };
 
-    fn write(&mut self, bytes: &[u8]) -> Result<usize, Failed> {
-        if bytes.is_empty() {
-            return Ok(0);
+    fn take(&mut self, piece: &mut Vec<u8, A>) -> Result<(), Failed> {
+        if piece.is_empty() {
+            return Ok(());
         }
-        let mut piece = take_empty(self.rt, &mut self.emptied);
-        let count = bytes.len().min(piece.capacity());
-        fill(&mut piece, &bytes[..count]);
-        give(self.rt, &mut self.filled, piece);
-        Ok(count)
+        let empty = take_empty(self.rt, &mut self.emptied);
+        let full = exchange(piece, empty);
+        give(self.rt, &mut self.filled, full);
+        Ok(())
     }
 }

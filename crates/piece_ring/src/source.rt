@@ -1,9 +1,10 @@
 //! The end that the thread has that writes a text.
-ghost use Rattle.std.specs.Prelude.{◌≡◌, ◌<◌, false, vec_capacity};
+ghost use Rattle.std.specs.Prelude.{◌≡◌, ◌≤◌, false, vec_capacity};
 ghost use Rattle.day_text.specs.code.Pieces.{Writes};
+ghost use Rattle.day_text.specs.declared.pieces.TheConstants.{PIECE_BYTES};
 ghost use Rattle.piece_ring.specs.Ends.{text_taken, IsUnread, IsRead};
 
-use crate::piece::{Emptied, Piece};
+use crate::piece::{Emptied, Filled, Piece};
 use host_base::{Failed, Sink, write_all};
 use rtrb::{Consumer, Producer};
 use session_threads::{found, rest};
@@ -13,13 +14,13 @@ use std::sync::Wait;
 /// What takes the pieces of a text. It may move to another thread.
 #[derive(Drop)]
 pub struct PieceSource<A: Allocator> {
-    pub(crate) filled: Consumer<Piece<A>, A>,
+    pub(crate) filled: Consumer<Piece<A>, A, Filled>,
     pub(crate) emptied: Producer<Piece<A>, A, Emptied>,
 }
 
 /// Gives back a piece that was written.
 fn give_back<A: Allocator>(emptied: &mut Producer<Piece<A>, A, Emptied>, piece: Piece<A>)
-    requires { 0 < vec_capacity piece }
+    requires { PIECE_BYTES ≤ vec_capacity piece }
 {
     let mut piece = piece;
     piece.clear();

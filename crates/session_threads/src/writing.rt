@@ -5,9 +5,10 @@ ghost use Rattle.stage_rings.specs.declared.post.Writer.{Writer};
 ghost use Rattle.stage_rings.specs.Posting.{SameWriter};
 ghost use Rattle.session_threads.specs.code.Writing.{AreWriting, AreWritten};
 
-use crate::idle::{found, rest};
+use crate::idle::Pace;
 use crate::joining::join_each;
 use crate::worker::Gate;
+use crate::workers::Shared;
 use gate_link::{Writer, Wrote};
 use std::alloc::Allocator;
 use std::snapshot::Snapshot;
@@ -57,17 +58,18 @@ fn write_all<R: Wait, G: Gate, A: Allocator>(
     rt: &R,
     gate: &G,
     stop: &AtomicBool,
+    ring: usize,
     session: u8,
     writer: Writer<A>,
 ) -> Written<A>
     ensures { SameWriter writer result.writer }
 {
     let mut writer = writer;
-    let mut looks = 0u32;
+    let mut pace = Pace::of_ring(ring);
     for _ in rt.forever() {
         match writer.take() {
             Ok(Wrote::Bytes(_)) => {
-                looks = found(looks);
+                pace.found();
                 gate.written(session, writer.bytes().len() as u64);
             }
             Ok(Wrote::Ended) => return handed(writer, false),
@@ -75,7 +77,7 @@ fn write_all<R: Wait, G: Gate, A: Allocator>(
                 if stop.load(Ordering::SeqCst) {
                     return handed(writer, false);
                 }
-                looks = rest(rt, looks);
+                pace.rest(rt);
             }
             Err(_) => {
                 stop.store(true, Ordering::SeqCst);
@@ -93,11 +95,9 @@ fn handed<A: Allocator>(writer: Writer<A>, refused: bool) -> Written<A>
 }
 
 /// A thread of the scope for one session's writer.
-fn start_writer<'s, E, R: Wait + Threads + Sync, G: Gate, A: Allocator + Send + 's>(
+fn start_writer<'r: 's, 's, E, R: Wait + Threads + Sync, G: Gate, A: Allocator + Send + 's>(
     scope: &Scope<'s, E>,
-    rt: &'s R,
-    gate: &'s G,
-    stop: &'s AtomicBool,
+    shared: &Shared<'r, 's, R, G>,
     session: u8,
     writer: Writer<A>,
 ) -> Option<WritingHandle<A>>
@@ -106,21 +106,25 @@ fn start_writer<'s, E, R: Wait + Threads + Sync, G: Gate, A: Allocator + Send + 
     let promise = WritePromise {
         writer: Snapshot::of(&writer),
     };
+    let Shared {
+        rt,
+        gate,
+        stop,
+        ring,
+    } = *shared;
     let started = scope.spawn_with(
         promise,
         move || -> Written<A>
             ensures { SameWriter writer result.writer }
-        { write_all(rt, gate, stop, session, writer) },
+        { write_all(rt, gate, stop, ring, session, writer) },
     );
     started.ok()
 }
 
 /// Starts a thread for each writer, up to the first that is refused.
-pub fn start_writers<'s, E, R: Wait + Threads + Sync, G: Gate, A: Allocator + Send + 's>(
+pub fn start_writers<'r: 's, 's, E, R: Wait + Threads + Sync, G: Gate, A: Allocator + Send + 's>(
     scope: &Scope<'s, E>,
-    rt: &'s R,
-    gate: &'s G,
-    stop: &'s AtomicBool,
+    shared: &Shared<'r, 's, R, G>,
     writers: Vec<Writer<A>, A>,
     writing: Writing<A>,
 ) -> StartedWriters<A>
@@ -137,7 +141,7 @@ pub fn start_writers<'s, E, R: Wait + Threads + Sync, G: Gate, A: Allocator + Se
     let mut handles = handles;
     for writer in writers {
         let session = handles.len() as u8;
-        match start_writer(scope, rt, gate, stop, session, writer) {
+        match start_writer(scope, shared, session, writer) {
             Some(handle) => handles.push_reserved(handle),
             None => {
                 return StartedWriters {

@@ -15,7 +15,7 @@ ghost use Rattle.spread_host.specs.declared.fault.HostFault.{HostFault};
 
 use crate::fault::HostFault;
 use day_apply::{ApplyFault, apply_journal};
-use day_text::{Day, TextFault};
+use day_text::{Day, TakesPieces, TextFault};
 use host_base::{Id, Sink};
 use spread_match::laws::ranges;
 use spread_rules::{Entry, Fill, Rulebook};
@@ -54,7 +54,7 @@ pub fn day_of<A: Allocator + Copy>(
 /// Writes the text of a day, or of its journal alone, and nothing else. The ids written are of bytes. Its fills are of the
 /// rulebook's instruments and in range, and its lists at most sixteen, each of whole frames, or empty. Answers NoMemory,
 /// its place one more than the journal's length, with nothing written, or Write, with a prefix of the text written.
-pub fn write_day<K: Sink, A: Allocator + Copy>(
+pub fn write_day<K: TakesPieces<A>, A: Allocator + Copy>(
     alloc: A,
     rulebook: &Rulebook,
     day: &Day<A>,

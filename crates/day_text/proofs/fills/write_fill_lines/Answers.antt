@@ -8,19 +8,19 @@ use Rattle.day_text.proofs.fills.write_fill_lines.Goals as goal
 
 pub returns-clause-writes : goal.returns-clause-writes
 returns-clause-writes g c =
-    let told = λ (k : _). g.K.Sink.written k in
+    let told = λ (k : _). g.K.TakesPieces.written k in
     let put = c.in_ok-put_all.ensures.puts.put in
     let lines = fill_lines c.args.rulebook.now c.args.fills.now in
     let all : lines ≡ put.out ++ c.put_all.new.piece.items = sym (ap (λ (t : List ℕ). t ++ lines) c.requires.empty) ∙ put.all in
     record {
-      all = on_ok c.write_out.result
-          (λ last. subst (λ (t : List ℕ). Appends (told c.args.sink.now) (told c.write_out.new.sink) t) (sym all)
-          (Appends-trans (told c.args.sink.now) (told c.put_all.new.sink) (told c.write_out.new.sink) put.out c.put_all.new.piece.items put.written last))
-          c.write_out.ensures.writes.all;
+      all = on_ok c.take.result
+          (λ last. subst (λ (t : List ℕ). Appends (told c.args.sink.now) (told c.take.new.self) t) (sym all)
+          (Appends-trans (told c.args.sink.now) (told c.put_all.new.sink) (told c.take.new.self) put.out c.put_all.new.piece.items put.written last))
+          c.take.ensures.writes.all;
       sound = search rules;
       failed = search rules;
-      front = on_err c.write_out.result
-          (λ last. subst (λ (t : List ℕ). AppendsPrefix (told c.args.sink.now) (told c.write_out.new.sink) t) (sym all)
-          (front_after (told c.args.sink.now) (told c.put_all.new.sink) (told c.write_out.new.sink) put.out c.put_all.new.piece.items put.written last))
-          c.write_out.ensures.writes.front;
+      front = on_err c.take.result
+          (λ last. subst (λ (t : List ℕ). AppendsPrefix (told c.args.sink.now) (told c.take.new.self) t) (sym all)
+          (front_after (told c.args.sink.now) (told c.put_all.new.sink) (told c.take.new.self) put.out c.put_all.new.piece.items put.written last))
+          c.take.ensures.writes.front;
     }

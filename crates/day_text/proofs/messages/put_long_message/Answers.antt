@@ -6,7 +6,7 @@ use Rattle.day_text.proofs.messages.put_long_message.Goals as goal
 
 pub returns-in_err-put_part-clause-puts : goal.returns-in_err-put_part-clause-puts
 returns-in_err-put_part-clause-puts g c =
-    let told = λ (k : _). g.K.Sink.written k in
+    let told = λ (k : _). g.K.TakesPieces.written k in
     let old = map shown_byte c.args.piece.now.items in
     let line = outgoing_line c.args.session c.args.message.now in
     let lead = map shown_byte c.lead.result.now in
@@ -22,7 +22,7 @@ returns-in_err-put_part-clause-puts g c =
 
 pub returns-in_err-put_part-2-clause-puts : goal.returns-in_err-put_part-2-clause-puts
 returns-in_err-put_part-2-clause-puts g c =
-    let told = λ (k : _). g.K.Sink.written k in
+    let told = λ (k : _). g.K.TakesPieces.written k in
     let old = map shown_byte c.args.piece.now.items in
     let line = outgoing_line c.args.session c.args.message.now in
     let lead = map shown_byte c.lead.result.now in
@@ -39,7 +39,7 @@ returns-in_err-put_part-2-clause-puts g c =
 
 pub returns-clause-puts : goal.returns-clause-puts
 returns-clause-puts g c =
-    let told = λ (k : _). g.K.Sink.written k in
+    let told = λ (k : _). g.K.TakesPieces.written k in
     let old = map shown_byte c.args.piece.now.items in
     let line = outgoing_line c.args.session c.args.message.now in
     let lead = map shown_byte c.lead.result.now in

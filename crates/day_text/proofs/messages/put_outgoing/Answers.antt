@@ -6,7 +6,7 @@ use Rattle.day_text.proofs.messages.put_outgoing.Goals as goal
 
 pub returns-in_err-put_message-clause-puts : goal.returns-in_err-put_message-clause-puts
 returns-in_err-put_message-clause-puts g c =
-    let told = λ (k : _). g.K.Sink.written k in
+    let told = λ (k : _). g.K.TakesPieces.written k in
     let so_far = c.loop-message.invariant.0 in
     let line = outgoing_line c.args.session c.in-Some.message.now in
     let lines = outgoing_lines c.args.session c.in-Some.later.now in
@@ -22,7 +22,7 @@ returns-in_err-put_message-clause-puts g c =
 
 pub loop-message-preserved : goal.loop-message-preserved
 loop-message-preserved g c =
-    let told = λ (k : _). g.K.Sink.written k in
+    let told = λ (k : _). g.K.TakesPieces.written k in
     let so_far = c.loop-message.invariant.0 in
     let line = outgoing_line c.args.session c.in-Some.message.now in
     let lines = outgoing_lines c.args.session c.in-Some.later.now in

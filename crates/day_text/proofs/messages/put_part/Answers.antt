@@ -7,7 +7,7 @@ use Rattle.day_text.proofs.messages.put_part.Goals as goal
 
 pub returns-in_err-make_room_shown-clause-puts : goal.returns-in_err-make_room_shown-clause-puts
 returns-in_err-make_room_shown-clause-puts g c =
-    let told = λ (k : _). g.K.Sink.written k in
+    let told = λ (k : _). g.K.TakesPieces.written k in
     let so_far = c.loop-rest.invariant.0 in
     let old = map shown_byte c.args.piece.now.items in
     let mid = map shown_byte c.loop-rest.piece.items in
@@ -23,7 +23,7 @@ returns-in_err-make_room_shown-clause-puts g c =
 
 pub loop-rest-preserved : goal.loop-rest-preserved
 loop-rest-preserved g c =
-    let told = λ (k : _). g.K.Sink.written k in
+    let told = λ (k : _). g.K.TakesPieces.written k in
     let so_far = c.loop-rest.invariant.0 in
     let done = so_far.0 in
     let now = c.split_at.result.0.now in

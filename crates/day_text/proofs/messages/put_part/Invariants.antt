@@ -6,8 +6,8 @@ use Rattle.day_text.proofs.messages.put_part.Given as goal
 -- what was put and the rest are all bytes
 abbrev pub invariant-loop-rest : goal.invariant-loop-rest
 invariant-loop-rest g l =
-    ((done : List ℕ) × IsPut (g.K.Sink.written l.initial.sink) (g.K.Sink.written l.sink) (map shown_byte l.piece.items) (map shown_byte l.initial.piece.items ++ map shown_byte done) × (l.bytes ≡ done ++ l.rest))
-    × (g.K.Sink.has_failed l.sink ≡ false) × (0 < vec_capacity l.piece)
+    ((done : List ℕ) × IsPut (g.K.TakesPieces.written l.initial.sink) (g.K.TakesPieces.written l.sink) (map shown_byte l.piece.items) (map shown_byte l.initial.piece.items ++ map shown_byte done) × (l.bytes ≡ done ++ l.rest))
+    × (g.K.TakesPieces.has_failed l.sink ≡ false) × (0 < vec_capacity l.piece)
 
 abbrev pub decreases-loop-rest : goal.decreases-loop-rest
 decreases-loop-rest g l = length l.rest

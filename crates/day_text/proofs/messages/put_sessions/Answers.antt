@@ -18,7 +18,7 @@ put_outgoing-requires-clause-row g c =
 
 pub returns-in_err-put_outgoing : goal.returns-in_err-put_outgoing
 returns-in_err-put_outgoing g c =
-    let told = λ (k : _). g.K.Sink.written k in
+    let told = λ (k : _). g.K.TakesPieces.written k in
     let texts = map (λ (v : Vec ℕ g.row.B.Denot). v.items) c.args.lists.now in
     let s = c.loop-session.session in
     let within : s < length texts = simp length-map c.loop-session-test.true in
@@ -41,7 +41,7 @@ returns-in_err-put_outgoing g c =
 
 pub loop-session-preserved : goal.loop-session-preserved
 loop-session-preserved g c =
-    let told = λ (k : _). g.K.Sink.written k in
+    let told = λ (k : _). g.K.TakesPieces.written k in
     let texts = map (λ (v : Vec ℕ g.row.B.Denot). v.items) c.args.lists.now in
     let s = c.loop-session.session in
     let within : s < length texts = simp length-map c.loop-session-test.true in

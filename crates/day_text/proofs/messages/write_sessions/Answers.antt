@@ -8,19 +8,19 @@ use Rattle.day_text.proofs.messages.write_sessions.Goals as goal
 
 pub returns-clause-writes : goal.returns-clause-writes
 returns-clause-writes g c =
-    let told = λ (k : _). g.K.Sink.written k in
+    let told = λ (k : _). g.K.TakesPieces.written k in
     let put = c.in_ok-put_sessions.ensures.puts.put in
     let lines = outgoing_lines_from 0 (map (λ (v : Vec ℕ g.row.B.Denot). v.items) c.args.lists.now) in
     let all : lines ≡ put.out ++ map shown_byte c.put_sessions.new.piece.items = sym (ap (λ (t : List ℕ). map shown_byte t ++ lines) c.requires.empty) ∙ put.all in
     record {
-      all = on_ok c.write_shown.result
-          (λ last. subst (λ (t : List ℕ). Appends (told c.args.sink.now) (told c.write_shown.new.sink) t) (sym all)
-          (Appends-trans (told c.args.sink.now) (told c.put_sessions.new.sink) (told c.write_shown.new.sink) put.out (map shown_byte c.put_sessions.new.piece.items) put.written last))
-          c.write_shown.ensures.writes.all;
+      all = on_ok c.give_shown.result
+          (λ last. subst (λ (t : List ℕ). Appends (told c.args.sink.now) (told c.give_shown.new.sink) t) (sym all)
+          (Appends-trans (told c.args.sink.now) (told c.put_sessions.new.sink) (told c.give_shown.new.sink) put.out (map shown_byte c.put_sessions.new.piece.items) put.written last))
+          c.give_shown.ensures.writes.all;
       sound = search rules;
       failed = search rules;
-      front = on_err c.write_shown.result
-          (λ last. subst (λ (t : List ℕ). AppendsPrefix (told c.args.sink.now) (told c.write_shown.new.sink) t) (sym all)
-          (front_after (told c.args.sink.now) (told c.put_sessions.new.sink) (told c.write_shown.new.sink) put.out (map shown_byte c.put_sessions.new.piece.items) put.written last))
-          c.write_shown.ensures.writes.front;
+      front = on_err c.give_shown.result
+          (λ last. subst (λ (t : List ℕ). AppendsPrefix (told c.args.sink.now) (told c.give_shown.new.sink) t) (sym all)
+          (front_after (told c.args.sink.now) (told c.put_sessions.new.sink) (told c.give_shown.new.sink) put.out (map shown_byte c.put_sessions.new.piece.items) put.written last))
+          c.give_shown.ensures.writes.front;
     }
