@@ -1,7 +1,7 @@
 -- The two ends of the ring to the matching thread, and what each side hands back.
-use Rattle.std.proofs.Common.{◌≡◌, ◌∙◌, refl, sym, ap, subst, ℕ, ◌+◌, ◌≤◌, ◌<◌, List, [], ◌∷◌, ◌++◌, length, arith, length-append, true, Vec}
+use Rattle.std.proofs.Common.{◌≡◌, ◌∙◌, refl, sym, ap, subst, ℕ, ◌≤◌, ◌<◌, List, [], ◌∷◌, ◌++◌, length, arith, true}
 use Rattle.spread_rules.specs.declared.event.Entry.{Entry}
-use Rattle.stage_rings.specs.Feeding.{given, taken, AreFeedPair, SameFeeder, SameMatcher}
+use Rattle.stage_rings.specs.Feeding.{taken, AreFeedPair, SameFeeder, SameMatcher}
 use Rattle.stage_rings.specs.declared.feed.Feeder.{Feeder}
 use Rattle.stage_rings.specs.declared.feed.Matcher.{Matcher}
 use Rattle.stage_rings.specs.declared.post.Poster.{Poster}

@@ -63,17 +63,15 @@ pub fn post_each<R: Wait, A: Allocator + Copy>(
     ensures count { length reported.new.texts ≡ length reported.old.texts }
     ensures moved { HasMoved result posters.old reported.old.texts posters.new reported.new.texts }
 {
-    for s in 0..posters.len() {
-        let bytes = reported.bytes(s);
-        // Most entries send something to one or two sessions.
-        if bytes.is_empty() {
-            continue;
-        }
+    // Most entries send something to one or two sessions.
+    let mut s = reported.next_sent(0, posters.len());
+    while s < posters.len() {
         let poster = &mut posters[s];
-        if !post_all(rt, stop, poster, bytes) {
+        if !post_all(rt, stop, poster, reported.bytes(s)) {
             return false;
         }
         reported.clear(s);
+        s = reported.next_sent(s + 1, posters.len());
     }
     true
 }

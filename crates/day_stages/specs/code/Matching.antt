@@ -1,6 +1,6 @@
 -- What the matching thread is given, and what it hands back.
 -- Words of the code alone.
-use Rattle.std.specs.Prelude.{◌≡◌, ℕ, ◌≤◌, ◌+◌, false, List, [], ◌∷◌, ◌++◌, length}
+use Rattle.std.specs.Prelude.{◌≡◌, ◌≤◌, false, List, [], ◌∷◌, ◌++◌, length}
 use Rattle.spread_rules.specs.declared.event.Entry.{Entry}
 use Rattle.stage_rings.specs.Feeding.{taken, take_ended, SameMatcher}
 use Rattle.stage_rings.specs.declared.feed.Matcher.{Matcher}

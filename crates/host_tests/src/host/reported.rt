@@ -46,6 +46,8 @@ fn report_all(
         reported.apply(entry).expect(rt, "memory");
     }
     assert!(rt; reported.count() == journal.len() as u64);
+    // Session 0 alone was sent something.
+    assert!(rt; reported.next_sent(0, 16) == 0 && reported.next_sent(1, 16) == 16);
     reported.into_parts()
 }
 

@@ -1,10 +1,9 @@
-use Rattle.std.proofs.Common.{◌≡◌, ◌∙◌, ◌≤◌, refl, sym, ap, subst, List, [], ◌∷◌, ◌++◌, length, length-append, arith, ℕ}
+use Rattle.std.proofs.Common.{◌≡◌, ◌∙◌, refl, sym, ap, subst, List, [], ◌∷◌, length, length-append, arith}
 use Rattle.std.proofs.lemmas.List.{with_items_is}
 use Rattle.std.specs.Vec.{with_items}
 use Rattle.spread_rules.specs.declared.event.Entry.{Entry}
 use Rattle.stage_rings.specs.Feeding.{taken, SameMatcher}
 use Rattle.stage_rings.specs.declared.post.Poster.{Poster}
-use Rattle.day_apply.specs.Sending.{sending_rules, stamp_of}
 use Rattle.day_stages.specs.code.Matching.{MatchEnds}
 use Rattle.day_stages.specs.code.Posting.{HasPosted, SamePosters, posted_at}
 use Rattle.day_stages.specs.declared.matching.MatchEnd.TheVariants.{Whole, Stopped}

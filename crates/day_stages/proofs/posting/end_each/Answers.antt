@@ -1,4 +1,4 @@
-use Rattle.std.proofs.Common.{◌≡◌, ◌∙◌, sym, ap, ◌<◌, ℕ, length, arith, slice_set}
+use Rattle.std.proofs.Common.{◌≡◌, ◌∙◌, sym, ◌<◌, ℕ, length, arith, slice_set}
 use Rattle.stage_rings.specs.Posting.{posted}
 use Rattle.gate_link.proofs.links.PartOfASession.{row_at, row_kept}
 use Rattle.day_stages.specs.code.Posting.{posted_at, SamePosters}

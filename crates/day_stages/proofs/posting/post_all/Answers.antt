@@ -1,4 +1,4 @@
-use Rattle.std.proofs.Common.{◌≡◌, ◌∙◌, arith, append_assoc, ap, sym, ◌++◌, take, drop, length, ◌≤◌, ◌+◌, ◌-◌}
+use Rattle.std.proofs.Common.{arith, take, drop, length, ◌≤◌, ◌-◌}
 use Rattle.std.proofs.lemmas.List.{length-take, length-drop}
 use Rattle.stage_rings.specs.Posting.{posted}
 use Rattle.day_stages.proofs.Posters.{same_poster_trans, pieces_join, tail_is}

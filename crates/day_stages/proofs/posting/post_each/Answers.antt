@@ -1,4 +1,5 @@
-use Rattle.std.proofs.Common.{◌≡◌, ◌∙◌, sym, ap, subst, ◌<◌, ◌+◌, ℕ, [], List, length, arith, slice_set, ◌++◌, get_or}
+use Rattle.std.proofs.Common.{◌≡◌, ◌∙◌, refl, sym, ap, subst, ◌<◌, ◌≤◌, ◌+◌, ℕ, Bool, true, false, [], List, length, arith, slice_set, ◌++◌, get_or, nat_lt}
+use Rattle.std.proofs.lemmas.Bool.Decides.{nat_tests}
 use Rattle.std.proofs.lemmas.List.{length-set}
 use Rattle.spread_report.specs.Sessions.{session_text}
 use Rattle.stage_rings.specs.Posting.{posted}
@@ -6,6 +7,14 @@ use Rattle.day_stages.specs.code.Posting.{NoneEnded, SamePosters, posted_at}
 use Rattle.day_stages.proofs.Posters.{same_set, open_set, open_at, moved_set, empty_set}
 use Rattle.day_stages.proofs.posting.post_each.Goals as goal
 use Rattle.day_stages.proofs.posting.post_each.Goals.{After-post_all}
+
+below_or_not : (P : ℕ → Type 0) (m n s : ℕ) (b : Bool) → nat_lt s m ≡ b → ((k : ℕ) → k < m → P k) → ((k : ℕ) → m ≤ k → k < n → P k) → s < n → P s
+below_or_not P m n s true e low high lt = low s (grind (arith, nat_tests))
+below_or_not P m n s false e low high lt = high s (grind (arith, nat_tests)) lt
+
+-- what holds below a number, and from there to another, holds below that one
+passed : (P : ℕ → Type 0) (m n : ℕ) → ((k : ℕ) → k < m → P k) → ((k : ℕ) → m ≤ k → k < n → P k) → (s : ℕ) → s < n → P s
+passed P m n low high s lt = below_or_not P m n s (nat_lt s m) refl low high lt
 
 pub post_all-requires : goal.post_all-requires
 post_all-requires g c =
@@ -38,15 +47,16 @@ loop-s-preserved g c =
     let texts = c.loop-s.reported.texts in
     let low : i < length texts = omega (arith, here g at, was.same.0, was.count, c.requires.count) in
     let step : posted q ≡ posted (get_or ps i d) ++ session_text texts i =
-    c.post_all.ensures.whole c.if-not-post_all.false ∙ ap (λ (t : List ℕ). posted (get_or ps i d) ++ t) c.bytes-bytes.ensures in
+    c.post_all.ensures.whole c.if-not-post_all.false ∙ ap (λ (t : List ℕ). posted (get_or ps i d) ++ t) c.bytes.ensures in
     let left = sym c.clear.ensures.texts in
+    let emptied = subst (λ (ts : List (List ℕ)). (s : ℕ) → s < i + 1 → session_text ts s ≡ []) left (empty_set texts i low was.done) in
     record {
       same = same g at;
       open_ = open_ g at;
       applied = c.clear.ensures.applied ∙ was.applied;
       desk = c.clear.ensures.desk ∙ was.desk;
       count = ap length c.clear.ensures.texts ∙ (length-set texts i [] ∙ was.count);
-      done = subst (λ (ts : List (List ℕ)). (s : ℕ) → s < i + 1 → session_text ts s ≡ []) left (empty_set texts i low was.done);
+      done = λ s below. passed (λ k. session_text c.clear.new.self.texts k ≡ []) (i + 1) c.next_sent-s-in-loop-s.result emptied c.next_sent-s-in-loop-s.ensures.skipped s below;
       moved =
           subst (λ (ts : List (List ℕ)). (s : ℕ) → posted_at (slice_set ps i q) s ++ session_text ts s ≡ posted_at c.args.posters.now s ++ session_text c.args.reported.now.texts s) left
           (moved_set ps texts (λ s. posted_at c.args.posters.now s ++ session_text c.args.reported.now.texts s) i d q (here g at) low step was.moved);

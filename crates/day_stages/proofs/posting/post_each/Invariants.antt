@@ -1,4 +1,4 @@
-use Rattle.std.proofs.Common.{◌≡◌, ◌<◌, ◌++◌, ℕ, [], length}
+use Rattle.std.proofs.Common.{◌≡◌, ◌<◌, ◌-◌, ◌++◌, ℕ, [], length}
 use Rattle.spread_report.specs.Sessions.{session_text}
 use Rattle.day_stages.specs.code.Posting.{posted_at, NoneEnded, SamePosters}
 use Rattle.day_stages.proofs.posting.post_each.Given as goal
@@ -13,3 +13,6 @@ invariant-loop-s g l = record {
   done : (s : ℕ) → s < l.s → session_text l.reported.texts s ≡ [];
   moved : (s : ℕ) → posted_at l.posters s ++ session_text l.reported.texts s ≡ posted_at l.initial.posters s ++ session_text l.initial.reported.texts s;
 }
+
+abbrev pub decreases-loop-s : goal.decreases-loop-s
+decreases-loop-s g l = length l.posters - l.s

@@ -1,9 +1,4 @@
-use Rattle.std.proofs.Common.{◌≡◌, ◌∙◌, ◌≤◌, ◌<◌, ◌++◌, sym, ap, subst, arith, length, ℕ, [], List}
-use Rattle.spread_report.specs.Sessions.{session_text}
-use Rattle.day_apply.specs.Sending.{HasReportedBehind}
-use Rattle.day_apply.proofs.HandedOn.{behind_length, behind_none, handed_on}
-use Rattle.day_stages.specs.code.Matching.{IsUnfed}
-use Rattle.day_stages.specs.code.Posting.{CanPost, HasPosted, posted_at}
+use Rattle.std.proofs.Common.{arith}
 use Rattle.day_stages.specs.declared.posting.PostedEntries.{PostedEntries}
 use Rattle.day_stages.proofs.RingEnds.{posted_none}
 use Rattle.day_stages.proofs.stages.stages_of.Goals as goal

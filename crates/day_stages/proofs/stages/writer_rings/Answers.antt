@@ -1,4 +1,4 @@
-use Rattle.std.proofs.Common.{rules, ◌≡◌}
+use Rattle.std.proofs.Common.{rules}
 use Rattle.stage_rings.specs.Posting.{posted}
 use Rattle.gate_link.proofs.inboxes.OneMore.{idle_snoc}
 use Rattle.day_stages.proofs.PostPairs.{posts_snoc, open_snoc}
