@@ -114,12 +114,12 @@ fn pieces_of_each_size(rt: HostRuntime) {
     assert!(rt; small.is_empty());
     sink.take(&mut small).expect(&rt, "no write fails");
     let mut large = Vec::new(rt.alloc());
-    large.resize(100_000, b'x').expect(&rt, "memory");
+    large.resize(90_000, b'x').expect(&rt, "memory");
     sink.take(&mut large).expect(&rt, "no write fails");
     assert!(rt; large.is_empty());
     sink.end();
     let (out, whole) = take_text(&rt, source, rt.alloc(), 0);
-    assert!(rt; whole && out.bytes().len() == 100_010);
+    assert!(rt; whole && out.bytes().len() == 90_010);
     assert!(rt; out.bytes().starts_with(b"abcdefghi\nxx"));
     assert!(rt; out.bytes().ends_with(b"xx"));
 }
