@@ -1,5 +1,5 @@
 -- Texts that are put by way of a piece, one after another.
-use Rattle.std.proofs.Common.{◌≡◌, ℕ, ◌+◌, ◌/◌, ◌%◌, ◌<◌, ◌≤◌, List, [], ◌∷◌, ◌++◌, length, map, take, decimal, Option, Result, Ok, Err, OnOk, OnErr, sym, ap, ◌∙◌, arith, subst, append_assoc, append-nil, length-append}
+use Rattle.std.proofs.Common.{◌≡◌, ℕ, ◌+◌, ◌/◌, ◌%◌, ◌<◌, ◌≤◌, Bool, List, [], ◌∷◌, ◌++◌, length, map, take, decimal, Option, Result, Ok, Err, OnOk, OnErr, sym, ap, ◌∙◌, arith, subst, append_assoc, append-nil, length-append}
 use Rattle.std.proofs.KnownBytes.{Appends-trans, Appends-nil}
 use Rattle.std.proofs.Math.Seq.{take-append-add}
 use Rattle.std.proofs.lemmas.Fmt.{decimal_step, decimal_digit}
@@ -7,7 +7,7 @@ use Rattle.std.proofs.lemmas.List.{map-append, take-append-le}
 use Rattle.std.specs.Io.KnownBytes.{Appends}
 use Rattle.host_base.specs.Ends.{AppendsPrefix}
 use Rattle.day_text.specs.Messages.{shown_byte, line_lead, outgoing_line}
-use Rattle.day_text.specs.code.Pieces.{IsPut}
+use Rattle.day_text.specs.code.Pieces.{IsPut, Writes}
 
 -- of a call that failed, and of one whose result is handed on
 pub on_err_any : {T E P : Type 0} (r : Result T E) → P → OnErr r P
@@ -77,6 +77,24 @@ put_fails a b c old mid xs ys rest all first second is =
 -- before the first text
 pub put_none : (a : Option (List ℕ)) (piece : List ℕ) → IsPut a a piece (piece ++ [])
 put_none a piece = record { out = []; written = Appends-nil a; all = append-nil piece }
+
+-- what was put behind an empty piece, which then was given on
+pub put_and_given : {T E : Type 0} (r : Result T E) (a b c : Option (List ℕ)) (has_failed : Bool) (old piece text : List ℕ) → old ≡ [] → IsPut a b piece (old ++ text) → Writes r b c has_failed piece
+    → Writes r a c has_failed text
+put_and_given (Ok x) a b c has_failed old piece text empty put last =
+    let all : text ≡ put.out ++ piece = sym (ap (λ (t : List ℕ). t ++ text) empty) ∙ put.all in record {
+      all = subst (λ (t : List ℕ). Appends a c t) (sym all) (Appends-trans a b c put.out piece put.written last.all);
+      sound = last.sound;
+      failed = tt;
+      front = tt;
+    }
+put_and_given (Err e) a b c has_failed old piece text empty put last =
+    let all : text ≡ put.out ++ piece = sym (ap (λ (t : List ℕ). t ++ text) empty) ∙ put.all in record {
+      all = tt;
+      sound = tt;
+      failed = last.failed;
+      front = subst (λ (t : List ℕ). AppendsPrefix a c t) (sym all) (front_after a b c put.out piece put.written last.front);
+    }
 
 -- ---- a message's line in its parts
 

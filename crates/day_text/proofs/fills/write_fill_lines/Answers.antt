@@ -1,26 +1,9 @@
-use Rattle.std.proofs.Common.{rules, ◌≡◌, ◌++◌, List, ℕ, sym, subst, ◌∙◌, ap}
-use Rattle.std.proofs.KnownBytes.{Appends-trans}
-use Rattle.std.specs.Io.KnownBytes.{Appends}
-use Rattle.host_base.specs.Ends.{AppendsPrefix}
 use Rattle.day_text.specs.Fills.{fill_lines}
-use Rattle.day_text.proofs.PiecesInTurn.{front_after, on_err, on_ok}
+use Rattle.day_text.proofs.PiecesInTurn.{put_and_given}
 use Rattle.day_text.proofs.fills.write_fill_lines.Goals as goal
 
 pub returns-clause-writes : goal.returns-clause-writes
 returns-clause-writes g c =
     let told = λ (k : _). g.K.TakesPieces.written k in
-    let put = c.in_ok-put_all.ensures.puts.put in
-    let lines = fill_lines c.args.rulebook.now c.args.fills.now in
-    let all : lines ≡ put.out ++ c.put_all.new.piece.items = sym (ap (λ (t : List ℕ). t ++ lines) c.requires.empty) ∙ put.all in
-    record {
-      all = on_ok c.take.result
-          (λ last. subst (λ (t : List ℕ). Appends (told c.args.sink.now) (told c.take.new.self) t) (sym all)
-          (Appends-trans (told c.args.sink.now) (told c.put_all.new.sink) (told c.take.new.self) put.out c.put_all.new.piece.items put.written last))
-          c.take.ensures.writes.all;
-      sound = search rules;
-      failed = search rules;
-      front = on_err c.take.result
-          (λ last. subst (λ (t : List ℕ). AppendsPrefix (told c.args.sink.now) (told c.take.new.self) t) (sym all)
-          (front_after (told c.args.sink.now) (told c.put_all.new.sink) (told c.take.new.self) put.out c.put_all.new.piece.items put.written last))
-          c.take.ensures.writes.front;
-    }
+    put_and_given c.take.result (told c.args.sink.now) (told c.put_all.new.sink) (told c.take.new.self) (g.K.TakesPieces.has_failed c.take.new.self) c.args.piece.now.items c.put_all.new.piece.items
+    (fill_lines c.args.rulebook.now c.args.fills.now) c.requires.empty c.in_ok-put_all.ensures.puts.put c.take.ensures.writes
