@@ -26,8 +26,8 @@ fn shown_byte(byte: u8) -> u8
     if byte == 1 { b'|' } else { byte }
 }
 
-/// Shows what stands in the piece, which is then taken. The whole piece at once: a loop over each message alone would spend
-/// most of its time on its last few bytes.
+/// Shows what stands in the piece, which is then taken. The whole piece at once: a loop over each message alone would
+/// spend most of its time on its last few bytes.
 fn give_shown<K: TakesPieces<A>, A: Allocator>(
     piece: &mut Vec<u8, A>,
     sink: &mut K,

@@ -16,8 +16,8 @@ pub trait TakesPieces<A: Allocator> {
     // Whether a write has failed.
     ghost has_failed: { Self → Bool };
 
-    /// Takes all that stands in the piece. Then it is empty, with as much room as before, or as a piece has. Where a write
-    /// fails, a front is out, and nothing is known of what stands in the piece.
+    /// Takes all that stands in the piece. Then it is empty, with as much room as before, or as a piece has. Where a
+    /// write fails, a front is out, and nothing is known of what stands in the piece.
     fn take(&mut self, piece: &mut Vec<u8, A>) -> Result<(), Failed>
         requires works { has_failed self.old ≡ false }
         ensures writes { Writes result (written self.old) (written self.new) (has_failed self.new)

@@ -31,8 +31,9 @@ fn sleep<R: Wait>(rt: &R) {
     Parker::new().park_timeout(rt, Duration::from_micros(SLEEP_MICROS));
 }
 
-/// How a thread waits for items that come by a ring: eager while half a ring comes within so many looks that find nothing,
-/// since the ring would fill while it sleeps; where they come more slowly it sleeps, until half a ring came meanwhile.
+/// How a thread waits for items that come by a ring: eager while half a ring comes within so many looks that find
+/// nothing, since the ring would fill while it sleeps; where they come more slowly it sleeps, until half a ring came
+/// meanwhile.
 #[derive(Clone, Copy)]
 pub(crate) struct Pace {
     half: usize,
