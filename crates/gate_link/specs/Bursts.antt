@@ -4,8 +4,9 @@ use Rattle.spread_rules.specs.declared.event.Event.{Event}
 use Rattle.fix_frames.specs.Frames.{frames}
 use Rattle.fix_wire.specs.Pieces.{SplitsInto}
 use Rattle.fix_session.specs.Steps.{events_said, session_after}
-use Rattle.fix_session.specs.Ahead.{up_to_close, after_frames}
-use Rattle.gate_link.specs.Gateways.{session_state, bytes_held, events_sent, free_slots, pending_events, is_over, Needs, WasClosed}
+use Rattle.fix_session.specs.declared.ahead.Ahead.{Ahead}
+use Rattle.fix_session.specs.Ahead.{IsAhead, up_to_close, after_frames}
+use Rattle.gate_link.specs.Gateways.{session_number, session_state, bytes_held, events_sent, free_slots, pending_events, is_over, Needs, WasClosed}
 use Rattle.gate_link.specs.declared.gateway.Gateway.{Gateway}
 use Rattle.gate_link.specs.declared.gateway.Burst.{Burst}
 use Rattle.gate_link.specs.declared.gateway.Burst.TheVariants.{Sent, Skipped, Need, Full, Closed}
@@ -21,6 +22,12 @@ first_messages most g = up_to_close most (session_state g) (frames (bytes_held g
 -- their events
 abbrev pub first_events : {A : Type 0} → ℕ → Gateway A → List Event
 first_events most g = events_said (session_state g) (first_messages most g)
+
+-- The first messages that are held were judged, at most so many, and their events are kept: the gateway is still as it
+-- was when they were.
+pub record HasJudged {A : Type 0} (most : ℕ) (g : Gateway A) (ahead : Ahead) : Type 0 where
+  pub fits : ahead.events ≤ length g.slice
+  pub judged : IsAhead (session_number g) most g.reader g.slice ahead
 
 -- these messages were judged and passed, at least one of them
 pub record PassesMany {A : Type 0} (most : ℕ) (a b : Gateway A) : Type 0 where

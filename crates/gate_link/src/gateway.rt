@@ -8,7 +8,7 @@ ghost use Rattle.fix_frames.specs.Frames.{frames};
 ghost use Rattle.gate_link.specs.Rows.{entry_events};
 ghost use Rattle.std.specs.Prelude.{◌≡◌, ◌-◌, ◌↔◌, ℕ, List, ◌++◌, length, take, min, true, if◌then◌else◌, option_map, is_some};
 
-use fix_session::{Reader, Verdict};
+use fix_session::{Ahead, Reader, Verdict};
 use rtrb::Producer;
 use spread_rules::{Entry, Event};
 use std::alloc::Allocator;
@@ -68,8 +68,9 @@ impl<A: Allocator> Gateway<A> {
     ghost use Rattle.fix_session.specs.Steps.{new_session};
     ghost use Rattle.gate_link.specs.Gateways.{session_number, events_sent, free_slots, session_state, bytes_held, pending_events, is_over, SameGateway, OnlySkipped, Stepped, Ended};
     ghost use Rattle.gate_link.specs.Owed.{Stands};
-    ghost use Rattle.gate_link.specs.Bursts.{held_messages, SteppedMany};
-    ghost use Rattle.std.specs.Prelude.{◌≤◌};
+    ghost use Rattle.gate_link.specs.Bursts.{held_messages, HasJudged, SteppedMany};
+    ghost use Rattle.gate_link.specs.declared.gateway.Burst.{Burst};
+    ghost use Rattle.std.specs.Prelude.{◌≤◌, ◌<◌};
     ghost use Rattle.std.specs.Prelude.{[], ◌⊎◌, false, MatchBool};
 
     pub(crate) fn new(session: u8, producer: Producer<Entry, A>) -> Gateway<A>
@@ -172,6 +173,41 @@ impl<A: Allocator> Gateway<A> {
         self.reader.standing(most as usize) as u32
     }
 
+    /// Judges the first messages that are held, at most so many, none past a close, and keeps their events, which
+    /// `send_judged` sends. Nothing is passed.
+    pub fn judge_many(&mut self, frames: u32) -> Ahead
+        requires { frames ≤ MAX_SLICE }
+        ensures judged { HasJudged frames self.new result }
+        ensures gate { SameGateway self.old self.new }
+        ensures sent { events_sent self.new ≡ events_sent self.old }
+        ensures room { free_slots self.new ≡ free_slots self.old }
+        ensures state { session_state self.new ≡ session_state self.old }
+        ensures held { bytes_held self.new ≡ bytes_held self.old }
+    {
+        self.reader
+            .judge_ahead(self.session, frames as usize, &mut self.slice)
+    }
+
+    /// Sends the events of messages that were judged, at most so many and at least one, as one slice: all of them or
+    /// none. Then the messages are passed; at Full nothing changes, and they stay judged.
+    pub fn send_judged(&mut self, frames: u32, ahead: &Ahead) -> Burst
+        requires judged { HasJudged frames self.old ahead.now }
+        requires some { 0 < ahead.now.messages }
+        ensures gate { SameGateway self.old self.new }
+        ensures step { SteppedMany frames result self.old self.new }
+        ensures kept { result ≡ Burst.Full → HasJudged frames self.new ahead.now }
+    {
+        if ahead.events == 0 {
+            self.reader.pass_ahead(ahead);
+            return Burst::Skipped;
+        }
+        let Ok(()) = self.producer.push_entire_slice(&self.slice[..ahead.events]) else {
+            return Burst::Full;
+        };
+        self.reader.pass_ahead(ahead);
+        Burst::Sent(ahead.events as u32)
+    }
+
     /// Judges the first messages that are held, at most so many, none past a close, and sends their events as one slice:
     /// all of them or none. At Full nothing changes, at Need nothing but bytes at which no frame stands.
     pub fn step_many(&mut self, frames: u32) -> Burst
@@ -182,22 +218,12 @@ impl<A: Allocator> Gateway<A> {
         if self.reader.is_closed() {
             return Burst::Closed;
         }
-        let ahead = self
-            .reader
-            .judge_ahead(self.session, frames as usize, &mut self.slice);
+        let ahead = self.judge_many(frames);
         if ahead.messages == 0 {
             self.reader.look();
             return Burst::Need;
         }
-        if ahead.events == 0 {
-            self.reader.pass_ahead(&ahead);
-            return Burst::Skipped;
-        }
-        let Ok(()) = self.producer.push_entire_slice(&self.slice[..ahead.events]) else {
-            return Burst::Full;
-        };
-        self.reader.pass_ahead(&ahead);
-        Burst::Sent(ahead.events as u32)
+        self.send_judged(frames, &ahead)
     }
 
     /// After the last byte was put: steps, and where no message stands sends the close at the end of a stream.

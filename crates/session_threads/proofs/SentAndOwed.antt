@@ -42,13 +42,14 @@ pub same_gateway_trans : {A : Type 0} (a b d : Gateway A) → SameGateway a b �
 same_gateway_trans a b d p q = (q.0 ∙ p.0, ((q.1.0.0 ∙ p.1.0.0, q.1.0.1 ∙ p.1.0.1, q.1.0.2 ∙ p.1.0.2, q.1.0.3 ∙ p.1.0.3), q.1.1 ∙ p.1.1))
 
 -- after a step on what is held, the same of a slice to the end as of what is left
-pub stepped : {A : Type 0} (a b d e : Gateway A) (stream : List ℕ) (put : ℕ) (all : List Event) → SameGateway a b → sent_and_pending b (drop put stream) ≡ all → d ≡ b
+pub stepped : {A : Type 0} (a b d e : Gateway A) (stream : List ℕ) (put : ℕ) (all : List Event) → SameGateway a b → sent_and_pending b (drop put stream) ≡ all
+    → ((rest : List ℕ) → SameEvents b rest d rest)
     → SameEvents d (take (length stream - put) (drop put stream)) e (take (length stream - put) (drop put stream))
     → SameGateway a e × (sent_and_pending e (drop put stream) ≡ all)
-stepped {A} a b d e stream put all gate total same step =
+stepped a b d e stream put all gate total seen step =
     let rest = drop put stream in
     let piece = take (length stream - put) rest in
     let tail : piece ≡ rest = ap (λ (k : ℕ). take k rest) (sym (length-drop put stream)) ∙ take-length rest in
-    let was : SameEvents b piece e piece = subst (λ (g : Gateway A). SameEvents g piece e piece) same step in
-    let now : SameEvents b rest e rest = subst (λ (t : List ℕ). SameEvents b t e t) tail was in
-    (same_gateway_trans a b e gate now.0, now.1 ∙ total)
+    let before = seen rest in
+    let now : SameEvents d rest e rest = subst (λ (t : List ℕ). SameEvents d t e t) tail step in
+    (same_gateway_trans a d e (same_gateway_trans a b d gate before.0) now.0, now.1 ∙ (before.1 ∙ total))

@@ -1,13 +1,14 @@
 //! One session's thread: it judges the session's stream and sends its events.
 ghost use Rattle.std.specs.Prelude.{◌≡◌, ◌≤◌, ℕ, List, length, drop, true, IfSome};
 ghost use Rattle.gate_link.specs.declared.gateway.Gateway.{Gateway};
-ghost use Rattle.gate_link.specs.declared.gateway.Step.TheVariants.{Closed};
+ghost use Rattle.gate_link.specs.declared.gateway.Step.TheVariants.{Full, Closed};
 ghost use Rattle.gate_link.specs.declared.gateway.TheConstants.{MAX_SLICE};
 ghost use Rattle.gate_link.specs.Gateways.{is_over};
-ghost use Rattle.session_threads.specs.code.Workers.{IsUnused, HasSent, SameEvents};
+ghost use Rattle.session_threads.specs.code.Workers.{IsUnused, HasSent, SameEvents, IsReady, AreReady};
 
 use crate::idle::{found, rest};
 use crate::workers::{Shared, WorkerHandle};
+use fix_session::Ahead;
 use gate_link::{Burst, Gateway, MAX_SLICE, Step};
 use host_base::release;
 use std::alloc::Allocator;
@@ -21,8 +22,7 @@ use std::thread::{Promise, Scope, Threads};
 /// session's outgoing bytes after it was taken, and may hold the thread that it is called in.
 pub trait Gate: Sync {
     /// Called once before a session first steps on a message. Messages count from 0, and stay at the greatest u32. Of
-    /// messages that are stepped on together each is named before the first of them is stepped on, also one behind a
-    /// message that closes the session.
+    /// messages that are stepped on together each is named before the first of them is stepped on.
     fn before(&self, session: u8, message: u32);
 
     /// How many messages a session steps on together: 1 to 64, and no more than its ring takes. What lies beyond counts as
@@ -84,22 +84,25 @@ fn send_stream<R: Wait, G: Gate, A: Allocator>(
 {
     let mut put = 0usize;
     let mut message = 0u32;
-    let mut seen = 0u32;
+    let mut judged = None;
     let mut looks = 0u32;
     for _ in rt.forever() {
         if stop.load(Ordering::SeqCst) {
             return;
         }
-        seen = see(gate, gateway, most, message, seen);
-        match step_or_end(gateway, seen, &stream[put..]) {
+        judged = see(gate, gateway, most, message, judged);
+        match step_or_end(gateway, most, &judged, &stream[put..]) {
             Step::Sent | Step::Skipped => {
-                message = message.saturating_add(seen);
-                seen = 0;
+                message = message.saturating_add(judged.as_ref().map_or(0, count));
+                judged = None;
                 looks = found(looks);
                 // The thread that matches may wait for this processor, and the day waits for that thread.
                 thread::yield_now();
             }
-            Step::Need => put = put_bytes(gateway, stream, put),
+            Step::Need => {
+                put = put_bytes(gateway, stream, put);
+                judged = None;
+            }
             Step::Full => looks = rest(rt, looks),
             Step::Closed => return,
         }
@@ -117,25 +120,34 @@ fn put_bytes<A: Allocator>(gateway: &mut Gateway<A>, stream: &[u8], put: usize) 
     put + gateway.put(&stream[put..])
 }
 
-/// How many messages the next step is made on: those that were seen, or where none is left of
-/// them the next that are held, at most so many, each named to the gate.
+/// The messages that the next step is made on: those that were judged before, or else the next that are held, at most
+/// so many, which are judged and each named to the gate; none, where none stands.
 fn see<G: Gate, A: Allocator>(
     gate: &G,
     gateway: &mut Gateway<A>,
     most: u32,
     message: u32,
-    seen: u32,
-) -> u32
-    requires few { seen ≤ most }
-    ensures few { result ≤ most }
-    ensures same { gateway.new ≡ gateway.old }
+    judged: Option<Ahead>,
+) -> Option<Ahead>
+    requires most { most ≤ MAX_SLICE }
+    requires ready { AreReady most gateway.old judged }
+    ensures ready { AreReady most gateway.new result }
+    ensures kept { (rest : List ℕ) → SameEvents gateway.old rest gateway.new rest }
 {
-    if 0 < seen {
-        return seen;
+    if judged.is_some() {
+        return judged;
     }
-    let held = gateway.standing(most);
-    call_gate(gate, gateway.session(), message, held);
-    held
+    let ahead = gateway.judge_many(most);
+    if ahead.messages == 0 {
+        return None;
+    }
+    call_gate(gate, gateway.session(), message, count(&ahead));
+    Some(ahead)
+}
+
+/// How many messages were judged, or the greatest u32 where they are more.
+fn count(ahead: &Ahead) -> u32 {
+    u32::try_from(ahead.messages).unwrap_or(u32::MAX)
 }
 
 /// Names so many of a session's messages to the gate, from this one on.
@@ -145,15 +157,21 @@ fn call_gate<G: Gate>(gate: &G, session: u8, message: u32, count: u32) {
     }
 }
 
-/// Makes a step on the messages that were seen, or where there are none on what is held, which is the end where nothing
-/// is left of the stream.
-fn step_or_end<A: Allocator>(gateway: &mut Gateway<A>, seen: u32, rest: &[u8]) -> Step
-    requires { seen ≤ MAX_SLICE }
+/// Makes a step on the messages that were judged, or where there are none on what is held, which is the end where
+/// nothing is left of the stream.
+fn step_or_end<A: Allocator>(
+    gateway: &mut Gateway<A>,
+    most: u32,
+    judged: &Option<Ahead>,
+    rest: &[u8],
+) -> Step
+    requires ready { AreReady most gateway.old judged.now }
     ensures kept { SameEvents gateway.old rest.now gateway.new rest.now }
     ensures closed { result ≡ Closed → is_over gateway.new ≡ true }
+    ensures ready { result ≡ Full → AreReady most gateway.new judged.now }
 {
-    if 0 < seen {
-        return step_together(gateway, seen);
+    if let Some(ahead) = judged {
+        return step_together(gateway, most, ahead);
     }
     if rest.is_empty() {
         return gateway.end();
@@ -161,13 +179,14 @@ fn step_or_end<A: Allocator>(gateway: &mut Gateway<A>, seen: u32, rest: &[u8]) -
     gateway.step()
 }
 
-/// Makes a step on so many messages.
-fn step_together<A: Allocator>(gateway: &mut Gateway<A>, seen: u32) -> Step
-    requires { (1 ≤ seen) × (seen ≤ MAX_SLICE) }
+/// Makes a step on the messages that were judged.
+fn step_together<A: Allocator>(gateway: &mut Gateway<A>, most: u32, ahead: &Ahead) -> Step
+    requires ready { IsReady most gateway.old ahead.now }
     ensures kept { (rest : List ℕ) → SameEvents gateway.old rest gateway.new rest }
     ensures closed { result ≡ Closed → is_over gateway.new ≡ true }
+    ensures ready { result ≡ Full → IsReady most gateway.new ahead.now }
 {
-    match gateway.step_many(seen) {
+    match gateway.send_judged(most, ahead) {
         Burst::Sent(_) => Step::Sent,
         Burst::Skipped => Step::Skipped,
         Burst::Need => Step::Need,

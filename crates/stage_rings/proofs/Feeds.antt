@@ -1,9 +1,10 @@
 -- Entries and the end mark among the items of the ring to the thread that matches.
-use Rattle.std.proofs.Common.{◌≡◌, ◌∙◌, sym, ap, refl, Bool, true, false, List, [], ◌∷◌, ◌++◌, map, append-nil, append_assoc, subst}
+use Rattle.std.proofs.Common.{◌≡◌, ◌∙◌, sym, ap, refl, arith, ℕ, suc, ◌+◌, ◌-◌, ◌<◌, ◌≤◌, Bool, true, false, List, [], ◌∷◌, ◌++◌, length, get_or, take, drop, map, append-nil, append_assoc, take_at, length-append, length-take, length-drop, subst}
+use Rattle.std.proofs.lemmas.List.{drop_more}
 use Rattle.spread_rules.specs.declared.event.Entry.{Entry}
 use Rattle.stage_rings.specs.declared.feed.Fed.{Fed}
 use Rattle.stage_rings.specs.declared.feed.Fed.TheVariants.{Entry as Item, End}
-use Rattle.stage_rings.specs.Feeds.{entries, is_end}
+use Rattle.stage_rings.specs.Feeds.{entries, is_end, first_items, held_items}
 use Rattle.stage_rings.specs.Feeding.{Agrees}
 use Rattle.stage_rings.specs.Marks.{ends}
 use Rattle.stage_rings.proofs.Marks.{ends_more, ends_mark, all_taken}
@@ -55,3 +56,24 @@ agreed xs ys known true ended was gave all =
     let taken = all_taken is_end xs known ys ended was gave all in
     (taken.0, ap entries taken.1)
 agreed xs ys known false ended was gave all = (entries known, sym (entries-append xs known) ∙ ap entries all)
+
+-- the next of the items that are held comes behind those that were handed out
+pub next_held : (all hs : List Fed) (next filled : ℕ) (x d : Fed) → next < filled → filled ≤ length hs
+    → all ≡ first_items all (filled - next) ++ held_items hs next filled → x ≡ get_or hs next d
+    → (first_items all (filled - (next + 1)) ≡ first_items all (filled - next) ++ x ∷ [])
+    × (all ≡ first_items all (filled - (next + 1)) ++ held_items hs (next + 1) filled)
+next_held all hs next filled x d some within held is =
+    let left = filled - next in
+    let less = filled - (next + 1) in
+    let front = first_items all left in
+    let later = held_items hs (next + 1) filled in
+    let one : left ≡ suc less = omega arith in
+    let here : held_items hs next filled ≡ x ∷ later = ap (λ n. take n (drop next hs)) one ∙ (ap (take (suc less)) (drop_more hs next d (omega arith)) ∙ ap (λ y. y ∷ later) (sym is)) in
+    let parts : all ≡ (front ++ x ∷ []) ++ later = held ∙ (ap (λ t. front ++ t) here ∙ sym (append_assoc front (x ∷ []) later)) in
+    let sum = ap length held ∙ length-append front (held_items hs next filled) in
+    let back = length-take left (drop next hs) in
+    let rest = length-drop next hs in
+    let fore = length-take (length all - left) all in
+    let long : length (front ++ x ∷ []) ≡ length all - less = length-append front (x ∷ []) ∙ omega (arith, sum, back, rest, fore) in
+    let first : first_items all less ≡ front ++ x ∷ [] = ap (take (length all - less)) parts ∙ take_at (front ++ x ∷ []) later (length all - less) long in
+    (first, parts ∙ ap (λ t. t ++ later) (sym first))

@@ -3,8 +3,9 @@ use Rattle.std.specs.Prelude.{◌≡◌, ◌≢◌, ℕ, ◌+◌, ◌-◌, ◌<�
 use mathlib.Core.List.{IsPrefix}
 use Rattle.rtrb.specs.Ring.{sent, received, known_free, producer_capacity, IsPair, SameProducer, SameConsumer}
 use Rattle.spread_rules.specs.declared.event.Entry.{Entry}
-use Rattle.stage_rings.specs.Feeds.{entries}
+use Rattle.stage_rings.specs.Feeds.{entries, first_items}
 use Rattle.stage_rings.specs.declared.feed.TheConstants.{SLICE}
+use Rattle.stage_rings.specs.declared.feed.Fed.{Fed}
 use Rattle.stage_rings.specs.declared.feed.Feeder.{Feeder}
 use Rattle.stage_rings.specs.declared.feed.Matcher.{Matcher}
 use Rattle.stage_rings.specs.declared.feed.Give.{Give}
@@ -28,9 +29,13 @@ feed_ring_size f = producer_capacity f.producer
 abbrev pub feed_room : {A : Type 0} → Feeder A → ℕ
 feed_room f = known_free f.producer
 
--- the entries taken so far, by its ring end's own list
+-- the items handed out so far: those that its ring end's own list has, but for the ones that are held
+abbrev pub handed : {A : Type 0} → Matcher A → List Fed
+handed m = first_items (received m.consumer) (m.filled - m.next)
+
+-- the entries taken so far
 abbrev pub taken : {A : Type 0} → Matcher A → List Entry
-taken m = entries (received m.consumer)
+taken m = entries (handed m)
 
 -- whether the end mark was taken
 abbrev pub take_ended : {A : Type 0} → Matcher A → Bool

@@ -1,9 +1,10 @@
 //! The ring to the thread that matches: its items are the journal's entries, and one mark that ends them.
-ghost use Rattle.std.specs.Prelude.{◌≡◌, ◌<◌, [], length, true};
+ghost use Rattle.std.specs.Prelude.{◌≡◌, ◌-◌, ◌<◌, ◌≤◌, ◌++◌, [], length, take, true};
 ghost use Rattle.std.specs.Bool.{OnFalse};
 ghost use Rattle.rtrb.specs.Ring.{sent, received, known_free, ProducerLooked};
 ghost use Rattle.stage_rings.specs.Marks.{ends};
-ghost use Rattle.stage_rings.specs.Feeds.{entries, is_end};
+ghost use Rattle.stage_rings.specs.Feeds.{entries, is_end, first_items, held_items};
+ghost use Rattle.stage_rings.specs.declared.feed.TheConstants.{HELD};
 
 use rtrb::{Consumer, Producer};
 use spread_rules::Entry;
@@ -11,6 +12,9 @@ use std::alloc::Allocator;
 
 /// How many entries are given at once at most.
 pub const SLICE: usize = 64;
+
+/// How many items are taken from the ring at once at most.
+pub const HELD: usize = 32;
 
 /// An item of the ring.
 #[derive(Clone, Copy)]
@@ -34,8 +38,17 @@ pub struct Feeder<A: Allocator> {
 #[derive(Drop)]
 pub struct Matcher<A: Allocator> {
     pub(crate) consumer: Consumer<Fed, A>,
+    /// Items taken from the ring: those from `next` to `filled` were not handed out yet.
+    items: [Fed; HELD],
+    next: usize,
+    filled: usize,
     pub(crate) ended: bool,
-    ghost shape: { ends is_end (received consumer) ended ≡ true },
+    ghost room: { length items ≡ HELD },
+    ghost range: { (next ≤ filled) × (filled ≤ length items) },
+    ghost held: { received consumer ≡ first_items (received consumer) (filled - next)
+        ++ held_items items next filled },
+    // The mark comes last, and only where it is ended.
+    ghost shape: { ends is_end (first_items (received consumer) (filled - next)) ended ≡ true },
 }
 
 /// What giving did.
@@ -136,7 +149,8 @@ impl<A: Allocator> Feeder<A> {
 
 impl<A: Allocator> Matcher<A> {
     ghost use Rattle.std.specs.Prelude.{false};
-    ghost use Rattle.stage_rings.specs.Feeding.{SameMatcher, Takes};
+    ghost use Rattle.std.specs.Bool.{OnTrue};
+    ghost use Rattle.stage_rings.specs.Feeding.{handed, take_ended, SameMatcher, Takes};
 
     pub(crate) fn new(consumer: Consumer<Fed, A>) -> Matcher<A>
         requires { received consumer ≡ [] }
@@ -144,8 +158,26 @@ impl<A: Allocator> Matcher<A> {
     {
         Matcher {
             consumer,
+            items: [Fed::End; HELD],
+            next: 0,
+            filled: 0,
             ended: false,
         }
+    }
+
+    /// Takes items from the ring, as many as are there, where none is held: says whether one is held now.
+    fn fill(&mut self) -> bool
+        ensures ring { SameMatcher self.old self.new }
+        ensures handed { handed self.new ≡ handed self.old }
+        ensures ended { take_ended self.new ≡ take_ended self.old }
+        ensures held { OnTrue result (self.new.next < self.new.filled) }
+    {
+        if self.next < self.filled {
+            return true;
+        }
+        self.filled = self.consumer.pop_partial_slice(&mut self.items);
+        self.next = 0;
+        0 < self.filled
     }
 
     /// Takes the next entry, if one is there.
@@ -156,9 +188,11 @@ impl<A: Allocator> Matcher<A> {
         if self.ended {
             return Taken::Ended;
         }
-        let Ok(item) = self.consumer.pop() else {
+        if !self.fill() {
             return Taken::Empty;
-        };
+        }
+        let item = self.items[self.next];
+        self.next += 1;
         match item {
             Fed::Entry(entry) => Taken::Entry(entry),
             Fed::End => {

@@ -16,19 +16,20 @@ pub const PIECE_BYTES: usize = 63;
 const MARK: u8 = 64;
 
 /// How many pieces are given at once at most.
-pub const MANY_PIECES: usize = 8;
+pub const MANY_PIECES: usize = 16;
 
-/// An item of the ring: so many of its first bytes, or the end mark.
+/// An item of the ring: so many of its first bytes, or the end mark. The bytes come first, so that they are written and
+/// read again in the same parts of 16.
 #[derive(Clone, Copy)]
 pub(crate) struct Piece {
-    length: u8,
     bytes: [u8; PIECE_BYTES],
+    length: u8,
 }
 
 /// A piece of no bytes.
 const NO_PIECE: Piece = Piece {
-    length: 0,
     bytes: [0; PIECE_BYTES],
+    length: 0,
 };
 
 /// The end that gives bytes. It may move to another thread.
@@ -142,7 +143,7 @@ impl<A: Allocator> Poster<A> {
         Post::Posted(n)
     }
 
-    /// Gives the first bytes at once, as many as 8 pieces take and the ring can hold, and says how many. Full, and
+    /// Gives the first bytes at once, as many as 16 pieces take and the ring can hold, and says how many. Full, and
     /// none given, where the ring has no room for all of these.
     pub fn post_many(&mut self, bytes: &[u8]) -> Post
         ensures ring { SamePoster self.old self.new }
@@ -169,8 +170,8 @@ impl<A: Allocator> Poster<A> {
             return Post::Ended;
         }
         let mark = Piece {
-            length: MARK,
             bytes: [0; PIECE_BYTES],
+            length: MARK,
         };
         let Ok(()) = self.producer.push(mark) else {
             return Post::Full;

@@ -71,3 +71,13 @@ none_first (suc n) s [] opens some none = refl
 none_first (suc n) s (f ∷ fs) opens some none =
     let all = ap (λ (v : Bool). length (cond v [] (f ∷ up_to_close n (judge s f).1 fs))) (sym opens) ∙ none in
     absurd (omega (arith, all))
+
+-- a session of which messages were judged is open
+pub open_where_judged : (most : ℕ) (s : Session) (fs : List (List ℕ)) → 0 < length (up_to_close most s fs) → is_closed s ≡ false
+open_where_judged zero s fs some = absurd (omega (arith, some))
+open_where_judged (suc n) s [] some = absurd (omega (arith, some))
+open_where_judged (suc n) s (f ∷ fs) some = by_closed (is_closed s) refl some
+  where
+    by_closed : (v : Bool) → is_closed s ≡ v → 0 < length (cond v [] (f ∷ up_to_close n (judge s f).1 fs)) → is_closed s ≡ false
+    by_closed true h more = absurd (omega (arith, more))
+    by_closed false h more = h

@@ -21,6 +21,8 @@ pub enum Act {
     Standing(u32, u32),
     /// Over so many messages at most.
     StepsOver(u32, Burst),
+    /// Of so many messages at most this many are judged, and then sent.
+    JudgesAndSends(u32, usize, Burst),
     IsClosed(bool),
     Turns(Turn),
     /// For so many events at most.
@@ -56,6 +58,22 @@ fn expect_steps_over<A: Allocator>(
     assert!(rt; gateway.step_many(frames) == want);
 }
 
+fn expect_judged<A: Allocator>(
+    rt: &impl Abort,
+    gateway: &mut Gateway<A>,
+    frames: u32,
+    messages: usize,
+    want: Burst,
+)
+    ensures { SameGateway gateway.old gateway.new }
+{
+    assert!(rt; frames <= 64);
+    let ahead = gateway.judge_many(frames);
+    assert!(rt; ahead.messages == messages);
+    assert!(rt; 0 < ahead.messages);
+    assert!(rt; gateway.send_judged(frames, &ahead) == want);
+}
+
 fn expect_gateway_act<A: Allocator>(rt: &impl Abort, gateway: &mut Gateway<A>, act: &Act)
     ensures { SameGateway gateway.old gateway.new }
 {
@@ -67,6 +85,9 @@ fn expect_gateway_act<A: Allocator>(rt: &impl Abort, gateway: &mut Gateway<A>, a
         Act::Ends(step) => assert!(rt; gateway.end() == *step),
         Act::Standing(most, count) => assert!(rt; gateway.standing(*most) == *count),
         Act::StepsOver(frames, burst) => expect_steps_over(rt, gateway, *frames, *burst),
+        Act::JudgesAndSends(frames, messages, burst) => {
+            expect_judged(rt, gateway, *frames, *messages, *burst);
+        }
         Act::IsClosed(is_closed) => assert!(rt; gateway.is_closed() == *is_closed),
         _ => assert!(rt; false, "no act of a gateway"),
     }

@@ -46,6 +46,40 @@ fn entries_are_given_in_slices(rt: HostRuntime) {
     assert!(rt; matcher.take() == Taken::Empty);
 }
 
+/// What is taken from the ring at once is handed out one by one, in order, and the ring has room meanwhile.
+#[test]
+fn entries_are_held_where_they_are_taken(rt: HostRuntime) {
+    let journal = entries_to(&rt, rt.alloc(), 5);
+    let Ok((mut feeder, mut matcher)) = feed_ring(rt.alloc(), 2) else {
+        panic!(rt; "no ring");
+    };
+    assert!(rt; feeder.give(&journal) == Give::Gave(2));
+    expect_entry(&rt, matcher.take(), 1);
+    assert!(rt; feeder.give(&journal) == Give::Gave(2));
+    expect_entry(&rt, matcher.take(), 2);
+    expect_entry(&rt, matcher.take(), 3);
+    assert!(rt; feeder.give(&journal) == Give::Gave(1));
+    assert!(rt; !agree(&mut feeder, &mut matcher));
+    expect_entry(&rt, matcher.take(), 4);
+    expect_entry(&rt, matcher.take(), 5);
+    assert!(rt; matcher.take() == Taken::Empty);
+}
+
+/// More entries than are taken at once, and the mark behind them.
+#[test]
+fn forty_entries(rt: HostRuntime) {
+    let journal = entries_to(&rt, rt.alloc(), 40);
+    let Ok((mut feeder, mut matcher)) = feed_ring(rt.alloc(), 64) else {
+        panic!(rt; "no ring");
+    };
+    assert!(rt; feeder.give(&journal) == Give::Gave(40));
+    assert!(rt; feeder.end() == Give::Gave(0));
+    for number in 1..=40 {
+        expect_entry(&rt, matcher.take(), number);
+    }
+    assert!(rt; matcher.take() == Taken::Ended);
+}
+
 /// What was taken is what was given where the end mark was taken, and only there.
 #[test]
 fn entries_end_with_a_mark(rt: HostRuntime) {
@@ -108,7 +142,7 @@ fn bytes_are_posted_in_pieces(rt: HostRuntime) {
     expect_pieces(&rt, &mut poster, &mut writer);
 }
 
-/// Several pieces are posted at once or none: 8 at most, and no more than a ring of 2 and then one of 16 holds.
+/// Several pieces are posted at once or none: 16 at most, and no more than a ring of 2 and then one of 32 holds.
 fn expect_many<A: Allocator>(rt: &impl Abort, poster: &mut Poster<A>, writer: &mut Writer<A>) {
     let bytes = [b'x'; 130];
     expect_posted_many(rt, poster, &[], Post::Posted(0));
@@ -128,10 +162,10 @@ fn expect_many<A: Allocator>(rt: &impl Abort, poster: &mut Poster<A>, writer: &m
 fn bytes_are_posted_in_several_pieces(rt: HostRuntime) {
     let (mut poster, mut writer) = post_ring(rt.alloc(), 2).expect(&rt, "a ring");
     expect_many(&rt, &mut poster, &mut writer);
-    let (mut poster, mut writer) = post_ring(rt.alloc(), 16).expect(&rt, "a ring");
-    assert!(rt; poster.post_many(&[b'y'; 600]) == Post::Posted(504));
-    assert!(rt; poster.post_many(&[b'y'; 600]) == Post::Posted(504));
-    assert!(rt; poster.post_many(&[b'y'; 600]) == Post::Full);
+    let (mut poster, mut writer) = post_ring(rt.alloc(), 32).expect(&rt, "a ring");
+    assert!(rt; poster.post_many(&[b'y'; 1200]) == Post::Posted(1008));
+    assert!(rt; poster.post_many(&[b'y'; 1200]) == Post::Posted(1008));
+    assert!(rt; poster.post_many(&[b'y'; 1200]) == Post::Full);
     assert!(rt; writer.take() == Ok(Wrote::Bytes(63)));
     assert!(rt; writer.bytes() == [b'y'; 63].as_slice());
 }

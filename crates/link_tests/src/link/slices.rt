@@ -1,5 +1,5 @@
 //! Several messages are stepped over, and several events taken, at once.
-use super::days::Act::{IsClosed, Put, Standing, Steps, StepsOver, TurnsFor};
+use super::days::Act::{IsClosed, JudgesAndSends, Put, Standing, Steps, StepsOver, TurnsFor};
 use super::days::{Day, expect_day};
 use super::{LOGON, Says};
 use gate_link::{Burst, Step, Takes};
@@ -87,6 +87,35 @@ static DAYS: &[Day] = &[
             TurnsFor(64, Takes::Empty),
         ],
         says: &[Says::Logon],
+    },
+    Day {
+        name: "no message behind a Logout is judged",
+        ring: 2,
+        journal: 10,
+        acts: &[
+            Put(A_LOGOUT_IN_THE_MIDDLE, 467),
+            JudgesAndSends(1, 1, Burst::Sent(1)),
+            JudgesAndSends(64, 1, Burst::Sent(1)),
+            IsClosed(true),
+            TurnsFor(64, Takes::Took(2)),
+        ],
+        says: &[Says::Logon, Says::Close(1)],
+    },
+    Day {
+        name: "four messages are judged, for which a ring of two has no room: all are still held",
+        ring: 2,
+        journal: 10,
+        acts: &[
+            Put(FIRST_TRADE, 400),
+            JudgesAndSends(64, 4, Burst::Full),
+            Standing(64, 4),
+            JudgesAndSends(2, 2, Burst::Sent(2)),
+            TurnsFor(64, Takes::Took(2)),
+            JudgesAndSends(64, 2, Burst::Sent(2)),
+            IsClosed(true),
+            TurnsFor(64, Takes::Took(2)),
+        ],
+        says: &[Says::Logon, Says::Sell, Says::Buy, Says::Close(1)],
     },
     Day {
         name: "a journal with room for two takes two",

@@ -1,10 +1,12 @@
 -- What a worker does with its stream.
 -- Words of the code alone.
-use Rattle.std.specs.Prelude.{◌≡◌, ℕ, true, List, [], ◌++◌}
+use Rattle.std.specs.Prelude.{◌≡◌, ℕ, ◌<◌, true, List, [], ◌++◌, Option, IfSome}
 use mathlib.Core.List.{IsPrefix}
 use Rattle.spread_rules.specs.declared.event.Event.{Event}
 use Rattle.fix_session.specs.Steps.{new_session}
 use Rattle.fix_session.specs.Streams.{whole}
+use Rattle.fix_session.specs.declared.ahead.Ahead.{Ahead}
+use Rattle.gate_link.specs.Bursts.{HasJudged}
 use Rattle.gate_link.specs.Gateways.{events_sent, pending_events, is_over, session_state, bytes_held, SameGateway}
 use Rattle.gate_link.specs.declared.gateway.Gateway.{Gateway}
 
@@ -26,3 +28,11 @@ sent_and_pending g rest = events_sent g ++ pending_events g rest
 abbrev pub SameEvents : {A : Type 0} → Gateway A → List ℕ → Gateway A → List ℕ → Type 0
 SameEvents a before b after =
     SameGateway a b × (sent_and_pending b after ≡ sent_and_pending a before)
+
+-- messages were judged, and can be sent
+abbrev pub IsReady : {A : Type 0} → ℕ → Gateway A → Ahead → Type 0
+IsReady most g ahead = HasJudged most g ahead × (0 < ahead.messages)
+
+-- none were, or they can be sent
+abbrev pub AreReady : {A : Type 0} → ℕ → Gateway A → Option Ahead → Type 0
+AreReady most g judged = IfSome judged (IsReady most g)

@@ -9,8 +9,8 @@ use Rattle.session_threads.proofs.worker.send_stream.Goals.{After-step_or_end}
 -- after the step, the same of what is left as before
 after : (g : _) (c : After-step_or_end g)
     → SameGateway c.args.gateway.now c.step_or_end.new.gateway × (sent_and_pending c.step_or_end.new.gateway (drop c.loop.put c.args.stream.now) ≡ whole c.args.stream.now)
-after g c = stepped c.args.gateway.now c.loop.gateway c.see-seen.new.gateway c.step_or_end.new.gateway c.args.stream.now c.loop.put (whole c.args.stream.now)
-    c.loop.invariant.gate c.loop.invariant.total c.see-seen.ensures.same c.step_or_end.ensures.kept
+after g c = stepped c.args.gateway.now c.loop.gateway c.see-judged.new.gateway c.step_or_end.new.gateway c.args.stream.now c.loop.put (whole c.args.stream.now)
+    c.loop.invariant.gate c.loop.invariant.total c.see-judged.ensures.kept c.step_or_end.ensures.kept
 
 pub returns-then-load : goal.returns-then-load
 returns-then-load g c =
@@ -27,13 +27,13 @@ loop-init g c = record {
   gate = search rules;
   put = omega arith;
   total = unused_owes c.args.stream.now c.args.gateway.now c.requires.unused;
-  seen = omega arith;
+  ready = tt;
 }
 
 pub loop-preserved-in-Sent : goal.loop-preserved-in-Sent
 loop-preserved-in-Sent g c =
     let now = after g (goal.at.loop-preserved-in-Sent g c).After-step_or_end in
-    record { gate = now.0; put = c.loop.invariant.put; total = now.1; seen = omega arith }
+    record { gate = now.0; put = c.loop.invariant.put; total = now.1; ready = tt }
 
 pub loop-preserved-in-Need : goal.loop-preserved-in-Need
 loop-preserved-in-Need g c =
@@ -43,19 +43,16 @@ loop-preserved-in-Need g c =
       gate = same_gateway_trans c.args.gateway.now c.step_or_end.new.gateway c.put_bytes-put.new.gateway now.0 put.kept.0;
       put = put.within;
       total = put.kept.1 ∙ now.1;
-      seen = c.see-seen.ensures.few;
+      ready = tt;
     }
 
 pub loop-preserved : goal.loop-preserved
 loop-preserved g c =
     let now = after g (goal.at.loop-preserved g c).After-step_or_end in
-    record { gate = now.0; put = c.loop.invariant.put; total = now.1; seen = c.see-seen.ensures.few }
+    record { gate = now.0; put = c.loop.invariant.put; total = now.1; ready = c.step_or_end.ensures.ready c.in-Full.is }
 
 pub put_bytes-put-requires : goal.put_bytes-put-requires
 put_bytes-put-requires g c = c.loop.invariant.put
-
-pub step_or_end-requires : goal.step_or_end-requires
-step_or_end-requires g c = omega (arith, c.see-seen.ensures.few, c.requires.most)
 
 pub slice_bounds-step_or_end-start : goal.slice_bounds-step_or_end-start
 slice_bounds-step_or_end-start g c = omega (arith, c.loop.invariant.put)

@@ -1,6 +1,7 @@
 use Rattle.std.proofs.Common.{◌≡◌, ◌≤◌, ◌++◌, length, drop}
 use Rattle.fix_session.specs.Streams.{whole}
 use Rattle.gate_link.specs.Gateways.{events_sent, pending_events, SameGateway}
+use Rattle.session_threads.specs.code.Workers.{AreReady}
 use Rattle.session_threads.proofs.worker.send_stream.Given as goal
 
 abbrev pub invariant-loop : goal.invariant-loop
@@ -8,5 +9,5 @@ invariant-loop g l = record {
   gate : SameGateway l.initial.gateway l.gateway;
   put : l.put ≤ length l.stream;
   total : events_sent l.gateway ++ pending_events l.gateway (drop l.put l.stream) ≡ whole l.stream;
-  seen : l.seen ≤ l.most;
+  ready : AreReady l.most l.gateway l.judged;
 }

@@ -1,11 +1,12 @@
 use Rattle.std.proofs.Common.{◌≡◌, ℕ, ◌-◌, ◌≤◌, ◌<◌, ◌*◌, true, false, take, length}
 use Rattle.stage_rings.specs.Marks.{ends}
 use Rattle.stage_rings.specs.Pieces.{bytes_in, is_mark}
+use Rattle.stage_rings.specs.declared.post.TheConstants.{MANY_PIECES}
 use Rattle.stage_rings.proofs.post.put_pieces.Given as goal
 
 abbrev pub invariant-loop-done : goal.invariant-loop-done
 invariant-loop-done l = record {
-  long : length l.pieces ≡ 8;
+  long : length l.pieces ≡ MANY_PIECES;
   within : l.done ≤ length l.bytes;
   level : l.done < length l.bytes → l.done ≡ l.count * 63;
   few : (k : ℕ) → length l.bytes ≤ k * 63 → l.count ≤ k;
