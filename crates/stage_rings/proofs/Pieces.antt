@@ -75,17 +75,17 @@ pub pushed_or_not : (r : Result (Unit {0}) (PushError Piece)) (xs ys : List Piec
 pushed_or_not (Ok u) xs ys p b k m n was not plain ok err = (piece_more xs ys p (bytes_of_piece p) b was not ok.0 plain refl).0
 pushed_or_not (Err e) xs ys p b k m n was not plain ok err = rw err.1 was
 
-room_by_test : (b : Bool) (free count n : ℕ) → nat_lt (free * 63) n ≡ b → (n ≤ free * 63 → count ≤ free) → free < count → free * 63 < n
+room_by_test : (b : Bool) (free count n : ℕ) → nat_lt (free * PIECE_BYTES) n ≡ b → (n ≤ free * PIECE_BYTES → count ≤ free) → free < count → free * PIECE_BYTES < n
 room_by_test true free count n e room lt = grind (arith, nat_tests, e)
 room_by_test false free count n e room lt =
-    let within : n ≤ free * 63 = grind (arith, nat_tests, e) in
+    let within : n ≤ free * PIECE_BYTES = grind (arith, nat_tests, e) in
     let few = room within in
     absurd (omega (arith, few, lt))
 
 -- fewer free slots than pieces have less room than the bytes take
-pub too_little_room : (free count m n : ℕ) → free < m → m ≤ count → (n ≤ free * 63 → count ≤ free) → free * 63 < n
+pub too_little_room : (free count m n : ℕ) → free < m → m ≤ count → (n ≤ free * PIECE_BYTES → count ≤ free) → free * PIECE_BYTES < n
 too_little_room free count m n lt le room =
-    room_by_test (nat_lt (free * 63) n) free count n refl room (omega (arith, lt, le))
+    room_by_test (nat_lt (free * PIECE_BYTES) n) free count n refl room (omega (arith, lt, le))
 
 -- after a push of several, whatever came of it
 pub pieces_or_not : {E : Type 0} (r : Result (Unit {0}) E) (F : E → Type 0) (K : Type 0) (xs ys more : List Piece) (b : Bool) → ends is_mark xs b ≡ true → b ≡ false → ends is_mark more false ≡ true

@@ -3,7 +3,7 @@ use Rattle.std.specs.Prelude.{◌≡◌, ℕ, ◌<◌, ◌*◌, Bool, true, fals
 use mathlib.Core.List.{IsPrefix}
 use Rattle.rtrb.specs.Ring.{sent, known_free, producer_capacity, IsPair, SameProducer, SameConsumer}
 use Rattle.stage_rings.specs.Pieces.{bytes_in}
-use Rattle.stage_rings.specs.declared.post.TheConstants.{PIECE_BYTES, MANY_PIECES}
+use Rattle.stage_rings.specs.declared.post.TheConstants.{PIECE_BYTES, POST_BYTES, MANY_PIECES}
 use Rattle.stage_rings.specs.declared.post.Poster.{Poster}
 use Rattle.stage_rings.specs.declared.post.Writer.{Writer}
 use Rattle.stage_rings.specs.declared.post.Post.{Post}
@@ -44,7 +44,7 @@ PostRests a b = (posted b ≡ posted a) × (post_ended b ≡ post_ended a)
 -- what `post` does, by its answer
 abbrev pub Posts : {A : Type 0} → Post → List ℕ → Poster A → Poster A → Type 0
 Posts (Posted n) bytes a b =
-    (post_ended a ≡ false) × (n ≡ min (length bytes) PIECE_BYTES) × (posted b ≡ posted a ++ take n bytes) × (post_ended b ≡ false)
+    (post_ended a ≡ false) × (n ≡ min (length bytes) POST_BYTES) × (posted b ≡ posted a ++ take n bytes) × (post_ended b ≡ false)
 Posts Full bytes a b = (post_ended a ≡ false) × (0 < length bytes) × (post_room b ≡ 0) × PostRests a b
 Posts Ended bytes a b = (post_ended a ≡ true) × (b ≡ a)
 

@@ -101,8 +101,8 @@ impl<A: Allocator> Feeder<A> {
         }
     }
 
-    /// Gives the next entries of a journal, of which a beginning was given: as many as the ring, 64 and what is left allow,
-    /// all or none.
+    /// Gives the next entries of a journal, of which a beginning was given: as many as the ring, 64 and what is left
+    /// allow, all or none.
     pub fn give(&mut self, journal: &[Entry]) -> Give
         requires { IsPrefix (given self.old) journal.now }
         ensures ring { SameFeeder self.old self.new }

@@ -9,21 +9,24 @@ use host_base::NoMemory;
 use rtrb::{Consumer, Producer};
 use std::alloc::Allocator;
 
-/// How many bytes a piece has at most: with its length it fills 64 bytes.
-pub const PIECE_BYTES: usize = 63;
+/// How many bytes a piece has at most: with its length it fills 256 bytes.
+pub const PIECE_BYTES: usize = 254;
 
 /// The length of the end mark, which no piece has.
-const MARK: u8 = 64;
+const MARK: u16 = 255;
+
+/// How many bytes `Poster::post` gives at most.
+pub const POST_BYTES: usize = 63;
 
 /// How many pieces are given at once at most.
-pub const MANY_PIECES: usize = 16;
+pub const MANY_PIECES: usize = 4;
 
 /// An item of the ring: so many of its first bytes, or the end mark. The bytes come first, so that they are written and
 /// read again in the same parts of 16.
 #[derive(Clone, Copy)]
 pub(crate) struct Piece {
     bytes: [u8; PIECE_BYTES],
-    length: u8,
+    length: u16,
 }
 
 /// A piece of no bytes.
@@ -81,7 +84,7 @@ fn put_piece(piece: &mut Piece, bytes: &[u8])
     ensures bytes { bytes_of_piece piece.new ≡ bytes.now }
     ensures plain { is_mark piece.new ≡ false }
 {
-    piece.length = bytes.len() as u8;
+    piece.length = bytes.len() as u16;
     let (whole, _) = bytes.as_chunks();
     match whole.first() {
         // All that a piece takes, as most are: a copy of a length that is known.
@@ -134,7 +137,7 @@ impl<A: Allocator> Poster<A> {
         if bytes.is_empty() {
             return Post::Posted(0);
         }
-        let n = bytes.len().min(PIECE_BYTES);
+        let n = bytes.len().min(POST_BYTES);
         let mut piece = NO_PIECE;
         put_piece(&mut piece, &bytes[..n]);
         let Ok(()) = self.producer.push(piece) else {
@@ -143,7 +146,7 @@ impl<A: Allocator> Poster<A> {
         Post::Posted(n)
     }
 
-    /// Gives the first bytes at once, as many as 16 pieces take and the ring can hold, and says how many. Full, and
+    /// Gives the first bytes at once, as many as 4 pieces take and the ring can hold, and says how many. Full, and
     /// none given, where the ring has no room for all of these.
     pub fn post_many(&mut self, bytes: &[u8]) -> Post
         ensures ring { SamePoster self.old self.new }

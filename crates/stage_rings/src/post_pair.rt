@@ -23,7 +23,7 @@ pub fn finished<A: Allocator>(poster: &mut Poster<A>, writer: &mut Writer<A>) ->
     writer.ended
 }
 
-/// The two ends of a ring with room for 1 to 4,096 pieces of at most 63 bytes.
+/// The two ends of a ring with room for 1 to 4,096 pieces of at most 254 bytes.
 pub fn post_ring<A: Allocator + Copy>(
     alloc: A,
     ring: usize,

@@ -122,7 +122,7 @@ fn expect_taken<A: Allocator>(rt: &impl Abort, writer: &mut Writer<A>, want: Wro
     assert!(rt; writer.take() == Ok(want));
 }
 
-/// A piece has at most 63 bytes. The ring has room for one.
+/// At most 63 bytes are posted as one piece. The ring has room for one.
 fn expect_pieces<A: Allocator>(rt: &impl Abort, poster: &mut Poster<A>, writer: &mut Writer<A>) {
     let bytes = [b'x'; 100];
     expect_posted(rt, poster, &[], Post::Posted(0));
@@ -142,16 +142,17 @@ fn bytes_are_posted_in_pieces(rt: HostRuntime) {
     expect_pieces(&rt, &mut poster, &mut writer);
 }
 
-/// Several pieces are posted at once or none: 16 at most, and no more than a ring of 2 and then one of 32 holds.
+/// Several pieces of 254 bytes are posted at once or none: 4 at most, and no more than a ring of 2 and then one of 8
+/// holds.
 fn expect_many<A: Allocator>(rt: &impl Abort, poster: &mut Poster<A>, writer: &mut Writer<A>) {
-    let bytes = [b'x'; 130];
+    let bytes = [b'x'; 512];
     expect_posted_many(rt, poster, &[], Post::Posted(0));
-    expect_posted_many(rt, poster, &bytes, Post::Posted(126));
-    expect_taken(rt, writer, Wrote::Bytes(63));
+    expect_posted_many(rt, poster, &bytes, Post::Posted(508));
+    expect_taken(rt, writer, Wrote::Bytes(254));
     expect_posted_many(rt, poster, &bytes, Post::Full);
-    expect_posted_many(rt, poster, &bytes[126..], Post::Posted(4));
+    expect_posted_many(rt, poster, &bytes[508..], Post::Posted(4));
     expect_end(rt, poster, Post::Full);
-    expect_taken(rt, writer, Wrote::Bytes(63));
+    expect_taken(rt, writer, Wrote::Bytes(254));
     expect_end(rt, poster, Post::Posted(0));
     expect_posted_many(rt, poster, &bytes, Post::Ended);
     expect_taken(rt, writer, Wrote::Bytes(4));
@@ -162,12 +163,12 @@ fn expect_many<A: Allocator>(rt: &impl Abort, poster: &mut Poster<A>, writer: &m
 fn bytes_are_posted_in_several_pieces(rt: HostRuntime) {
     let (mut poster, mut writer) = post_ring(rt.alloc(), 2).expect(&rt, "a ring");
     expect_many(&rt, &mut poster, &mut writer);
-    let (mut poster, mut writer) = post_ring(rt.alloc(), 32).expect(&rt, "a ring");
-    assert!(rt; poster.post_many(&[b'y'; 1200]) == Post::Posted(1008));
-    assert!(rt; poster.post_many(&[b'y'; 1200]) == Post::Posted(1008));
+    let (mut poster, mut writer) = post_ring(rt.alloc(), 8).expect(&rt, "a ring");
+    assert!(rt; poster.post_many(&[b'y'; 1200]) == Post::Posted(1016));
+    assert!(rt; poster.post_many(&[b'y'; 1200]) == Post::Posted(1016));
     assert!(rt; poster.post_many(&[b'y'; 1200]) == Post::Full);
-    assert!(rt; writer.take() == Ok(Wrote::Bytes(63)));
-    assert!(rt; writer.bytes() == [b'y'; 63].as_slice());
+    assert!(rt; writer.take() == Ok(Wrote::Bytes(254)));
+    assert!(rt; writer.bytes() == [b'y'; 254].as_slice());
 }
 
 /// What is written is what was posted where the end mark was taken, and only there.

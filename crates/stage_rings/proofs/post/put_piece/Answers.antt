@@ -1,5 +1,6 @@
 use Rattle.std.proofs.Common.{refl, ap, subst, length, ◌/◌, ◌<◌, ◌≡◌, List, ℕ, get_or}
 use Rattle.stage_rings.proofs.Pieces.{whole_piece}
+use Rattle.stage_rings.specs.declared.post.TheConstants.{PIECE_BYTES}
 use Rattle.stage_rings.proofs.post.put_piece.Goals as goal
 
 pub returns-in-Some-clause-bytes : goal.returns-in-Some-clause-bytes
@@ -9,4 +10,4 @@ returns-in-Some-clause-bytes c =
     let found = c.in-Some.ensures.item in
     let some = subst (λ (xs : List (List ℕ)). 0 < length xs) c.as_chunks.ensures.front found.3.0 in
     let is = found.1 in
-    whole_piece 63 (length bytes / 63) bytes chunk refl c.requires some (subst (λ (xs : List (List ℕ)). chunk ≡ get_or xs 0 chunk) c.as_chunks.ensures.front is)
+    whole_piece PIECE_BYTES (length bytes / PIECE_BYTES) bytes chunk refl c.requires some (subst (λ (xs : List (List ℕ)). chunk ≡ get_or xs 0 chunk) c.as_chunks.ensures.front is)

@@ -1,7 +1,7 @@
 use Rattle.std.proofs.Common.{◌≡◌, ◌∙◌, ◌≤◌, ◌<◌, ◌*◌, ◌+◌, ◌-◌, ◌++◌, false, true, ap, sym, refl, arith, subst, take, drop, length, take-add}
 use Rattle.std.proofs.lemmas.List.{take_more_set, take_all, length-set}
 use Rattle.stage_rings.specs.Pieces.{bytes_in, bytes_of_piece, is_mark}
-use Rattle.stage_rings.specs.declared.post.TheConstants.{MANY_PIECES}
+use Rattle.stage_rings.specs.declared.post.TheConstants.{PIECE_BYTES, MANY_PIECES}
 use Rattle.stage_rings.specs.Marks.{ends}
 use Rattle.stage_rings.proofs.Marks.{ends_more}
 use Rattle.stage_rings.proofs.Pieces.{bytes_one}
@@ -27,8 +27,8 @@ loop-done-preserved c =
     let p = c.put_piece.new.piece in
     let n = c.min-n.result in
     let lt : done < length bytes = c.loop-done-test.true in
-    let level : done ≡ count * 63 = was.level lt in
-    let whole : length bytes ≤ MANY_PIECES * 63 = c.requires in
+    let level : done ≡ count * PIECE_BYTES = was.level lt in
+    let whole : length bytes ≤ MANY_PIECES * PIECE_BYTES = c.requires in
     let free : count < length items = let long = was.long in omega (arith, lt, level, whole, long) in
     let more = take_more_set items count p free in
     let size : done + n - done ≡ n = omega arith in
