@@ -23,22 +23,30 @@ pub fn rest<R: Wait>(rt: &R, looks: u32) -> u32 {
         thread::yield_now();
         return looks + 1;
     }
-    sleep(rt);
+    sleep(rt, SLEEP_MICROS);
     looks
 }
 
-fn sleep<R: Wait>(rt: &R) {
-    Parker::new().park_timeout(rt, Duration::from_micros(SLEEP_MICROS));
+fn sleep<R: Wait>(rt: &R, micros: u64) {
+    Parker::new().park_timeout(rt, Duration::from_micros(micros));
 }
 
-/// How a thread waits for items that come by a ring: eager while half a ring comes within so many looks that find
-/// nothing, since the ring would fill while it sleeps; where they come more slowly it sleeps, until half a ring came
-/// meanwhile.
+/// So many looks of a writer that find nothing are followed by a yield alone.
+const WRITER_LOOKS: u32 = 8;
+
+/// How many microseconds a writer sleeps at most.
+const LONGEST_SLEEP: u64 = 8 * SLEEP_MICROS;
+
+/// How a writer waits for pieces. It yields behind few looks that find nothing, and then sleeps: what its ring takes
+/// comes in about twice the shortest sleep where there is one session, and in sixteen times that where there are
+/// sixteen. So where less than a quarter of the ring comes between two sleeps the next is twice as long, and where half
+/// of it does the writer begins anew.
 #[derive(Clone, Copy)]
 pub(crate) struct Pace {
     half: usize,
     items: usize,
     looks: u32,
+    micros: u64,
 }
 
 impl Pace {
@@ -48,6 +56,7 @@ impl Pace {
             half: (ring / 2).max(1),
             items: 0,
             looks: 0,
+            micros: SLEEP_MICROS,
         }
     }
 
@@ -57,17 +66,21 @@ impl Pace {
         if self.half <= self.items {
             self.items = 0;
             self.looks = 0;
+            self.micros = SLEEP_MICROS;
         }
     }
 
     /// Leaves the processor to the other threads after a look that found nothing, or sleeps.
     pub(crate) fn rest<R: Wait>(&mut self, rt: &R) {
-        if self.looks < EAGER_LOOKS {
+        if self.looks < WRITER_LOOKS {
             thread::yield_now();
             self.looks += 1;
             return;
         }
+        sleep(rt, self.micros);
+        if self.items < self.half / 2 {
+            self.micros = self.micros.saturating_mul(2).min(LONGEST_SLEEP);
+        }
         self.items = 0;
-        sleep(rt);
     }
 }
