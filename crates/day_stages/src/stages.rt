@@ -24,6 +24,10 @@ pub struct Caps {
     pub journal: usize,
 }
 
+/// For so many entries at most there is room for ids and statuses before the first one: a journal may have room for far
+/// more than come.
+const EARLY_ENTRIES: usize = 100_000;
+
 /// The rulebook of a day, and the SendingTime (tag 52) of all its messages.
 #[derive(Clone, Copy)]
 pub struct DayRules<'r> {
@@ -112,7 +116,8 @@ pub fn stages_of<'r, A: Allocator + Copy>(
         Ok(made) => made,
         Err(fault) => return Err(ThreadsFault::Link(fault)),
     };
-    let reported = match ReportedEntries::new(alloc, rules.rulebook, rules.stamp) {
+    let early = caps.journal.min(EARLY_ENTRIES);
+    let reported = match ReportedEntries::with_capacity(alloc, rules.rulebook, rules.stamp, early) {
         Ok(reported) => reported,
         Err(fault) => return Err(of_apply(fault)),
     };

@@ -34,13 +34,17 @@ fn sleep<R: Wait>(rt: &R, micros: u64) {
 /// So many looks of a writer that find nothing are followed by a yield alone.
 const WRITER_LOOKS: u32 = 8;
 
-/// How many microseconds a writer sleeps at most.
-const LONGEST_SLEEP: u64 = 8 * SLEEP_MICROS;
+/// How many microseconds a writer asks to sleep at least. Linux adds as many as fifty.
+const SHORTEST_SLEEP: u64 = 10;
 
-/// How a writer waits for pieces. It yields behind few looks that find nothing, and then sleeps: what its ring takes
-/// comes in about twice the shortest sleep where there is one session, and in sixteen times that where there are
-/// sixteen. So where less than a quarter of the ring comes between two sleeps the next is twice as long, and where half
-/// of it does the writer begins anew.
+/// How many it asks to sleep at most.
+const LONGEST_SLEEP: u64 = 400;
+
+/// How a writer waits for pieces. It yields behind few looks that find nothing, and then sleeps. Where there is one
+/// session a ring of 256 pieces fills in some 100 microseconds, and the thread that matches waits where it is full; where
+/// there are sixteen each fills in sixteen times that. So the writer asks for the shortest sleep first; where less than
+/// a quarter of the ring comes between two sleeps the next is twice as long, and where half of it does the writer begins
+/// anew.
 #[derive(Clone, Copy)]
 pub(crate) struct Pace {
     half: usize,
@@ -56,7 +60,7 @@ impl Pace {
             half: (ring / 2).max(1),
             items: 0,
             looks: 0,
-            micros: SLEEP_MICROS,
+            micros: SHORTEST_SLEEP,
         }
     }
 
@@ -66,7 +70,7 @@ impl Pace {
         if self.half <= self.items {
             self.items = 0;
             self.looks = 0;
-            self.micros = SLEEP_MICROS;
+            self.micros = SHORTEST_SLEEP;
         }
     }
 

@@ -8,7 +8,7 @@ returns-clause-ready g c =
     let linked = c.in-Ok.ensures in
     let fed = c.in-Ok-feed_ring.ensures in
     let rings = c.in-Ok-writer_rings.ensures in
-    let reported = c.in-Ok-new.reported in
+    let reported = c.in-Ok-with_capacity.reported in
     let ps = c.in-Ok-writer_rings.made.posters in
     let ws = c.in-Ok-writer_rings.made.writers in
     let gs = c.in-Ok.made.0 in
@@ -22,7 +22,7 @@ returns-clause-ready g c =
       unfed = record {
         taken_none = fed.fresh.taken_none;
         not_over = fed.fresh.not_over;
-        posted_none = posted_none p c.in-Ok-new.ensures.start rings.none (omega (arith, ps.ok.0, rings.count.0, linked.ranges.0.1));
+        posted_none = posted_none p c.in-Ok-with_capacity.ensures.start rings.none (omega (arith, ps.ok.0, rings.count.0, linked.ranges.0.1));
         rings = record { open_ = rings.open; few = omega (arith, ps.ok.0, rings.count.0, linked.ranges.0.1) };
       };
       posts = rings.pairs;
