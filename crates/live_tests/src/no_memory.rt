@@ -64,5 +64,5 @@ fn run_day_refused_memory(rt: HostRuntime) {
         }
     }
     assert!(rt; !last_refused);
-    assert!(rt; seen[0] && seen[1]);
+    assert!(rt; seen[0] && seen[1..].contains(&true));
 }
