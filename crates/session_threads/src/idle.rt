@@ -41,10 +41,10 @@ const SHORTEST_SLEEP: u64 = 10;
 const LONGEST_SLEEP: u64 = 400;
 
 /// How a writer waits for pieces. It yields behind few looks that find nothing, and then sleeps. Where there is one
-/// session a ring of 256 pieces fills in some 100 microseconds, and the thread that matches waits where it is full; where
-/// there are sixteen each fills in sixteen times that. So the writer asks for the shortest sleep first; where less than
-/// a quarter of the ring comes between two sleeps the next is twice as long, and where half of it does the writer begins
-/// anew.
+/// session a ring of 256 pieces fills in some 100 microseconds, and where it is full the thread that matches waits;
+/// where there are sixteen each fills in sixteen times that. So the writer asks for the shortest sleep first. Where
+/// less than a quarter of the ring comes between two sleeps the next is twice as long, and where half of it does the
+/// writer begins anew.
 #[derive(Clone, Copy)]
 pub(crate) struct Pace {
     half: usize,
