@@ -126,14 +126,36 @@ fn place_word<'a>(alloc: Global) -> Arg<'a> {
         .action(ArgAction::Set)
 }
 
+/// A command of that name, and what its help says it does.
+fn command<'a>(alloc: Global, name: &'a str, about: &'a str) -> Result<Command<'a>, AllocError> {
+    Ok(Command::new(alloc, name).about(about))
+}
+
+/// A command that takes this word too, if there was memory for it.
+fn taking<'a>(
+    command: Result<Command<'a>, AllocError>,
+    word: Arg<'a>,
+) -> Result<Command<'a>, AllocError> {
+    command?.arg(word)
+}
+
+/// A command with this one below it, if there was memory for both.
+fn with<'a>(
+    command: Result<Command<'a>, AllocError>,
+    below: Result<Command<'a>, AllocError>,
+) -> Result<Command<'a>, AllocError> {
+    command?.subcommand(below?)
+}
+
 fn replay_command<'a>(alloc: Global) -> Result<Command<'a>, AllocError> {
-    Command::new(alloc, "replay")
-        .about(
-            "Reads day lines from standard input, and writes the journal, fills, outgoing messages and month totals",
-        )
-        .arg(file_word(alloc, "RULES", RULES_HELP))?
-        .arg(stamp_word(alloc))?
-        .arg(journal_only_word(alloc))
+    let replay = command(
+        alloc,
+        "replay",
+        "Reads day lines from standard input, and writes the journal, fills, outgoing messages and month totals",
+    );
+    let replay = taking(replay, file_word(alloc, "RULES", RULES_HELP));
+    let replay = taking(replay, stamp_word(alloc));
+    taking(replay, journal_only_word(alloc))
 }
 
 const RING_HELP: &str = "How many items each ring between two threads has room for, 1 to 4096";
@@ -141,73 +163,87 @@ const RING_HELP: &str = "How many items each ring between two threads has room f
 const ENTRIES_HELP: &str = "How many entries the journal has room for, at most 1000000";
 
 fn live_command<'a>(alloc: Global) -> Result<Command<'a>, AllocError> {
-    Command::new(alloc, "live")
-        .about("Runs a thread for each session's file, and writes what `replay` writes")
-        .arg(file_word(alloc, "RULES", RULES_HELP))?
-        .arg(sessions_word(alloc))?
-        .arg(stamp_word(alloc))?
-        .arg(number_word(alloc, "ring", "256", RING_HELP))?
-        .arg(number_word(alloc, "entries", "100000", ENTRIES_HELP))
+    let live = command(
+        alloc,
+        "live",
+        "Runs a thread for each session's file, and writes what `replay` writes",
+    );
+    let live = taking(live, file_word(alloc, "RULES", RULES_HELP));
+    let live = taking(live, sessions_word(alloc));
+    let live = taking(live, stamp_word(alloc));
+    let live = taking(live, number_word(alloc, "ring", "256", RING_HELP));
+    taking(live, number_word(alloc, "entries", "100000", ENTRIES_HELP))
 }
 
 const JOURNAL_HELP: &str = "A journal text, as `replay` writes it";
 
+/// A command that reads a rulebook and a journal.
+fn journal_command<'a>(
+    alloc: Global,
+    name: &'a str,
+    about: &'a str,
+) -> Result<Command<'a>, AllocError> {
+    let command = command(alloc, name, about);
+    let command = taking(command, file_word(alloc, "RULES", RULES_HELP));
+    taking(command, file_word(alloc, "JOURNAL", JOURNAL_HELP))
+}
+
 fn check_command<'a>(alloc: Global) -> Result<Command<'a>, AllocError> {
-    Command::new(alloc, "check")
-        .about("Reads a journal text, works it again, and writes its fills and month totals")
-        .arg(file_word(alloc, "RULES", RULES_HELP))?
-        .arg(file_word(alloc, "JOURNAL", JOURNAL_HELP))
+    journal_command(
+        alloc,
+        "check",
+        "Reads a journal text, works it again, and writes its fills and month totals",
+    )
 }
 
 const CLAIM_HELP: &str =
     "The lines of fills and month totals that somebody claims, as `check` writes them";
 
 fn audit_command<'a>(alloc: Global) -> Result<Command<'a>, AllocError> {
-    Command::new(alloc, "audit")
-        .about(
-            "Says whether a claim is exactly the fills and month totals of a journal, or the first line that is another",
-        )
-        .arg(file_word(alloc, "RULES", RULES_HELP))?
-        .arg(file_word(alloc, "JOURNAL", JOURNAL_HELP))?
-        .arg(file_word(alloc, "CLAIM", CLAIM_HELP))
+    let audit = journal_command(
+        alloc,
+        "audit",
+        "Says whether a claim is exactly the fills and month totals of a journal, or the first line that is another",
+    );
+    taking(audit, file_word(alloc, "CLAIM", CLAIM_HELP))
 }
 
 fn explain_command<'a>(alloc: Global) -> Result<Command<'a>, AllocError> {
-    Command::new(alloc, "explain")
-        .about("Says in words why an entry of a journal came to what it came to")
-        .arg(file_word(alloc, "RULES", RULES_HELP))?
-        .arg(file_word(alloc, "JOURNAL", JOURNAL_HELP))?
-        .arg(place_word(alloc))
+    let explain = journal_command(
+        alloc,
+        "explain",
+        "Says in words why an entry of a journal came to what it came to",
+    );
+    taking(explain, place_word(alloc))
 }
 
 fn draw_command<'a>(alloc: Global) -> Result<Command<'a>, AllocError> {
-    Command::new(alloc, "draw")
-        .about("Draws the day of a journal, prices and fills over places, as an SVG picture")
-        .arg(file_word(alloc, "RULES", RULES_HELP))?
-        .arg(file_word(alloc, "JOURNAL", JOURNAL_HELP))
+    journal_command(
+        alloc,
+        "draw",
+        "Draws the day of a journal, prices and fills over places, as an SVG picture",
+    )
 }
 
-/// A command with this one below it, if there was memory to make it.
-fn with<'a>(
-    command: Command<'a>,
-    below: Result<Command<'a>, AllocError>,
-) -> Result<Command<'a>, AllocError> {
-    command.subcommand(below?)
+/// The program's words, before its commands are named.
+fn program<'a>(alloc: Global) -> Result<Command<'a>, AllocError> {
+    Ok(
+        Command::new(alloc, "exchange")
+            .about(
+                "A matching host for futures months and calendar spreads, reached by FIX 4.2 messages",
+            )
+            .version(VERSION)
+            .subcommand_required(true),
+    )
 }
 
 fn exchange_command<'a>(alloc: Global) -> Result<Command<'a>, AllocError> {
-    let command = Command::new(alloc, "exchange")
-        .about(
-            "A matching host for futures months and calendar spreads, reached by FIX 4.2 messages",
-        )
-        .version(VERSION)
-        .subcommand_required(true);
-    let command = with(command, replay_command(alloc))?;
-    let command = with(command, live_command(alloc))?;
-    let command = with(command, check_command(alloc))?;
-    let command = with(command, audit_command(alloc))?;
-    let command = with(command, explain_command(alloc))?;
-    with(command, draw_command(alloc))
+    let exchange = with(program(alloc), replay_command(alloc));
+    let exchange = with(exchange, live_command(alloc));
+    let exchange = with(exchange, check_command(alloc));
+    let exchange = with(exchange, audit_command(alloc));
+    let exchange = with(exchange, explain_command(alloc));
+    with(exchange, draw_command(alloc))
 }
 
 fn text_of<'a>(found: &ArgMatches<'a>, name: &str) -> &'a str {
@@ -267,19 +303,24 @@ fn replay_request<'a>(found: &ArgMatches<'a>) -> Request<'a> {
     }
 }
 
-/// What these words ask for; the first is the program's name.
-pub fn read_words<'a>(alloc: Global, words: &'a [String]) -> Result<Request<'a>, Refused> {
-    let matches = exchange_command(alloc)?.try_get_matches_from(words)?;
+/// What the parser found.
+fn request_of<'a>(alloc: Global, matches: &ArgMatches<'a>) -> Result<Request<'a>, AllocError> {
     match matches.subcommand() {
         Some(("check", found)) => Ok(check_request(found)),
         Some(("audit", found)) => Ok(audit_request(found)),
         Some(("explain", found)) => Ok(explain_request(found)),
         Some(("draw", found)) => Ok(draw_request(found)),
-        Some(("live", found)) => Ok(live_request(alloc, found)?),
+        Some(("live", found)) => live_request(alloc, found),
         Some((_, found)) => Ok(replay_request(found)),
         // The parser has asked for a command by now.
-        None => Err(Refused::NoMemory),
+        None => Err(AllocError),
     }
+}
+
+/// What these words ask for; the first is the program's name.
+pub fn read_words<'a>(alloc: Global, words: &'a [String]) -> Result<Request<'a>, Refused> {
+    let matches = exchange_command(alloc)?.try_get_matches_from(words)?;
+    Ok(request_of(alloc, &matches)?)
 }
 
 /// Why the program's words could not be taken over from the system.

@@ -104,14 +104,24 @@ fn run_live<'a>(
     Ok(())
 }
 
+/// The rulebook of the one file and the text of the other.
+fn read_journal<'a>(
+    rt: &(impl Files + AllocGlobal),
+    rules: &'a str,
+    journal: &'a str,
+) -> Result<(Rulebook, Vec<u8>), Fault<'a>> {
+    let rulebook = read_rules(rt, rules)?;
+    let text = read_file(rt, journal)?;
+    Ok((rulebook, text))
+}
+
 /// A journal text.
 fn run_check<'a>(
     rt: &(impl Print + Files + AllocGlobal),
     rules: &'a str,
     journal: &'a str,
 ) -> Result<(), Fault<'a>> {
-    let rulebook = read_rules(rt, rules)?;
-    let text = read_file(rt, journal)?;
+    let (rulebook, text) = read_journal(rt, rules, journal)?;
     let mut sink = ToWriter::new(io::writer(rt));
     let _fills = check(rt.alloc(), &rulebook, &text, &mut sink)?;
     Ok(())
@@ -124,8 +134,7 @@ fn run_audit<'a>(
     journal: &'a str,
     claim: &'a str,
 ) -> Result<(), Fault<'a>> {
-    let rulebook = read_rules(rt, rules)?;
-    let text = read_file(rt, journal)?;
+    let (rulebook, text) = read_journal(rt, rules, journal)?;
     let claimed = read_file(rt, claim)?;
     match audit(rt.alloc(), &rulebook, &text, &claimed) {
         Ok(()) => Ok(()),
@@ -141,8 +150,7 @@ fn run_explain<'a>(
     journal: &'a str,
     place: u32,
 ) -> Result<(), Fault<'a>> {
-    let rulebook = read_rules(rt, rules)?;
-    let text = read_file(rt, journal)?;
+    let (rulebook, text) = read_journal(rt, rules, journal)?;
     let mut sink = ToWriter::new(io::writer(rt));
     match explain(rt.alloc(), &rulebook, &text, place as u64, &mut sink) {
         Ok(()) => Ok(()),
@@ -156,8 +164,7 @@ fn run_draw<'a>(
     rules: &'a str,
     journal: &'a str,
 ) -> Result<(), Fault<'a>> {
-    let rulebook = read_rules(rt, rules)?;
-    let text = read_file(rt, journal)?;
+    let (rulebook, text) = read_journal(rt, rules, journal)?;
     let mut sink = ToWriter::new(io::writer(rt));
     draw(rt.alloc(), &rulebook, &text, &mut sink)?;
     Ok(())
