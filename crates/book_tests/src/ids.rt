@@ -1,6 +1,7 @@
 //! The table of ids: each that was noted is found at its first row, and no other one.
 ghost use Rattle.row_index.specs.Tables.{IsTableOf};
 
+use crate::expect::holds;
 use host_base::{IdKey, NoMemory};
 use row_index::{Hints, IdRows, IdTable, Noted};
 use std::alloc::Allocator;
@@ -102,7 +103,7 @@ fn rows_stand<A: Allocator + Copy>(
     requires { IsTableOf table.now keys.now }
 {
     for n in 0..count {
-        assert!(rt; row_of(table, keys, n) == Some(n));
+        holds(rt, row_of(table, keys, n) == Some(n));
     }
 }
 
@@ -121,12 +122,12 @@ fn note_numbers<A: Allocator + Copy>(
         let used = match note_next(table, keys, numbered(n)) {
             Ok(used) => used,
             Err(NoMemory) => {
-                assert!(rt; row_of(table, keys, n).is_none());
-                assert!(rt; row_before_stands(table, keys, n));
+                holds(rt, row_of(table, keys, n).is_none());
+                holds(rt, row_before_stands(table, keys, n));
                 note_number(rt, table, keys, n)
             }
         };
-        assert!(rt; !used);
+        holds(rt, !used);
     }
     rows_stand(rt, table, keys, count);
 }
@@ -139,12 +140,12 @@ fn rows_behind<A: Allocator + Copy>(
 )
     requires { IsTableOf table.old keys.old.items }
 {
-    assert!(rt; row_of(table, keys, 8_190).is_none());
-    assert!(rt; row_of(table, keys, 65_536).is_none());
-    assert!(rt; note_number(rt, table, keys, 17));
-    assert!(rt; row_of(table, keys, 17) == Some(17));
-    assert!(rt; !note_number(rt, table, keys, 65_553));
-    assert!(rt; row_of(table, keys, 65_553) == Some(8_191));
+    holds(rt, row_of(table, keys, 8_190).is_none());
+    holds(rt, row_of(table, keys, 65_536).is_none());
+    holds(rt, note_number(rt, table, keys, 17));
+    holds(rt, row_of(table, keys, 17) == Some(17));
+    holds(rt, !note_number(rt, table, keys, 65_553));
+    holds(rt, row_of(table, keys, 65_553) == Some(8_191));
 }
 
 #[test]
@@ -168,7 +169,7 @@ fn room_for_ids(rt: HostRuntime) {
         .reserve(&Keys { keys: &keys }, 1_000)
         .expect(&rt, "memory");
     rows_stand(&rt, &table, &keys, 1_100);
-    assert!(rt; row_of(&table, &keys, 1_100).is_none());
+    holds(&rt, row_of(&table, &keys, 1_100).is_none());
 }
 
 /// Notes the key of the next row, and again once it is known.
@@ -181,14 +182,15 @@ fn note_known<A: Allocator + Copy>(
     requires { IsTableOf table.old keys.old.items }
     ensures { IsTableOf table.new keys.new.items }
 {
-    assert!(rt; !note_number(rt, table, keys, n));
-    assert!(rt; row_of(table, keys, n) == Some(n));
-    assert!(rt;
+    holds(rt, !note_number(rt, table, keys, n));
+    holds(rt, row_of(table, keys, n) == Some(n));
+    holds(
+        rt,
         note_and_take_back(table, keys, numbered(n))
             .expect(rt, "memory")
-            .is_known()
+            .is_known(),
     );
-    assert!(rt; row_of(table, keys, n) == Some(n));
+    holds(rt, row_of(table, keys, n) == Some(n));
 }
 
 /// Notes the key of the next row, takes it back, and notes it again. Answers how it was noted first.
@@ -202,8 +204,8 @@ fn note_again<A: Allocator + Copy>(
     ensures { IsTableOf table.new keys.new.items }
 {
     let noted = note_and_take_back(table, keys, numbered(n)).expect(rt, "memory");
-    assert!(rt; row_of(table, keys, n).is_none());
-    assert!(rt; row_before_stands(table, keys, n));
+    holds(rt, row_of(table, keys, n).is_none());
+    holds(rt, row_before_stands(table, keys, n));
     note_known(rt, table, keys, n);
     noted
 }
@@ -217,20 +219,23 @@ fn ids_are_taken_back(rt: HostRuntime) {
     let mut behind = 0usize;
     for n in 0..8_190 {
         match note_again(&rt, &mut table, &mut keys, n) {
-            Noted::Known => assert!(rt; false),
+            Noted::Known => holds(&rt, false),
             Noted::InLine { line: _, at: _ } => in_lines = in_lines.wrapping_add(1),
             Noted::Behind => behind = behind.wrapping_add(1),
         }
     }
-    assert!(rt; in_lines > 7_500);
-    assert!(rt; behind > 0);
+    holds(&rt, in_lines > 7_500);
+    holds(&rt, behind > 0);
     rows_stand(&rt, &table, &keys, 8_190);
 }
 
 #[test]
 fn words_of_a_key(rt: HostRuntime) {
     let words = IdKey::new(3, &id(b"ABCDEFGH\x02")).words();
-    assert!(rt; words == [3, 0x4142_4344_4546_4748, 0x0200_0000_0000_0000, 0, 0]);
+    holds(
+        &rt,
+        words == [3, 0x4142_4344_4546_4748, 0x0200_0000_0000_0000, 0, 0],
+    );
 }
 
 #[test]
@@ -246,14 +251,14 @@ fn memory_is_refused(rt: HostRuntime) {
 #[test]
 fn hints_are_guesses(rt: HostRuntime) {
     let mut hints = Hints::new(rt.alloc());
-    assert!(rt; hints.guess(5).is_none());
+    holds(&rt, hints.guess(5).is_none());
     hints.note(5, 0);
     hints.note(9, 1);
-    assert!(rt; hints.guess(5) == Some(0));
-    assert!(rt; hints.guess(9) == Some(1));
-    assert!(rt; hints.guess(4).is_none());
-    assert!(rt; hints.guess(1_000).is_none());
+    holds(&rt, hints.guess(5) == Some(0));
+    holds(&rt, hints.guess(9) == Some(1));
+    holds(&rt, hints.guess(4).is_none());
+    holds(&rt, hints.guess(1_000).is_none());
     hints.note(1_000_000_000_000, 2);
-    assert!(rt; hints.guess(1_000_000_000_000) == Some(2));
-    assert!(rt; hints.guess(9).is_none());
+    holds(&rt, hints.guess(1_000_000_000_000) == Some(2));
+    holds(&rt, hints.guess(9).is_none());
 }

@@ -4,6 +4,8 @@
 #[cfg(test)]
 mod books;
 #[cfg(test)]
+mod expect;
+#[cfg(test)]
 mod ids;
 #[cfg(test)]
 mod tables;

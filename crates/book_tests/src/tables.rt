@@ -2,6 +2,7 @@
 ghost use Rattle.std.specs.Prelude.{◌≡◌};
 
 use crate::books::rows::is;
+use crate::expect::holds;
 use order_tables::{
     BestPrice, FrontTable, PlaceRows, QueueHeaps, QueueRank, is_own, queue_number, with_quantity,
 };
@@ -30,14 +31,15 @@ fn seller() -> Order
 #[test]
 fn filled_lots_are_kept(rt: HostRuntime) {
     let amended = with_quantity(&seller(), id(b"b"), 9);
-    assert!(rt;
+    holds(
+        &rt,
         amended
             == Order {
                 id: id(b"b"),
                 quantity: 9,
                 leaves: 7,
                 ..seller()
-            }
+            },
     );
 }
 
@@ -46,23 +48,23 @@ fn rows_are_found(rt: HostRuntime) {
     let mut rows = PlaceRows::new(rt.alloc());
     let first = seller();
     rows.push(first).expect(&rt, "memory");
-    assert!(rt; rows.count() == 1);
-    assert!(rt; is(rows.get(7).copied(), &first));
-    assert!(rt; rows.get(8).is_none());
-    assert!(rt; is(rows.reduce(7, 2), &first));
+    holds(&rt, rows.count() == 1);
+    holds(&rt, is(rows.get(7).copied(), &first));
+    holds(&rt, rows.get(8).is_none());
+    holds(&rt, is(rows.reduce(7, 2), &first));
     let left = Order { leaves: 1, ..first };
-    assert!(rt; is(rows.nth(0), &left));
-    assert!(rt; is(rows.amend(7, id(b"b"), 6), &left));
+    holds(&rt, is(rows.nth(0), &left));
+    holds(&rt, is(rows.amend(7, id(b"b"), 6), &left));
     let amended = Order {
         id: id(b"b"),
         quantity: 6,
         leaves: 2,
         ..first
     };
-    assert!(rt; is(rows.get(7).copied(), &amended));
-    assert!(rt; is(rows.remove(7), &amended));
-    assert!(rt; rows.nth(0) == None);
-    assert!(rt; rows.count() == 0);
+    holds(&rt, is(rows.get(7).copied(), &amended));
+    holds(&rt, is(rows.remove(7), &amended));
+    holds(&rt, rows.nth(0) == None);
+    holds(&rt, rows.count() == 0);
 }
 
 /// The best price of that queue.
@@ -70,9 +72,9 @@ fn expect_best(rt: &impl Abort, queues: &QueueHeaps<Global>, queue: u32, price: 
     match queues.least(queue) {
         Some(rank) => {
             let best = rank.best_price(Side::Sell);
-            assert!(rt; best.price == price && best.place == place);
+            holds(rt, best.price == price && best.place == place);
         }
-        None => assert!(rt; false),
+        None => holds(rt, false),
     }
 }
 
@@ -88,7 +90,7 @@ fn ranks_of_a_queue(rt: HostRuntime) {
     rows.push(rests).expect(&rt, "memory");
     let queue = queue_number(rests.instrument, rests.side);
     let mut queues = QueueHeaps::new(rt.alloc());
-    assert!(rt; queues.least(queue).is_none());
+    holds(&rt, queues.least(queue).is_none());
     queues
         .add(queue, QueueRank::new(&rests))
         .expect(&rt, "memory");
@@ -98,14 +100,15 @@ fn ranks_of_a_queue(rt: HostRuntime) {
     expect_best(&rt, &queues, queue, 9800, 8);
     queues.settle(&rows, queue);
     expect_best(&rt, &queues, queue, 9900, 7);
-    assert!(rt;
+    holds(
+        &rt,
         queues
             .least(queue_number(rests.instrument, Side::Buy))
-            .is_none()
+            .is_none(),
     );
-    assert!(rt; is(rows.remove(7), &rests));
+    holds(&rt, is(rows.remove(7), &rests));
     queues.settle(&rows, queue);
-    assert!(rt; queues.least(queue).is_none());
+    holds(&rt, queues.least(queue).is_none());
 }
 
 #[test]
@@ -137,36 +140,46 @@ fn ranks_of_many_that_left(rt: HostRuntime) {
 #[test]
 fn whose_a_row_is(rt: HostRuntime) {
     let first = seller();
-    assert!(rt; is_own(&first, 1, &id(b"a")));
-    assert!(rt; !is_own(&first, 0, &id(b"a")));
-    assert!(rt; !is_own(&first, 1, &id(b"b")));
+    holds(&rt, is_own(&first, 1, &id(b"a")));
+    holds(&rt, !is_own(&first, 0, &id(b"a")));
+    holds(&rt, !is_own(&first, 1, &id(b"b")));
     let mut rows = PlaceRows::new(rt.alloc());
     rows.push(first).expect(&rt, "memory");
-    assert!(rt; is(rows.find_own(1, &id(b"a")), &first));
-    assert!(rt; rows.find_own(1, &id(b"b")) == None);
-    assert!(rt; is(rows.remove(7), &first));
-    assert!(rt; rows.find_own(1, &id(b"a")) == None);
+    holds(&rt, is(rows.find_own(1, &id(b"a")), &first));
+    holds(&rt, rows.find_own(1, &id(b"b")) == None);
+    holds(&rt, is(rows.remove(7), &first));
+    holds(&rt, rows.find_own(1, &id(b"a")) == None);
 }
 
 #[test]
 fn best_prices(rt: HostRuntime) {
     let front = seller();
     let mut prices = FrontTable::new(rt.alloc());
-    assert!(rt; prices.is_empty());
-    assert!(rt; prices.known_price(front.instrument, front.side).is_none());
+    holds(&rt, prices.is_empty());
+    holds(
+        &rt,
+        prices.known_price(front.instrument, front.side).is_none(),
+    );
     prices.make_room().expect(&rt, "memory");
     prices.put(front.instrument, front.side, Some(BestPrice::new(&front)));
     match prices.known_price(front.instrument, front.side) {
         Some(Some(best)) => {
-            assert!(rt; best.place == 7);
-            assert!(rt; best.level(front.instrument, front.side) == front.level());
+            holds(&rt, best.place == 7);
+            holds(
+                &rt,
+                best.level(front.instrument, front.side) == front.level(),
+            );
         }
-        _ => assert!(rt; false),
+        _ => holds(&rt, false),
     }
-    assert!(rt; matches!(prices.known_price(front.instrument, Side::Buy), Some(None)));
-    assert!(rt;
+    holds(
+        &rt,
+        matches!(prices.known_price(front.instrument, Side::Buy), Some(None)),
+    );
+    holds(
+        &rt,
         prices
             .known_price(Instrument::Outright(24), Side::Buy)
-            .is_none()
+            .is_none(),
     );
 }

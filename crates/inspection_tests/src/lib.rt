@@ -4,4 +4,6 @@
 #[cfg(test)]
 mod drawn;
 #[cfg(test)]
+mod expect;
+#[cfg(test)]
 mod explained;

@@ -1,4 +1,5 @@
 //! Worked rows: gateways, rings of one event and the sequencer, in one thread and in several.
+use crate::expect::holds;
 use spread_rules::{Entry, Event, Side, Ticket};
 use std::process::Abort;
 use test_support::id;
@@ -55,9 +56,9 @@ fn is_said(event: &Event, says: &Says) -> bool {
 
 /// The journal has these events of session 0 and no others, in this order.
 fn expect_journal(rt: &impl Abort, journal: &[Entry], want: &[Says]) {
-    assert!(rt; journal.len() == want.len());
+    holds(rt, journal.len() == want.len());
     for (entry, says) in journal.iter().zip(want) {
-        assert!(rt; entry.session == 0);
-        assert!(rt; is_said(&entry.event, says));
+        holds(rt, entry.session == 0);
+        holds(rt, is_said(&entry.event, says));
     }
 }

@@ -1,6 +1,7 @@
 //! Days in threads. Each ends by itself, whatever the schedule.
 ghost use Rattle.day_text.specs.DayText.{AreShown};
 
+use crate::expect::holds;
 use crate::headline::day_of_streams;
 use crate::watch::{Meeting, Point, Watch};
 use day_text::{Day, put_months};
@@ -95,7 +96,7 @@ fn expect_part(rt: &impl Abort, alloc: Global, journal: &[Entry], session: u8, w
 
 /// The journal has the first trade's events of each session, and no other entry.
 fn expect_trades(rt: &impl Abort, alloc: Global, journal: &[Entry], sessions: u8) {
-    assert!(rt; journal.len() == usize::from(sessions) * 4);
+    holds(rt, journal.len() == usize::from(sessions) * 4);
     let want = first_trade();
     for session in 0..sessions {
         expect_part(rt, alloc, journal, session, &want);
@@ -114,17 +115,20 @@ fn expect_months(
 {
     let mut months = Vec::new(alloc);
     put_months(&mut months, rulebook, &day.fills).expect(rt, "memory");
-    assert!(rt; months.as_slice() == want);
+    holds(rt, months.as_slice() == want);
 }
 
 /// There are sixteen lists. So many of them begin with the answer to a Logon, and the others are empty.
 fn expect_logons_first(rt: &impl Abort, out: &[Vec<u8>], sessions: u8) {
-    assert!(rt; out.len() == 16);
+    holds(rt, out.len() == 16);
     for (list, session) in out.iter().zip(0..16u8) {
         if session < sessions {
-            assert!(rt; list.starts_with(b"8=FIX.4.2\x019=57\x0135=A\x0134=1\x01"));
+            holds(
+                rt,
+                list.starts_with(b"8=FIX.4.2\x019=57\x0135=A\x0134=1\x01"),
+            );
         } else {
-            assert!(rt; list.is_empty());
+            holds(rt, list.is_empty());
         }
     }
 }
@@ -294,19 +298,19 @@ fn trade_bytes(rt: &impl Abort, alloc: Global, before: usize) -> Vec<u8> {
 /// The journal's first entries are none of the session that was held.
 fn expect_held(rt: &impl Abort, meeting: Meeting, journal: &[Entry]) {
     if let Meeting::Held(Point::Message(held, _), _) = meeting {
-        assert!(rt; journal.len() == 8);
+        holds(rt, journal.len() == 8);
         for entry in journal.iter().take(2) {
-            assert!(rt; entry.session != held);
+            holds(rt, entry.session != held);
         }
     }
 }
 
 /// What a stream alone is sent, and what the gate is told of it: each message and each piece of bytes in turn.
 fn expect_alone(rt: &impl Abort, watch: &Watch, out: &[Vec<u8>]) {
-    assert!(rt; is_first_sent(out));
-    assert!(rt; watch.in_turn());
-    assert!(rt; watch.messages() == 4);
-    assert!(rt; watch.bytes() == FIRST_TRADE_SENT.len() as u64);
+    holds(rt, is_first_sent(out));
+    holds(rt, watch.in_turn());
+    holds(rt, watch.messages() == 4);
+    holds(rt, watch.bytes() == FIRST_TRADE_SENT.len() as u64);
 }
 
 /// The day is the case's.
@@ -320,14 +324,14 @@ fn expect_trades_day(
 )
     requires { AreShown rulebook.now day.now.fills.items }
 {
-    assert!(rt; watch.in_time());
+    holds(rt, watch.in_time());
     expect_trades(rt, alloc, &day.journal, case.streams);
     expect_held(rt, case.meeting, &day.journal);
     expect_logons_first(rt, &day.out, case.streams);
     if case.streams == 1 {
         expect_alone(rt, watch, &day.out);
     }
-    assert!(rt; day.fills.len() == case.fills);
+    holds(rt, day.fills.len() == case.fills);
     expect_months(rt, alloc, rulebook, day, case.months);
 }
 
@@ -396,7 +400,7 @@ fn refused_days(rt: HostRuntime) {
     for (count, caps, want) in &REFUSED_DAYS {
         let streams = streams_of(rt.alloc(), *count, FIRST_TRADE).expect(&rt, "memory");
         let fault = run_day(&rt, rt.alloc(), &rulebook, stamp(), streams, &Open, *caps).err();
-        assert!(rt; fault == Some(*want));
+        holds(&rt, fault == Some(*want));
     }
 }
 
@@ -404,12 +408,12 @@ fn refused_days(rt: HostRuntime) {
 
 /// The journal is one close, nothing is filled, and nothing goes out.
 fn expect_close_alone(rt: &impl Abort, day: &Day<Global>) {
-    assert!(rt; day.journal.len() == 1);
+    holds(rt, day.journal.len() == 1);
     for entry in &day.journal {
-        assert!(rt; entry.session == 0);
-        assert!(rt; entry.event == Event::Close { reason: 5 });
+        holds(rt, entry.session == 0);
+        holds(rt, entry.event == Event::Close { reason: 5 });
     }
-    assert!(rt; day.fills.is_empty());
+    holds(rt, day.fills.is_empty());
     expect_logons_first(rt, &day.out, 0);
 }
 
@@ -435,10 +439,10 @@ fn each_message_once(rt: HostRuntime) {
     };
     let streams = streams_of(rt.alloc(), 1, FIRST_TRADE).expect(&rt, "memory");
     let day = run_sessions(&rt, rt.alloc(), &rules, streams, &watch, USUAL).expect(&rt, "a day");
-    assert!(rt; watch.messages() == 4);
-    assert!(rt; watch.messages_at_first() == 4);
-    assert!(rt; watch.in_turn());
-    assert!(rt; day.applied.fills.len() == 2);
+    holds(&rt, watch.messages() == 4);
+    holds(&rt, watch.messages_at_first() == 4);
+    holds(&rt, watch.in_turn());
+    holds(&rt, day.applied.fills.len() == 2);
     expect_part(&rt, rt.alloc(), &day.journal, 0, &first_trade());
 }
 
@@ -492,9 +496,9 @@ fn requests_in_turn<R: Threads + Wait + Sync + Abort>(
     let stream = test_requests(rt, alloc, 300);
     let streams = streams_of(alloc, 1, &stream).expect(rt, "memory");
     let day = run_day(rt, alloc, rulebook, stamp(), streams, &watch, caps).expect(rt, "a day");
-    assert!(rt; day.journal.len() == 302);
-    assert!(rt; watch.messages() == 301);
-    assert!(rt; watch.in_turn());
+    holds(rt, day.journal.len() == 302);
+    holds(rt, watch.messages() == 301);
+    holds(rt, watch.in_turn());
 }
 
 /// The gate sees each message once also where the ring is full and messages have to be stepped on again, however many are

@@ -3,6 +3,8 @@
 
 #[cfg(test)]
 mod days;
+#[cfg(test)]
+mod expect;
 pub mod headline;
 #[cfg(test)]
 mod no_memory;

@@ -1,5 +1,6 @@
 //! Each request for memory refused in turn.
 use crate::days::{Open, USUAL, streams_of, three_months};
+use crate::expect::holds;
 use day_text::Day;
 use gate_link::LinkFault;
 use spread_host::{HostFault, run_day};
@@ -30,7 +31,7 @@ fn day_fault<R: Threads + Wait + Sync + Abort, A: Allocator + Copy + Send>(
 ) -> Option<HostFault> {
     match day_over(rt, heap, rulebook) {
         Ok(day) => {
-            assert!(rt; day.journal.len() == 4 && day.fills.len() == 2);
+            holds(rt, day.journal.len() == 4 && day.fills.len() == 2);
             None
         }
         Err(fault) => Some(fault),
@@ -52,17 +53,17 @@ fn run_day_refused_memory(rt: HostRuntime) {
             // A guess of a row that finds no memory is left out.
             None => {}
             Some(HostFault::NoMemory(place)) => {
-                assert!(rt; last_refused && place < 6);
+                holds(&rt, last_refused && place < 6);
                 if place < 6 {
                     seen[place as usize] = true;
                 }
             }
             Some(fault) => {
-                assert!(rt; last_refused && !seen[1]);
-                assert!(rt; fault == HostFault::Link(LinkFault::NoMemory));
+                holds(&rt, last_refused && !seen[1]);
+                holds(&rt, fault == HostFault::Link(LinkFault::NoMemory));
             }
         }
     }
-    assert!(rt; !last_refused);
-    assert!(rt; seen[0] && seen[1..].contains(&true));
+    holds(&rt, !last_refused);
+    holds(&rt, seen[0] && seen[1..].contains(&true));
 }

@@ -2,6 +2,7 @@
 ghost use Rattle.std.specs.Prelude.{◌≡◌, false};
 ghost use Rattle.piece_ring.specs.Ends.{IsUnread};
 
+use crate::expect::holds;
 use day_text::{PIECE_BYTES, TakesPieces};
 use piece_ring::{PieceSink, PieceSource, piece_ring};
 use std::alloc::{Allocator, Global};
@@ -27,7 +28,7 @@ fn give_lines<R: Wait + Abort, A: Allocator>(
     for _ in 0..lines {
         piece.extend_from_slice(LINE).expect(rt, "memory");
         sink.take(&mut piece).expect(rt, "no write fails");
-        assert!(rt; piece.is_empty());
+        holds(rt, piece.is_empty());
     }
     sink.end();
     sink.end();
@@ -72,10 +73,10 @@ fn pass_lines<R: Threads + Wait + Sync + Abort>(
 fn expect_lines(rt: &impl Abort, text: &[u8], lines: u32) {
     let mut count = 0u32;
     for line in text.chunks(LINE.len()) {
-        assert!(rt; line == LINE);
+        holds(rt, line == LINE);
         count = count.saturating_add(1);
     }
-    assert!(rt; count == lines);
+    holds(rt, count == lines);
 }
 
 /// Three lines and the mark are as many pieces as there are.
@@ -84,14 +85,14 @@ fn pieces_in_one_thread(rt: HostRuntime) {
     let (sink, source) = piece_ring(&rt, rt.alloc()).expect(&rt, "memory");
     give_lines(&rt, rt.alloc(), sink, 3);
     let (out, whole) = take_text(&rt, source, rt.alloc(), 0);
-    assert!(rt; whole);
+    holds(&rt, whole);
     expect_lines(&rt, out.bytes(), 3);
 }
 
 #[test]
 fn pieces_in_two_threads(rt: HostRuntime) {
     let (out, whole) = pass_lines(&rt, rt.alloc(), 5000, 0);
-    assert!(rt; whole);
+    holds(&rt, whole);
     expect_lines(&rt, out.bytes(), 5000);
 }
 
@@ -99,7 +100,7 @@ fn pieces_in_two_threads(rt: HostRuntime) {
 #[test]
 fn a_text_whose_writing_fails(rt: HostRuntime) {
     let (out, whole) = pass_lines(&rt, rt.alloc(), 5000, 3);
-    assert!(rt; !whole);
+    holds(&rt, !whole);
     expect_lines(&rt, out.bytes(), 2);
 }
 
@@ -111,17 +112,17 @@ fn pieces_of_each_size(rt: HostRuntime) {
     let mut small = Vec::new(rt.alloc());
     small.extend_from_slice(LINE).expect(&rt, "memory");
     sink.take(&mut small).expect(&rt, "no write fails");
-    assert!(rt; small.is_empty());
+    holds(&rt, small.is_empty());
     sink.take(&mut small).expect(&rt, "no write fails");
     let mut large = Vec::new(rt.alloc());
     large.resize(90_000, b'x').expect(&rt, "memory");
     sink.take(&mut large).expect(&rt, "no write fails");
-    assert!(rt; large.is_empty());
+    holds(&rt, large.is_empty());
     sink.end();
     let (out, whole) = take_text(&rt, source, rt.alloc(), 0);
-    assert!(rt; whole && out.bytes().len() == 90_010);
-    assert!(rt; out.bytes().starts_with(b"abcdefghi\nxx"));
-    assert!(rt; out.bytes().ends_with(b"xx"));
+    holds(&rt, whole && out.bytes().len() == 90_010);
+    holds(&rt, out.bytes().starts_with(b"abcdefghi\nxx"));
+    holds(&rt, out.bytes().ends_with(b"xx"));
 }
 
 /// A sink takes pieces too: it writes them.
@@ -130,10 +131,10 @@ fn pieces_of_a_sink(rt: HostRuntime) {
     let mut out = TestSink::new(rt.alloc(), 100, 2).expect(&rt, "memory");
     let mut piece = Vec::new(rt.alloc());
     piece.extend_from_slice(LINE).expect(&rt, "memory");
-    assert!(rt; out.take(&mut piece).is_ok() && piece.is_empty());
+    holds(&rt, out.take(&mut piece).is_ok() && piece.is_empty());
     piece.extend_from_slice(LINE).expect(&rt, "memory");
-    assert!(rt; out.take(&mut piece).is_err());
-    assert!(rt; out.bytes() == LINE);
+    holds(&rt, out.take(&mut piece).is_err());
+    holds(&rt, out.bytes() == LINE);
 }
 
 /// Two rings and the pieces.
@@ -143,10 +144,10 @@ fn piece_ring_refused_memory(rt: HostRuntime) {
     for number in 1..20u64 {
         let heap = Refusing::new(rt.alloc(), number);
         let made = piece_ring(&rt, &heap).is_ok();
-        assert!(rt; made != heap.has_refused());
+        holds(&rt, made != heap.has_refused());
         if !made {
             refused = refused.saturating_add(1);
         }
     }
-    assert!(rt; 4 < refused && refused < 19);
+    holds(&rt, 4 < refused && refused < 19);
 }

@@ -3,6 +3,7 @@ ghost use Rattle.std.specs.Prelude.{◌≡◌, true};
 ghost use Rattle.spread_match.specs.State.{empty_state};
 ghost use Rattle.spread_match.specs.Trade.{IsPriced};
 
+use crate::expect::holds;
 use spread_books::Book;
 use spread_match::Market;
 use spread_rules::{Entry, Event, Fill, Instrument, Order, Side, Ticket};
@@ -122,7 +123,7 @@ fn apply_all<B: Book>(
 {
     let mut fills = Vec::new(alloc);
     for n in 0..journal.len() {
-        assert!(rt; is_priced(&journal[n]));
+        holds(rt, is_priced(&journal[n]));
         let _ = market
             .apply(n as u64 + 1, &journal[n], &mut fills)
             .expect(rt, "memory");

@@ -6,6 +6,8 @@ mod base;
 #[cfg(test)]
 mod day;
 #[cfg(test)]
+mod expect;
+#[cfg(test)]
 mod lines;
 #[cfg(test)]
 mod session;

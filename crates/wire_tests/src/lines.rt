@@ -1,4 +1,5 @@
 //! Day lines as they are read.
+use crate::expect::holds;
 use day_lines::laws::day_journal;
 use day_lines::{LinesFault, read_day_lines};
 use host_base::{FromReader, TestSource};
@@ -62,10 +63,10 @@ fn sessions_of_lines(rt: HostRuntime) {
 
 /// The journal has one close of each session, for the end of its bytes, in this order.
 fn expect_closes(rt: &impl Abort, journal: &[Entry], sessions: &[u8]) {
-    assert!(rt; journal.len() == sessions.len());
+    holds(rt, journal.len() == sessions.len());
     for (entry, session) in journal.iter().zip(sessions) {
-        assert!(rt; entry.session == *session);
-        assert!(rt; entry.event == Event::Close { reason: 5 });
+        holds(rt, entry.session == *session);
+        holds(rt, entry.event == Event::Close { reason: 5 });
     }
 }
 
@@ -100,7 +101,7 @@ fn bad_day_lines(rt: HostRuntime) {
     for (lines, line) in BAD_LINES {
         for most in SIZES {
             let fault = read_by(rt.alloc(), lines, *most).err();
-            assert!(rt; fault == Some(LinesFault::BadLine(*line)));
+            holds(&rt, fault == Some(LinesFault::BadLine(*line)));
         }
     }
 }
@@ -130,7 +131,7 @@ fn line_over_pieces(rt: HostRuntime) {
     let lines = with_long_line(&rt, rt.alloc(), b"3:a\n# ", b'x', b"\n\n16:b\n5:");
     let mut source = TestSource::new(lines, 0);
     let fault = read_day_lines(rt.alloc(), &mut source).err();
-    assert!(rt; fault == Some(LinesFault::BadLine(4)));
+    holds(&rt, fault == Some(LinesFault::BadLine(4)));
 }
 
 /// Day lines, the number of the read that fails (0: none), and the fault. A bad line does not end the reading.
@@ -149,7 +150,7 @@ fn sources_that_fail(rt: HostRuntime) {
     for (lines, fail, fault) in FAILING {
         let lines = Vec::from_slice(rt.alloc(), lines).expect(&rt, "memory");
         let mut source = TestSource::new(lines, *fail);
-        assert!(rt; read_day_lines(rt.alloc(), &mut source).err() == *fault);
+        holds(&rt, read_day_lines(rt.alloc(), &mut source).err() == *fault);
     }
 }
 
@@ -163,7 +164,10 @@ fn too_many_bytes(rt: HostRuntime) {
         let mut lines = Vec::from_slice(rt.alloc(), b"x\n").expect(&rt, "memory");
         lines.resize(length, b'#').expect(&rt, "memory");
         let mut source = TestSource::new(lines, 0);
-        assert!(rt; read_day_lines(rt.alloc(), &mut source).err() == Some(fault));
+        holds(
+            &rt,
+            read_day_lines(rt.alloc(), &mut source).err() == Some(fault),
+        );
     }
 }
 
@@ -178,11 +182,11 @@ fn lines_with_memory_refused(rt: HostRuntime) {
         });
         match read_day_lines(&heap, &mut source) {
             Ok(journal) => {
-                assert!(rt; !heap.has_refused() && journal.len() == 2 && number > 4);
+                holds(&rt, !heap.has_refused() && journal.len() == 2 && number > 4);
                 return;
             }
-            Err(fault) => assert!(rt; heap.has_refused() && fault == LinesFault::NoMemory),
+            Err(fault) => holds(&rt, heap.has_refused() && fault == LinesFault::NoMemory),
         }
     }
-    assert!(rt; false);
+    holds(&rt, false);
 }

@@ -1,4 +1,5 @@
 //! Worked rows: messages of a session as its client writes them, and what the session says to them.
+use crate::expect::holds;
 use fix_session::{Session, Verdict};
 use fix_wire::Message;
 use spread_rules::{Event, Side, Ticket};
@@ -113,7 +114,7 @@ fn is_said(verdict: Verdict, says: &Says) -> bool {
 }
 
 fn expect_said(rt: &impl Abort, verdict: Verdict, says: &Says) {
-    assert!(rt; is_said(verdict, says));
+    holds(rt, is_said(verdict, says));
 }
 
 /// These events and no others were said, in this order.

@@ -1,4 +1,5 @@
 //! Digits as they are written into room, and read up to the greatest price.
+use crate::expect::holds;
 use fix_values::{limited_digits, put, put_byte, put_number, put_price};
 
 #[test]
@@ -6,8 +7,8 @@ fn written_one_behind_the_other(rt: HostRuntime) {
     let mut room = [b'.'; 64];
     let word = put(&mut room, 1, b"AB");
     let byte = put_byte(&mut room, word, b'=');
-    assert!(rt; (word, byte) == (3, 4));
-    assert!(rt; &room[..5] == b".AB=.".as_slice());
+    holds(&rt, (word, byte) == (3, 4));
+    holds(&rt, &room[..5] == b".AB=.".as_slice());
 }
 
 const NUMBERS: &[(u64, &[u8])] = &[
@@ -27,7 +28,7 @@ fn written_numbers(rt: HostRuntime) {
     for (number, text) in NUMBERS {
         let mut room = [b'.'; 64];
         let end = put_number(&mut room, 2, *number);
-        assert!(rt; &room[2..end] == *text);
+        holds(&rt, &room[2..end] == *text);
     }
 }
 
@@ -44,7 +45,7 @@ fn written_prices(rt: HostRuntime) {
     for (price, text) in PRICES {
         let mut room = [b'.'; 64];
         let end = put_price(&mut room, 1, *price);
-        assert!(rt; &room[1..end] == *text);
+        holds(&rt, &room[1..end] == *text);
     }
 }
 
@@ -59,6 +60,6 @@ const DIGITS: &[(&[u8], Option<u64>)] = &[
 #[test]
 fn digits_up_to_the_greatest_price(rt: HostRuntime) {
     for (text, number) in DIGITS {
-        assert!(rt; limited_digits(text) == *number);
+        holds(&rt, limited_digits(text) == *number);
     }
 }

@@ -2,6 +2,7 @@
 use super::checked::{add, amend, reduce, remove};
 use super::rows::Step::{Add, Amend, At, Count, Found, Front, NotAmend, NotFound, Reduce};
 use super::rows::{Lot, Row, expect_over_each, is};
+use crate::expect::holds;
 use host_base::{Id, NoMemory};
 use spread_books::{Book, FrontBook, HeapBook, IndexBook, ListBook};
 use spread_rules::Side::Sell;
@@ -135,18 +136,24 @@ fn compare_of<B: Book, C: Book>(rt: &impl Abort, book: &B, other: &C, order: &Or
         side,
         ..
     } = order;
-    assert!(rt; book.find(*session, id) == other.find(*session, id));
-    assert!(rt; book.at(*place) == other.at(*place));
-    assert!(rt; book.front(*instrument, *side) == other.front(*instrument, *side));
-    assert!(rt; book.front_level(*instrument, *side) == other.front_level(*instrument, *side));
+    holds(rt, book.find(*session, id) == other.find(*session, id));
+    holds(rt, book.at(*place) == other.at(*place));
+    holds(
+        rt,
+        book.front(*instrument, *side) == other.front(*instrument, *side),
+    );
+    holds(
+        rt,
+        book.front_level(*instrument, *side) == other.front_level(*instrument, *side),
+    );
 }
 
 /// Both books answer alike.
 fn compare<B: Book, C: Book>(rt: &impl Abort, book: &B, other: &C) {
-    assert!(rt; book.len() == other.len());
+    holds(rt, book.len() == other.len());
     for n in 0..other.len() {
         if let Some(order) = other.walk(n) {
-            assert!(rt; is(book.walk(n), &order));
+            holds(rt, is(book.walk(n), &order));
             compare_of(rt, book, other, &order);
         }
     }
@@ -167,7 +174,7 @@ fn make_in_both<B: Book, C: Book>(
             make(book, next).expect(rt, "memory")
         }
     };
-    assert!(rt; make(other, next).expect(rt, "memory") == done);
+    holds(rt, make(other, next).expect(rt, "memory") == done);
     compare(rt, book, other);
     done
 }
@@ -185,9 +192,9 @@ fn run_in_both<B: Book, C: Book>(
         let amends = matches!(next, Change::Amend(_, _, _));
         let done = make_in_both(rt, book, other, &next);
         let gone = name(chance);
-        assert!(rt; book.find(0, &gone) == other.find(0, &gone));
+        holds(rt, book.find(0, &gone) == other.find(0, &gone));
         let any = chance.below(90) as u64;
-        assert!(rt; book.at(any) == other.at(any));
+        holds(rt, book.at(any) == other.at(any));
         if amends && done {
             amended = amended.saturating_add(1);
         }
@@ -208,11 +215,11 @@ fn every_kind_of_book_at_random(rt: HostRuntime) {
     let rules = Rulebook::read(THREE_MONTHS).expect(&rt, "a rulebook");
     for seed in 0..6 {
         let heaps = HeapBook::new(rt.alloc());
-        assert!(rt; run(&rt, heaps, rt.alloc(), seed) > 5);
+        holds(&rt, run(&rt, heaps, rt.alloc(), seed) > 5);
         let front = FrontBook::new(rt.alloc());
-        assert!(rt; run(&rt, front, rt.alloc(), seed) > 5);
+        holds(&rt, run(&rt, front, rt.alloc(), seed) > 5);
         let index = IndexBook::new(rt.alloc(), &rules).expect(&rt, "memory");
-        assert!(rt; run(&rt, index, rt.alloc(), seed) > 5);
+        holds(&rt, run(&rt, index, rt.alloc(), seed) > 5);
     }
 }
 
@@ -233,7 +240,7 @@ fn index_book_without_memory(rt: HostRuntime) {
             Ok(book) => {
                 let _ = run(&rt, book, rt.alloc(), number);
             }
-            Err(NoMemory) => assert!(rt; heap.has_refused()),
+            Err(NoMemory) => holds(&rt, heap.has_refused()),
         }
     }
 }

@@ -3,6 +3,7 @@ ghost use Rattle.std.specs.Prelude.{◌≡◌, ◌<◌, ℕ, true, false, Some, 
 ghost use Rattle.spread_rules.specs.declared.order.Order.{Order};
 ghost use Rattle.spread_rules.specs.Amended.{done};
 
+use crate::expect::holds;
 use host_base::limits::MAX_ORDER_QTY;
 use host_base::{Id, NoMemory};
 use spread_books::Book;
@@ -92,9 +93,9 @@ pub fn remove<B: Book>(book: &mut B, n: usize) -> bool {
 /// All orders leave, the first one first.
 pub fn clear<B: Book>(rt: &impl Abort, book: &mut B) {
     for _ in 0..book.len() {
-        assert!(rt; remove(book, 0));
+        holds(rt, remove(book, 0));
     }
-    assert!(rt; book.len() == 0);
+    holds(rt, book.len() == 0);
 }
 
 /// Whether so many lots of it are filled.

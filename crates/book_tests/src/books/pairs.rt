@@ -4,6 +4,7 @@ ghost use Rattle.spread_rules.specs.declared.order.Order.{Order};
 ghost use Rattle.spread_rules.specs.Candidates.{HasOrderPrice};
 
 use super::checked::{add, remove};
+use crate::expect::holds;
 use host_base::NoMemory;
 use host_base::limits::MAX_PRICE;
 use quoted_books::{MonthPairs, QuotedBook, cheapest_pair, is_pair_on, spreads_with};
@@ -74,26 +75,30 @@ fn costs(book: &QuotedBook<'_, Global>, cost: i64, other_month: u64) -> bool {
     }
 }
 
-/// A seller of the spread of the first month and each later one, and a seller of that later month.
-fn offered<'r>(rules: &'r Rulebook, alloc: Global) -> Result<QuotedBook<'r, Global>, NoMemory> {
-    let mut book = QuotedBook::new(alloc, rules)?;
-    add(&mut book, sell(1, Instrument::Spread(0, 1), 100))?;
-    add(&mut book, sell(2, Instrument::Outright(1), 9900))?;
-    add(&mut book, sell(3, Instrument::Spread(0, 2), 150))?;
-    add(&mut book, sell(4, Instrument::Outright(2), 9800))?;
-    Ok(book)
+/// Adds a seller of the spread of the first month and each later one, and a seller of that later month.
+fn add_offers<B: Book>(book: &mut B) -> Result<(), NoMemory> {
+    add(book, sell(1, Instrument::Spread(0, 1), 100))?;
+    add(book, sell(2, Instrument::Outright(1), 9900))?;
+    add(book, sell(3, Instrument::Spread(0, 2), 150))?;
+    add(book, sell(4, Instrument::Outright(2), 9800))?;
+    Ok(())
 }
 
 // 150 and 9800 are 9950; without the last order 100 and 9900 are 10000.
+fn expect_cheapest(rt: &impl Abort, book: &mut QuotedBook<'_, Global>) {
+    holds(rt, add_offers(book).is_ok());
+    holds(rt, book.is_all_on() && book.count() == 4);
+    holds(rt, costs(book, 9950, 2));
+    holds(rt, remove(book, 3));
+    holds(rt, costs(book, 10000, 1));
+    holds(rt, book.known_pair(Buy, 3).is_none());
+}
+
 #[test]
 fn cheapest_of_two_months(rt: HostRuntime) {
     let rules = Rulebook::read(THREE_MONTHS).expect(&rt, "a rulebook");
-    let mut book = offered(&rules, rt.alloc()).expect(&rt, "memory");
-    assert!(&rt; book.is_all_on() && book.count() == 4);
-    assert!(&rt; costs(&book, 9950, 2));
-    assert!(&rt; remove(&mut book, 3));
-    assert!(&rt; costs(&book, 10000, 1));
-    assert!(&rt; book.known_pair(Buy, 3).is_none());
+    let mut book = QuotedBook::new(rt.alloc(), &rules).expect(&rt, "memory");
+    expect_cheapest(&rt, &mut book);
 }
 
 fn is_queue(side: Side, month: u8, other_month: u8, instrument: Instrument, of: Side) -> bool {
@@ -105,7 +110,7 @@ fn is_queue(side: Side, month: u8, other_month: u8, instrument: Instrument, of: 
 #[test]
 fn spreads_of_a_month(rt: HostRuntime) {
     let rules = Rulebook::read(THREE_MONTHS).expect(&rt, "a rulebook");
-    assert!(&rt; is_queue(Buy, 1, 2, Instrument::Spread(1, 2), Sell));
-    assert!(&rt; is_queue(Buy, 1, 0, Instrument::Spread(0, 1), Buy));
-    assert!(&rt; is_pair_on(&rules, 1, 0) && is_pair_on(&rules, 0, 1));
+    holds(&rt, is_queue(Buy, 1, 2, Instrument::Spread(1, 2), Sell));
+    holds(&rt, is_queue(Buy, 1, 0, Instrument::Spread(0, 1), Buy));
+    holds(&rt, is_pair_on(&rules, 1, 0) && is_pair_on(&rules, 0, 1));
 }

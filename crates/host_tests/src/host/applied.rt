@@ -5,6 +5,7 @@ ghost use Rattle.spread_rules.specs.Journal.{FitsEntry};
 use super::check::DIRECT_BEFORE_IMPLIED;
 use super::reported::first_fills;
 use super::{read_again, three_months};
+use crate::expect::holds;
 use day_apply::{AppliedEntries, apply_journal, fills_of_journal};
 use spread_books::Book;
 use spread_rules::{Entry, Fill, Rulebook};
@@ -38,10 +39,10 @@ static DIRECT_FIRST: Applied = Applied {
 
 /// The book's orders have these places, and so much of each is left.
 fn expect_orders(rt: &impl Abort, book: &impl Book, want: &[(u64, u32)]) {
-    assert!(rt; book.len() == want.len());
+    holds(rt, book.len() == want.len());
     for n in 0..want.len() {
         let order = book.walk(n).expect(rt, "an order");
-        assert!(rt; (order.place, order.leaves) == want[n]);
+        holds(rt, (order.place, order.leaves) == want[n]);
     }
 }
 
@@ -61,10 +62,10 @@ fn apply_all(
     for entry in journal {
         applied.apply(entry).expect(rt, "memory");
         let made = applied.last_fills().len();
-        assert!(rt; want.made.get(seen).copied() == Some(made));
+        holds(rt, want.made.get(seen).copied() == Some(made));
         seen = seen.wrapping_add(1);
     }
-    assert!(rt; applied.count() == count as u64);
+    holds(rt, applied.count() == count as u64);
     expect_orders(rt, applied.book(), want.resting);
     applied.into_fills()
 }
@@ -74,10 +75,10 @@ fn expect_whole(rt: &impl Abort, alloc: Global, rules: &Rulebook, journal: &[Ent
     requires { All FitsEntry journal.now }
 {
     let whole = apply_journal(alloc, rules, stamp(), journal).expect(rt, "memory");
-    assert!(rt; whole.fills.as_slice() == fills);
-    assert!(rt; whole.out.len() == 16);
+    holds(rt, whole.fills.as_slice() == fills);
+    holds(rt, whole.out.len() == 16);
     let alone = fills_of_journal(alloc, rules, journal).expect(rt, "memory");
-    assert!(rt; alone.as_slice() == fills);
+    holds(rt, alone.as_slice() == fills);
 }
 
 /// The fills of the journal.
@@ -85,7 +86,7 @@ fn expect_applied(rt: &impl Abort, alloc: Global, want: &Applied) -> Vec<Fill> {
     let rules = three_months(rt);
     let journal = read_again(rt, alloc, want.journal);
     let fills = apply_all(rt, alloc, &rules, &journal, want);
-    assert!(rt; fills.len() == want.fills);
+    holds(rt, fills.len() == want.fills);
     expect_whole(rt, alloc, &rules, &journal, &fills);
     fills
 }
@@ -93,7 +94,7 @@ fn expect_applied(rt: &impl Abort, alloc: Global, want: &Applied) -> Vec<Fill> {
 #[test]
 fn first_trade_applied(rt: HostRuntime) {
     let fills = expect_applied(&rt, rt.alloc(), &FIRST_TRADE);
-    assert!(rt; fills.as_slice() == first_fills().as_slice());
+    holds(&rt, fills.as_slice() == first_fills().as_slice());
 }
 
 #[test]

@@ -1,6 +1,7 @@
 //! Claims of a journal's fills and months.
 use super::check::{DIRECT_BEFORE_IMPLIED, DIRECT_BEFORE_IMPLIED_TEXT};
 use super::three_months;
+use crate::expect::holds;
 use spread_host::{AuditFault, HostFault, audit};
 use spread_journal::JournalFault;
 use spread_rules::Rulebook;
@@ -95,9 +96,9 @@ fn expect_answer(
     match (audit(alloc, rules, journal, claim), want) {
         (Ok(()), Answer::Right) => {}
         (Err(AuditFault::Differs(found)), Answer::Differs(line, right)) => {
-            assert!(rt; found.line == line && found.right.as_slice() == right);
+            holds(rt, found.line == line && found.right.as_slice() == right);
         }
-        (Err(AuditFault::Host(found)), Answer::Fault(fault)) => assert!(rt; found == fault),
+        (Err(AuditFault::Host(found)), Answer::Fault(fault)) => holds(rt, found == fault),
         _ => rt.panic("another answer"),
     }
 }
@@ -121,7 +122,10 @@ fn audit_over<A: Allocator + Copy>(
         Ok(()) => Some(true),
         Err(AuditFault::Differs(_)) => Some(false),
         Err(AuditFault::Host(fault)) => {
-            assert!(rt; matches!(fault, HostFault::NoMemory(place) if place <= 6));
+            holds(
+                rt,
+                matches!(fault, HostFault::NoMemory(place) if place <= 6),
+            );
             None
         }
     }
@@ -133,15 +137,15 @@ fn expect_refusals(rt: &impl Abort, alloc: Global, rules: &Rulebook, claim: &[u8
     for number in 1..500u64 {
         let heap = Refusing::new(alloc, number);
         match audit_over(rt, &heap, rules, claim) {
-            Some(answer) => assert!(rt; answer == right),
+            Some(answer) => holds(rt, answer == right),
             None => {
-                assert!(rt; heap.has_refused());
+                holds(rt, heap.has_refused());
                 refused = refused.wrapping_add(1);
             }
         }
     }
     // Of 500 numbers most name no request.
-    assert!(rt; 0 < refused && refused < 250);
+    holds(rt, 0 < refused && refused < 250);
 }
 
 #[test]

@@ -1,6 +1,7 @@
 //! Journal texts, and the lines of their fills and months.
 use super::replaces::{ORDERS_FILLS, ORDERS_JOURNAL};
 use super::three_months;
+use crate::expect::holds;
 use host_base::TestSink;
 use spread_host::{HostFault, check};
 use spread_journal::JournalFault;
@@ -149,8 +150,8 @@ fn expect_checked(rt: &impl Abort, alloc: Global, rules: &Rulebook, case: &Check
         Ok(fills) => Ok(fills.len()),
         Err(fault) => Err(fault),
     };
-    assert!(rt; answer == case.answer);
-    assert!(rt; sink.bytes() == case.written);
+    holds(rt, answer == case.answer);
+    holds(rt, sink.bytes() == case.written);
 }
 
 #[test]

@@ -4,6 +4,7 @@ ghost use Rattle.fix_frames.specs.Frames.{IsFrameRow};
 ghost use Rattle.day_text.specs.DayText.{AreShown, texts_of};
 
 use super::{read_again, three_months};
+use crate::expect::holds;
 use day_text::{Day, write_sessions};
 use host_base::TestSink;
 use spread_host::{day_of, write_day};
@@ -61,7 +62,7 @@ fn expect_text(
 {
     let mut sink = TestSink::new(alloc, 4096, 0).expect(rt, "memory");
     write_day(alloc, rules, day, journal_only, &mut sink).expect(rt, "a sink that works");
-    assert!(rt; sink.bytes() == want);
+    holds(rt, sink.bytes() == want);
 }
 
 /// The lines of what each session is sent, written in pieces of so many bytes.
@@ -73,7 +74,7 @@ fn expect_sent(rt: &impl Abort, alloc: Global, day: &Day<Global>, room: usize, w
     let mut sink = TestSink::new(alloc, 300_000, 0).expect(rt, "memory");
     let mut piece = Vec::with_capacity(alloc, room).expect(rt, "memory");
     write_sessions(&mut piece, &mut sink, &day.out).expect(rt, "a sink that works");
-    assert!(rt; sink.bytes() == want);
+    holds(rt, sink.bytes() == want);
 }
 
 /// All that is written of the day. The lines are the same in pieces of any size.

@@ -1,4 +1,5 @@
 //! The numbers and texts of faults.
+use crate::expect::holds;
 use spread_host::HostFault;
 use spread_rules::RuleFault;
 
@@ -26,8 +27,8 @@ static FAULTS: [(HostFault, u8, &str); 9] = [
 #[test]
 fn fault_numbers(rt: HostRuntime) {
     for (fault, number, text) in &FAULTS {
-        assert!(rt; fault.number() == *number);
+        holds(&rt, fault.number() == *number);
         let written = fault.to_string(rt.alloc()).expect(&rt, "memory");
-        assert!(rt; written.as_str() == *text);
+        holds(&rt, written.as_str() == *text);
     }
 }

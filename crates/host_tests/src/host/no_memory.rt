@@ -1,6 +1,7 @@
 //! Each request for memory refused in turn.
 use super::check::{DIRECT_BEFORE_IMPLIED, DIRECT_BEFORE_IMPLIED_TEXT};
 use super::three_months;
+use crate::expect::holds;
 use host_base::{TestSink, TestSource};
 use spread_host::{HostFault, check, replay};
 use spread_rules::Rulebook;
@@ -56,7 +57,7 @@ fn replay_over<A: Allocator + Copy>(
     let lines = Vec::from_slice(alloc, THREE_LOGONS).expect(rt, "memory");
     let mut source = TestSource::new(lines, 0);
     let fault = replay(heap, rules, stamp(), &mut source, &mut sink, false).err();
-    assert!(rt; fault.is_none() || sink.bytes().is_empty());
+    holds(rt, fault.is_none() || sink.bytes().is_empty());
     fault
 }
 
@@ -74,7 +75,7 @@ fn check_over<A: Allocator + Copy>(
     } else {
         b""
     };
-    assert!(rt; sink.bytes() == written);
+    holds(rt, sink.bytes() == written);
     fault
 }
 
@@ -83,7 +84,7 @@ fn note_fault(rt: &impl Abort, places: &mut Places, has_refused: bool, fault: Op
     match fault {
         None => {}
         Some(HostFault::NoMemory(place)) => {
-            assert!(rt; has_refused && places.note(place));
+            holds(rt, has_refused && places.note(place));
         }
         Some(_) => rt.panic("another fault"),
     }
@@ -100,11 +101,11 @@ fn replay_refused_memory(rt: HostRuntime) {
         let heap = Refusing::new(rt.alloc(), number);
         let fault = replay_over(&rt, rt.alloc(), &heap, &rules);
         last_refused = heap.has_refused();
-        assert!(rt; fault.is_some() == last_refused);
+        holds(&rt, fault.is_some() == last_refused);
         note_fault(&rt, &mut places, last_refused, fault);
     }
-    assert!(rt; !last_refused);
-    assert!(rt; places.are(&[0, 1, 2, 3, 7]));
+    holds(&rt, !last_refused);
+    holds(&rt, places.are(&[0, 1, 2, 3, 7]));
 }
 
 /// Of the entries the first order is the second, and room for it was made before the first; the next order lets tables
@@ -121,7 +122,10 @@ fn check_refused_memory(rt: HostRuntime) {
         last_refused = heap.has_refused();
         note_fault(&rt, &mut places, last_refused, fault);
     }
-    assert!(rt; !last_refused);
-    assert!(rt; places.seen[0] && !places.seen[1] && !places.seen[2] && places.seen[3]);
-    assert!(rt; places.seen[5] && places.seen[6] && places.last == 6);
+    holds(&rt, !last_refused);
+    holds(
+        &rt,
+        places.seen[0] && !places.seen[1] && !places.seen[2] && places.seen[3],
+    );
+    holds(&rt, places.seen[5] && places.seen[6] && places.last == 6);
 }

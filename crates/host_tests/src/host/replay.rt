@@ -1,5 +1,6 @@
 //! Day lines cut anywhere, and the faults of `replay`.
 use super::three_months;
+use crate::expect::holds;
 use crate::headline::day_of_lines;
 use host_base::{TestSink, TestSource};
 use spread_host::HostFault;
@@ -314,7 +315,7 @@ fn expect_written(rt: &impl Abort, bytes: &[u8], written: &Written) {
         Written::FirstTrade => (first_trade, first_trade.len()),
         Written::FirstTradeStart(length) => (first_trade, length),
     };
-    assert!(rt; bytes.len() == length && text.starts_with(bytes));
+    holds(rt, bytes.len() == length && text.starts_with(bytes));
 }
 
 /// What is answered to these lines, and what is written, are the case's.
@@ -323,7 +324,7 @@ fn expect_replay(rt: &impl Abort, alloc: Global, rules: &Rulebook, lines: Vec<u8
     let mut sink = TestSink::new(alloc, case.room, case.fails.1).expect(rt, "memory");
     let only = case.journal_only;
     let fault = day_of_lines(alloc, rules, stamp(), &mut source, &mut sink, only).err();
-    assert!(rt; fault == case.fault);
+    holds(rt, fault == case.fault);
     expect_written(rt, sink.bytes(), &case.written);
 }
 

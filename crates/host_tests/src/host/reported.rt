@@ -3,6 +3,7 @@ ghost use Rattle.std.specs.Prelude.{All};
 ghost use Rattle.spread_rules.specs.Journal.{FitsEntry};
 
 use super::{read_again, three_months};
+use crate::expect::holds;
 use day_apply::{FillsAndMessages, ReportedEntries};
 use spread_rules::{Entry, Fill, Instrument, Rulebook, Side};
 use std::alloc::Global;
@@ -45,9 +46,12 @@ fn report_all(
     for entry in journal {
         reported.apply(entry).expect(rt, "memory");
     }
-    assert!(rt; reported.count() == journal.len() as u64);
+    holds(rt, reported.count() == journal.len() as u64);
     // Session 0 alone was sent something.
-    assert!(rt; reported.next_sent(0, 16) == 0 && reported.next_sent(1, 16) == 16);
+    holds(
+        rt,
+        reported.next_sent(0, 16) == 0 && reported.next_sent(1, 16) == 16,
+    );
     reported.into_parts()
 }
 
@@ -56,6 +60,6 @@ fn first_trade_reported(rt: HostRuntime) {
     let rules = three_months(&rt);
     let journal = read_again(&rt, rt.alloc(), FIRST_TRADE_JOURNAL);
     let parts = report_all(&rt, rt.alloc(), &rules, &journal);
-    assert!(rt; parts.fills.as_slice() == first_fills().as_slice());
-    assert!(rt; is_first_sent(&parts.out));
+    holds(&rt, parts.fills.as_slice() == first_fills().as_slice());
+    holds(&rt, is_first_sent(&parts.out));
 }

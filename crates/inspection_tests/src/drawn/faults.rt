@@ -1,5 +1,6 @@
 //! Days that are not drawn.
 use super::pictures::{DIRECT_BEFORE_IMPLIED, drawn};
+use crate::expect::holds;
 use day_picture::{DrawFault, draw};
 use host_base::{NoMemory, TestSink};
 use spread_journal::JournalFault;
@@ -26,9 +27,9 @@ fn journal_faults(rt: HostRuntime) -> Result<(), Fail> {
         let mut sink = TestSink::new(rt.alloc(), 1000, 0)?;
         match draw(rt.alloc(), &rules, journal, &mut sink) {
             Ok(()) => assert!(rt; false, "no {want}"),
-            Err(fault) => assert!(rt; fault == DrawFault::Journal(want)),
+            Err(fault) => holds(&rt, fault == DrawFault::Journal(want)),
         }
-        assert!(rt; sink.bytes() == b"".as_slice());
+        holds(&rt, sink.bytes() == b"".as_slice());
     }
     Ok(())
 }
@@ -41,8 +42,11 @@ fn failing_sink(rt: HostRuntime) -> Result<(), Fail> {
     for (fail, out) in [(0, 1000), (1, 0)] {
         let mut sink = TestSink::new(rt.alloc(), 1000, fail)?;
         let fault = draw(rt.alloc(), &rules, DIRECT_BEFORE_IMPLIED, &mut sink).err();
-        assert!(rt; fault == Some(DrawFault::Write));
-        assert!(rt; sink.bytes().len() == out && whole.bytes().starts_with(sink.bytes()));
+        holds(&rt, fault == Some(DrawFault::Write));
+        holds(
+            &rt,
+            sink.bytes().len() == out && whole.bytes().starts_with(sink.bytes()),
+        );
     }
     Ok(())
 }
@@ -68,17 +72,20 @@ fn refused_memory(rt: HostRuntime) -> Result<(), Fail> {
         let (fault, written) = draw_over(rt.alloc(), &heap, &rules)?;
         match fault {
             // A guess of a row that finds no memory is left out, and the picture is the same.
-            None => assert!(rt; written == whole),
+            None => holds(&rt, written == whole),
             Some(fault) => {
-                assert!(rt; fault == DrawFault::NoMemory && written == 0 && heap.has_refused());
+                holds(
+                    &rt,
+                    fault == DrawFault::NoMemory && written == 0 && heap.has_refused(),
+                );
                 refused = refused.wrapping_add(1);
             }
         }
         if !heap.has_refused() {
-            assert!(rt; refused > 20);
+            holds(&rt, refused > 20);
             return Ok(());
         }
     }
-    assert!(rt; false);
+    holds(&rt, false);
     Ok(())
 }

@@ -1,4 +1,5 @@
 //! Pictures of small days, their parts counted and placed by hand.
+use crate::expect::holds;
 use day_picture::{draw, put_bytes};
 use host_base::TestSink;
 use spread_rules::Rulebook;
@@ -47,9 +48,9 @@ const SYMBOLS: &[Part] = &[
 fn panels_of_what_traded(rt: HostRuntime) -> Result<(), Fail> {
     let sink = drawn(rt.alloc(), DIRECT_BEFORE_IMPLIED)?;
     let picture = sink.bytes();
-    assert!(rt; count(picture, b"<svg class=\"panel\"") == 3);
+    holds(&rt, count(picture, b"<svg class=\"panel\"") == 3);
     for (symbol, panels) in SYMBOLS {
-        assert!(rt; count(picture, symbol) == *panels);
+        holds(&rt, count(picture, symbol) == *panels);
     }
     Ok(())
 }
@@ -61,9 +62,15 @@ fn panels_of_what_traded(rt: HostRuntime) -> Result<(), Fail> {
 fn marks_of_trades(rt: HostRuntime) -> Result<(), Fail> {
     let sink = drawn(rt.alloc(), DIRECT_BEFORE_IMPLIED)?;
     let picture = sink.bytes();
-    assert!(rt; count(picture, b"<circle cx=") == 1);
-    assert!(rt; count(picture, b"<circle cx=\"6837\" cy=\"950\" r=\"78\"/>") == 1);
-    assert!(rt; count(picture, b"<path d=\"M6837 831l119 119-119 119-119-119z\"/>") == 3);
+    holds(&rt, count(picture, b"<circle cx=") == 1);
+    holds(
+        &rt,
+        count(picture, b"<circle cx=\"6837\" cy=\"950\" r=\"78\"/>") == 1,
+    );
+    holds(
+        &rt,
+        count(picture, b"<path d=\"M6837 831l119 119-119 119-119-119z\"/>") == 3,
+    );
     Ok(())
 }
 
@@ -72,12 +79,24 @@ fn marks_of_trades(rt: HostRuntime) -> Result<(), Fail> {
 fn steps_of_best_prices(rt: HostRuntime) -> Result<(), Fail> {
     let sink = drawn(rt.alloc(), DIRECT_BEFORE_IMPLIED)?;
     let picture = sink.bytes();
-    assert!(rt; count(picture, b"<path class=\"buy\" ") == 1);
-    assert!(rt; count(picture, b"<path class=\"sell\" ") == 3);
-    assert!(rt; count(picture, b"<path class=\"buy\" d=\"M6837 950h1678\"/>") == 1);
-    assert!(rt; count(picture, b"<path class=\"sell\" d=\"M1803 950h5034\"/>") == 1);
-    assert!(rt; count(picture, b"<path class=\"sell\" d=\"M3481 950h3356\"/>") == 1);
-    assert!(rt; count(picture, b"<path class=\"sell\" d=\"M5159 950h3356\"/>") == 1);
+    holds(&rt, count(picture, b"<path class=\"buy\" ") == 1);
+    holds(&rt, count(picture, b"<path class=\"sell\" ") == 3);
+    holds(
+        &rt,
+        count(picture, b"<path class=\"buy\" d=\"M6837 950h1678\"/>") == 1,
+    );
+    holds(
+        &rt,
+        count(picture, b"<path class=\"sell\" d=\"M1803 950h5034\"/>") == 1,
+    );
+    holds(
+        &rt,
+        count(picture, b"<path class=\"sell\" d=\"M3481 950h3356\"/>") == 1,
+    );
+    holds(
+        &rt,
+        count(picture, b"<path class=\"sell\" d=\"M5159 950h3356\"/>") == 1,
+    );
     Ok(())
 }
 
@@ -89,14 +108,18 @@ fn steps_up_and_down(rt: HostRuntime) -> Result<(), Fail> {
         b"JOURNAL 1\n0 logon 4331 484f5354 30\n0 new 61 4836 2 2 10002 day\n0 new 62 4836 2 3 10000 day\n0 new 63 4836 2 4 10004 day\n0 cancel 64 62\n0 new 65 4836 1 2 10002 day\nEND 6\n";
     let sink = drawn(rt.alloc(), journal)?;
     let picture = sink.bytes();
-    assert!(rt;
+    holds(
+        &rt,
         count(
             picture,
-            b"<path class=\"sell\" d=\"M1523 950h1398v825h2797v-825h1398v-825h1399\"/>"
-        ) == 1
+            b"<path class=\"sell\" d=\"M1523 950h1398v825h2797v-825h1398v-825h1399\"/>",
+        ) == 1,
     );
-    assert!(rt; count(picture, b"<path class=\"buy\" ") == 0);
-    assert!(rt; count(picture, b"<circle cx=\"7116\" cy=\"950\" r=\"95\"/>") == 1);
+    holds(&rt, count(picture, b"<path class=\"buy\" ") == 0);
+    holds(
+        &rt,
+        count(picture, b"<circle cx=\"7116\" cy=\"950\" r=\"95\"/>") == 1,
+    );
     Ok(())
 }
 
@@ -123,10 +146,10 @@ fn axes_and_legend(rt: HostRuntime) -> Result<(), Fail> {
     let sink = drawn(rt.alloc(), DIRECT_BEFORE_IMPLIED)?;
     let picture = sink.bytes();
     for (part, times) in MARKS {
-        assert!(rt; count(picture, part) == *times);
+        holds(&rt, count(picture, part) == *times);
     }
     // The places 1 to 5 below each of three panels; the legend has the sizes of 2 lots and of none below.
-    assert!(rt; count(picture, b">5</text>") == 3);
+    holds(&rt, count(picture, b">5</text>") == 3);
     Ok(())
 }
 
@@ -134,9 +157,12 @@ fn axes_and_legend(rt: HostRuntime) -> Result<(), Fail> {
 fn first_trade(rt: HostRuntime) -> Result<(), Fail> {
     let sink = drawn(rt.alloc(), FIRST_TRADE_JOURNAL)?;
     let picture = sink.bytes();
-    assert!(rt; count(picture, b"<svg class=\"panel\"") == 1);
-    assert!(rt; count(picture, b"<circle cx=") == 1);
-    assert!(rt; count(picture, b">1 direct, 0 implied, 5 lots</text>") == 1);
+    holds(&rt, count(picture, b"<svg class=\"panel\"") == 1);
+    holds(&rt, count(picture, b"<circle cx=") == 1);
+    holds(
+        &rt,
+        count(picture, b">1 direct, 0 implied, 5 lots</text>") == 1,
+    );
     Ok(())
 }
 
@@ -166,10 +192,10 @@ fn days_without_trades(rt: HostRuntime) -> Result<(), Fail> {
     for (journal, totals) in WITHOUT_TRADES {
         let sink = drawn(rt.alloc(), journal)?;
         let picture = sink.bytes();
-        assert!(rt; count(picture, totals) == 1);
-        assert!(rt; count(picture, b">Nothing was traded.</text>") == 1);
-        assert!(rt; count(picture, b"<svg ") == 1);
-        assert!(rt; count(picture, b"<circle ") == 0);
+        holds(&rt, count(picture, totals) == 1);
+        holds(&rt, count(picture, b">Nothing was traded.</text>") == 1);
+        holds(&rt, count(picture, b"<svg ") == 1);
+        holds(&rt, count(picture, b"<circle ") == 0);
     }
     Ok(())
 }
@@ -178,6 +204,9 @@ fn days_without_trades(rt: HostRuntime) -> Result<(), Fail> {
 fn bytes_as_text(rt: HostRuntime) -> Result<(), Fail> {
     let mut text = String::new(rt.alloc());
     put_bytes(&mut text, b"<H6&\"M6\">\x02~ ")?;
-    assert!(rt; text.as_bytes() == b"&lt;H6&amp;&quot;M6&quot;&gt;&#xfffd;~ ".as_slice());
+    holds(
+        &rt,
+        text.as_bytes() == b"&lt;H6&amp;&quot;M6&quot;&gt;&#xfffd;~ ".as_slice(),
+    );
     Ok(())
 }

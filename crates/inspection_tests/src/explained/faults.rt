@@ -1,4 +1,5 @@
 //! What is not explained.
+use crate::expect::holds;
 use day_explain::{ExplainFault, explain};
 use host_base::{NoMemory, TestSink};
 use spread_journal::JournalFault;
@@ -14,8 +15,8 @@ fn no_such_place(rt: HostRuntime) -> Result<(), Fail> {
     for place in [0, 5, u64::MAX] {
         let mut sink = TestSink::new(rt.alloc(), 1000, 0)?;
         let fault = explain(rt.alloc(), &rules, FIRST_TRADE_JOURNAL, place, &mut sink).err();
-        assert!(rt; fault == Some(ExplainFault::Place));
-        assert!(rt; sink.bytes() == b"".as_slice());
+        holds(&rt, fault == Some(ExplainFault::Place));
+        holds(&rt, sink.bytes() == b"".as_slice());
     }
     Ok(())
 }
@@ -35,8 +36,8 @@ fn bad_journals(rt: HostRuntime) -> Result<(), Fail> {
     for (journal, want) in rows {
         let mut sink = TestSink::new(rt.alloc(), 1000, 0)?;
         let fault = explain(rt.alloc(), &rules, journal, 1, &mut sink).err();
-        assert!(rt; fault == Some(ExplainFault::Journal(want)));
-        assert!(rt; sink.bytes() == b"".as_slice());
+        holds(&rt, fault == Some(ExplainFault::Journal(want)));
+        holds(&rt, sink.bytes() == b"".as_slice());
     }
     Ok(())
 }
@@ -46,8 +47,8 @@ fn sink_that_fails(rt: HostRuntime) -> Result<(), Fail> {
     let rules = Rulebook::read(THREE_MONTHS)?;
     let mut sink = TestSink::new(rt.alloc(), 10, 0)?;
     let fault = explain(rt.alloc(), &rules, FIRST_TRADE_JOURNAL, 3, &mut sink).err();
-    assert!(rt; fault == Some(ExplainFault::Write));
-    assert!(rt; sink.bytes() == b"entry 3, s".as_slice());
+    holds(&rt, fault == Some(ExplainFault::Write));
+    holds(&rt, sink.bytes() == b"entry 3, s".as_slice());
     Ok(())
 }
 
@@ -61,8 +62,8 @@ fn explain_over<A: Allocator + Copy>(
     let mut sink = TestSink::new(alloc, 1000, 0)?;
     let fault = explain(heap, rules, FIRST_TRADE_JOURNAL, 3, &mut sink).err();
     match fault {
-        None => assert!(rt; !sink.bytes().is_empty()),
-        Some(_) => assert!(rt; sink.bytes().is_empty()),
+        None => holds(rt, !sink.bytes().is_empty()),
+        Some(_) => holds(rt, sink.bytes().is_empty()),
     }
     Ok(fault)
 }
@@ -76,12 +77,12 @@ fn refused_memory(rt: HostRuntime) -> Result<(), Fail> {
             // A guess of a row that finds no memory is left out, and the answer is the same.
             None if heap.has_refused() => {}
             None => {
-                assert!(rt; number > 10);
+                holds(&rt, number > 10);
                 return Ok(());
             }
-            Some(fault) => assert!(rt; fault == ExplainFault::NoMemory && heap.has_refused()),
+            Some(fault) => holds(&rt, fault == ExplainFault::NoMemory && heap.has_refused()),
         }
     }
-    assert!(rt; false);
+    holds(&rt, false);
     Ok(())
 }

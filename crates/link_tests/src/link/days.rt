@@ -3,6 +3,7 @@ ghost use Rattle.gate_link.specs.Gateways.{SameGateway};
 ghost use Rattle.gate_link.specs.Links.{IsLinkOf, SameLink};
 
 use super::{Says, expect_journal};
+use crate::expect::holds;
 use gate_link::{Burst, Gateway, Sequencer, Settle, Step, Takes, Turn, link};
 use std::alloc::{Allocator, Global};
 use std::process::Abort;
@@ -43,7 +44,7 @@ fn put_letters<A: Allocator>(rt: &impl Abort, gateway: &mut Gateway<A>)
     ensures { SameGateway gateway.old gateway.new }
 {
     let letters = [b'x'; 8192];
-    assert!(rt; gateway.put(&letters) == 8192);
+    holds(rt, gateway.put(&letters) == 8192);
 }
 
 fn expect_steps_over<A: Allocator>(
@@ -54,8 +55,8 @@ fn expect_steps_over<A: Allocator>(
 )
     ensures { SameGateway gateway.old gateway.new }
 {
-    assert!(rt; 1 <= frames && frames <= 64);
-    assert!(rt; gateway.step_many(frames) == want);
+    holds(rt, 1 <= frames && frames <= 64);
+    holds(rt, gateway.step_many(frames) == want);
 }
 
 fn expect_judged<A: Allocator>(
@@ -67,28 +68,28 @@ fn expect_judged<A: Allocator>(
 )
     ensures { SameGateway gateway.old gateway.new }
 {
-    assert!(rt; frames <= 64);
+    holds(rt, frames <= 64);
     let ahead = gateway.judge_many(frames);
-    assert!(rt; ahead.messages == messages);
-    assert!(rt; 0 < ahead.messages);
-    assert!(rt; gateway.send_judged(frames, &ahead) == want);
+    holds(rt, ahead.messages == messages);
+    holds(rt, 0 < ahead.messages);
+    holds(rt, gateway.send_judged(frames, &ahead) == want);
 }
 
 fn expect_gateway_act<A: Allocator>(rt: &impl Abort, gateway: &mut Gateway<A>, act: &Act)
     ensures { SameGateway gateway.old gateway.new }
 {
     match act {
-        Act::Put(bytes, taken) => assert!(rt; gateway.put(bytes) == *taken),
+        Act::Put(bytes, taken) => holds(rt, gateway.put(bytes) == *taken),
         Act::PutLetters => put_letters(rt, gateway),
-        Act::Stands(stands) => assert!(rt; gateway.stands() == *stands),
-        Act::Steps(step) => assert!(rt; gateway.step() == *step),
-        Act::Ends(step) => assert!(rt; gateway.end() == *step),
-        Act::Standing(most, count) => assert!(rt; gateway.standing(*most) == *count),
+        Act::Stands(stands) => holds(rt, gateway.stands() == *stands),
+        Act::Steps(step) => holds(rt, gateway.step() == *step),
+        Act::Ends(step) => holds(rt, gateway.end() == *step),
+        Act::Standing(most, count) => holds(rt, gateway.standing(*most) == *count),
         Act::StepsOver(frames, burst) => expect_steps_over(rt, gateway, *frames, *burst),
         Act::JudgesAndSends(frames, messages, burst) => {
             expect_judged(rt, gateway, *frames, *messages, *burst);
         }
-        Act::IsClosed(is_closed) => assert!(rt; gateway.is_closed() == *is_closed),
+        Act::IsClosed(is_closed) => holds(rt, gateway.is_closed() == *is_closed),
         _ => assert!(rt; false, "no act of a gateway"),
     }
 }
@@ -97,8 +98,8 @@ fn expect_gateway_act<A: Allocator>(rt: &impl Abort, gateway: &mut Gateway<A>, a
 pub fn expect_turn<A: Allocator>(rt: &impl Abort, sequencer: &mut Sequencer<A>, want: Turn)
     ensures { SameLink sequencer.old sequencer.new }
 {
-    assert!(rt; sequencer.sessions() == 1);
-    assert!(rt; sequencer.turn(0) == want);
+    holds(rt, sequencer.sessions() == 1);
+    holds(rt, sequencer.turn(0) == want);
 }
 
 fn expect_turn_for<A: Allocator>(
@@ -109,9 +110,9 @@ fn expect_turn_for<A: Allocator>(
 )
     ensures { SameLink sequencer.old sequencer.new }
 {
-    assert!(rt; sequencer.sessions() == 1);
-    assert!(rt; 1 <= most && most <= 64);
-    assert!(rt; sequencer.turn_many(0, most) == want);
+    holds(rt, sequencer.sessions() == 1);
+    holds(rt, 1 <= most && most <= 64);
+    holds(rt, sequencer.turn_many(0, most) == want);
 }
 
 /// Any act but Settles.
@@ -140,9 +141,9 @@ fn expect_act<A: Allocator>(
     requires { IsLinkOf sequencer.old gateways.old }
     ensures { IsLinkOf sequencer.new gateways.new }
 {
-    assert!(rt; gateways.len() == 1);
+    holds(rt, gateways.len() == 1);
     match act {
-        Act::Settles(settle) => assert!(rt; sequencer.settle(gateways) == *settle),
+        Act::Settles(settle) => holds(rt, sequencer.settle(gateways) == *settle),
         _ => expect_of_two(rt, &mut gateways[0], sequencer, act),
     }
 }
@@ -158,8 +159,8 @@ fn expect_acts<A: Allocator>(
     for act in day.acts {
         expect_act(rt, gateways, sequencer, act);
     }
-    assert!(rt; gateways.len() == 1);
-    assert!(rt; gateways[0].session() == 0);
+    holds(rt, gateways.len() == 1);
+    holds(rt, gateways[0].session() == 0);
     expect_journal(rt, sequencer.journal(), day.says);
 }
 

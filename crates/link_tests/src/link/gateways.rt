@@ -2,6 +2,7 @@
 use super::days::Act::{Ends, IsClosed, Put, PutLetters, Settles, Stands, Steps, Turns};
 use super::days::{Day, expect_day, expect_turn};
 use super::{FIRST_TRADE_SAYS, LOGON, Says, expect_journal};
+use crate::expect::holds;
 use gate_link::{Gateway, Sequencer, Settle, Step, Turn, link};
 use std::alloc::Allocator;
 use std::process::Abort;
@@ -115,18 +116,18 @@ fn put_byte<A: Allocator>(
     byte: &[u8],
     is_full: bool,
 ) -> bool {
-    assert!(rt; gateway.put(byte) == 1);
+    holds(rt, gateway.put(byte) == 1);
     if !gateway.stands() {
-        assert!(rt; gateway.step() == Step::Need);
+        holds(rt, gateway.step() == Step::Need);
         return is_full;
     }
     if is_full {
-        assert!(rt; gateway.step() == Step::Full);
-        assert!(rt; gateway.stands());
+        holds(rt, gateway.step() == Step::Full);
+        holds(rt, gateway.stands());
         expect_turn(rt, sequencer, Turn::Took);
     }
-    assert!(rt; gateway.step() == Step::Sent);
-    assert!(rt; !gateway.stands());
+    holds(rt, gateway.step() == Step::Sent);
+    holds(rt, !gateway.stands());
     true
 }
 
@@ -135,14 +136,14 @@ fn put_each_byte<A: Allocator>(
     gateway: &mut Gateway<A>,
     sequencer: &mut Sequencer<A>,
 ) {
-    assert!(rt; !gateway.stands());
-    assert!(rt; gateway.step() == Step::Need);
+    holds(rt, !gateway.stands());
+    holds(rt, gateway.step() == Step::Need);
     let mut is_full = false;
     for byte in FIRST_TRADE.chunks(1) {
         is_full = put_byte(rt, gateway, sequencer, byte, is_full);
     }
-    assert!(rt; gateway.is_closed());
-    assert!(rt; gateway.step() == Step::Closed);
+    holds(rt, gateway.is_closed());
+    holds(rt, gateway.step() == Step::Closed);
     expect_turn(rt, sequencer, Turn::Took);
     expect_turn(rt, sequencer, Turn::Done);
     expect_journal(rt, sequencer.journal(), FIRST_TRADE_SAYS.as_slice());

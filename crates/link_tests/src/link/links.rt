@@ -1,4 +1,5 @@
 //! Links that are refused, and memory refused.
+use crate::expect::holds;
 use gate_link::{LinkFault, link};
 use test_support::Refusing;
 
@@ -15,9 +16,9 @@ const REFUSED: &[(usize, usize, usize, u8)] = &[
 fn refused_links(rt: HostRuntime) {
     for (sessions, ring, journal, number) in REFUSED {
         let fault = link(rt.alloc(), *sessions, *ring, *journal).err();
-        assert!(rt; fault.expect(&rt, "a fault").number() == *number);
+        holds(&rt, fault.expect(&rt, "a fault").number() == *number);
     }
-    assert!(rt; LinkFault::NoMemory.number() == 3);
+    holds(&rt, LinkFault::NoMemory.number() == 3);
 }
 
 /// NoMemory comes where a request was refused, and only there.
@@ -26,11 +27,14 @@ fn links_with_memory_refused(rt: HostRuntime) {
     for number in 1..100u64 {
         let heap = Refusing::new(rt.alloc(), number);
         let fault = link(&heap, 3, 4, 10).err();
-        assert!(rt; fault == heap.has_refused().then_some(LinkFault::NoMemory));
+        holds(
+            &rt,
+            fault == heap.has_refused().then_some(LinkFault::NoMemory),
+        );
         if fault.is_none() {
-            assert!(rt; number > 3);
+            holds(&rt, number > 3);
             return;
         }
     }
-    assert!(rt; false);
+    holds(&rt, false);
 }

@@ -1,4 +1,5 @@
 //! The rings behind the sequencer: to the thread that matches, and to a session's writer.
+use crate::expect::holds;
 use gate_link::{
     Give, LinkFault, Post, Poster, Taken, Writer, Wrote, agree, feed_ring, finished, post_ring,
 };
@@ -27,7 +28,7 @@ fn entries_to<A: Allocator>(rt: &impl Abort, alloc: A, last: u32) -> Vec<Entry, 
 
 /// The entry with this number is what is taken.
 fn expect_entry(rt: &impl Abort, taken: Taken, number: u32) {
-    assert!(rt; taken == Taken::Entry(entry(number)));
+    holds(rt, taken == Taken::Entry(entry(number)));
 }
 
 #[test]
@@ -36,14 +37,14 @@ fn entries_are_given_in_slices(rt: HostRuntime) {
     let Ok((mut feeder, mut matcher)) = feed_ring(rt.alloc(), 2) else {
         panic!(rt; "no ring");
     };
-    assert!(rt; feeder.give(&journal) == Give::Gave(2));
-    assert!(rt; feeder.give(&journal) == Give::Full);
+    holds(&rt, feeder.give(&journal) == Give::Gave(2));
+    holds(&rt, feeder.give(&journal) == Give::Full);
     expect_entry(&rt, matcher.take(), 1);
-    assert!(rt; feeder.give(&journal) == Give::Gave(1));
-    assert!(rt; feeder.give(&journal) == Give::Level);
+    holds(&rt, feeder.give(&journal) == Give::Gave(1));
+    holds(&rt, feeder.give(&journal) == Give::Level);
     expect_entry(&rt, matcher.take(), 2);
     expect_entry(&rt, matcher.take(), 3);
-    assert!(rt; matcher.take() == Taken::Empty);
+    holds(&rt, matcher.take() == Taken::Empty);
 }
 
 /// What is taken from the ring at once is handed out one by one, in order, and the ring has room meanwhile.
@@ -53,16 +54,16 @@ fn entries_are_held_where_they_are_taken(rt: HostRuntime) {
     let Ok((mut feeder, mut matcher)) = feed_ring(rt.alloc(), 2) else {
         panic!(rt; "no ring");
     };
-    assert!(rt; feeder.give(&journal) == Give::Gave(2));
+    holds(&rt, feeder.give(&journal) == Give::Gave(2));
     expect_entry(&rt, matcher.take(), 1);
-    assert!(rt; feeder.give(&journal) == Give::Gave(2));
+    holds(&rt, feeder.give(&journal) == Give::Gave(2));
     expect_entry(&rt, matcher.take(), 2);
     expect_entry(&rt, matcher.take(), 3);
-    assert!(rt; feeder.give(&journal) == Give::Gave(1));
-    assert!(rt; !agree(&mut feeder, &mut matcher));
+    holds(&rt, feeder.give(&journal) == Give::Gave(1));
+    holds(&rt, !agree(&mut feeder, &mut matcher));
     expect_entry(&rt, matcher.take(), 4);
     expect_entry(&rt, matcher.take(), 5);
-    assert!(rt; matcher.take() == Taken::Empty);
+    holds(&rt, matcher.take() == Taken::Empty);
 }
 
 /// More entries than are taken at once, and the mark behind them.
@@ -72,12 +73,12 @@ fn forty_entries(rt: HostRuntime) {
     let Ok((mut feeder, mut matcher)) = feed_ring(rt.alloc(), 64) else {
         panic!(rt; "no ring");
     };
-    assert!(rt; feeder.give(&journal) == Give::Gave(40));
-    assert!(rt; feeder.end() == Give::Gave(0));
+    holds(&rt, feeder.give(&journal) == Give::Gave(40));
+    holds(&rt, feeder.end() == Give::Gave(0));
     for number in 1..=40 {
         expect_entry(&rt, matcher.take(), number);
     }
-    assert!(rt; matcher.take() == Taken::Ended);
+    holds(&rt, matcher.take() == Taken::Ended);
 }
 
 /// What was taken is what was given where the end mark was taken, and only there.
@@ -87,20 +88,20 @@ fn entries_end_with_a_mark(rt: HostRuntime) {
     let Ok((mut feeder, mut matcher)) = feed_ring(rt.alloc(), 1) else {
         panic!(rt; "no ring");
     };
-    assert!(rt; feeder.give(&journal) == Give::Gave(1));
-    assert!(rt; feeder.end() == Give::Full);
+    holds(&rt, feeder.give(&journal) == Give::Gave(1));
+    holds(&rt, feeder.end() == Give::Full);
     expect_entry(&rt, matcher.take(), 1);
-    assert!(rt; feeder.end() == Give::Gave(0));
-    assert!(rt; feeder.end() == Give::Ended);
-    assert!(rt; feeder.give(&journal) == Give::Ended);
-    assert!(rt; !agree(&mut feeder, &mut matcher));
-    assert!(rt; matcher.take() == Taken::Ended);
-    assert!(rt; matcher.take() == Taken::Ended);
-    assert!(rt; agree(&mut feeder, &mut matcher));
+    holds(&rt, feeder.end() == Give::Gave(0));
+    holds(&rt, feeder.end() == Give::Ended);
+    holds(&rt, feeder.give(&journal) == Give::Ended);
+    holds(&rt, !agree(&mut feeder, &mut matcher));
+    holds(&rt, matcher.take() == Taken::Ended);
+    holds(&rt, matcher.take() == Taken::Ended);
+    holds(&rt, agree(&mut feeder, &mut matcher));
 }
 
 fn expect_posted<A: Allocator>(rt: &impl Abort, poster: &mut Poster<A>, bytes: &[u8], want: Post) {
-    assert!(rt; poster.post(bytes) == want);
+    holds(rt, poster.post(bytes) == want);
 }
 
 /// The same of several pieces at once.
@@ -110,16 +111,16 @@ fn expect_posted_many<A: Allocator>(
     bytes: &[u8],
     want: Post,
 ) {
-    assert!(rt; poster.post_many(bytes) == want);
+    holds(rt, poster.post_many(bytes) == want);
 }
 
 /// The poster ends, or cannot yet.
 fn expect_end<A: Allocator>(rt: &impl Abort, poster: &mut Poster<A>, want: Post) {
-    assert!(rt; poster.end() == want);
+    holds(rt, poster.end() == want);
 }
 
 fn expect_taken<A: Allocator>(rt: &impl Abort, writer: &mut Writer<A>, want: Wrote) {
-    assert!(rt; writer.take() == Ok(want));
+    holds(rt, writer.take() == Ok(want));
 }
 
 /// At most 63 bytes are posted as one piece. The ring has room for one.
@@ -133,7 +134,7 @@ fn expect_pieces<A: Allocator>(rt: &impl Abort, poster: &mut Poster<A>, writer: 
     expect_end(rt, poster, Post::Full);
     expect_taken(rt, writer, Wrote::Bytes(37));
     expect_taken(rt, writer, Wrote::Empty);
-    assert!(rt; writer.bytes() == bytes.as_slice());
+    holds(rt, writer.bytes() == bytes.as_slice());
 }
 
 #[test]
@@ -156,7 +157,7 @@ fn expect_many<A: Allocator>(rt: &impl Abort, poster: &mut Poster<A>, writer: &m
     expect_end(rt, poster, Post::Posted(0));
     expect_posted_many(rt, poster, &bytes, Post::Ended);
     expect_taken(rt, writer, Wrote::Bytes(4));
-    assert!(rt; writer.bytes() == bytes.as_slice());
+    holds(rt, writer.bytes() == bytes.as_slice());
 }
 
 #[test]
@@ -164,27 +165,27 @@ fn bytes_are_posted_in_several_pieces(rt: HostRuntime) {
     let (mut poster, mut writer) = post_ring(rt.alloc(), 2).expect(&rt, "a ring");
     expect_many(&rt, &mut poster, &mut writer);
     let (mut poster, mut writer) = post_ring(rt.alloc(), 8).expect(&rt, "a ring");
-    assert!(rt; poster.post_many(&[b'y'; 1200]) == Post::Posted(1016));
-    assert!(rt; poster.post_many(&[b'y'; 1200]) == Post::Posted(1016));
-    assert!(rt; poster.post_many(&[b'y'; 1200]) == Post::Full);
-    assert!(rt; writer.take() == Ok(Wrote::Bytes(254)));
-    assert!(rt; writer.bytes() == [b'y'; 254].as_slice());
+    holds(&rt, poster.post_many(&[b'y'; 1200]) == Post::Posted(1016));
+    holds(&rt, poster.post_many(&[b'y'; 1200]) == Post::Posted(1016));
+    holds(&rt, poster.post_many(&[b'y'; 1200]) == Post::Full);
+    holds(&rt, writer.take() == Ok(Wrote::Bytes(254)));
+    holds(&rt, writer.bytes() == [b'y'; 254].as_slice());
 }
 
 /// What is written is what was posted where the end mark was taken, and only there.
 #[test]
 fn bytes_end_with_a_mark(rt: HostRuntime) {
     let (mut poster, mut writer) = post_ring(rt.alloc(), 2).expect(&rt, "a ring");
-    assert!(rt; poster.post(b"8=FIX") == Post::Posted(5));
-    assert!(rt; poster.end() == Post::Posted(0));
-    assert!(rt; poster.end() == Post::Ended);
-    assert!(rt; poster.post(b"8=FIX") == Post::Ended);
-    assert!(rt; writer.take() == Ok(Wrote::Bytes(5)));
-    assert!(rt; !finished(&mut poster, &mut writer));
-    assert!(rt; writer.take() == Ok(Wrote::Ended));
-    assert!(rt; writer.take() == Ok(Wrote::Ended));
-    assert!(rt; finished(&mut poster, &mut writer));
-    assert!(rt; writer.into_bytes().as_slice() == b"8=FIX".as_slice());
+    holds(&rt, poster.post(b"8=FIX") == Post::Posted(5));
+    holds(&rt, poster.end() == Post::Posted(0));
+    holds(&rt, poster.end() == Post::Ended);
+    holds(&rt, poster.post(b"8=FIX") == Post::Ended);
+    holds(&rt, writer.take() == Ok(Wrote::Bytes(5)));
+    holds(&rt, !finished(&mut poster, &mut writer));
+    holds(&rt, writer.take() == Ok(Wrote::Ended));
+    holds(&rt, writer.take() == Ok(Wrote::Ended));
+    holds(&rt, finished(&mut poster, &mut writer));
+    holds(&rt, writer.into_bytes().as_slice() == b"8=FIX".as_slice());
 }
 
 /// The writer finds no memory, has taken nothing, and takes the same piece afterwards.
@@ -193,10 +194,10 @@ fn expect_taken_again<A: Allocator>(
     poster: &mut Poster<A>,
     writer: &mut Writer<A>,
 ) {
-    assert!(rt; poster.post(b"8=FIX") == Post::Posted(5));
-    assert!(rt; writer.take() == Err(NoMemory));
-    assert!(rt; writer.bytes().is_empty());
-    assert!(rt; writer.take() == Ok(Wrote::Bytes(5)));
+    holds(rt, poster.post(b"8=FIX") == Post::Posted(5));
+    holds(rt, writer.take() == Err(NoMemory));
+    holds(rt, writer.bytes().is_empty());
+    holds(rt, writer.take() == Ok(Wrote::Bytes(5)));
 }
 
 /// Says whether a ring was had, and the first request behind it is refused.
@@ -221,11 +222,11 @@ fn writer_with_memory_refused(rt: HostRuntime) {
 }
 
 fn expect_no_feed<A: Allocator + Copy>(rt: &impl Abort, alloc: A, ring: usize, want: LinkFault) {
-    assert!(rt; feed_ring(alloc, ring).err() == Some(want));
+    holds(rt, feed_ring(alloc, ring).err() == Some(want));
 }
 
 fn expect_no_post<A: Allocator + Copy>(rt: &impl Abort, alloc: A, ring: usize, want: LinkFault) {
-    assert!(rt; post_ring(alloc, ring).err() == Some(want));
+    holds(rt, post_ring(alloc, ring).err() == Some(want));
 }
 
 #[test]

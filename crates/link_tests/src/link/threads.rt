@@ -9,6 +9,7 @@ ghost use denote.Param.Send.{IsSync};
 use super::days::Act::{Ends, IsClosed, Steps, Turns};
 use super::days::{Act, expect_of_two};
 use super::{FIRST_TRADE_SAYS, expect_journal, is_said};
+use crate::expect::holds;
 use gate_link::{Gateway, Sequencer, Settle, Step, Turn, link};
 use spread_rules::Entry;
 use std::alloc::{Allocator, Global};
@@ -95,11 +96,11 @@ fn expect_session(rt: &impl Abort, journal: &[Entry], session: u8) {
     for entry in journal {
         if entry.session == session {
             let says = FIRST_TRADE_SAYS.get(count).expect(rt, "four events");
-            assert!(rt; is_said(&entry.event, says));
+            holds(rt, is_said(&entry.event, says));
             count += 1;
         }
     }
-    assert!(rt; count == 4);
+    holds(rt, count == 4);
 }
 
 /// Two sessions over rings of one event: the journal has the whole day of each.
@@ -107,7 +108,10 @@ fn expect_session(rt: &impl Abort, journal: &[Entry], session: u8) {
 fn two_threads(rt: HostRuntime) {
     let (mut gateways, mut sequencer) = link(rt.alloc(), 2, 1, 8).expect(&rt, "a link");
     run(&rt, gateways.as_mut_slice(), &mut sequencer);
-    assert!(rt; sequencer.settle(gateways.as_mut_slice()) == Settle::Settled);
+    holds(
+        &rt,
+        sequencer.settle(gateways.as_mut_slice()) == Settle::Settled,
+    );
     expect_session(&rt, sequencer.journal(), 0);
     expect_session(&rt, sequencer.journal(), 1);
 }
@@ -142,7 +146,7 @@ fn second_half<A: Allocator>(
     gateway: &mut Gateway<A>,
     sequencer: &mut Sequencer<A>,
 ) {
-    assert!(rt; gateway.put(&FIRST_TRADE[250..]) == 150);
+    holds(rt, gateway.put(&FIRST_TRADE[250..]) == 150);
     for act in SECOND_HALF {
         expect_of_two(rt, gateway, sequencer, act);
     }

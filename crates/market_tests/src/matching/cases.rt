@@ -3,6 +3,7 @@ ghost use Rattle.std.specs.Prelude.{◌≡◌};
 ghost use Rattle.spread_match.specs.State.{empty_state};
 
 use super::{buy, cancel, is_priced, logon, replace, sell, ticket};
+use crate::expect::holds;
 use spread_books::{Book, ListBook};
 use spread_match::Market;
 use spread_rules::{Entry, Event, Fill, Instrument, Order, Outcome, Rulebook, Side, Ticket};
@@ -185,22 +186,22 @@ fn fill_of(line: &Line, found: &Fill) -> Fill {
 }
 
 pub(super) fn expect_fill(rt: &impl Abort, fill: &Fill, wanted: &Line) {
-    assert!(rt; *fill == fill_of(wanted, fill));
+    holds(rt, *fill == fill_of(wanted, fill));
 }
 
 pub(super) fn expect_fills(rt: &impl Abort, fills: &[Fill], wanted: &[Line]) {
-    assert!(rt; fills.len() == wanted.len());
+    holds(rt, fills.len() == wanted.len());
     for i in 0..wanted.len() {
         expect_fill(rt, &fills[i], &wanted[i]);
     }
 }
 
 fn expect_resting<B: Book>(rt: &impl Abort, book: &B, wanted: &[(u64, u32)]) {
-    assert!(rt; book.len() == wanted.len());
+    holds(rt, book.len() == wanted.len());
     for n in 0..wanted.len() {
         let order = book.walk(n).expect(rt, "a resting order");
-        assert!(rt; order.place == wanted[n].0);
-        assert!(rt; order.leaves == wanted[n].1);
+        holds(rt, order.place == wanted[n].0);
+        holds(rt, order.leaves == wanted[n].1);
     }
 }
 
@@ -215,11 +216,11 @@ fn expect_outcomes<B: Book>(
 {
     for n in 0..journal.len() {
         let entry = entry_of(&journal[n]);
-        assert!(rt; is_priced(&entry));
+        holds(rt, is_priced(&entry));
         let outcome = market
             .apply(n as u64 + 1, &entry, fills)
             .expect(rt, "memory");
-        assert!(rt; outcome == outcome_of(&journal[n]));
+        holds(rt, outcome == outcome_of(&journal[n]));
     }
 }
 

@@ -3,6 +3,7 @@ ghost use Rattle.std.specs.Prelude.{◌≡◌, []};
 ghost use Rattle.spread_match.specs.State.{empty_state};
 
 use super::{append_resting, cancel, day, is_priced, replace};
+use crate::expect::holds;
 use spread_books::{Book, FrontBook, HeapBook, IndexBook, ListBook};
 use spread_match::Market;
 use spread_rules::{Entry, Event, Fill, Order, Outcome, Rulebook, Side, Ticket};
@@ -64,7 +65,7 @@ fn note_all<B: Book>(
     requires { market.old.state ≡ empty_state }
 {
     for n in 0..journal.len() {
-        assert!(rt; is_priced(&journal[n]));
+        holds(rt, is_priced(&journal[n]));
         let outcome = market
             .apply(n as u64 + 1, &journal[n], &mut run.fills)
             .expect(rt, "memory");
@@ -73,7 +74,7 @@ fn note_all<B: Book>(
 }
 
 fn expect_equal<T: PartialEq>(rt: &impl Abort, found: &[T], wanted: &[T]) {
-    assert!(rt; found == wanted);
+    holds(rt, found == wanted);
 }
 
 fn expect_same(rt: &impl Abort, run: &Run, wanted: &Run) {
@@ -212,7 +213,7 @@ fn replaced(run: &Run) -> (usize, usize) {
 fn wanted_run(rt: &impl Abort, alloc: Global, rules: &Rulebook, journal: &[Entry]) -> Run {
     let wanted = run_over(rt, alloc, rules, ListBook::new(alloc), journal);
     let (kept, lost) = replaced(&wanted);
-    assert!(rt; kept > 2 && lost > 5 && wanted.fills.len() > 20);
+    holds(rt, kept > 2 && lost > 5 && wanted.fills.len() > 20);
     wanted
 }
 

@@ -3,6 +3,7 @@ ghost use Rattle.std.specs.Prelude.{◌<◌, ◌≡◌};
 ghost use Rattle.spread_match.specs.State.{empty_state};
 
 use super::{H6_M6, buy, is_priced, sell};
+use crate::expect::holds;
 use spread_books::ListBook;
 use spread_match::Market;
 use spread_match::laws::{lawful, ranges, without_replace};
@@ -22,9 +23,9 @@ fn expect_rested(
     requires { market.old.state.last < place }
     ensures { market.new.state.last ≡ place }
 {
-    assert!(rt; is_priced(entry));
+    holds(rt, is_priced(entry));
     let outcome = market.apply(place, entry, fills).expect(rt, "memory");
-    assert!(rt; outcome == Outcome::Rested);
+    holds(rt, outcome == Outcome::Rested);
 }
 
 /// A buyer of the spread.
@@ -50,7 +51,7 @@ fn expect_best(
     requires { market.old.state ≡ empty_state }
 {
     market.reserve(2).expect(rt, "memory");
-    assert!(rt; market.best(&buyer()) == None);
+    holds(rt, market.best(&buyer()) == None);
     expect_rested(rt, market, 2, &sell(b"a", b"H6", 3, 10000), fills);
     expect_rested(rt, market, 7, &buy(b"b", b"M6", 2, 9800), fills);
     let wanted = Choice {
@@ -58,7 +59,7 @@ fn expect_best(
         quantity: 2,
         members: Members::Implied(2, 7),
     };
-    assert!(rt; market.best(&buyer()) == Some(wanted));
+    holds(rt, market.best(&buyer()) == Some(wanted));
 }
 
 #[test]

@@ -8,6 +8,7 @@ use super::cases::Line::{Of, OfSpread};
 use super::cases::Sent::{Buy, Cancel, ReplaceBuy, ReplaceSell, Sell};
 use super::cases::{Case, Kept, Step, entry_of, expect_over_list, outcome_of};
 use super::{H6, H6_M6, M6, append_resting, is_priced};
+use crate::expect::holds;
 use host_base::NoMemory;
 use spread_books::{Book, IndexBook, ListBook};
 use spread_match::Market;
@@ -27,7 +28,7 @@ struct Heaps<'h> {
 fn expect_resting<B: Book>(rt: &impl Abort, alloc: Global, book: &B, wanted: &[Order]) {
     let mut orders = Vec::new(alloc);
     append_resting(rt, &mut orders, book);
-    assert!(rt; orders.as_slice() == wanted);
+    holds(rt, orders.as_slice() == wanted);
 }
 
 /// Applies the entry, and again where a request was refused in it: then nothing has changed, neither the fills nor the
@@ -51,9 +52,9 @@ fn apply_again<B: Book, A: Allocator + Copy>(
     match market.apply(place, entry, fills) {
         Ok(outcome) => outcome,
         Err(NoMemory) => {
-            assert!(rt; !refused_before && heaps.refusing.has_refused());
+            holds(rt, !refused_before && heaps.refusing.has_refused());
             expect_resting(rt, heaps.ample, market.book(), &orders);
-            assert!(rt; fills.len() == before);
+            holds(rt, fills.len() == before);
             market.apply(place, entry, fills).expect(rt, "memory")
         }
     }
@@ -72,11 +73,11 @@ fn expect_outcomes<B: Book, A: Allocator + Copy>(
 {
     for n in 0..journal.len() {
         let (entry, wanted) = &journal[n];
-        assert!(rt; is_priced(entry));
+        holds(rt, is_priced(entry));
         let outcome = apply_again(rt, heaps, market, n as u64 + 1, entry, fills);
-        assert!(rt; outcome == *wanted);
+        holds(rt, outcome == *wanted);
     }
-    assert!(rt; fills.as_slice() == wanted);
+    holds(rt, fills.as_slice() == wanted);
 }
 
 /// The same in a market over that book.
@@ -164,7 +165,7 @@ fn refuse_each(
             return;
         }
     }
-    assert!(rt; false);
+    holds(rt, false);
 }
 
 /// The entries of a journal, and what each must come to.

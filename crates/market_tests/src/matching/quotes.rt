@@ -8,6 +8,7 @@ use super::cases::{Case, Kept, expect_case, expect_over_list};
 use super::every_book::instrument;
 use super::pairs::H6_U6_OFF;
 use super::{H6, H6_M6, U6, append_resting, cancel, day, is_priced};
+use crate::expect::holds;
 use spread_books::{Book, IndexBook};
 use spread_match::Market;
 use spread_rules::{Choice, Entry, Fill, Instrument, Members, Order, Rulebook, Side};
@@ -48,7 +49,10 @@ fn expect_quotes_of(
     quotes: &[(Instrument, Option<(i64, u64, u64)>)],
 ) {
     for (instrument, wanted) in quotes {
-        assert!(rt; quote_of(market, *instrument, Side::Buy) == choice_of(*wanted));
+        holds(
+            rt,
+            quote_of(market, *instrument, Side::Buy) == choice_of(*wanted),
+        );
     }
 }
 
@@ -216,8 +220,8 @@ fn expect_at_hand<B: Book + Drop>(
 {
     let mut market = Market::new(alloc, rules, book);
     expect_case(rt, &mut market, &AT_HAND, &mut Vec::new(alloc));
-    assert!(rt; at_hand(&market, rules) == Some(Some((9500, 0))));
-    assert!(rt; at_hand(&market, without) == None);
+    holds(rt, at_hand(&market, rules) == Some(Some((9500, 0))));
+    holds(rt, at_hand(&market, without) == None);
 }
 
 #[test]
@@ -357,7 +361,7 @@ fn compare_one(
     side: Side,
 ) -> usize {
     let quote = quote_of(market, instrument, side);
-    assert!(rt; quote == searched(orders, instrument, side));
+    holds(rt, quote == searched(orders, instrument, side));
     usize::from(quote.is_some())
 }
 
@@ -400,7 +404,7 @@ fn quotes_behind(
     let mut quotes = 0usize;
     for place in 1..100u64 {
         let entry = chosen_entry(chance);
-        assert!(rt; is_priced(&entry));
+        holds(rt, is_priced(&entry));
         let _ = market.apply(place, &entry, fills).expect(rt, "memory");
         quotes = quotes.wrapping_add(compare_all(rt, alloc, market));
     }
@@ -425,6 +429,6 @@ fn as_a_search_finds_them(rt: HostRuntime) {
         let mut chance = Chance::new(seed);
         let mut fills = Vec::new(rt.alloc());
         let quotes = quotes_of_a_run(&rt, rt.alloc(), &rules, &mut chance, &mut fills);
-        assert!(rt; quotes > 200);
+        holds(&rt, quotes > 200);
     }
 }

@@ -4,6 +4,7 @@ use super::cases::Line::{Of, OfSpread};
 use super::cases::Sent::{Buy, Cancel, Logon, Sell};
 use super::cases::{Case, Line, expect_cases, expect_fill, expect_fills};
 use super::{H6, H6_M6, M6, apply_all, buy, sell};
+use crate::expect::holds;
 use spread_books::ListBook;
 use spread_match::Market;
 use spread_rules::{Entry, Fill, Instrument, Rulebook, Side};
@@ -164,7 +165,7 @@ fn thousand_sellers(rt: &impl Abort, alloc: Global) -> Vec<Entry> {
 
 /// The buyer's part and the seller's part of each trade.
 fn expect_thousand(rt: &impl Abort, fills: &[Fill]) {
-    assert!(rt; fills.len() == 2000);
+    holds(rt, fills.len() == 2000);
     for n in 0..1000usize {
         let seller = n as u64 + 1;
         expect_fill(rt, &fills[2 * n], &Of(1001, 1001, H6, Side::Buy, 1, 10000));

@@ -2,6 +2,7 @@
 ghost use Rattle.spread_rules.specs.Candidates.{HasOrderPrice};
 
 use super::{H6, M6, THREE_MONTHS, order};
+use crate::expect::holds;
 use spread_rules::{
     Candidate, Choice, Counterparty, Instrument, Level, Members, Order, Rank, Rulebook, Side,
     better, candidate_for, chosen, is_within, leg_prices, levels_meet, plain_candidate, price_at,
@@ -44,18 +45,21 @@ fn levels_that_meet(rt: HostRuntime) {
         side: Side::Sell,
         price: 200,
     };
-    assert!(rt; spread_seller().level() == spread_level);
+    holds(&rt, spread_seller().level() == spread_level);
     let far_level = far_seller().level();
-    assert!(rt; levels_meet(&buyer(), &spread_level, &far_level));
-    assert!(rt; !levels_meet(&order(5, H6, Side::Buy, 6, 9899), &spread_level, &far_level));
+    holds(&rt, levels_meet(&buyer(), &spread_level, &far_level));
+    holds(
+        &rt,
+        !levels_meet(&order(5, H6, Side::Buy, 6, 9899), &spread_level, &far_level),
+    );
 }
 
 #[test]
 fn price_of_a_pair(rt: HostRuntime) {
     let pair = Counterparty::Implied(spread_seller(), far_seller());
-    assert!(rt; price_at(&buyer(), &pair) == Some(9900));
-    assert!(rt; is_within(&buyer(), 10000));
-    assert!(rt; !is_within(&buyer(), 10001));
+    holds(&rt, price_at(&buyer(), &pair) == Some(9900));
+    holds(&rt, is_within(&buyer(), 10000));
+    holds(&rt, !is_within(&buyer(), 10001));
 }
 
 #[test]
@@ -73,13 +77,13 @@ fn candidates_ranked(rt: HostRuntime) {
                 first: 3,
                 second: 4,
             };
-            assert!(rt; ranking(&buy, &best) == rank);
+            holds(&rt, ranking(&buy, &best) == rank);
             let choice = Choice {
                 price: 9900,
                 quantity: 3,
                 members: Members::Implied(3, 4),
             };
-            assert!(rt; chosen(&buy, &best) == choice);
+            holds(&rt, chosen(&buy, &best) == choice);
         }
     }
 }
@@ -89,7 +93,7 @@ fn plain_candidate_found(rt: HostRuntime) -> Result<(), Fail> {
     let rules = Rulebook::read(THREE_MONTHS)?;
     match plain_candidate(&rules, &[seller()], &buyer()) {
         None => assert!(rt; false, "no candidate"),
-        Some(found) => assert!(rt; found.price == 10000),
+        Some(found) => holds(&rt, found.price == 10000),
     }
     Ok(())
 }
@@ -104,7 +108,7 @@ fn legs_priced(rt: HostRuntime) -> Result<(), Fail> {
         price: 150,
         counterparty: Counterparty::Direct(order(2, spread, Side::Sell, 2, 150)),
     };
-    assert!(rt; leg_prices(&rules, &buy, &direct) == (10000, 9850));
+    holds(&rt, leg_prices(&rules, &buy, &direct) == (10000, 9850));
     let outrights = Candidate {
         price: 150,
         counterparty: Counterparty::Implied(
@@ -112,7 +116,7 @@ fn legs_priced(rt: HostRuntime) -> Result<(), Fail> {
             order(3, M6, Side::Buy, 2, 9840),
         ),
     };
-    assert!(rt; leg_prices(&rules, &buy, &outrights) == (9990, 9840));
+    holds(&rt, leg_prices(&rules, &buy, &outrights) == (9990, 9840));
     let sell = order(6, M6, Side::Sell, 6, 9700);
     let spread_and_outright = Candidate {
         price: 9790,
@@ -121,6 +125,9 @@ fn legs_priced(rt: HostRuntime) -> Result<(), Fail> {
             order(2, H6, Side::Buy, 2, 9990),
         ),
     };
-    assert!(rt; leg_prices(&rules, &sell, &spread_and_outright) == (9990, 9790));
+    holds(
+        &rt,
+        leg_prices(&rules, &sell, &spread_and_outright) == (9990, 9790),
+    );
     Ok(())
 }

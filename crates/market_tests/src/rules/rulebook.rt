@@ -1,5 +1,6 @@
 //! A rulebook read, and its faults.
 use super::THREE_MONTHS;
+use crate::expect::holds;
 use spread_rules::laws::{codes, least_in_rank, one_rulebook, quiet, twelve_months};
 use spread_rules::{Instrument, RuleFault, Rulebook};
 use std::test::Fail;
@@ -26,16 +27,19 @@ fn rulebook_read(rt: HostRuntime) -> Result<(), Fail> {
             return Ok(());
         }
     };
-    assert!(rt; rules.months() == 3);
-    assert!(rt; rules.tick() == 1);
+    holds(&rt, rules.months() == 3);
+    holds(&rt, rules.tick() == 1);
     for month in 0..rules.months() {
         let name: &[u8] = [b"H6", b"M6", b"U6"][month as usize % 3];
-        assert!(rt; rules.name(month) == name);
-        assert!(rt; rules.name_id(month).bytes() == name);
-        assert!(rt; rules.reference(month) == [10000, 9800, 9500][month as usize % 3]);
+        holds(&rt, rules.name(month) == name);
+        holds(&rt, rules.name_id(month).bytes() == name);
+        holds(
+            &rt,
+            rules.reference(month) == [10000, 9800, 9500][month as usize % 3],
+        );
     }
     for (symbol, instrument) in SYMBOLS {
-        assert!(rt; rules.find(symbol) == *instrument);
+        holds(&rt, rules.find(symbol) == *instrument);
     }
     one_rulebook();
     quiet();
@@ -115,8 +119,8 @@ fn rulebook_faults(rt: HostRuntime) {
         match Rulebook::read(text) {
             Ok(_) => assert!(rt; false, "no {fault}"),
             Err(found) => {
-                assert!(rt; found == *fault);
-                assert!(rt; found.number() == *number);
+                holds(&rt, found == *fault);
+                holds(&rt, found.number() == *number);
             }
         }
     }
@@ -127,10 +131,10 @@ fn pairs_are_switched(rt: HostRuntime) -> Result<(), Fail> {
     let text =
         b"tick 1\nmonth pair 10\nmonth on 20\npair pair on off\nmonth off 30\npair on off on\n\n# a comment\n";
     let rules = Rulebook::read(text)?;
-    assert!(rt; rules.months() == 3);
-    assert!(rt; !rules.implied(0, 1));
-    assert!(rt; rules.implied(0, 2));
-    assert!(rt; rules.implied(1, 2));
+    holds(&rt, rules.months() == 3);
+    holds(&rt, !rules.implied(0, 1));
+    holds(&rt, rules.implied(0, 2));
+    holds(&rt, rules.implied(1, 2));
     Ok(())
 }
 
@@ -138,12 +142,15 @@ fn pairs_are_switched(rt: HostRuntime) -> Result<(), Fail> {
 #[test]
 fn names_alike(rt: HostRuntime) -> Result<(), Fail> {
     let rules = Rulebook::read(b"tick 1\nmonth JAN6 3\nmonth JUN6 2\nmonth JUL6 1\n")?;
-    assert!(rt; rules.find(b"JAN6") == Some(Instrument::Outright(0)));
-    assert!(rt; rules.find(b"JUN6") == Some(Instrument::Outright(1)));
-    assert!(rt; rules.find(b"JUL6") == Some(Instrument::Outright(2)));
-    assert!(rt; rules.find(b"JAN6-JUL6") == Some(Instrument::Spread(0, 2)));
-    assert!(rt; rules.find(b"JUL6-JAN6").is_none());
-    assert!(rt; rules.find(b"JXX6").is_none());
+    holds(&rt, rules.find(b"JAN6") == Some(Instrument::Outright(0)));
+    holds(&rt, rules.find(b"JUN6") == Some(Instrument::Outright(1)));
+    holds(&rt, rules.find(b"JUL6") == Some(Instrument::Outright(2)));
+    holds(
+        &rt,
+        rules.find(b"JAN6-JUL6") == Some(Instrument::Spread(0, 2)),
+    );
+    holds(&rt, rules.find(b"JUL6-JAN6").is_none());
+    holds(&rt, rules.find(b"JXX6").is_none());
     Ok(())
 }
 
@@ -152,13 +159,13 @@ fn twenty_four_months(rt: HostRuntime) -> Result<(), Fail> {
     let text =
         b"tick 1\nmonth a 1\nmonth b 1\nmonth c 1\nmonth d 1\nmonth e 1\nmonth f 1\nmonth g 1\nmonth h 1\nmonth i 1\nmonth j 1\nmonth k 1\nmonth l 1\nmonth m 1\nmonth n 1\nmonth o 1\nmonth p 1\nmonth q 1\nmonth r 1\nmonth s 1\nmonth t 1\nmonth u 1\nmonth v 1\nmonth w 1\nmonth x 1\npair a x off\npair w x off\n";
     let rules = Rulebook::read(text)?;
-    assert!(rt; rules.months() == 24);
+    holds(&rt, rules.months() == 24);
     for far in 1..24u8 {
         for near in 0..far {
             let off = far == 23 && (near == 0 || near == 22);
-            assert!(rt; rules.implied(near, far) == !off);
+            holds(&rt, rules.implied(near, far) == !off);
         }
     }
-    assert!(rt; rules.find(b"w-x") == Some(Instrument::Spread(22, 23)));
+    holds(&rt, rules.find(b"w-x") == Some(Instrument::Spread(22, 23)));
     Ok(())
 }

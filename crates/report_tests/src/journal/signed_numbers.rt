@@ -1,4 +1,5 @@
 //! A number that may be below 0, as the texts of a journal and of fills have it.
+use crate::expect::holds;
 use spread_journal::put_signed;
 use std::process::Abort;
 
@@ -6,9 +7,9 @@ use std::process::Abort;
 fn expect(rt: &impl Abort, number: i64, digits: &[u8]) {
     let mut room = [b'.'; 32];
     let end = put_signed(&mut room, 1, number);
-    assert!(rt; &room[..1] == b".".as_slice());
-    assert!(rt; room[1..].starts_with(digits));
-    assert!(rt; end == digits.len().saturating_add(1));
+    holds(rt, &room[..1] == b".".as_slice());
+    holds(rt, room[1..].starts_with(digits));
+    holds(rt, end == digits.len().saturating_add(1));
 }
 
 #[test]

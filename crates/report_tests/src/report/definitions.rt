@@ -1,4 +1,5 @@
 //! The laws, and the numbers of the faults.
+use crate::expect::holds;
 use spread_report::DeskFault;
 use spread_report::laws::{read_back, running};
 
@@ -11,6 +12,6 @@ fn laws_hold() {
 
 #[test]
 fn faults_have_numbers(rt: HostRuntime) {
-    assert!(rt; DeskFault::NoMemory.number() == 1);
-    assert!(rt; DeskFault::NumbersSpent.number() == 2);
+    holds(&rt, DeskFault::NoMemory.number() == 1);
+    holds(&rt, DeskFault::NumbersSpent.number() == 2);
 }

@@ -1,5 +1,6 @@
 //! Each request for memory refused in turn.
 use super::{Came, Filled, H6, H6_M6, M6, Part, Run, fills_of, outcome_of, run_of};
+use crate::expect::holds;
 use crate::said::{DayOrder, Said, entry_of};
 use spread_report::{Desk, DeskFault};
 use spread_rules::{Entry, Fill, Outcome, Side};
@@ -113,18 +114,18 @@ fn was_refused(rt: &impl Abort, alloc: Global, number: u64) -> bool {
     let heap = Refusing::new(alloc, number);
     let mut run = run_of(rt, alloc, &heap, Desk::new(stamp()));
     work_all(rt, alloc, &mut run, &heap);
-    assert!(rt; run.was_sent(0, SENT));
-    assert!(rt; run.was_sent(1, b""));
+    holds(rt, run.was_sent(0, SENT));
+    holds(rt, run.was_sent(1, b""));
     heap.has_refused()
 }
 
 /// The first of the numbers names a request, and the last names none.
 #[test]
 fn each_request_refused_in_turn(rt: HostRuntime) {
-    assert!(rt; was_refused(&rt, rt.alloc(), 1));
+    holds(&rt, was_refused(&rt, rt.alloc(), 1));
     let mut last_refused = true;
     for number in 2..500u64 {
         last_refused = was_refused(&rt, rt.alloc(), number);
     }
-    assert!(rt; !last_refused);
+    holds(&rt, !last_refused);
 }

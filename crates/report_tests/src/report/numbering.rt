@@ -1,5 +1,6 @@
 //! The numbers that messages bear, and their end at 999,999,999.
 use super::{Came, Case, Filled, H6, Start, Step, expect_cases};
+use crate::expect::holds;
 use crate::said::{DayOrder, Said};
 use spread_report::Desk;
 use spread_rules::Side;
@@ -13,7 +14,7 @@ fn starts_within_1_and_999_999_999(rt: HostRuntime) {
         (999_999_999, true),
         (1_000_000_000, false),
     ] {
-        assert!(rt; Desk::starting(stamp(), number).is_some() == starts);
+        holds(&rt, Desk::starting(stamp(), number).is_some() == starts);
     }
 }
 

@@ -1,4 +1,5 @@
 //! The first line in which two texts differ.
+use crate::expect::holds;
 use day_text::first_difference;
 use std::alloc::Global;
 use std::process::Abort;
@@ -22,7 +23,10 @@ fn expect_difference(rt: &impl Abort, alloc: Global, row: &(&[u8], &[u8], u64, &
         rt.panic("no difference");
     }
     let difference = first_difference(alloc, claim, right).expect(rt, "memory");
-    assert!(rt; difference.line == line && difference.right.as_slice() == wanted);
+    holds(
+        rt,
+        difference.line == line && difference.right.as_slice() == wanted,
+    );
 }
 
 #[test]

@@ -1,6 +1,7 @@
 //! The lines of fills and of months.
 ghost use Rattle.std.specs.Prelude.{◌≡◌};
 
+use crate::expect::holds;
 use day_text::{MonthTotals, TextFault, month_totals, text_of_fills, write_fills};
 use host_base::TestSink;
 use spread_rules::{Fill, Instrument, Rulebook, Side};
@@ -56,15 +57,15 @@ fn spread_lifts_two_months(rt: HostRuntime) {
             paid: price,
             received: price,
         };
-        assert!(rt; totals[month] == one_each);
+        holds(&rt, totals[month] == one_each);
     }
     let rules = Rulebook::read(THREE_MONTHS).expect(&rt, "a rulebook");
-    assert!(rt; rules.months() == 3);
+    holds(&rt, rules.months() == 3);
     let mut sink = TestSink::new(rt.alloc(), 1000, 0).expect(&rt, "memory");
     write_fills(rt.alloc(), &rules, &fills, &mut sink).expect(&rt, "a sink that works");
-    assert!(rt; sink.bytes() == text.as_slice());
+    holds(&rt, sink.bytes() == text.as_slice());
     let whole = text_of_fills(rt.alloc(), &rules, &fills).expect(&rt, "memory");
-    assert!(rt; whole.as_slice() == text.as_slice());
+    holds(&rt, whole.as_slice() == text.as_slice());
 }
 
 /// The room of a sink, the write at which it fails (0: none), and how many bytes are in it then, of the 120.
@@ -86,13 +87,13 @@ fn negative_prices(rt: HostRuntime) {
     let text =
         b"F 4 4 0 H6 1 1 -100\nF 4 2 0 H6-M6 2 1 -300 -100 200\nF 4 3 0 M6 2 1 200\nM H6 1 1 -100 -100\nM M6 1 1 200 200\nM U6 0 0 0 0\n";
     let rules = Rulebook::read(THREE_MONTHS).expect(&rt, "a rulebook");
-    assert!(rt; rules.months() == 3);
-    assert!(rt; text.len() == 120);
+    holds(&rt, rules.months() == 3);
+    holds(&rt, text.len() == 120);
     for (room, fail, written) in &SINKS {
         let mut sink = TestSink::new(rt.alloc(), *room, *fail).expect(&rt, "memory");
         let fault = write_fills(rt.alloc(), &rules, &fills, &mut sink).err();
-        assert!(rt; fault == (*written != 120).then_some(TextFault::Write));
-        assert!(rt; sink.bytes().len() == *written);
-        assert!(rt; text.starts_with(sink.bytes()));
+        holds(&rt, fault == (*written != 120).then_some(TextFault::Write));
+        holds(&rt, sink.bytes().len() == *written);
+        holds(&rt, text.starts_with(sink.bytes()));
     }
 }

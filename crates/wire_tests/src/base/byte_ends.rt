@@ -1,6 +1,7 @@
 //! Sources and sinks, over memory and over std.
 ghost use Rattle.std.specs.Prelude.{◌≡◌, false};
 
+use crate::expect::holds;
 use host_base::{Failed, FromReader, Sink, Source, TestSink, TestSource, ToWriter, write_all};
 use std::io;
 use std::io::{ErrorKind, Read};
@@ -41,8 +42,8 @@ fn sources_in_memory(rt: HostRuntime) {
         let mut source = TestSource::new(bytes, *fail);
         let mut room = [0u8; 16];
         let counts = read_twice(&mut source, &mut room);
-        assert!(rt; counts.0 == *first && counts.1 == *second);
-        assert!(rt; first.is_none() || room.starts_with(text));
+        holds(&rt, counts.0 == *first && counts.1 == *second);
+        holds(&rt, first.is_none() || room.starts_with(text));
     }
 }
 
@@ -59,8 +60,8 @@ fn sinks_in_memory(rt: HostRuntime) {
     for (fail, passes, bytes) in SINKS {
         let mut sink = TestSink::new(rt.alloc(), 12, *fail).expect(&rt, "memory");
         let (first, second) = written(&mut sink);
-        assert!(rt; first.is_ok() == *passes && second.is_err());
-        assert!(rt; sink.bytes() == *bytes);
+        holds(&rt, first.is_ok() == *passes && second.is_err());
+        holds(&rt, sink.bytes() == *bytes);
     }
 }
 
@@ -70,10 +71,10 @@ fn ends_over_std(rt: HostRuntime) {
     let mut source = FromReader::new(text.as_slice());
     let mut room = [0u8; 16];
     let counts = read_twice(&mut source, &mut room);
-    assert!(rt; counts.0 == Some(7) && counts.1 == Some(0));
-    assert!(rt; room.starts_with(text));
+    holds(&rt, counts.0 == Some(7) && counts.1 == Some(0));
+    holds(&rt, room.starts_with(text));
     let mut sink = ToWriter::new(Vec::new(rt.alloc()));
-    assert!(rt; write_all(&mut sink, text) == Ok(()));
+    holds(&rt, write_all(&mut sink, text) == Ok(()));
 }
 
 /// A reader that a signal interrupts twice, and that then gives one byte.
@@ -103,6 +104,6 @@ fn interrupted_reads(rt: HostRuntime) {
     let mut source = FromReader::new(Interrupting { left: 4 });
     let mut room = [0u8; 16];
     let counts = read_twice(&mut source, &mut room);
-    assert!(rt; counts.0 == Some(1) && counts.1 == Some(0));
-    assert!(rt; room[0] == b'x');
+    holds(&rt, counts.0 == Some(1) && counts.1 == Some(0));
+    holds(&rt, room[0] == b'x');
 }

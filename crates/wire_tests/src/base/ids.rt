@@ -1,4 +1,5 @@
 //! Ids and their keys.
+use crate::expect::holds;
 use host_base::laws::{limits, one_key};
 use host_base::{Id, IdKey};
 use std::process::Abort;
@@ -17,8 +18,11 @@ const IDS: &[&[u8]] = &[
 fn expect_keys(rt: &impl Abort, one: &[u8], other: &[u8], are_one: bool) {
     let one = Id::new(one).expect(rt, "an id");
     let other = Id::new(other).expect(rt, "an id");
-    assert!(rt; (IdKey::new(1, &one) == IdKey::new(1, &other)) == are_one);
-    assert!(rt; IdKey::new(1, &one) != IdKey::new(2, &other));
+    holds(
+        rt,
+        (IdKey::new(1, &one) == IdKey::new(1, &other)) == are_one,
+    );
+    holds(rt, IdKey::new(1, &one) != IdKey::new(2, &other));
 }
 
 #[test]
@@ -35,16 +39,19 @@ fn keys_of_ids(rt: HostRuntime) {
 #[test]
 fn ids(rt: HostRuntime) {
     let long = [b'x'; 33];
-    assert!(rt; Id::new(b"").is_none());
-    assert!(rt; Id::new(b"a\x01b").is_none());
-    assert!(rt; Id::new(&long).is_none());
+    holds(&rt, Id::new(b"").is_none());
+    holds(&rt, Id::new(b"a\x01b").is_none());
+    holds(&rt, Id::new(&long).is_none());
     let most = Id::new(&long[..32]).expect(&rt, "an id of 32 bytes");
     let id = Id::new(b"C1").expect(&rt, "an id");
-    assert!(rt; most.bytes() == &long[..32]);
-    assert!(rt; Id::fits(b"C1") && !Id::fits(b"a\x01b") && !Id::fits(&long));
+    holds(&rt, most.bytes() == &long[..32]);
+    holds(
+        &rt,
+        Id::fits(b"C1") && !Id::fits(b"a\x01b") && !Id::fits(&long),
+    );
     if Id::fits(b"C1") {
-        assert!(rt; Id::of(b"C1").is(&id));
+        holds(&rt, Id::of(b"C1").is(&id));
     }
-    assert!(rt; id.bytes() == b"C1".as_slice());
-    assert!(rt; id.is(&id) && !id.is(&most));
+    holds(&rt, id.bytes() == b"C1".as_slice());
+    holds(&rt, id.is(&id) && !id.is(&most));
 }

@@ -1,4 +1,5 @@
 //! Memory that is let go.
+use crate::expect::holds;
 use host_base::release;
 use std::process::Abort;
 use test_support::Refusing;
@@ -10,6 +11,6 @@ fn released_lists(rt: HostRuntime) {
         let heap = Refusing::new(rt.alloc(), refused);
         let list = Vec::from_slice(&heap, b"three").expect(&rt, "memory");
         release(list);
-        assert!(rt; heap.has_refused() == (refused == 2));
+        holds(&rt, heap.has_refused() == (refused == 2));
     }
 }

@@ -1,4 +1,5 @@
 //! Texts cut, and numbers in their one spelling.
+use crate::expect::holds;
 use host_base::{after, cut_at, read_decimal, read_plain};
 
 const NUMBERS: &[(&[u8], Option<u64>)] = &[
@@ -19,18 +20,21 @@ const SIGNED_NUMBERS: &[(&[u8], Option<i64>)] = &[
 
 #[test]
 fn texts(rt: HostRuntime) {
-    assert!(rt; cut_at(b"a b c", b' ') == Some((&b"a"[..], &b"b c"[..])));
-    assert!(rt; cut_at(b"abc", b' ') == None);
-    assert!(rt; after(b"tick 1", b"tick ") == Some(&b"1"[..]));
-    assert!(rt; after(b"tic", b"tick ") == None);
+    holds(
+        &rt,
+        cut_at(b"a b c", b' ') == Some((&b"a"[..], &b"b c"[..])),
+    );
+    holds(&rt, cut_at(b"abc", b' ') == None);
+    holds(&rt, after(b"tick 1", b"tick ") == Some(&b"1"[..]));
+    holds(&rt, after(b"tic", b"tick ") == None);
 }
 
 #[test]
 fn numbers(rt: HostRuntime) {
     for (text, number) in NUMBERS {
-        assert!(rt; read_decimal(text) == *number);
+        holds(&rt, read_decimal(text) == *number);
     }
     for (text, number) in SIGNED_NUMBERS {
-        assert!(rt; read_plain(text) == *number);
+        holds(&rt, read_plain(text) == *number);
     }
 }

@@ -1,6 +1,7 @@
 //! Numbers of messages: gaps, duplicates, gap fills and what closes a session.
 use super::Says::{Close, Gap, Logon, Reject, TestReply};
 use super::{LOGON, SELL, Says, expect_events, is_said, judged, push_event};
+use crate::expect::holds;
 use fix_session::{Session, Verdict};
 use spread_rules::Event;
 use std::alloc::Allocator;
@@ -133,14 +134,14 @@ fn events_of_sessions(rt: HostRuntime) {
 #[test]
 fn a_session_opens_and_closes(rt: HostRuntime) {
     let session = Session::new();
-    assert!(rt; !session.is_closed());
+    holds(&rt, !session.is_closed());
     let (verdict, running) = judged(&rt, rt.alloc(), &session, LOGON);
-    assert!(rt; is_said(verdict, &Logon));
-    assert!(rt; !running.is_closed());
+    holds(&rt, is_said(verdict, &Logon));
+    holds(&rt, !running.is_closed());
     let (verdict, closed) = running.end();
-    assert!(rt; is_said(verdict, &Close(5)));
-    assert!(rt; closed.is_closed());
-    assert!(rt; closed.end().0 == Verdict::Nothing);
+    holds(&rt, is_said(verdict, &Close(5)));
+    holds(&rt, closed.is_closed());
+    holds(&rt, closed.end().0 == Verdict::Nothing);
 }
 
 /// The body of an order with this number.

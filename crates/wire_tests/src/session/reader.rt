@@ -4,6 +4,7 @@ ghost use Rattle.std.specs.Prelude.{◌<◌};
 use super::Says::{Close, Logon, Nothing};
 use super::{BUY, FIRST_TRADE_SAYS, SELL, Says, expect_said};
 use crate::day;
+use crate::expect::holds;
 use fix_session::{Reader, Verdict, read_pieces};
 use spread_rules::{Entry, Event};
 use std::alloc::Allocator;
@@ -78,11 +79,11 @@ const A_FULL_READER: &[Step] = &[
 
 fn expect_step(rt: &impl Abort, reader: &mut Reader, step: &Step) {
     match step {
-        Step::Put(bytes, taken) => assert!(rt; reader.put(bytes) == *taken),
+        Step::Put(bytes, taken) => holds(rt, reader.put(bytes) == *taken),
         Step::Look(says) => expect_said(rt, reader.look().expect(rt, "a message"), says),
-        Step::NoMessage => assert!(rt; reader.look().is_none()),
-        Step::Pass(stands) => assert!(rt; reader.pass() == *stands),
-        Step::IsClosed(is_closed) => assert!(rt; reader.is_closed() == *is_closed),
+        Step::NoMessage => holds(rt, reader.look().is_none()),
+        Step::Pass(stands) => holds(rt, reader.pass() == *stands),
+        Step::IsClosed(is_closed) => holds(rt, reader.is_closed() == *is_closed),
         Step::AtEnd(says) => expect_said(rt, reader.at_end(), says),
         Step::End(says) => expect_said(rt, reader.end(), says),
     }
@@ -107,7 +108,7 @@ fn a_full_reader(rt: HostRuntime) {
     text.resize(8192 - 400, b'x').expect(&rt, "memory");
     text.extend_from_slice(FIRST_TRADE).expect(&rt, "memory");
     let mut reader = Reader::new();
-    assert!(rt; reader.put(&text) == 8192);
+    holds(&rt, reader.put(&text) == 8192);
     for step in A_FULL_READER {
         expect_step(&rt, &mut reader, step);
     }
@@ -119,15 +120,15 @@ fn byte_by_byte(rt: HostRuntime) {
     let mut reader = Reader::new();
     let mut count = 0;
     for byte in FIRST_TRADE.chunks(1) {
-        assert!(rt; reader.put(byte) == 1);
+        holds(&rt, reader.put(byte) == 1);
         if let Some(verdict) = reader.look() {
-            assert!(rt; count < 4);
+            holds(&rt, count < 4);
             expect_said(&rt, verdict, &FIRST_TRADE_SAYS[count]);
-            assert!(rt; reader.pass());
+            holds(&rt, reader.pass());
             count += 1;
         }
     }
-    assert!(rt; count == 4);
+    holds(&rt, count == 4);
 }
 
 /// The entries of a text that is read in pieces of so many bytes.
@@ -149,9 +150,9 @@ fn read_by<A: Allocator + Copy>(
 
 /// The entries are the first trade's, of the session with that number.
 fn expect_first_trade(rt: &impl Abort, entries: &[Entry], session: u8) {
-    assert!(rt; entries.len() == 4);
+    holds(rt, entries.len() == 4);
     for (entry, says) in entries.iter().zip(FIRST_TRADE_SAYS.as_slice()) {
-        assert!(rt; entry.session == session);
+        holds(rt, entry.session == session);
         expect_said(rt, Verdict::Event(entry.event), says);
     }
 }
@@ -161,28 +162,28 @@ const SIZES: &[usize] = &[1, 2, 79, 80, 399, 400];
 #[test]
 fn entries_of_a_text(rt: HostRuntime) {
     for size in SIZES {
-        assert!(rt; 0 < *size);
+        holds(&rt, 0 < *size);
         let entries = read_by(&rt, rt.alloc(), FIRST_TRADE, *size);
         expect_first_trade(&rt, &entries, 7);
     }
 }
 
 fn expect_day<A: Allocator>(rt: &impl Abort, messages: &[Vec<u8, A>]) {
-    assert!(rt; messages.len() == 4);
-    assert!(rt; messages[0].as_slice() == day::LOGON);
-    assert!(rt; messages[1].as_slice() == day::SELL);
-    assert!(rt; messages[2].as_slice() == day::BUY);
-    assert!(rt; messages[3].as_slice() == day::LOGOUT);
+    holds(rt, messages.len() == 4);
+    holds(rt, messages[0].as_slice() == day::LOGON);
+    holds(rt, messages[1].as_slice() == day::SELL);
+    holds(rt, messages[2].as_slice() == day::BUY);
+    holds(rt, messages[3].as_slice() == day::LOGOUT);
 }
 
 #[test]
 fn a_day_cut_anywhere(rt: HostRuntime) {
-    assert!(rt; FIRST_TRADE.len() == 400);
+    holds(&rt, FIRST_TRADE.len() == 400);
     for cut in 0..=400usize {
         let pieces = [&FIRST_TRADE[..cut], &FIRST_TRADE[cut..]];
         let (messages, reader) = read_pieces(rt.alloc(), &pieces).expect(&rt, "memory");
         expect_day(&rt, &messages);
-        assert!(rt; reader.is_closed());
+        holds(&rt, reader.is_closed());
     }
 }
 
@@ -198,18 +199,18 @@ fn no_entry() -> Entry {
 #[test]
 fn judged_ahead(rt: HostRuntime) {
     let mut reader = Reader::new();
-    assert!(rt; reader.put(FIRST_TRADE) == 400);
-    assert!(rt; reader.standing(64) == 4);
-    assert!(rt; reader.standing(2) == 2);
+    holds(&rt, reader.put(FIRST_TRADE) == 400);
+    holds(&rt, reader.standing(64) == 4);
+    holds(&rt, reader.standing(2) == 2);
     let mut entries = [no_entry(); 64];
     let two = reader.judge_ahead(3, 2, &mut entries);
-    assert!(rt; (two.messages, two.events, two.place) == (2, 2, 206));
-    assert!(rt; entries[2] == no_entry());
+    holds(&rt, (two.messages, two.events, two.place) == (2, 2, 206));
+    holds(&rt, entries[2] == no_entry());
     let all = reader.judge_ahead(3, 64, &mut entries);
-    assert!(rt; (all.messages, all.events, all.place) == (4, 4, 400));
+    holds(&rt, (all.messages, all.events, all.place) == (4, 4, 400));
     expect_first_trade(&rt, &entries[..4], 3);
     expect_step(&rt, &mut reader, &Step::Look(Logon));
-    assert!(rt; reader.standing(64) == 4);
+    holds(&rt, reader.standing(64) == 4);
 }
 
 /// The messages that were judged ahead are passed together.
@@ -221,13 +222,13 @@ fn passed_ahead(rt: HostRuntime) {
 /// Of a day's messages two are judged ahead and passed.
 fn expect_two_passed(rt: &impl Abort, day: &[u8]) {
     let mut reader = Reader::new();
-    assert!(rt; reader.put(day) == 400);
+    holds(rt, reader.put(day) == 400);
     let mut entries = [no_entry(); 64];
     let two = reader.judge_ahead(3, 2, &mut entries);
     if two.messages == 0 {
         panic!(rt; "no message stands");
     }
     reader.pass_ahead(&two);
-    assert!(rt; reader.standing(64) == 2);
+    holds(rt, reader.standing(64) == 2);
     expect_step(rt, &mut reader, &Step::Look(BUY));
 }

@@ -2,6 +2,7 @@
 use super::Says::{Close, Gap, Logon, New, Reject};
 use super::{BUY, Order, SELL, Says, expect_events, push_event};
 use crate::day;
+use crate::expect::holds;
 use fix_session::Reader;
 use spread_rules::{Event, Side};
 use std::alloc::Allocator;
@@ -164,7 +165,7 @@ const THREE_MESSAGES: &[Says] = &[Logon, SELL, BUY, Close(5)];
 /// A stream that is cut before a `=` or a field's end has the events of its whole messages, and Close 5.
 #[test]
 fn cut_streams(rt: HostRuntime) {
-    assert!(rt; FIRST_TRADE.len() == 400);
+    holds(&rt, FIRST_TRADE.len() == 400);
     for (cut, byte) in FIRST_TRADE.iter().enumerate() {
         if *byte != b'=' && *byte != 1 {
             continue;

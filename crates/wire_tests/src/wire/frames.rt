@@ -1,5 +1,6 @@
 //! Frames of streams, cut and garbled.
 use crate::day::{BUY, LOGON, LOGOUT, SELL};
+use crate::expect::holds;
 use fix_wire::{FrameTable, Framer, Look, Message, Next};
 use std::alloc::Allocator;
 use std::process::Abort;
@@ -36,12 +37,12 @@ fn stream_of<A: Allocator>(rt: &impl Abort, alloc: A, parts: &[Part]) -> Vec<u8,
 fn take_frames(rt: &impl Abort, framer: &mut Framer, want: &[&[u8]], from: usize) -> usize {
     for place in from..want.len() {
         match framer.next() {
-            Next::Message(message) => assert!(rt; message.bytes() == want[place]),
+            Next::Message(message) => holds(rt, message.bytes() == want[place]),
             Next::Need => return place,
         }
         framer.pass();
     }
-    assert!(rt; matches!(framer.next(), Next::Need));
+    holds(rt, matches!(framer.next(), Next::Need));
     want.len()
 }
 
@@ -50,10 +51,10 @@ fn expect_frames(rt: &impl Abort, pieces: &[&[u8]], want: &[&[u8]]) {
     let mut framer = Framer::new();
     let mut place = 0;
     for piece in pieces {
-        assert!(rt; framer.put(piece) == piece.len());
+        holds(rt, framer.put(piece) == piece.len());
         place = take_frames(rt, &mut framer, want, place);
     }
-    assert!(rt; place == want.len());
+    holds(rt, place == want.len());
 }
 
 /// The same of a stream that is put in pieces of one byte.
@@ -61,15 +62,15 @@ fn expect_frames_byte_by_byte(rt: &impl Abort, stream: &[u8], want: &[&[u8]]) {
     let mut framer = Framer::new();
     let mut place = 0;
     for piece in stream.chunks(1) {
-        assert!(rt; framer.put(piece) == 1);
+        holds(rt, framer.put(piece) == 1);
         place = take_frames(rt, &mut framer, want, place);
     }
-    assert!(rt; place == want.len());
+    holds(rt, place == want.len());
 }
 
 #[test]
 fn a_stream_cut_anywhere(rt: HostRuntime) {
-    assert!(rt; FIRST_TRADE.len() == 400);
+    holds(&rt, FIRST_TRADE.len() == 400);
     for cut in 0..=400usize {
         let pieces = [&FIRST_TRADE[..cut], &FIRST_TRADE[cut..]];
         expect_frames(&rt, &pieces, DAY);
@@ -204,11 +205,11 @@ fn frames_of_streams(rt: HostRuntime) {
 }
 
 fn expect_case(rt: &impl Abort, case: &StreamCase, stream: &[u8]) {
-    assert!(rt; stream.len() == case.length);
+    holds(rt, stream.len() == case.length);
     match case.frames {
         These(frames) => expect_both_ways(rt, stream, frames),
         Whole => {
-            assert!(rt; Message::whole(stream).is_some());
+            holds(rt, Message::whole(stream).is_some());
             expect_both_ways(rt, stream, &[stream]);
         }
     }
@@ -229,8 +230,8 @@ fn frames_within_a_lawful_frame(rt: HostRuntime) {
 /// The stream is one Heartbeat of number 1.
 fn expect_heartbeat(rt: &impl Abort, stream: &[u8]) {
     let message = Message::whole(stream).expect(rt, "a frame");
-    assert!(rt; message.kind() == b"0".as_slice());
-    assert!(rt; message.number() == Some(1));
+    holds(rt, message.kind() == b"0".as_slice());
+    holds(rt, message.number() == Some(1));
 }
 
 /// What is done with a framer, and what it answers.
@@ -277,11 +278,11 @@ const LOOKED_AT_FROM_A_PLACE: &[Step] = &[
 
 /// What stands from a place on: the message and the place after it.
 fn expect_look(rt: &impl Abort, framer: &Framer, at: usize, want: Option<(&[u8], usize)>) {
-    assert!(rt; at <= framer.held());
+    holds(rt, at <= framer.held());
     match (framer.look(at), want) {
         (Look::Message(message, after), Some((frame, place))) => {
-            assert!(rt; message.bytes() == frame);
-            assert!(rt; after == place);
+            holds(rt, message.bytes() == frame);
+            holds(rt, after == place);
         }
         (Look::Need, None) => {}
         _ => assert!(rt; false, "what stands from {at} on"),
@@ -289,8 +290,8 @@ fn expect_look(rt: &impl Abort, framer: &Framer, at: usize, want: Option<(&[u8],
     let mut table = FrameTable::empty();
     match (framer.find(at, &mut table), want) {
         (Some(found), Some((frame, place))) => {
-            assert!(rt; framer.message(found, &table).bytes() == frame);
-            assert!(rt; found.end == place);
+            holds(rt, framer.message(found, &table).bytes() == frame);
+            holds(rt, found.end == place);
         }
         (None, None) => {}
         _ => assert!(rt; false, "where the next frame from {at} on stands"),
@@ -300,8 +301,8 @@ fn expect_look(rt: &impl Abort, framer: &Framer, at: usize, want: Option<(&[u8],
 /// The message that stands next in a framer.
 fn expect_next(rt: &impl Abort, framer: &mut Framer, want: Option<&[u8]>) {
     match framer.next() {
-        Next::Message(message) => assert!(rt; want == Some(message.bytes())),
-        Next::Need => assert!(rt; want.is_none()),
+        Next::Message(message) => holds(rt, want == Some(message.bytes())),
+        Next::Need => holds(rt, want.is_none()),
     }
 }
 
@@ -309,12 +310,12 @@ fn expect_step<A: Allocator>(rt: &impl Abort, alloc: A, framer: &mut Framer, ste
     match step {
         Step::Put(parts, taken) => {
             let stream = stream_of(rt, alloc, parts);
-            assert!(rt; framer.put(&stream) == *taken);
+            holds(rt, framer.put(&stream) == *taken);
         }
         Step::Next(message) => expect_next(rt, framer, Some(message)),
         Step::Need => expect_next(rt, framer, None),
-        Step::Pass(stands) => assert!(rt; framer.pass() == *stands),
-        Step::Held(count) => assert!(rt; framer.held() == *count),
+        Step::Pass(stands) => holds(rt, framer.pass() == *stands),
+        Step::Held(count) => holds(rt, framer.held() == *count),
         Step::Look(at, message, after) => expect_look(rt, framer, *at, Some((message, *after))),
         Step::LookNeed(at) => expect_look(rt, framer, *at, None),
     }

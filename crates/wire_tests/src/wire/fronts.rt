@@ -1,5 +1,6 @@
 //! What stands at the front of a text, and its CheckSum.
 use crate::day::SELL;
+use crate::expect::holds;
 use fix_frames::{
     BEGIN_TEXT, FrameTable, Message, Scan, checksum, checksum_digits, next_begin, scan_front,
 };
@@ -8,32 +9,38 @@ use fix_frames::{
 #[test]
 fn fronts_of_texts(rt: HostRuntime) {
     let mut table = FrameTable::empty();
-    assert!(rt; matches!(scan_front(&SELL[..20], &mut table), Scan::Incomplete));
-    assert!(rt; matches!(scan_front(&BEGIN_TEXT, &mut table), Scan::Incomplete));
-    assert!(rt; matches!(scan_front(b"9=5", &mut table), Scan::Garbled));
+    holds(
+        &rt,
+        matches!(scan_front(&SELL[..20], &mut table), Scan::Incomplete),
+    );
+    holds(
+        &rt,
+        matches!(scan_front(&BEGIN_TEXT, &mut table), Scan::Incomplete),
+    );
+    holds(&rt, matches!(scan_front(b"9=5", &mut table), Scan::Garbled));
     match scan_front(SELL, &mut table) {
         Scan::Frame(n) if n == SELL.len() => {
             let sell = Message::of_frame(SELL, &table);
-            assert!(rt; sell.kind() == b"D".as_slice());
-            assert!(rt; sell.get(55) == Some(b"H6".as_slice()));
+            holds(&rt, sell.kind() == b"D".as_slice());
+            holds(&rt, sell.get(55) == Some(b"H6".as_slice()));
         }
-        _ => assert!(rt; false),
+        _ => holds(&rt, false),
     }
 }
 
 /// Sums are taken modulo 256 and spelled in three digits.
 #[test]
 fn sums_of_texts(rt: HostRuntime) {
-    assert!(rt; checksum(b"") == 0);
-    assert!(rt; checksum(b"abc") == 38);
-    assert!(rt; checksum_digits(38) == *b"10=038\x01");
+    holds(&rt, checksum(b"") == 0);
+    holds(&rt, checksum(b"abc") == 38);
+    holds(&rt, checksum_digits(38) == *b"10=038\x01");
     let (text, trailer) = SELL.split_at(SELL.len() - 7);
-    assert!(rt; checksum_digits(checksum(text)).as_slice() == trailer);
+    holds(&rt, checksum_digits(checksum(text)).as_slice() == trailer);
 }
 
 /// The next place at which a frame may begin is that of the next `8` behind the first byte.
 #[test]
 fn next_places(rt: HostRuntime) {
-    assert!(rt; next_begin(b"8=FIX.4.18=FIX") == 9);
-    assert!(rt; next_begin(b"8=FIX") == 5);
+    holds(&rt, next_begin(b"8=FIX.4.18=FIX") == 9);
+    holds(&rt, next_begin(b"8=FIX") == 5);
 }

@@ -3,6 +3,7 @@ ghost use Rattle.fix_frames.specs.Frames.{IsFrameRow};
 
 use super::writing::REPORT;
 use crate::day::{LOGON, SELL};
+use crate::expect::holds;
 use fix_wire::{Message, first_of_row, read_price};
 
 struct MessageCase {
@@ -104,16 +105,16 @@ fn two_frames() -> &'static [u8]
 /// A frame without its first byte, nothing, and two frames are no message.
 #[test]
 fn no_whole_message(rt: HostRuntime) {
-    assert!(rt; Message::whole(&SELL[1..]).is_none());
-    assert!(rt; Message::whole(b"").is_none());
-    assert!(rt; Message::whole(two_frames()).is_none());
+    holds(&rt, Message::whole(&SELL[1..]).is_none());
+    holds(&rt, Message::whole(b"").is_none());
+    holds(&rt, Message::whole(two_frames()).is_none());
 }
 
 #[test]
 fn rows_of_frames(rt: HostRuntime) {
     let (first, rest) = first_of_row(two_frames()).expect(&rt, "a frame");
-    assert!(rt; first == LOGON);
+    holds(&rt, first == LOGON);
     let (second, end) = first_of_row(rest).expect(&rt, "a second frame");
-    assert!(rt; second == SELL);
-    assert!(rt; first_of_row(end).is_none());
+    holds(&rt, second == SELL);
+    holds(&rt, first_of_row(end).is_none());
 }

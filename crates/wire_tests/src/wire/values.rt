@@ -1,4 +1,5 @@
 //! Numbers, quantities and prices.
+use crate::expect::holds;
 use fix_wire::Unread::{Format, Range};
 use fix_wire::{Unread, read_number, read_price, read_quantity};
 
@@ -21,7 +22,7 @@ const NUMBERS: &[(&[u8], Result<u32, Unread>)] = &[
 #[test]
 fn numbers(rt: HostRuntime) {
     for (text, number) in NUMBERS {
-        assert!(rt; read_number(text) == *number);
+        holds(&rt, read_number(text) == *number);
     }
 }
 
@@ -48,7 +49,7 @@ const QUANTITIES: &[(&[u8], Result<u32, Unread>)] = &[
 #[test]
 fn quantities(rt: HostRuntime) {
     for (text, quantity) in QUANTITIES {
-        assert!(rt; read_quantity(text) == *quantity);
+        holds(&rt, read_quantity(text) == *quantity);
     }
 }
 
@@ -89,6 +90,6 @@ const PRICES: &[(&[u8], Result<i64, Unread>)] = &[
 #[test]
 fn prices(rt: HostRuntime) {
     for (text, price) in PRICES {
-        assert!(rt; read_price(text) == *price);
+        holds(&rt, read_price(text) == *price);
     }
 }

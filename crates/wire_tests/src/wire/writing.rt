@@ -1,4 +1,5 @@
 //! Messages as they are written.
+use crate::expect::holds;
 use fix_wire::{
     Body, Field, FieldList, Head, Message, SpelledHead, SpelledParties, Value, put_field,
     put_text_field, read_price, write_body, write_message,
@@ -133,12 +134,12 @@ fn is_refused_first<A: Allocator>(rt: &impl Abort, heap: &Refusing<A>) -> bool {
     let reply = [field_of(112, &Text(b"T"))];
     let mut out = Vec::new(heap);
     let is_refused = write_message(&mut out, &head(b'0', 2, false), &reply).is_err();
-    assert!(rt; is_refused == heap.has_refused());
+    holds(rt, is_refused == heap.has_refused());
     if is_refused {
-        assert!(rt; out.is_empty());
+        holds(rt, out.is_empty());
         write_message(&mut out, &head(b'0', 2, false), &reply).expect(rt, "memory");
     }
-    assert!(rt; out.as_slice() == HEARTBEAT);
+    holds(rt, out.as_slice() == HEARTBEAT);
     is_refused
 }
 
@@ -147,11 +148,11 @@ fn writing_with_memory_refused(rt: HostRuntime) {
     for number in 1..20u64 {
         let heap = Refusing::new(rt.alloc(), number);
         if !is_refused_first(&rt, &heap) {
-            assert!(rt; number > 1);
+            holds(&rt, number > 1);
             return;
         }
     }
-    assert!(rt; false);
+    holds(&rt, false);
 }
 
 const NUMBERS: &[(u64, &[u8])] = &[
@@ -178,8 +179,8 @@ fn written_numbers(rt: HostRuntime) {
             value: Value::Number(*number),
         };
         let end = put_field(&mut room, 2, &field);
-        assert!(rt; end == 2 + text.len());
-        assert!(rt; room[2..].starts_with(text));
+        holds(&rt, end == 2 + text.len());
+        holds(&rt, room[2..].starts_with(text));
     }
 }
 
@@ -187,8 +188,8 @@ fn written_numbers(rt: HostRuntime) {
 fn written_text(rt: HostRuntime) {
     let mut room = [7; 80];
     let end = put_text_field(&mut room, 2, 55, &id(b"H6-M6"));
-    assert!(rt; end == 11);
-    assert!(rt; room[2..].starts_with(b"55=H6-M6\x01"));
+    holds(&rt, end == 11);
+    holds(&rt, room[2..].starts_with(b"55=H6-M6\x01"));
 }
 
 /// The number of fields and what the message begins with. The head has 45 bytes, each field 36.
@@ -213,16 +214,16 @@ fn written_lengths(rt: HostRuntime) {
         parties: &parties,
     };
     for (count, begin) in LENGTHS {
-        assert!(rt; *count <= 27);
+        holds(&rt, *count <= 27);
         let list = FieldList {
             fields: &fields[..*count],
         };
         let mut out = Vec::new(rt.alloc());
         write_body(&mut room, &mut out, &head, &list).expect(&rt, "memory");
-        assert!(rt; out.as_slice().starts_with(begin));
-        assert!(rt; Message::whole(&out).is_some());
-        assert!(rt; list.count() == *count);
-        assert!(rt; list.put(&mut room, 20) == 20 + 36 * *count);
+        holds(&rt, out.as_slice().starts_with(begin));
+        holds(&rt, Message::whole(&out).is_some());
+        holds(&rt, list.count() == *count);
+        holds(&rt, list.put(&mut room, 20) == 20 + 36 * *count);
     }
 }
 
@@ -230,7 +231,10 @@ fn written_lengths(rt: HostRuntime) {
 fn padded_ids(rt: HostRuntime) {
     let id = Id::new(b"C1").expect(&rt, "an id");
     let padded = id.padded();
-    assert!(rt; padded.starts_with(b"C1\x00") && padded.ends_with(&[0; 30]));
+    holds(
+        &rt,
+        padded.starts_with(b"C1\x00") && padded.ends_with(&[0; 30]),
+    );
 }
 
 const PRICES: &[(i64, &[u8])] = &[
@@ -252,7 +256,7 @@ fn written_prices(rt: HostRuntime) {
         };
         write_message(&mut out, &head(b'8', 1, false), &[field]).expect(&rt, "memory");
         let message = Message::whole(&out).expect(&rt, "a frame");
-        assert!(rt; message.get(31) == Some(*text));
-        assert!(rt; read_price(text) == Ok(*price));
+        holds(&rt, message.get(31) == Some(*text));
+        holds(&rt, read_price(text) == Ok(*price));
     }
 }

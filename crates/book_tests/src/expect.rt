@@ -1,0 +1,12 @@
+//! What tests expect. Each test crate has this file, since a library may not abort. Where each place has an `assert!` of its
+//! own, the proofs of tests are several times as long.
+ghost use Rattle.std.specs.Prelude.{◌≡◌, true};
+
+use std::process::Abort;
+
+/// Fails the test unless it is so.
+pub fn holds(rt: &impl Abort, is_so: bool)
+    ensures { is_so ≡ true }
+{
+    assert!(rt; is_so);
+}
