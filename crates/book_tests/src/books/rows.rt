@@ -91,7 +91,7 @@ fn is_found<B: Book>(book: &B, want: &Order) -> bool {
 }
 
 /// Whether the change was made or refused, or the answer was given, as the step says.
-fn holds<B: Book>(rt: &impl Abort, book: &mut B, step: &Step) -> bool {
+fn goes_as_said<B: Book>(rt: &impl Abort, book: &mut B, step: &Step) -> bool {
     match step {
         Step::Add(lot) => add(book, order_of(lot)).expect(rt, "memory"),
         Step::Reduce(n, by) => reduce(book, *n, *by),
@@ -114,7 +114,11 @@ fn holds<B: Book>(rt: &impl Abort, book: &mut B, step: &Step) -> bool {
 
 fn expect_row<B: Book>(rt: &impl Abort, book: &mut B, row: &Row) {
     for n in 0..row.steps.len() {
-        assert!(rt; holds(rt, book, &row.steps[n]), "{}, step {n}", row.name);
+        assert!(rt;
+            goes_as_said(rt, book, &row.steps[n]),
+            "{}, step {n}",
+            row.name
+        );
     }
     clear(rt, book);
 }
