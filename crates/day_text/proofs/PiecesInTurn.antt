@@ -118,12 +118,3 @@ line_of_three session message text is = append_assoc (line_lead session) (map sh
 -- bytes that stand behind those of a piece are shown behind them
 pub shown_more : (old new bytes : List ℕ) → new ≡ old ++ bytes → map shown_byte new ≡ map shown_byte old ++ map shown_byte bytes
 shown_more old new bytes is = ap (λ (t : List ℕ). map shown_byte t) is ∙ map-append shown_byte old bytes
-
--- a line that stands behind the bytes of a piece is shown behind them
-pub shown_line : (old new lead message : List ℕ) (session : ℕ) → lead ≡ line_lead session → map shown_byte lead ≡ lead → new ≡ old ++ ((lead ++ message) ++ 10 ∷ []) → map shown_byte new ≡ map shown_byte old ++ outgoing_line session message
-shown_line old new lead message session text plain is =
-    let parts = is ∙ ap (λ (t : List ℕ). old ++ t) (append_assoc lead message (10 ∷ [])) in
-    let of_parts = map-append shown_byte lead (message ++ 10 ∷ [])
-    ∙ (ap (λ (t : List ℕ). t ++ map shown_byte (message ++ 10 ∷ [])) plain
-    ∙ (ap (λ (t : List ℕ). lead ++ t) (map-append shown_byte message (10 ∷ [])) ∙ sym (line_of_three session message lead text))) in
-    shown_more old new (lead ++ (message ++ 10 ∷ [])) parts ∙ ap (λ (t : List ℕ). map shown_byte old ++ t) of_parts

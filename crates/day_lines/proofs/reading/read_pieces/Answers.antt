@@ -81,24 +81,3 @@ loop-count-preserved g c =
         subst (λ (t : List ℕ). HasRead t c.take_piece.new.self) (sym (map-append soh_for_bar input more)) (c.in_ok-take_piece.ensures.reads (with_soh input) before.4.3),
       ),
     )
-
-pub returns-in-Err-clause-whole : goal.returns-in-Err-clause-whole
-returns-in-Err-clause-whole g c = tt
-
-pub returns-in-Err-clause-reading : goal.returns-in-Err-clause-reading
-returns-in-Err-clause-reading g c = tt
-
-pub returns-in-Err-clause-end : goal.returns-in-Err-clause-end
-returns-in-Err-clause-end g c = tt
-
-pub returns-in-Err-clause-sound : goal.returns-in-Err-clause-sound
-returns-in-Err-clause-sound g c = tt
-
-pub returns-then-count-taken-clause-whole : goal.returns-then-count-taken-clause-whole
-returns-then-count-taken-clause-whole g c = tt
-
-pub returns-then-count-taken-clause-reading : goal.returns-then-count-taken-clause-reading
-returns-then-count-taken-clause-reading g c = tt
-
-pub returns-then-count-eq0-clause-fault : goal.returns-then-count-eq0-clause-fault
-returns-then-count-eq0-clause-fault g c = tt

@@ -61,30 +61,3 @@ loop-s-preserved g c =
           subst (λ (ts : List (List ℕ)). (s : ℕ) → posted_at (slice_set ps i q) s ++ session_text ts s ≡ posted_at c.args.posters.now s ++ session_text c.args.reported.now.texts s) left
           (moved_set ps texts (λ s. posted_at c.args.posters.now s ++ session_text c.args.reported.now.texts s) i d q (here g at) low step was.moved);
     }
-
-pub returns-then-not-post_all-clause-applied : goal.returns-then-not-post_all-clause-applied
-returns-then-not-post_all-clause-applied g c = c.loop-s.invariant.applied
-
-pub returns-then-not-post_all-clause-desk : goal.returns-then-not-post_all-clause-desk
-returns-then-not-post_all-clause-desk g c = c.loop-s.invariant.desk
-
-pub returns-then-not-post_all-clause-count : goal.returns-then-not-post_all-clause-count
-returns-then-not-post_all-clause-count g c = c.loop-s.invariant.count
-
-pub returns-then-not-post_all-clause-moved : goal.returns-then-not-post_all-clause-moved
-returns-then-not-post_all-clause-moved g c = tt
-
-pub returns-clause-rings : goal.returns-clause-rings
-returns-clause-rings g c = c.loop-s.invariant.same
-
-pub returns-clause-open : goal.returns-clause-open
-returns-clause-open g c = c.loop-s.invariant.open_
-
-pub returns-clause-applied : goal.returns-clause-applied
-returns-clause-applied g c = c.loop-s.invariant.applied
-
-pub returns-clause-desk : goal.returns-clause-desk
-returns-clause-desk g c = c.loop-s.invariant.desk
-
-pub returns-clause-count : goal.returns-clause-count
-returns-clause-count g c = c.loop-s.invariant.count

@@ -32,6 +32,3 @@ loop-s-preserved g c =
       posters_left = left_more c.args.posters.now c.loop-s.posters i c.finished.new.poster was.posters_left;
       written_left = left_more c.args.written.now c.loop-s.written i _ was.written_left;
     }
-
-pub returns-clause-finished : goal.returns-clause-finished
-returns-clause-finished g c = λ is s lt. c.loop-s.invariant.done s (omega (arith, c.loop-s-test.false, c.loop-s.auto.written, lt))

@@ -64,27 +64,3 @@ pub returns-clause-fault : goal.returns-clause-fault
 returns-clause-fault g c =
     let m = matched g (goal.at.returns-clause-fault g c).After-join-matched in
     rw (← c.of-given.ensures) (subst (λ (rules : Rules). IfErr c.conclude.result (λ f. (ring : ℕ) → IsThreadsFault rules c.of-given.result.value.items ring c.args.stages.room f)) m.rules c.conclude.ensures.fault)
-
-pub returns-in_default-clause-day : goal.returns-in_default-clause-day
-returns-in_default-clause-day g c = tt
-
-pub returns-in_default-clause-size : goal.returns-in_default-clause-size
-returns-in_default-clause-size g c = tt
-
-pub returns-in-Some-clause-day : goal.returns-in-Some-clause-day
-returns-in-Some-clause-day g c = tt
-
-pub returns-in-Some-clause-size : goal.returns-in-Some-clause-size
-returns-in-Some-clause-size g c = tt
-
-pub returns-in_default-start_matching-clause-day : goal.returns-in_default-start_matching-clause-day
-returns-in_default-start_matching-clause-day g c = tt
-
-pub returns-in_default-start_matching-clause-size : goal.returns-in_default-start_matching-clause-size
-returns-in_default-start_matching-clause-size g c = tt
-
-pub returns-in-Some-refused-clause-day : goal.returns-in-Some-refused-clause-day
-returns-in-Some-refused-clause-day g c = tt
-
-pub returns-in-Some-refused-clause-size : goal.returns-in-Some-refused-clause-size
-returns-in-Some-refused-clause-size g c = tt

@@ -20,9 +20,3 @@ invariant_of-self-then-self-2 g c =
       on = c.self.invariant.on;
       quoted = λ e. come_table (implied c.self.inside.pairs.rules.now) c.self.inside.pairs.months xs ys o c.front_level-others.result c.self.inside.quotes c.renew_for.new.self (c.self.invariant.quoted both.0) both.1 come (c.renew_for.ensures.came refl xs come);
     }
-
-pub returns-else-self-2-clause-err : goal.returns-else-self-2-clause-err
-returns-else-self-2-clause-err g c = tt
-
-pub returns-then-self-2-clause-err : goal.returns-then-self-2-clause-err
-returns-then-self-2-clause-err g c = tt

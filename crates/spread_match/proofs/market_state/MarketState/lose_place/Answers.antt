@@ -79,9 +79,3 @@ returns-clause-after g c =
     ∙ ap (statuses_after d.fills) (c.mark_replaced.ensures ∙ ap (λ (x : MarketState). map (status_after_replace r.session r.id) x.statuses) stands) in
     ap (λ (x : MarketState). record { orders = x.orders; statuses = x.statuses; last = c.args.place }) c.self-3.view_is
     ∙ moved_state c.args.rules.now m c.args.place c.args.ticket.now r n made.orders made.statuses d c.moved_order-order.ensures same c.trade_newest.ensures.orders statuses
-
-pub returns-clause-err : goal.returns-clause-err
-returns-clause-err g c = tt
-
-pub returns-clause-no_fills : goal.returns-clause-no_fills
-returns-clause-no_fills g c = tt

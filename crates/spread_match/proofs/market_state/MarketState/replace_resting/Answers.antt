@@ -64,27 +64,3 @@ returns-else-keeps_place-clause-after g c =
     let used : c.is_some-used.result ≡ is_some (find (has_id r.session t.id) m.statuses) = c.is_some-used.ensures ∙ ap (λ o. is_some o) (c.find.ensures ∙ ap (λ (x : MarketState). find (has_id r.session t.id) x.statuses) c.self.view_is) in
     let is = moved_is c.args.rules.now m.orders c.args.place t (instrument_or_refusal_of c.args.rules.now m.statuses r.session t) r (c.in_default.ensures (find (has_id r.session t.id) m.statuses) used) c.if-keeps_place.ensures in
     on_ok c.lose_place.result _ _ (λ h. h ∙ ap (state_with m c.args.place r.session (Replace r.id t)) is) c.lose_place.ensures.after
-
-pub lose_place-requires-clause-ready : goal.lose_place-requires-clause-ready
-lose_place-requires-clause-ready g c = c.requires.ready
-
-pub lose_place-requires-clause-rests : goal.lose_place-requires-clause-rests
-lose_place-requires-clause-rests g c = c.requires.rests
-
-pub lose_place-requires-clause-price : goal.lose_place-requires-clause-price
-lose_place-requires-clause-price g c = c.requires.price
-
-pub lose_place-requires-clause-place : goal.lose_place-requires-clause-place
-lose_place-requires-clause-place g c = c.requires.place
-
-pub keep_place-requires-clause-rests : goal.keep_place-requires-clause-rests
-keep_place-requires-clause-rests g c = c.requires.rests
-
-pub returns-then-keeps_place-clause-err : goal.returns-then-keeps_place-clause-err
-returns-then-keeps_place-clause-err g c = c.keep_place.ensures.err
-
-pub returns-else-keeps_place-clause-err : goal.returns-else-keeps_place-clause-err
-returns-else-keeps_place-clause-err g c = c.lose_place.ensures.err
-
-pub returns-else-keeps_place-clause-no_fills : goal.returns-else-keeps_place-clause-no_fills
-returns-else-keeps_place-clause-no_fills g c = c.lose_place.ensures.no_fills

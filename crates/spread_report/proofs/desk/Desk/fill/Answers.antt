@@ -29,9 +29,3 @@ returns-in_ok-fill_part-in-Spread g c =
     (leg_reports c.in-Spread.near c.in-Spread.far c.args.rules.now id.place (id.index + 1) f) tt c.fill_legs.result one two in
     sends_same c.args.self.now c.fill_legs.new.self c.args.lists.now c.fill_legs.new.lists
     (reports (Spread c.in-Spread.near c.in-Spread.far)) (reports f.instrument) c.fill_legs.result (ap reports (sym c.in-Spread.is)) all
-
-pub fill_legs-requires-clause-fits : goal.fill_legs-requires-clause-fits
-fill_legs-requires-clause-fits g c = c.requires.fits
-
-pub fill_part-requires-clause-lists : goal.fill_part-requires-clause-lists
-fill_part-requires-clause-lists g c = c.requires.lists

@@ -12,9 +12,3 @@ pub returns-then-reason-eq-COMP_ID : goal.returns-then-reason-eq-COMP_ID
 returns-then-reason-eq-COMP_ID g c =
     sends_same c.args.self.now c.send-then-reason-eq-COMP_ID.new.self c.args.lists.now c.send-then-reason-eq-COMP_ID.new.lists _ (close_messages c.args.session c.args.reason) c.send-then-reason-eq-COMP_ID.result
     (rw c.if-reason-eq-COMP_ID.true (ap (λ (t : List ℕ). logout_saying c.args.session t) c.of-then-reason-eq-COMP_ID.ensures)) c.send-then-reason-eq-COMP_ID.ensures
-
-pub send-requires-clause-lists : goal.send-requires-clause-lists
-send-requires-clause-lists g c = c.requires.lists
-
-pub send-requires-clause-session : goal.send-requires-clause-session
-send-requires-clause-session g c = c.requires.session

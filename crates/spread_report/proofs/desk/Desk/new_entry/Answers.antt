@@ -29,21 +29,3 @@ returns-in_err-index-in-Ended g c =
     (new_messages c.args.rules.now o.place o.session o.ticket.now (Ended c.in-Ended.left) c.args.fills.now)
     (new_messages c.args.rules.now o.place o.session o.ticket.now c.args.outcome.now c.args.fills.now) {T = Unit {0}} (Err fault)
     (ap (λ (out : Outcome). new_messages c.args.rules.now o.place o.session o.ticket.now out c.args.fills.now) (sym ended)) all)
-
-pub accepted_with_fills-requires-clause-fills : goal.accepted_with_fills-requires-clause-fills
-accepted_with_fills-requires-clause-fills g c = c.requires.fills
-
-pub accepted_with_fills-requires-clause-lists : goal.accepted_with_fills-requires-clause-lists
-accepted_with_fills-requires-clause-lists g c = c.requires.lists
-
-pub accepted_with_fills-requires-clause-session : goal.accepted_with_fills-requires-clause-session
-accepted_with_fills-requires-clause-session g c = c.requires.session
-
-pub ended-requires-clause-session : goal.ended-requires-clause-session
-ended-requires-clause-session g c = c.requires.session
-
-pub rejected-requires-clause-lists : goal.rejected-requires-clause-lists
-rejected-requires-clause-lists g c = c.requires.lists
-
-pub rejected-requires-clause-session : goal.rejected-requires-clause-session
-rejected-requires-clause-session g c = c.requires.session

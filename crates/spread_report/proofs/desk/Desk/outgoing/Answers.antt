@@ -86,15 +86,3 @@ returns-else-is_err-clause-desk_kept g c = err_sent _ c.send_entry-result.result
 
 pub returns-else-is_err-clause-lists_kept : goal.returns-else-is_err-clause-lists_kept
 returns-else-is_err-clause-lists_kept g c = err_sent _ c.send_entry-result.result (sym c.is_err.ensures.value ∙ c.if-is_err.false)
-
-pub send_entry-result-requires-clause-fills : goal.send_entry-result-requires-clause-fills
-send_entry-result-requires-clause-fills g c = c.requires.fills
-
-pub send_entry-result-requires-clause-lists : goal.send_entry-result-requires-clause-lists
-send_entry-result-requires-clause-lists g c = c.requires.lists
-
-pub send_entry-result-requires-clause-outcome : goal.send_entry-result-requires-clause-outcome
-send_entry-result-requires-clause-outcome g c = c.requires.outcome
-
-pub send_entry-result-requires-clause-session : goal.send_entry-result-requires-clause-session
-send_entry-result-requires-clause-session g c = c.requires.session

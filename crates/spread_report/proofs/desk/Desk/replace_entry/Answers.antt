@@ -33,18 +33,3 @@ pub returns-in-CancelRefused : goal.returns-in-CancelRefused
 returns-in-CancelRefused g c =
     let w = rw (c.in-CancelRefused.reason-is, c.in-CancelRefused.place-is, c.in-CancelRefused.status-is) at c.cancel_reject.ensures in
     rw c.in-CancelRefused.is w
-
-pub all_fills-requires-clause-fills : goal.all_fills-requires-clause-fills
-all_fills-requires-clause-fills g c = c.requires.fills
-
-pub cancel_reject-requires-clause-lists : goal.cancel_reject-requires-clause-lists
-cancel_reject-requires-clause-lists g c = c.requires.lists
-
-pub cancel_reject-requires-clause-session : goal.cancel_reject-requires-clause-session
-cancel_reject-requires-clause-session g c = c.requires.session
-
-pub replaced-requires-clause-lists : goal.replaced-requires-clause-lists
-replaced-requires-clause-lists g c = c.requires.lists
-
-pub replaced-requires-clause-session : goal.replaced-requires-clause-session
-replaced-requires-clause-session g c = c.requires.session
