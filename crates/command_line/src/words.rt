@@ -127,7 +127,11 @@ fn place_word<'a>(alloc: Global) -> Arg<'a> {
 }
 
 /// A command of that name, and what its help says it does.
-fn command<'a>(alloc: Global, name: &'a str, about: &'a str) -> Result<Command<'a>, AllocError> {
+fn new_command<'a>(
+    alloc: Global,
+    name: &'a str,
+    about: &'a str,
+) -> Result<Command<'a>, AllocError> {
     Ok(Command::new(alloc, name).about(about))
 }
 
@@ -148,7 +152,7 @@ fn with<'a>(
 }
 
 fn replay_command<'a>(alloc: Global) -> Result<Command<'a>, AllocError> {
-    let replay = command(
+    let replay = new_command(
         alloc,
         "replay",
         "Reads day lines from standard input, and writes the journal, fills, outgoing messages and month totals",
@@ -163,7 +167,7 @@ const RING_HELP: &str = "How many items each ring between two threads has room f
 const ENTRIES_HELP: &str = "How many entries the journal has room for, at most 1000000";
 
 fn live_command<'a>(alloc: Global) -> Result<Command<'a>, AllocError> {
-    let live = command(
+    let live = new_command(
         alloc,
         "live",
         "Runs a thread for each session's file, and writes what `replay` writes",
@@ -183,7 +187,7 @@ fn journal_command<'a>(
     name: &'a str,
     about: &'a str,
 ) -> Result<Command<'a>, AllocError> {
-    let command = command(alloc, name, about);
+    let command = new_command(alloc, name, about);
     let command = taking(command, file_word(alloc, "RULES", RULES_HELP));
     taking(command, file_word(alloc, "JOURNAL", JOURNAL_HELP))
 }

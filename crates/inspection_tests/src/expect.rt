@@ -1,5 +1,5 @@
-//! What tests expect. Each test crate has this file, since a library may not abort. Where each place has an `assert!` of its
-//! own, the proofs of tests are several times as long.
+//! What tests expect. Each test crate has this file, since a library may not abort. Where each place has an `assert!`
+//! of its own, a crate of tests takes up to a quarter longer to prove.
 ghost use Rattle.std.specs.Prelude.{◌≡◌, true};
 
 use std::process::Abort;

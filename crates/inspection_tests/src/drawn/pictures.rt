@@ -4,6 +4,7 @@ use day_picture::{draw, put_bytes};
 use host_base::TestSink;
 use spread_rules::Rulebook;
 use std::alloc::Global;
+use std::process::Abort;
 use std::test::Fail;
 use test_support::{FIRST_TRADE_JOURNAL, THREE_MONTHS};
 
@@ -30,6 +31,11 @@ pub fn count(picture: &[u8], part: &[u8]) -> u64 {
     found
 }
 
+/// Expects a part of a picture that many times.
+fn expect_count(rt: &impl Abort, picture: &[u8], part: &[u8], want: u64) {
+    holds(rt, count(picture, part) == want);
+}
+
 /// A part of a picture, and how often it stands there.
 type Part = (&'static [u8], u64);
 
@@ -48,9 +54,9 @@ const SYMBOLS: &[Part] = &[
 fn panels_of_what_traded(rt: HostRuntime) -> Result<(), Fail> {
     let sink = drawn(rt.alloc(), DIRECT_BEFORE_IMPLIED)?;
     let picture = sink.bytes();
-    holds(&rt, count(picture, b"<svg class=\"panel\"") == 3);
+    expect_count(&rt, picture, b"<svg class=\"panel\"", 3);
     for (symbol, panels) in SYMBOLS {
-        holds(&rt, count(picture, symbol) == *panels);
+        expect_count(&rt, picture, symbol, *panels);
     }
     Ok(())
 }
@@ -62,7 +68,7 @@ fn panels_of_what_traded(rt: HostRuntime) -> Result<(), Fail> {
 fn marks_of_trades(rt: HostRuntime) -> Result<(), Fail> {
     let sink = drawn(rt.alloc(), DIRECT_BEFORE_IMPLIED)?;
     let picture = sink.bytes();
-    holds(&rt, count(picture, b"<circle cx=") == 1);
+    expect_count(&rt, picture, b"<circle cx=", 1);
     holds(
         &rt,
         count(picture, b"<circle cx=\"6837\" cy=\"950\" r=\"78\"/>") == 1,
@@ -79,8 +85,8 @@ fn marks_of_trades(rt: HostRuntime) -> Result<(), Fail> {
 fn steps_of_best_prices(rt: HostRuntime) -> Result<(), Fail> {
     let sink = drawn(rt.alloc(), DIRECT_BEFORE_IMPLIED)?;
     let picture = sink.bytes();
-    holds(&rt, count(picture, b"<path class=\"buy\" ") == 1);
-    holds(&rt, count(picture, b"<path class=\"sell\" ") == 3);
+    expect_count(&rt, picture, b"<path class=\"buy\" ", 1);
+    expect_count(&rt, picture, b"<path class=\"sell\" ", 3);
     holds(
         &rt,
         count(picture, b"<path class=\"buy\" d=\"M6837 950h1678\"/>") == 1,
@@ -115,7 +121,7 @@ fn steps_up_and_down(rt: HostRuntime) -> Result<(), Fail> {
             b"<path class=\"sell\" d=\"M1523 950h1398v825h2797v-825h1398v-825h1399\"/>",
         ) == 1,
     );
-    holds(&rt, count(picture, b"<path class=\"buy\" ") == 0);
+    expect_count(&rt, picture, b"<path class=\"buy\" ", 0);
     holds(
         &rt,
         count(picture, b"<circle cx=\"7116\" cy=\"950\" r=\"95\"/>") == 1,
@@ -146,10 +152,10 @@ fn axes_and_legend(rt: HostRuntime) -> Result<(), Fail> {
     let sink = drawn(rt.alloc(), DIRECT_BEFORE_IMPLIED)?;
     let picture = sink.bytes();
     for (part, times) in MARKS {
-        holds(&rt, count(picture, part) == *times);
+        expect_count(&rt, picture, part, *times);
     }
     // The places 1 to 5 below each of three panels; the legend has the sizes of 2 lots and of none below.
-    holds(&rt, count(picture, b">5</text>") == 3);
+    expect_count(&rt, picture, b">5</text>", 3);
     Ok(())
 }
 
@@ -157,8 +163,8 @@ fn axes_and_legend(rt: HostRuntime) -> Result<(), Fail> {
 fn first_trade(rt: HostRuntime) -> Result<(), Fail> {
     let sink = drawn(rt.alloc(), FIRST_TRADE_JOURNAL)?;
     let picture = sink.bytes();
-    holds(&rt, count(picture, b"<svg class=\"panel\"") == 1);
-    holds(&rt, count(picture, b"<circle cx=") == 1);
+    expect_count(&rt, picture, b"<svg class=\"panel\"", 1);
+    expect_count(&rt, picture, b"<circle cx=", 1);
     holds(
         &rt,
         count(picture, b">1 direct, 0 implied, 5 lots</text>") == 1,
@@ -192,10 +198,10 @@ fn days_without_trades(rt: HostRuntime) -> Result<(), Fail> {
     for (journal, totals) in WITHOUT_TRADES {
         let sink = drawn(rt.alloc(), journal)?;
         let picture = sink.bytes();
-        holds(&rt, count(picture, totals) == 1);
-        holds(&rt, count(picture, b">Nothing was traded.</text>") == 1);
-        holds(&rt, count(picture, b"<svg ") == 1);
-        holds(&rt, count(picture, b"<circle ") == 0);
+        expect_count(&rt, picture, totals, 1);
+        expect_count(&rt, picture, b">Nothing was traded.</text>", 1);
+        expect_count(&rt, picture, b"<svg ", 1);
+        expect_count(&rt, picture, b"<circle ", 0);
     }
     Ok(())
 }
