@@ -3,6 +3,7 @@
 
 #[cfg(test)]
 mod expect;
-pub mod headline;
+#[cfg(test)]
+mod headline;
 #[cfg(test)]
 mod host;

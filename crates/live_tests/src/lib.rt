@@ -5,7 +5,8 @@
 mod days;
 #[cfg(test)]
 mod expect;
-pub mod headline;
+#[cfg(test)]
+mod headline;
 #[cfg(test)]
 mod no_memory;
 #[cfg(test)]
