@@ -69,13 +69,17 @@ fn marks_of_trades(rt: HostRuntime) -> Result<(), Fail> {
     let sink = drawn(rt.alloc(), DIRECT_BEFORE_IMPLIED)?;
     let picture = sink.bytes();
     expect_count(&rt, picture, b"<circle cx=", 1);
-    holds(
+    expect_count(
         &rt,
-        count(picture, b"<circle cx=\"6837\" cy=\"950\" r=\"78\"/>") == 1,
+        picture,
+        b"<circle cx=\"6837\" cy=\"950\" r=\"78\"/>",
+        1,
     );
-    holds(
+    expect_count(
         &rt,
-        count(picture, b"<path d=\"M6837 831l119 119-119 119-119-119z\"/>") == 3,
+        picture,
+        b"<path d=\"M6837 831l119 119-119 119-119-119z\"/>",
+        3,
     );
     Ok(())
 }
@@ -87,21 +91,29 @@ fn steps_of_best_prices(rt: HostRuntime) -> Result<(), Fail> {
     let picture = sink.bytes();
     expect_count(&rt, picture, b"<path class=\"buy\" ", 1);
     expect_count(&rt, picture, b"<path class=\"sell\" ", 3);
-    holds(
+    expect_count(
         &rt,
-        count(picture, b"<path class=\"buy\" d=\"M6837 950h1678\"/>") == 1,
+        picture,
+        b"<path class=\"buy\" d=\"M6837 950h1678\"/>",
+        1,
     );
-    holds(
+    expect_count(
         &rt,
-        count(picture, b"<path class=\"sell\" d=\"M1803 950h5034\"/>") == 1,
+        picture,
+        b"<path class=\"sell\" d=\"M1803 950h5034\"/>",
+        1,
     );
-    holds(
+    expect_count(
         &rt,
-        count(picture, b"<path class=\"sell\" d=\"M3481 950h3356\"/>") == 1,
+        picture,
+        b"<path class=\"sell\" d=\"M3481 950h3356\"/>",
+        1,
     );
-    holds(
+    expect_count(
         &rt,
-        count(picture, b"<path class=\"sell\" d=\"M5159 950h3356\"/>") == 1,
+        picture,
+        b"<path class=\"sell\" d=\"M5159 950h3356\"/>",
+        1,
     );
     Ok(())
 }
@@ -114,17 +126,18 @@ fn steps_up_and_down(rt: HostRuntime) -> Result<(), Fail> {
         b"JOURNAL 1\n0 logon 4331 484f5354 30\n0 new 61 4836 2 2 10002 day\n0 new 62 4836 2 3 10000 day\n0 new 63 4836 2 4 10004 day\n0 cancel 64 62\n0 new 65 4836 1 2 10002 day\nEND 6\n";
     let sink = drawn(rt.alloc(), journal)?;
     let picture = sink.bytes();
-    holds(
+    expect_count(
         &rt,
-        count(
-            picture,
-            b"<path class=\"sell\" d=\"M1523 950h1398v825h2797v-825h1398v-825h1399\"/>",
-        ) == 1,
+        picture,
+        b"<path class=\"sell\" d=\"M1523 950h1398v825h2797v-825h1398v-825h1399\"/>",
+        1,
     );
     expect_count(&rt, picture, b"<path class=\"buy\" ", 0);
-    holds(
+    expect_count(
         &rt,
-        count(picture, b"<circle cx=\"7116\" cy=\"950\" r=\"95\"/>") == 1,
+        picture,
+        b"<circle cx=\"7116\" cy=\"950\" r=\"95\"/>",
+        1,
     );
     Ok(())
 }
@@ -165,10 +178,7 @@ fn first_trade(rt: HostRuntime) -> Result<(), Fail> {
     let picture = sink.bytes();
     expect_count(&rt, picture, b"<svg class=\"panel\"", 1);
     expect_count(&rt, picture, b"<circle cx=", 1);
-    holds(
-        &rt,
-        count(picture, b">1 direct, 0 implied, 5 lots</text>") == 1,
-    );
+    expect_count(&rt, picture, b">1 direct, 0 implied, 5 lots</text>", 1);
     Ok(())
 }
 
