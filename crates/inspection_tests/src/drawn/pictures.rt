@@ -20,20 +20,15 @@ pub fn drawn(alloc: Global, journal: &[u8]) -> Result<TestSink, Fail> {
     Ok(sink)
 }
 
-/// How often that stands in a picture.
-pub fn count(picture: &[u8], part: &[u8]) -> u64 {
+/// Expects a part of a picture that many times.
+pub fn expect_count(rt: &impl Abort, picture: &[u8], part: &[u8], want: u64) {
     let mut found = 0u64;
     for at in 0..picture.len() {
         if picture[at..].starts_with(part) {
             found = found.wrapping_add(1);
         }
     }
-    found
-}
-
-/// Expects a part of a picture that many times.
-fn expect_count(rt: &impl Abort, picture: &[u8], part: &[u8], want: u64) {
-    holds(rt, count(picture, part) == want);
+    holds(rt, found == want);
 }
 
 /// A part of a picture, and how often it stands there.

@@ -1,5 +1,5 @@
 //! Long days.
-use super::pictures::count;
+use super::pictures::expect_count;
 use crate::expect::holds;
 use day_picture::draw;
 use host_base::TestSink;
@@ -54,7 +54,7 @@ fn long_day(rt: HostRuntime) -> Result<(), Fail> {
     let journal = long_journal(rt.alloc(), 99_999)?;
     let mut sink = TestSink::new(rt.alloc(), 1_999_999, 0)?;
     draw(rt.alloc(), &rules, journal.as_bytes(), &mut sink)?;
-    holds(&rt, count(sink.bytes(), b"<svg class=\"panel\"") == 6);
+    expect_count(&rt, sink.bytes(), b"<svg class=\"panel\"", 6);
     holds(&rt, sink.bytes().len() > 100_000);
     Ok(())
 }
