@@ -60,16 +60,23 @@ fn time_phase<R: Clock + CpuClock + Print + AllocGlobal + Threads + Sync>(
     }
 }
 
-fn run<R: Env + Clock + CpuClock + Print + Files + AllocGlobal + Threads + Sync>(
+fn run_words<R: Clock + CpuClock + Print + Files + AllocGlobal + Threads + Sync>(
     rt: &R,
+    words: &[String],
 ) -> Result<(), Fault> {
-    let words: Vec<String> = env::args(rt)?.collect(rt.alloc())?;
-    let Some((phase, files)) = words.as_slice().get(1..).and_then(|w| w.split_first()) else {
+    let Some((phase, files)) = words.get(1..).and_then(|w| w.split_first()) else {
         println!(rt; "{HELP}")?;
         return Ok(());
     };
     let files = contents(rt, files)?;
     time_phase(rt, phase.as_str(), &files)
+}
+
+fn run<R: Env + Clock + CpuClock + Print + Files + AllocGlobal + Threads + Sync>(
+    rt: &R,
+) -> Result<(), Fault> {
+    let words: Vec<String> = env::args(rt)?.collect(rt.alloc())?;
+    run_words(rt, words.as_slice())
 }
 
 fn main(rt: HostRuntime) -> ExitCode {

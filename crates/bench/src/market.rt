@@ -5,7 +5,7 @@ ghost use Rattle.spread_match.specs.State.{empty_state};
 
 use crate::fault::Fault;
 use crate::reports::{Applied, send_all};
-use crate::timing::{RUNS, nanos, tell};
+use crate::timing::{RUNS, Timer, tell};
 use crate::wire::{bytes_of, scanned};
 use host_base::NoMemory;
 use spread_books::{Book, IndexBook};
@@ -47,6 +47,7 @@ fn apply_each<B: Book, A: Allocator + Copy>(
     requires first { market.old.state ≡ empty_state }
     requires entries { All FitsEntry journal.now }
 {
+    market.reserve(journal.len())?;
     for n in 0..journal.len() {
         let outcome = apply_entry(market, n as u64 + 1, &journal[n], &mut applied.fills)?;
         applied.outcomes.push(outcome)?;
@@ -79,6 +80,7 @@ fn match_each<B: Book, A: Allocator + Copy>(
     requires first { market.old.state ≡ empty_state }
     requires entries { All FitsEntry journal.now }
 {
+    market.reserve(journal.len())?;
     let mut count = 0u64;
     for n in 0..journal.len() {
         let made = match_entry(market, n as u64 + 1, &journal[n], fills)?;
@@ -98,7 +100,6 @@ fn match_all<B: Book + Drop, A: Allocator + Copy>(
     requires entries { All FitsEntry journal.now }
 {
     let mut market = Market::new(alloc, rulebook, book);
-    market.reserve(journal.len())?;
     let mut fills = Vec::new(alloc);
     match_each(&mut market, journal, &mut fills)
 }
@@ -115,6 +116,39 @@ fn match_indexed<A: Allocator + Copy>(
     match_all(alloc, rulebook, book, journal)
 }
 
+/// What some runs over a journal came to.
+#[derive(Clone, Copy)]
+struct Matched {
+    fills: u64,
+    /// The least time of a run.
+    nanos: u64,
+}
+
+/// Applies the entries of a journal some times, and keeps neither fills nor outcomes.
+fn match_runs(
+    rt: &(impl CpuClock + AllocGlobal),
+    rulebook: &Rulebook,
+    journal: &[Entry],
+) -> Result<Matched, NoMemory>
+    requires { All FitsEntry journal.now }
+{
+    let mut fills = 0;
+    let mut nanos = u64::MAX;
+    for _ in 0..RUNS {
+        let timer = Timer::start(rt);
+        fills = match_indexed(rt.alloc(), rulebook, journal)?;
+        nanos = nanos.min(timer.used(rt));
+    }
+    Ok(Matched { fills, nanos })
+}
+
+/// Tells how long that took.
+fn tell_matched(rt: &impl Print, entries: u64, matched: Matched) -> Result<(), Fault> {
+    tell(rt, "match", entries, "entries", matched.nanos)?;
+    println!(rt; "# {} fills", matched.fills)?;
+    Ok(())
+}
+
 /// Applies the entries of a journal, and keeps neither fills nor outcomes.
 pub fn time_match(
     rt: &(impl CpuClock + Print + AllocGlobal),
@@ -122,16 +156,32 @@ pub fn time_match(
     text: &[u8],
 ) -> Result<(), Fault> {
     let (rulebook, journal) = read_inputs(rt.alloc(), rules, text)?;
-    let mut fills = 0;
+    let matched = match_runs(rt, &rulebook, &journal)?;
+    tell_matched(rt, journal.len() as u64, matched)
+}
+
+/// Writes some times what the sessions of an applied journal are sent: the least time of a run. The lists of one run
+/// are freed when the next were made, and those of the last stay.
+fn send_runs(
+    rt: &(impl CpuClock + AllocGlobal),
+    rulebook: &Rulebook,
+    journal: &[Entry],
+    applied: &Applied<Global>,
+    lists: &mut Vec<Vec<u8>>,
+) -> Result<u64, Fault> {
     let mut least = u64::MAX;
     for _ in 0..RUNS {
-        let start = nanos(rt)?;
-        fills = match_indexed(rt.alloc(), &rulebook, &journal)?;
-        least = least.min(nanos(rt)?.saturating_sub(start));
+        let timer = Timer::start(rt);
+        *lists = send_all(rt.alloc(), rulebook, journal, applied)?;
+        least = least.min(timer.used(rt));
     }
-    tell(rt, "match", journal.len() as u64, "entries", least)?;
-    println!(rt; "# {} fills", fills)?;
-    Ok(())
+    Ok(least)
+}
+
+/// Tells how long that took.
+fn tell_sent(rt: &impl Print, lists: &[Vec<u8>], nanos: u64) -> Result<(), Fault> {
+    tell(rt, "report", scanned(lists), "messages", nanos)?;
+    tell(rt, "report-bytes", bytes_of(lists), "bytes", nanos)
 }
 
 /// Writes what the sessions of an applied journal are sent.
@@ -142,14 +192,8 @@ fn time_messages(
     applied: &Applied<Global>,
 ) -> Result<(), Fault> {
     let mut lists = Vec::new(rt.alloc());
-    let mut least = u64::MAX;
-    for _ in 0..RUNS {
-        let start = nanos(rt)?;
-        lists = send_all(rt.alloc(), rulebook, journal, applied)?;
-        least = least.min(nanos(rt)?.saturating_sub(start));
-    }
-    tell(rt, "report", scanned(&lists), "messages", least)?;
-    tell(rt, "report-bytes", bytes_of(&lists), "bytes", least)
+    let least = send_runs(rt, rulebook, journal, applied, &mut lists)?;
+    tell_sent(rt, &lists, least)
 }
 
 /// The same of a journal applied over an empty book. The market stays until the messages are written, as it does in a
@@ -164,7 +208,6 @@ fn time_messages_over<B: Book + Drop>(
     requires entries { All FitsEntry journal.now }
 {
     let mut market = Market::new(rt.alloc(), rulebook, book);
-    market.reserve(journal.len())?;
     let mut applied = Applied {
         fills: Vec::new(rt.alloc()),
         outcomes: Vec::new(rt.alloc()),

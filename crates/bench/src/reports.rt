@@ -78,13 +78,11 @@ fn send<A: Allocator + Copy>(
     applied: &AppliedEntry<'_>,
     lists: &mut Vec<Vec<u8, A>, A>,
 ) -> Result<(), Fault> {
-    if applied.entry.session >= 16 || lists.len() != 16 {
-        return Err(Fault::Input);
-    }
-    if !fits_outcome(rules, &applied.entry.event, applied.outcome) {
-        return Err(Fault::Input);
-    }
-    if !fit_fills(rules, applied.fills) {
+    if applied.entry.session >= 16
+        || lists.len() != 16
+        || !fits_outcome(rules, &applied.entry.event, applied.outcome)
+        || !fit_fills(rules, applied.fills)
+    {
         return Err(Fault::Input);
     }
     match desk.outgoing(
@@ -120,15 +118,14 @@ fn new_lists<A: Allocator + Copy>(alloc: A) -> Result<Vec<Vec<u8, A>, A>, AllocE
     Ok(lists)
 }
 
-/// What each session is sent for the entries of an applied journal.
-pub fn send_all<A: Allocator + Copy>(
-    alloc: A,
+/// Sends what each entry of an applied journal sends.
+fn send_each<A: Allocator + Copy>(
+    desk: &mut Desk,
     rules: &Rulebook,
     journal: &[Entry],
     applied: &Applied<A>,
-) -> Result<Vec<Vec<u8, A>, A>, Fault> {
-    let mut lists = new_lists(alloc)?;
-    let mut desk = Desk::new(Id::new(b"20260105-14:30:00").unwrap_or(Id::default()));
+    lists: &mut Vec<Vec<u8, A>, A>,
+) -> Result<(), Fault> {
     let mut rest = applied.fills.as_slice();
     let outcomes = applied.outcomes.as_slice();
     if outcomes.len() != journal.len() {
@@ -143,8 +140,21 @@ pub fn send_all<A: Allocator + Copy>(
             outcome: &outcomes[n],
             fills,
         };
-        send(&mut desk, rules, &one, &mut lists)?;
+        send(desk, rules, &one, lists)?;
         rest = others;
     }
+    Ok(())
+}
+
+/// What each session is sent for the entries of an applied journal.
+pub fn send_all<A: Allocator + Copy>(
+    alloc: A,
+    rules: &Rulebook,
+    journal: &[Entry],
+    applied: &Applied<A>,
+) -> Result<Vec<Vec<u8, A>, A>, Fault> {
+    let mut lists = new_lists(alloc)?;
+    let mut desk = Desk::new(Id::new(b"20260105-14:30:00").unwrap_or(Id::default()));
+    send_each(&mut desk, rules, journal, applied, &mut lists)?;
     Ok(lists)
 }

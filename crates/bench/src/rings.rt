@@ -1,6 +1,6 @@
 //! Gateways, rings and the sequencer, in one thread and in two.
 use crate::fault::Fault;
-use crate::timing::{nanos, tell};
+use crate::timing::{Timer, tell};
 use crate::wire::{PIECE, scanned};
 use gate_link::{Gateway, Sequencer, Step, Turn, link};
 use std::alloc::{AllocGlobal, Allocator, Global};
@@ -78,6 +78,19 @@ fn work_streams<A: Allocator>(
     }
 }
 
+/// Tells the time of so many messages, and how many entries came of them.
+fn tell_entries<A: Allocator>(
+    rt: &impl Print,
+    phase: &str,
+    messages: u64,
+    nanos: u64,
+    sequencer: &Sequencer<A>,
+) -> Result<(), Fault> {
+    tell(rt, phase, messages, "messages", nanos)?;
+    println!(rt; "# {} entries", sequencer.journal().len())?;
+    Ok(())
+}
+
 /// Frames, judges, sends and takes the messages of streams.
 pub fn time_link(
     rt: &(impl CpuClock + Print + AllocGlobal),
@@ -87,12 +100,10 @@ pub fn time_link(
     let Ok((mut gateways, mut sequencer)) = link(rt.alloc(), streams.len(), 256, 1_000_000) else {
         return Err(Fault::NoMemory);
     };
-    let start = nanos(rt)?;
+    let timer = Timer::start(rt);
     work_streams(gateways.as_mut_slice(), &mut sequencer, streams);
-    let used = nanos(rt)?.saturating_sub(start);
-    tell(rt, "link", messages, "messages", used)?;
-    println!(rt; "# {} entries", sequencer.journal().len())?;
-    Ok(())
+    let used = timer.used(rt);
+    tell_entries(rt, "link", messages, used, &sequencer)
 }
 
 /// Steps until no message stands, and lets other threads run where the ring is full.
@@ -177,6 +188,19 @@ fn send_and_take<R: Threads + Sync>(
     );
 }
 
+/// How many nanoseconds it takes, by the clock.
+fn time_sending<R: Clock + Threads + Sync>(
+    rt: &R,
+    gateways: &mut [Gateway<Global>],
+    sequencer: &mut Sequencer<Global>,
+    streams: &[Vec<u8>],
+) -> Result<u64, Fault> {
+    let start = Instant::now(rt)?;
+    send_and_take(rt, gateways, sequencer, streams);
+    let used = start.elapsed(rt)?;
+    Ok(u64::try_from(used.as_nanos()).unwrap_or(u64::MAX))
+}
+
 /// The same in two threads, by the clock: one frames, judges and sends, the other takes.
 pub fn time_threads<R: Clock + Print + AllocGlobal + Threads + Sync>(
     rt: &R,
@@ -186,11 +210,6 @@ pub fn time_threads<R: Clock + Print + AllocGlobal + Threads + Sync>(
     let Ok((mut gateways, mut sequencer)) = link(rt.alloc(), streams.len(), 256, 1_000_000) else {
         return Err(Fault::NoMemory);
     };
-    let start = Instant::now(rt)?;
-    send_and_take(rt, gateways.as_mut_slice(), &mut sequencer, streams);
-    let used = start.elapsed(rt)?;
-    let used = u64::try_from(used.as_nanos()).unwrap_or(u64::MAX);
-    tell(rt, "threads", messages, "messages", used)?;
-    println!(rt; "# {} entries", sequencer.journal().len())?;
-    Ok(())
+    let used = time_sending(rt, gateways.as_mut_slice(), &mut sequencer, streams)?;
+    tell_entries(rt, "threads", messages, used, &sequencer)
 }

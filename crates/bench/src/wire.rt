@@ -1,6 +1,6 @@
 //! Frames and messages.
 use crate::fault::Fault;
-use crate::timing::{RUNS, nanos, tell};
+use crate::timing::{RUNS, Timer, tell};
 use fix_session::{Reader, Verdict};
 use fix_wire::{Framer, Next};
 use std::time::CpuClock;
@@ -118,9 +118,9 @@ pub fn time_scan(rt: &(impl CpuClock + Print), streams: &[Vec<u8>]) -> Result<()
     let mut passed = 0u64;
     let mut least = u64::MAX;
     for _ in 0..RUNS {
-        let start = nanos(rt)?;
+        let timer = Timer::start(rt);
         passed = scanned(streams);
-        least = least.min(nanos(rt)?.saturating_sub(start));
+        least = least.min(timer.used(rt));
     }
     tell(rt, "scan", bytes_of(streams), "bytes", least)?;
     println!(rt; "# {passed} messages passed")?;
@@ -133,9 +133,9 @@ pub fn time_judge(rt: &(impl CpuClock + Print), streams: &[Vec<u8>]) -> Result<(
     let mut events = 0u64;
     let mut least = u64::MAX;
     for _ in 0..RUNS {
-        let start = nanos(rt)?;
+        let timer = Timer::start(rt);
         events = judged(streams);
-        least = least.min(nanos(rt)?.saturating_sub(start));
+        least = least.min(timer.used(rt));
     }
     tell(rt, "judge", messages, "messages", least)?;
     println!(rt; "# {events} events")?;
