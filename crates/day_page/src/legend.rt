@@ -8,10 +8,16 @@ use std::fmt::Write;
 /// How far from the top the first panel's heading may begin.
 pub const HEAD: i64 = 132;
 
-/// How far from the top the rows of the legend stand.
-const KEYS: i64 = 86;
+/// The keys of lines and marks, a row that stands 86 from the top.
+const KEYS: &str = "\
+<path class=\"buy key\" d=\"M100 81h30\"/><text x=\"137\" y=\"86\">best buy</text>
+<path class=\"sell key\" d=\"M220 81h30\"/><text x=\"257\" y=\"86\">best sell</text>
+<g class=\"direct\"><circle class=\"size\" cx=\"350\" cy=\"81\" r=\"6\"/></g><text x=\"363\" y=\"86\">direct trade</text>
+<g class=\"implied\"><path class=\"size\" d=\"M470 73l8 8-8 8-8-8z\"/></g><text x=\"485\" y=\"86\">implied trade, a mark in each of its three instruments</text>
+";
 
-const SIZES: i64 = 112;
+/// What the row of sizes begins with, 112 from the top.
+const AREA: &str = "<text x=\"100\" y=\"112\">area: lots at one point</text>\n";
 
 /// What a page shows in all.
 #[derive(Clone, Copy)]
@@ -55,29 +61,6 @@ pub fn put_about<A: Allocator>(out: &mut String<A>, totals: &Totals) -> Result<(
     )
 }
 
-/// The keys of lines and marks.
-fn put_keys<A: Allocator>(out: &mut String<A>) -> Result<(), AllocError> {
-    let line = KEYS - 5;
-    write!(
-        out,
-        "<path class=\"buy key\" d=\"M100 {line}h30\"/><text x=\"137\" y=\"{KEYS}\">best buy</text>\n"
-    )?;
-    write!(
-        out,
-        "<path class=\"sell key\" d=\"M220 {line}h30\"/><text x=\"257\" y=\"{KEYS}\">best sell</text>\n"
-    )?;
-    write!(
-        out,
-        "<g class=\"direct\"><circle class=\"size\" cx=\"350\" cy=\"{line}\" r=\"6\"/></g><text x=\"363\" y=\"{KEYS}\">direct trade</text>\n"
-    )?;
-    let top = line - 8;
-    write!(
-        out,
-        "<g class=\"implied\"><path class=\"size\" d=\"M470 {top}l8 8-8 8-8-8z\"/></g><text x=\"485\" y=\"{KEYS}\">implied trade, a mark in each of its three instruments</text>\n"
-    )?;
-    Ok(())
-}
-
 /// One size: both its marks, and the lots that they stand for.
 fn put_size<A: Allocator>(
     out: &mut String<A>,
@@ -85,21 +68,20 @@ fn put_size<A: Allocator>(
     lots: u64,
     most: u64,
 ) -> Result<(), AllocError> {
-    let line = SIZES - 5;
     let radius = radius(lots, most);
     let (units, tenths) = (radius / 10, radius % 10);
     let far = corner(radius);
     let across = x.saturating_add(26);
     write!(
         out,
-        "<g class=\"direct\"><circle class=\"size\" cx=\"{x}\" cy=\"{line}\" r=\"{units}.{tenths}\"/></g>"
+        "<g class=\"direct\"><circle class=\"size\" cx=\"{x}\" cy=\"107\" r=\"{units}.{tenths}\"/></g>"
     )?;
     write!(
         out,
-        "<g class=\"implied\" transform=\"translate({across} {line}) scale(.1)\"><path d=\"M0-{far}l{far} {far}-{far} {far}-{far}-{far}z\"/></g>"
+        "<g class=\"implied\" transform=\"translate({across} 107) scale(.1)\"><path d=\"M0-{far}l{far} {far}-{far} {far}-{far}-{far}z\"/></g>"
     )?;
     let text = x.saturating_add(43);
-    write!(out, "<text x=\"{text}\" y=\"{SIZES}\">")?;
+    write!(out, "<text x=\"{text}\" y=\"112\">")?;
     put_count(out, lots)?;
     out.push_str("</text>\n")
 }
@@ -109,10 +91,7 @@ fn put_sizes<A: Allocator>(out: &mut String<A>, most: u64) -> Result<(), AllocEr
     let large = round_below(most);
     let middle = round_below(large / 4);
     let small = round_below(large / 20);
-    write!(
-        out,
-        "<text x=\"100\" y=\"{SIZES}\">area: lots at one point</text>\n"
-    )?;
+    out.push_str(AREA)?;
     put_size(out, 260, large, most)?;
     if middle < large {
         put_size(out, 390, middle, most)?;
@@ -135,7 +114,7 @@ pub fn put_head<A: Allocator>(out: &mut String<A>, totals: &Totals) -> Result<()
         return out.push_str("<text x=\"100\" y=\"100\">Nothing was traded.</text>\n");
     }
     out.push_str("<g id=\"legend\">\n")?;
-    put_keys(out)?;
+    out.push_str(KEYS)?;
     put_sizes(out, totals.most)?;
     out.push_str("</g>\n")
 }

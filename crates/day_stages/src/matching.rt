@@ -8,7 +8,8 @@ ghost use Rattle.day_stages.specs.code.Posting.{CanPost, HasPosted, SamePosters}
 
 use crate::posting::{PostedEntries, end_each, post_each};
 use day_apply::ApplyFault;
-use session_threads::{Gate, found, rest};
+use sequencer_turns::{found, rest};
+use session_threads::Gate;
 use spread_rules::Entry;
 use stage_rings::{Matcher, Taken, fits_entry};
 use std::alloc::Allocator;

@@ -9,7 +9,7 @@ use crate::piece::{Emptied, Filled, Piece};
 use day_text::{PIECE_BYTES, TakesPieces};
 use host_base::Failed;
 use rtrb::{Consumer, Producer, PushError};
-use session_threads::rest;
+use sequencer_turns::rest;
 use std::alloc::Allocator;
 use std::mem;
 use std::sync::Wait;

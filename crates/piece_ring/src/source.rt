@@ -7,7 +7,7 @@ ghost use Rattle.piece_ring.specs.Ends.{text_taken, IsUnread, IsRead};
 use crate::piece::{Emptied, Filled, Piece};
 use host_base::{Failed, Sink, write_all};
 use rtrb::{Consumer, Producer};
-use session_threads::{found, rest};
+use sequencer_turns::{found, rest};
 use std::alloc::Allocator;
 use std::sync::Wait;
 

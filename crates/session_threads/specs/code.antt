@@ -1,6 +1,5 @@
 pub mod Handing
 pub mod Joining
 pub mod Sequencing
-pub mod Turning
 pub mod Workers
 pub mod Writing

@@ -2,15 +2,12 @@
 //! journal of them, and one for each session that takes what it is sent.
 #![tactic(auto)]
 
-mod idle;
 mod joining;
 mod sequencing;
-mod turns;
 mod worker;
 mod workers;
 mod writing;
 
-pub use idle::{found, rest};
 pub use sequencing::{SequenceEnd, Sequenced, sequence};
 pub use worker::{Gate, WorkerPromise};
 pub use workers::{GivenStreams, Shared, Started, WorkerHandle, Workers, join_all, start_all};

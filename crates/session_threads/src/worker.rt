@@ -6,11 +6,11 @@ ghost use Rattle.gate_link.specs.declared.gateway.TheConstants.{MAX_SLICE};
 ghost use Rattle.gate_link.specs.Gateways.{is_over};
 ghost use Rattle.session_threads.specs.code.Workers.{IsUnused, HasSent, SameEvents, IsReady, AreReady};
 
-use crate::idle::{found, rest};
 use crate::workers::{Shared, WorkerHandle};
 use fix_session::Ahead;
 use gate_link::{Burst, Gateway, MAX_SLICE, Step};
 use host_base::release;
+use sequencer_turns::{found, rest};
 use std::alloc::Allocator;
 use std::snapshot::Snapshot;
 use std::sync::Wait;

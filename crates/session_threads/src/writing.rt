@@ -5,11 +5,11 @@ ghost use Rattle.stage_rings.specs.declared.post.Writer.{Writer};
 ghost use Rattle.stage_rings.specs.Posting.{SameWriter};
 ghost use Rattle.session_threads.specs.code.Writing.{AreWriting, AreWritten};
 
-use crate::idle::Pace;
 use crate::joining::join_each;
 use crate::worker::Gate;
 use crate::workers::Shared;
 use gate_link::{Writer, Wrote};
+use sequencer_turns::Pace;
 use std::alloc::Allocator;
 use std::snapshot::Snapshot;
 use std::sync::Wait;

@@ -1,8 +1,8 @@
 use Rattle.std.proofs.Common.{rules}
-use Rattle.session_threads.proofs.SequencedJournal.{same_feeder_trans}
+use Rattle.sequencer_turns.proofs.GivenOn.{same_feeder_trans}
 use Rattle.stage_rings.specs.Feeding.{SameFeeder}
-use Rattle.session_threads.proofs.turns.feed_rest.Goals as goal
-use Rattle.session_threads.proofs.turns.feed_rest.Goals.{After-feed}
+use Rattle.sequencer_turns.proofs.turns.feed_rest.Goals as goal
+use Rattle.sequencer_turns.proofs.turns.feed_rest.Goals.{After-feed}
 
 ring : (g : _) (c : After-feed g) → SameFeeder c.args.feeder.now c.feed.new.feeder
 ring g c = same_feeder_trans c.args.feeder.now c.loop.feeder c.feed.new.feeder c.loop.invariant.ring c.feed.ensures.ring

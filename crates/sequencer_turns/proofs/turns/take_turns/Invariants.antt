@@ -1,7 +1,7 @@
 use mathlib.Core.List.{IsPrefix}
 use Rattle.gate_link.specs.Links.{SameLink, journal_of}
 use Rattle.stage_rings.specs.Feeding.{given, SameFeeder}
-use Rattle.session_threads.proofs.turns.take_turns.Given as goal
+use Rattle.sequencer_turns.proofs.turns.take_turns.Given as goal
 
 abbrev pub invariant-loop : goal.invariant-loop
 invariant-loop g l = record {

@@ -1,6 +1,6 @@
 use mathlib.Core.List.{IsPrefix}
 use Rattle.stage_rings.specs.Feeding.{given, SameFeeder}
-use Rattle.session_threads.proofs.turns.feed_rest.Given as goal
+use Rattle.sequencer_turns.proofs.turns.feed_rest.Given as goal
 
 abbrev pub invariant-loop : goal.invariant-loop
 invariant-loop g l = record {

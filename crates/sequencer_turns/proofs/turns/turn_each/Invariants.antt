@@ -1,8 +1,8 @@
 use Rattle.std.proofs.Common.{◌≡◌, true}
 use mathlib.Core.List.{IsPrefix}
 use Rattle.gate_link.specs.Links.{SameLink, journal_of}
-use Rattle.session_threads.specs.code.Turning.{AllTaken}
-use Rattle.session_threads.proofs.turns.turn_each.Given as goal
+use Rattle.sequencer_turns.specs.code.Turning.{AllTaken}
+use Rattle.sequencer_turns.proofs.turns.turn_each.Given as goal
 
 abbrev pub invariant-loop-s : goal.invariant-loop-s
 invariant-loop-s g l = record {

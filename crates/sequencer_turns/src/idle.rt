@@ -46,7 +46,7 @@ const LONGEST_SLEEP: u64 = 400;
 /// less than a quarter of the ring comes between two sleeps the next is twice as long, and where half of it does the
 /// writer begins anew.
 #[derive(Clone, Copy)]
-pub(crate) struct Pace {
+pub struct Pace {
     half: usize,
     items: usize,
     looks: u32,
@@ -55,7 +55,7 @@ pub(crate) struct Pace {
 
 impl Pace {
     /// For a ring of so many items.
-    pub(crate) fn of_ring(ring: usize) -> Pace {
+    pub fn of_ring(ring: usize) -> Pace {
         Pace {
             half: (ring / 2).max(1),
             items: 0,
@@ -65,7 +65,7 @@ impl Pace {
     }
 
     /// One item was found.
-    pub(crate) fn found(&mut self) {
+    pub fn found(&mut self) {
         self.items = self.items.saturating_add(1);
         if self.half <= self.items {
             self.items = 0;
@@ -75,7 +75,7 @@ impl Pace {
     }
 
     /// Leaves the processor to the other threads after a look that found nothing, or sleeps.
-    pub(crate) fn rest<R: Wait>(&mut self, rt: &R) {
+    pub fn rest<R: Wait>(&mut self, rt: &R) {
         if self.looks < WRITER_LOOKS {
             thread::yield_now();
             self.looks += 1;

@@ -4,9 +4,9 @@ use Rattle.spread_rules.specs.declared.event.Entry.{Entry}
 use Rattle.gate_link.specs.Links.{SameLink, journal_of}
 use Rattle.gate_link.proofs.links.SeveralCalls.{prefix_trans, same_link_refl, same_link_trans}
 use Rattle.stage_rings.specs.Feeding.{given}
-use Rattle.session_threads.proofs.SequencedJournal.{same_feeder_trans}
-use Rattle.session_threads.proofs.turns.take_turns.Goals as goal
-use Rattle.session_threads.proofs.turns.take_turns.Goals.{After-turn_each}
+use Rattle.sequencer_turns.proofs.GivenOn.{same_feeder_trans}
+use Rattle.sequencer_turns.proofs.turns.take_turns.Goals as goal
+use Rattle.sequencer_turns.proofs.turns.take_turns.Goals.{After-turn_each}
 
 linked : (g : _) (c : After-turn_each g) → SameLink c.args.sequencer.now c.turn_each.new.sequencer
 linked g c = same_link_trans c.args.sequencer.now c.loop.sequencer c.turn_each.new.sequencer c.loop.invariant.link c.turn_each.ensures.link

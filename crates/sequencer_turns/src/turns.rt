@@ -4,7 +4,7 @@ ghost use mathlib.Core.List.{IsPrefix};
 ghost use Rattle.gate_link.specs.Links.{SameLink, journal_of};
 ghost use Rattle.stage_rings.specs.Feeding.{given, SameFeeder};
 ghost use Rattle.stage_rings.specs.declared.feed.Give.TheVariants.{Level};
-ghost use Rattle.session_threads.specs.code.Turning.{EndsTurns, RoundEnds};
+ghost use Rattle.sequencer_turns.specs.code.Turning.{EndsTurns, RoundEnds};
 
 use crate::idle::{found, rest};
 use gate_link::{Feeder, Give, Sequencer, Takes};
