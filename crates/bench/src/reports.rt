@@ -118,7 +118,8 @@ fn new_lists<A: Allocator + Copy>(alloc: A) -> Result<Vec<Vec<u8, A>, A>, AllocE
     Ok(lists)
 }
 
-/// Sends what each entry of an applied journal sends.
+/// Sends what each entry of an applied journal sends. It is no part of its caller: as with `fits_outcome`, for `scan`.
+#[inline(never)]
 fn send_each<A: Allocator + Copy>(
     desk: &mut Desk,
     rules: &Rulebook,
