@@ -18,6 +18,7 @@ use std::process::ExitCode;
 use std::thread::Threads;
 use std::time::{Clock, CpuClock};
 use std::{env, fs};
+use timing::{Measured, print};
 use wire::{time_judge, time_scan};
 
 const HELP: &str = "\
@@ -44,16 +45,16 @@ fn contents(rt: &(impl Files + AllocGlobal), files: &[String]) -> Result<Vec<Vec
     Ok(contents)
 }
 
-fn time_phase<R: Clock + CpuClock + Print + AllocGlobal + Threads + Sync>(
+fn time_phase<R: Clock + CpuClock + AllocGlobal + Threads + Sync>(
     rt: &R,
     phase: &str,
     files: &[Vec<u8>],
-) -> Result<(), Fault> {
+) -> Result<Measured, Fault> {
     match (phase, files) {
         ("match", [rules, journal]) => time_match(rt, rules, journal),
         ("report", [rules, journal]) => time_report(rt, rules, journal),
-        ("scan", [_, ..]) => time_scan(rt, files),
-        ("judge", [_, ..]) => time_judge(rt, files),
+        ("scan", [_, ..]) => Ok(time_scan(rt, files)),
+        ("judge", [_, ..]) => Ok(time_judge(rt, files)),
         ("link", [_, ..]) => time_link(rt, files),
         ("threads", [_, ..]) => time_threads(rt, files),
         _ => Err(Fault::Words),
@@ -69,7 +70,8 @@ fn run_words<R: Clock + CpuClock + Print + Files + AllocGlobal + Threads + Sync>
         return Ok(());
     };
     let files = contents(rt, files)?;
-    time_phase(rt, phase.as_str(), &files)
+    let measured = time_phase(rt, phase.as_str(), &files)?;
+    print(rt, &measured)
 }
 
 fn run<R: Env + Clock + CpuClock + Print + Files + AllocGlobal + Threads + Sync>(

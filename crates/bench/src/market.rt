@@ -5,7 +5,7 @@ ghost use Rattle.spread_match.specs.State.{empty_state};
 
 use crate::fault::Fault;
 use crate::reports::{Applied, send_all};
-use crate::timing::{RUNS, Timer, tell};
+use crate::timing::{Beside, Measured, RUNS, Timer};
 use crate::wire::{bytes_of, scanned};
 use host_base::NoMemory;
 use spread_books::{Book, IndexBook};
@@ -116,48 +116,38 @@ fn match_indexed<A: Allocator + Copy>(
     match_all(alloc, rulebook, book, journal)
 }
 
-/// What some runs over a journal came to.
-#[derive(Clone, Copy)]
-struct Matched {
-    fills: u64,
-    /// The least time of a run.
-    nanos: u64,
-}
-
 /// Applies the entries of a journal some times, and keeps neither fills nor outcomes.
 fn match_runs(
     rt: &(impl CpuClock + AllocGlobal),
     rulebook: &Rulebook,
     journal: &[Entry],
-) -> Result<Matched, NoMemory>
+) -> Result<Measured, NoMemory>
     requires { All FitsEntry journal.now }
 {
     let mut fills = 0;
-    let mut nanos = u64::MAX;
+    let mut least = u64::MAX;
     for _ in 0..RUNS {
         let timer = Timer::start(rt);
         fills = match_indexed(rt.alloc(), rulebook, journal)?;
-        nanos = nanos.min(timer.used(rt));
+        least = least.min(timer.used(rt));
     }
-    Ok(Matched { fills, nanos })
-}
-
-/// Tells how long that took.
-fn tell_matched(rt: &impl Print, entries: u64, matched: Matched) -> Result<(), Fault> {
-    tell(rt, "match", entries, "entries", matched.nanos)?;
-    println!(rt; "# {} fills", matched.fills)?;
-    Ok(())
+    Ok(Measured {
+        phase: "match",
+        count: journal.len() as u64,
+        unit: "entries",
+        nanos: least,
+        beside: Beside::Count(fills, "fills"),
+    })
 }
 
 /// Applies the entries of a journal, and keeps neither fills nor outcomes.
 pub fn time_match(
-    rt: &(impl CpuClock + Print + AllocGlobal),
+    rt: &(impl CpuClock + AllocGlobal),
     rules: &[u8],
     text: &[u8],
-) -> Result<(), Fault> {
+) -> Result<Measured, Fault> {
     let (rulebook, journal) = read_inputs(rt.alloc(), rules, text)?;
-    let matched = match_runs(rt, &rulebook, &journal)?;
-    tell_matched(rt, journal.len() as u64, matched)
+    Ok(match_runs(rt, &rulebook, &journal)?)
 }
 
 /// Writes some times what the sessions of an applied journal are sent: the least time of a run. The lists of one run
@@ -178,32 +168,32 @@ fn send_runs(
     Ok(least)
 }
 
-/// Tells how long that took.
-fn tell_sent(rt: &impl Print, lists: &[Vec<u8>], nanos: u64) -> Result<(), Fault> {
-    tell(rt, "report", scanned(lists), "messages", nanos)?;
-    tell(rt, "report-bytes", bytes_of(lists), "bytes", nanos)
-}
-
 /// Writes what the sessions of an applied journal are sent.
 fn time_messages(
-    rt: &(impl CpuClock + Print + AllocGlobal),
+    rt: &(impl CpuClock + AllocGlobal),
     rulebook: &Rulebook,
     journal: &[Entry],
     applied: &Applied<Global>,
-) -> Result<(), Fault> {
+) -> Result<Measured, Fault> {
     let mut lists = Vec::new(rt.alloc());
     let least = send_runs(rt, rulebook, journal, applied, &mut lists)?;
-    tell_sent(rt, &lists, least)
+    Ok(Measured {
+        phase: "report",
+        count: scanned(&lists),
+        unit: "messages",
+        nanos: least,
+        beside: Beside::Bytes(bytes_of(&lists)),
+    })
 }
 
 /// The same of a journal applied over an empty book. The market stays until the messages are written, as it does in a
 /// day: what is freed decides how `malloc` grows the lists of messages.
 fn time_messages_over<B: Book + Drop>(
-    rt: &(impl CpuClock + Print + AllocGlobal),
+    rt: &(impl CpuClock + AllocGlobal),
     rulebook: &Rulebook,
     book: B,
     journal: &[Entry],
-) -> Result<(), Fault>
+) -> Result<Measured, Fault>
     requires empty { B.orders book ≡ [] }
     requires entries { All FitsEntry journal.now }
 {
@@ -218,10 +208,10 @@ fn time_messages_over<B: Book + Drop>(
 
 /// Writes what the sessions of a journal are sent, which is applied over the book that the host has.
 pub fn time_report(
-    rt: &(impl CpuClock + Print + AllocGlobal),
+    rt: &(impl CpuClock + AllocGlobal),
     rules: &[u8],
     text: &[u8],
-) -> Result<(), Fault> {
+) -> Result<Measured, Fault> {
     let (rulebook, journal) = read_inputs(rt.alloc(), rules, text)?;
     let book = IndexBook::new(rt.alloc(), &rulebook)?;
     time_messages_over(rt, &rulebook, book, &journal)

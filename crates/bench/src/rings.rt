@@ -1,6 +1,6 @@
 //! Gateways, rings and the sequencer, in one thread and in two.
 use crate::fault::Fault;
-use crate::timing::{Timer, tell};
+use crate::timing::{Beside, Measured, Timer};
 use crate::wire::{PIECE, scanned};
 use gate_link::{Gateway, Sequencer, Step, Turn, link};
 use std::alloc::{AllocGlobal, Allocator, Global};
@@ -78,24 +78,27 @@ fn work_streams<A: Allocator>(
     }
 }
 
-/// Tells the time of so many messages, and how many entries came of them.
-fn tell_entries<A: Allocator>(
-    rt: &impl Print,
-    phase: &str,
+/// The time of so many messages, and how many entries came of them.
+fn measured<A: Allocator>(
+    phase: &'static str,
     messages: u64,
     nanos: u64,
     sequencer: &Sequencer<A>,
-) -> Result<(), Fault> {
-    tell(rt, phase, messages, "messages", nanos)?;
-    println!(rt; "# {} entries", sequencer.journal().len())?;
-    Ok(())
+) -> Measured {
+    Measured {
+        phase,
+        count: messages,
+        unit: "messages",
+        nanos,
+        beside: Beside::Count(sequencer.journal().len() as u64, "entries"),
+    }
 }
 
 /// Frames, judges, sends and takes the messages of streams.
 pub fn time_link(
-    rt: &(impl CpuClock + Print + AllocGlobal),
+    rt: &(impl CpuClock + AllocGlobal),
     streams: &[Vec<u8>],
-) -> Result<(), Fault> {
+) -> Result<Measured, Fault> {
     let messages = scanned(streams);
     let Ok((mut gateways, mut sequencer)) = link(rt.alloc(), streams.len(), 256, 1_000_000) else {
         return Err(Fault::NoMemory);
@@ -103,7 +106,7 @@ pub fn time_link(
     let timer = Timer::start(rt);
     work_streams(gateways.as_mut_slice(), &mut sequencer, streams);
     let used = timer.used(rt);
-    tell_entries(rt, "link", messages, used, &sequencer)
+    Ok(measured("link", messages, used, &sequencer))
 }
 
 /// Steps until no message stands, and lets other threads run where the ring is full.
@@ -202,14 +205,14 @@ fn time_sending<R: Clock + Threads + Sync>(
 }
 
 /// The same in two threads, by the clock: one frames, judges and sends, the other takes.
-pub fn time_threads<R: Clock + Print + AllocGlobal + Threads + Sync>(
+pub fn time_threads<R: Clock + AllocGlobal + Threads + Sync>(
     rt: &R,
     streams: &[Vec<u8>],
-) -> Result<(), Fault> {
+) -> Result<Measured, Fault> {
     let messages = scanned(streams);
     let Ok((mut gateways, mut sequencer)) = link(rt.alloc(), streams.len(), 256, 1_000_000) else {
         return Err(Fault::NoMemory);
     };
     let used = time_sending(rt, gateways.as_mut_slice(), &mut sequencer, streams)?;
-    tell_entries(rt, "threads", messages, used, &sequencer)
+    Ok(measured("threads", messages, used, &sequencer))
 }

@@ -1,6 +1,5 @@
 //! Frames and messages.
-use crate::fault::Fault;
-use crate::timing::{RUNS, Timer, tell};
+use crate::timing::{Beside, Measured, RUNS, Timer};
 use fix_session::{Reader, Verdict};
 use fix_wire::{Framer, Next};
 use std::time::CpuClock;
@@ -113,8 +112,8 @@ pub fn bytes_of(streams: &[Vec<u8>]) -> u64 {
     bytes
 }
 
-/// Scans streams, and tells the bytes and the messages.
-pub fn time_scan(rt: &(impl CpuClock + Print), streams: &[Vec<u8>]) -> Result<(), Fault> {
+/// Scans streams: the bytes, and the messages.
+pub fn time_scan(rt: &impl CpuClock, streams: &[Vec<u8>]) -> Measured {
     let mut passed = 0u64;
     let mut least = u64::MAX;
     for _ in 0..RUNS {
@@ -122,13 +121,17 @@ pub fn time_scan(rt: &(impl CpuClock + Print), streams: &[Vec<u8>]) -> Result<()
         passed = scanned(streams);
         least = least.min(timer.used(rt));
     }
-    tell(rt, "scan", bytes_of(streams), "bytes", least)?;
-    println!(rt; "# {passed} messages passed")?;
-    Ok(())
+    Measured {
+        phase: "scan",
+        count: bytes_of(streams),
+        unit: "bytes",
+        nanos: least,
+        beside: Beside::Count(passed, "messages passed"),
+    }
 }
 
 /// Frames and judges streams.
-pub fn time_judge(rt: &(impl CpuClock + Print), streams: &[Vec<u8>]) -> Result<(), Fault> {
+pub fn time_judge(rt: &impl CpuClock, streams: &[Vec<u8>]) -> Measured {
     let messages = scanned(streams);
     let mut events = 0u64;
     let mut least = u64::MAX;
@@ -137,7 +140,11 @@ pub fn time_judge(rt: &(impl CpuClock + Print), streams: &[Vec<u8>]) -> Result<(
         events = judged(streams);
         least = least.min(timer.used(rt));
     }
-    tell(rt, "judge", messages, "messages", least)?;
-    println!(rt; "# {events} events")?;
-    Ok(())
+    Measured {
+        phase: "judge",
+        count: messages,
+        unit: "messages",
+        nanos: least,
+        beside: Beside::Count(events, "events"),
+    }
 }

@@ -3,4 +3,4 @@
 
 mod words;
 
-pub use words::{Refused, Request, read_words, refuse, words_of};
+pub use words::{Refused, Request, Task, read_words, refuse, words_of};

@@ -25,28 +25,25 @@ pub enum Request<'a> {
         ring: u32,
         entries: u32,
     },
-    /// A journal text.
-    Check {
+    /// A journal text under a rulebook.
+    Journal {
         rules: &'a str,
         journal: &'a str,
+        task: Task<'a>,
     },
-    /// A journal text, and the lines of fills and months that somebody claims for it.
-    Audit {
-        rules: &'a str,
-        journal: &'a str,
-        claim: &'a str,
-    },
-    /// A journal text, and the place of the entry that is explained.
-    Explain {
-        rules: &'a str,
-        journal: &'a str,
-        place: u32,
-    },
-    /// A journal text, whose day is drawn.
-    Draw {
-        rules: &'a str,
-        journal: &'a str,
-    },
+}
+
+/// What is done with a journal text.
+#[derive(Clone, Copy)]
+pub enum Task<'a> {
+    /// It is worked again.
+    Check,
+    /// It is held against the lines of fills and months that somebody claims for it.
+    Audit { claim: &'a str },
+    /// The entry of this place is explained.
+    Explain { place: u32 },
+    /// Its day is drawn.
+    Draw,
 }
 
 /// Why the command line asks for nothing.
@@ -72,182 +69,159 @@ impl From<Error> for Refused {
     }
 }
 
-const RULES_HELP: &str =
-    "The rulebook: a line `tick N`, then a line `month NAME REFERENCE` for each month in order of expiry";
-
-/// A file that a command asks for.
-fn file_word<'a>(alloc: Global, name: &'a str, help: &'a str) -> Arg<'a> {
-    Arg::new(alloc, name)
-        .required(true)
-        .help(help)
-        .action(ArgAction::Set)
+/// A word that a command asks for, or an option of it.
+#[derive(Clone, Copy)]
+enum Word {
+    File {
+        name: &'static str,
+        help: &'static str,
+    },
+    Sessions,
+    Place,
+    Stamp,
+    Number {
+        name: &'static str,
+        default: &'static str,
+        help: &'static str,
+    },
+    JournalOnly,
 }
 
-fn stamp_word<'a>(alloc: Global) -> Arg<'a> {
-    Arg::new(alloc, "stamp")
-        .long("stamp")
-        .value_name("TEXT")
-        .help("The sending time that outgoing messages bear, 1 to 32 bytes")
-        .default_value("20260105-14:30:00")
-        .value_parser(ValueParser::string())
-        .action(ArgAction::Set)
+/// A command: its name, what its help says it does, and its words in their order.
+struct CommandText {
+    name: &'static str,
+    about: &'static str,
+    words: &'static [Word],
 }
 
-fn number_word<'a>(alloc: Global, name: &'a str, default: &'a str, help: &'a str) -> Arg<'a> {
-    Arg::new(alloc, name)
-        .long(name)
-        .value_name("N")
-        .help(help)
-        .default_value(default)
-        .value_parser(ValueParser::unsigned(0, 4_294_967_295))
-        .action(ArgAction::Set)
+const RULES: Word = Word::File {
+    name: "RULES",
+    help: "The rulebook: a line `tick N`, then a line `month NAME REFERENCE` for each month in order of expiry",
+};
+
+const JOURNAL: Word = Word::File {
+    name: "JOURNAL",
+    help: "A journal text, as `replay` writes it",
+};
+
+const CLAIM: Word = Word::File {
+    name: "CLAIM",
+    help: "The lines of fills and month totals that somebody claims, as `check` writes them",
+};
+
+const RING: Word = Word::Number {
+    name: "ring",
+    default: "256",
+    help: "How many items each ring between two threads has room for, 1 to 4096",
+};
+
+const ENTRIES: Word = Word::Number {
+    name: "entries",
+    default: "100000",
+    help: "How many entries the journal has room for, at most 1000000",
+};
+
+static COMMANDS: &[CommandText] = &[
+    CommandText {
+        name: "replay",
+        about: "Reads day lines from standard input, and writes the journal, fills, outgoing messages and month totals",
+        words: &[RULES, Word::Stamp, Word::JournalOnly],
+    },
+    CommandText {
+        name: "live",
+        about: "Runs a thread for each session's file, and writes what `replay` writes",
+        words: &[RULES, Word::Sessions, Word::Stamp, RING, ENTRIES],
+    },
+    CommandText {
+        name: "check",
+        about: "Reads a journal text, works it again, and writes its fills and month totals",
+        words: &[RULES, JOURNAL],
+    },
+    CommandText {
+        name: "audit",
+        about: "Says whether a claim is exactly the fills and month totals of a journal, or the first line that is another",
+        words: &[RULES, JOURNAL, CLAIM],
+    },
+    CommandText {
+        name: "explain",
+        about: "Says in words why an entry of a journal came to what it came to",
+        words: &[RULES, JOURNAL, Word::Place],
+    },
+    CommandText {
+        name: "draw",
+        about: "Draws the day of a journal, prices and fills over places, as an SVG picture",
+        words: &[RULES, JOURNAL],
+    },
+];
+
+/// Any number of 32 bits: what is too small or too large for the host is its own fault line.
+fn number_parser<'a>() -> ValueParser<'a> {
+    ValueParser::unsigned(0, 4_294_967_295)
 }
 
-fn journal_only_word<'a>(alloc: Global) -> Arg<'a> {
-    Arg::new(alloc, "journal-only")
-        .long("journal-only")
-        .help("Write the journal text alone")
-        .action(ArgAction::SetTrue)
+/// A word as the parser takes it.
+fn word_of<'a>(alloc: Global, word: Word) -> Arg<'a> {
+    match word {
+        Word::File { name, help } => Arg::new(alloc, name)
+            .required(true)
+            .help(help)
+            .action(ArgAction::Set),
+        Word::Sessions => Arg::new(alloc, "SESSION")
+            .required(true)
+            .num_args(1..)
+            .help("A file of raw bytes for each session, session 0 first")
+            .action(ArgAction::Append),
+        Word::Place => Arg::new(alloc, "PLACE")
+            .required(true)
+            .help("The entry's place in the journal, counted from 1")
+            .value_parser(number_parser())
+            .action(ArgAction::Set),
+        Word::Stamp => Arg::new(alloc, "stamp")
+            .long("stamp")
+            .value_name("TEXT")
+            .help("The sending time that outgoing messages bear, 1 to 32 bytes")
+            .default_value("20260105-14:30:00")
+            .value_parser(ValueParser::string())
+            .action(ArgAction::Set),
+        Word::Number {
+            name,
+            default,
+            help,
+        } => Arg::new(alloc, name)
+            .long(name)
+            .value_name("N")
+            .help(help)
+            .default_value(default)
+            .value_parser(number_parser())
+            .action(ArgAction::Set),
+        Word::JournalOnly => Arg::new(alloc, "journal-only")
+            .long("journal-only")
+            .help("Write the journal text alone")
+            .action(ArgAction::SetTrue),
+    }
 }
 
-fn sessions_word<'a>(alloc: Global) -> Arg<'a> {
-    Arg::new(alloc, "SESSION")
-        .required(true)
-        .num_args(1..)
-        .help("A file of raw bytes for each session, session 0 first")
-        .action(ArgAction::Append)
+/// A command as the parser takes it.
+fn command_of<'a>(alloc: Global, text: &CommandText) -> Result<Command<'a>, AllocError> {
+    let mut command = Command::new(alloc, text.name).about(text.about);
+    for word in text.words {
+        command = command.arg(word_of(alloc, *word))?;
+    }
+    Ok(command)
 }
 
-fn place_word<'a>(alloc: Global) -> Arg<'a> {
-    Arg::new(alloc, "PLACE")
-        .required(true)
-        .help("The entry's place in the journal, counted from 1")
-        .value_parser(ValueParser::unsigned(0, 4_294_967_295))
-        .action(ArgAction::Set)
-}
-
-/// A command of that name, and what its help says it does.
-fn new_command<'a>(
-    alloc: Global,
-    name: &'a str,
-    about: &'a str,
-) -> Result<Command<'a>, AllocError> {
-    Ok(Command::new(alloc, name).about(about))
-}
-
-/// A command that takes this word too, if there was memory for it.
-fn taking<'a>(
-    command: Result<Command<'a>, AllocError>,
-    word: Arg<'a>,
-) -> Result<Command<'a>, AllocError> {
-    command?.arg(word)
-}
-
-/// A command with this one below it, if there was memory for both.
-fn with<'a>(
-    command: Result<Command<'a>, AllocError>,
-    below: Result<Command<'a>, AllocError>,
-) -> Result<Command<'a>, AllocError> {
-    command?.subcommand(below?)
-}
-
-fn replay_command<'a>(alloc: Global) -> Result<Command<'a>, AllocError> {
-    let replay = new_command(
-        alloc,
-        "replay",
-        "Reads day lines from standard input, and writes the journal, fills, outgoing messages and month totals",
-    );
-    let replay = taking(replay, file_word(alloc, "RULES", RULES_HELP));
-    let replay = taking(replay, stamp_word(alloc));
-    taking(replay, journal_only_word(alloc))
-}
-
-const RING_HELP: &str = "How many items each ring between two threads has room for, 1 to 4096";
-
-const ENTRIES_HELP: &str = "How many entries the journal has room for, at most 1000000";
-
-fn live_command<'a>(alloc: Global) -> Result<Command<'a>, AllocError> {
-    let live = new_command(
-        alloc,
-        "live",
-        "Runs a thread for each session's file, and writes what `replay` writes",
-    );
-    let live = taking(live, file_word(alloc, "RULES", RULES_HELP));
-    let live = taking(live, sessions_word(alloc));
-    let live = taking(live, stamp_word(alloc));
-    let live = taking(live, number_word(alloc, "ring", "256", RING_HELP));
-    taking(live, number_word(alloc, "entries", "100000", ENTRIES_HELP))
-}
-
-const JOURNAL_HELP: &str = "A journal text, as `replay` writes it";
-
-/// A command that reads a rulebook and a journal.
-fn journal_command<'a>(
-    alloc: Global,
-    name: &'a str,
-    about: &'a str,
-) -> Result<Command<'a>, AllocError> {
-    let command = new_command(alloc, name, about);
-    let command = taking(command, file_word(alloc, "RULES", RULES_HELP));
-    taking(command, file_word(alloc, "JOURNAL", JOURNAL_HELP))
-}
-
-fn check_command<'a>(alloc: Global) -> Result<Command<'a>, AllocError> {
-    journal_command(
-        alloc,
-        "check",
-        "Reads a journal text, works it again, and writes its fills and month totals",
-    )
-}
-
-const CLAIM_HELP: &str =
-    "The lines of fills and month totals that somebody claims, as `check` writes them";
-
-fn audit_command<'a>(alloc: Global) -> Result<Command<'a>, AllocError> {
-    let audit = journal_command(
-        alloc,
-        "audit",
-        "Says whether a claim is exactly the fills and month totals of a journal, or the first line that is another",
-    );
-    taking(audit, file_word(alloc, "CLAIM", CLAIM_HELP))
-}
-
-fn explain_command<'a>(alloc: Global) -> Result<Command<'a>, AllocError> {
-    let explain = journal_command(
-        alloc,
-        "explain",
-        "Says in words why an entry of a journal came to what it came to",
-    );
-    taking(explain, place_word(alloc))
-}
-
-fn draw_command<'a>(alloc: Global) -> Result<Command<'a>, AllocError> {
-    journal_command(
-        alloc,
-        "draw",
-        "Draws the day of a journal, prices and fills over places, as an SVG picture",
-    )
-}
-
-/// The program's words, before its commands are named.
-fn program<'a>(alloc: Global) -> Result<Command<'a>, AllocError> {
-    Ok(
-        Command::new(alloc, "exchange")
-            .about(
-                "A matching host for futures months and calendar spreads, reached by FIX 4.2 messages",
-            )
-            .version(VERSION)
-            .subcommand_required(true),
-    )
-}
-
+/// The program's words.
 fn exchange_command<'a>(alloc: Global) -> Result<Command<'a>, AllocError> {
-    let exchange = with(program(alloc), replay_command(alloc));
-    let exchange = with(exchange, live_command(alloc));
-    let exchange = with(exchange, check_command(alloc));
-    let exchange = with(exchange, audit_command(alloc));
-    let exchange = with(exchange, explain_command(alloc));
-    with(exchange, draw_command(alloc))
+    let mut exchange = Command::new(alloc, "exchange")
+        .about(
+            "A matching host for futures months and calendar spreads, reached by FIX 4.2 messages",
+        )
+        .version(VERSION)
+        .subcommand_required(true);
+    for text in COMMANDS {
+        exchange = exchange.subcommand(command_of(alloc, text)?)?;
+    }
+    Ok(exchange)
 }
 
 fn text_of<'a>(found: &ArgMatches<'a>, name: &str) -> &'a str {
@@ -258,33 +232,24 @@ fn number_of(found: &ArgMatches, name: &str) -> u32 {
     found.get_one(name).unwrap_or(0)
 }
 
-fn check_request<'a>(found: &ArgMatches<'a>) -> Request<'a> {
-    Request::Check {
+/// A journal text, and what is done with it.
+fn journal_request<'a>(found: &ArgMatches<'a>, task: Task<'a>) -> Request<'a> {
+    Request::Journal {
         rules: text_of(found, "RULES"),
         journal: text_of(found, "JOURNAL"),
+        task,
     }
 }
 
-fn audit_request<'a>(found: &ArgMatches<'a>) -> Request<'a> {
-    Request::Audit {
-        rules: text_of(found, "RULES"),
-        journal: text_of(found, "JOURNAL"),
+fn audit_of<'a>(found: &ArgMatches<'a>) -> Task<'a> {
+    Task::Audit {
         claim: text_of(found, "CLAIM"),
     }
 }
 
-fn explain_request<'a>(found: &ArgMatches<'a>) -> Request<'a> {
-    Request::Explain {
-        rules: text_of(found, "RULES"),
-        journal: text_of(found, "JOURNAL"),
+fn explain_of<'a>(found: &ArgMatches<'a>) -> Task<'a> {
+    Task::Explain {
         place: number_of(found, "PLACE"),
-    }
-}
-
-fn draw_request<'a>(found: &ArgMatches<'a>) -> Request<'a> {
-    Request::Draw {
-        rules: text_of(found, "RULES"),
-        journal: text_of(found, "JOURNAL"),
     }
 }
 
@@ -310,10 +275,10 @@ fn replay_request<'a>(found: &ArgMatches<'a>) -> Request<'a> {
 /// What the parser found.
 fn request_of<'a>(alloc: Global, matches: &ArgMatches<'a>) -> Result<Request<'a>, AllocError> {
     match matches.subcommand() {
-        Some(("check", found)) => Ok(check_request(found)),
-        Some(("audit", found)) => Ok(audit_request(found)),
-        Some(("explain", found)) => Ok(explain_request(found)),
-        Some(("draw", found)) => Ok(draw_request(found)),
+        Some(("check", found)) => Ok(journal_request(found, Task::Check)),
+        Some(("audit", found)) => Ok(journal_request(found, audit_of(found))),
+        Some(("explain", found)) => Ok(journal_request(found, explain_of(found))),
+        Some(("draw", found)) => Ok(journal_request(found, Task::Draw)),
         Some(("live", found)) => live_request(alloc, found),
         Some((_, found)) => Ok(replay_request(found)),
         // The parser has asked for a command by now.

@@ -1,9 +1,8 @@
 //! The head of a page: what it shows, and what its lines and marks mean.
-use crate::panel::{corner, radius};
+use crate::panel::{corner, put_diamond, radius};
 use crate::scale::round_below;
-use crate::words::put_count;
-use std::alloc::{AllocError, Allocator};
-use std::fmt::Write;
+use crate::svg_text::SvgText;
+use std::alloc::Allocator;
 
 /// How far from the top the first panel's heading may begin.
 pub const HEAD: i64 = 132;
@@ -30,44 +29,39 @@ pub struct Totals {
 }
 
 /// How many entries there were, and how many months and spreads traded.
-fn put_totals<A: Allocator>(out: &mut String<A>, totals: &Totals) -> Result<(), AllocError> {
-    put_count(out, totals.entries)?;
-    out.push_str(if totals.entries == 1 {
+fn put_totals<A: Allocator>(out: &mut SvgText<A>, totals: &Totals) {
+    out.count(totals.entries);
+    out.put(if totals.entries == 1 {
         " entry; "
     } else {
         " entries; "
-    })?;
-    put_count(out, totals.months)?;
-    out.push_str(if totals.months == 1 {
+    });
+    out.count(totals.months);
+    out.put(if totals.months == 1 {
         " month and "
     } else {
         " months and "
-    })?;
-    put_count(out, totals.spreads)?;
-    out.push_str(if totals.spreads == 1 {
+    });
+    out.count(totals.spreads);
+    out.put(if totals.spreads == 1 {
         " spread traded."
     } else {
         " spreads traded."
-    })
+    });
 }
 
 /// What a reader who sees no picture is told.
-pub fn put_about<A: Allocator>(out: &mut String<A>, totals: &Totals) -> Result<(), AllocError> {
-    out.push_str("<title id=\"title\">A day's prices over the places of its journal</title>\n")?;
-    out.push_str("<desc id=\"desc\">")?;
-    put_totals(out, totals)?;
-    out.push_str(
+pub fn put_about<A: Allocator>(out: &mut SvgText<A>, totals: &Totals) {
+    out.put("<title id=\"title\">A day's prices over the places of its journal</title>\n");
+    out.put("<desc id=\"desc\">");
+    put_totals(out, totals);
+    out.put(
         " Best buy and best sell price of each as steps, trades as marks: circles direct, diamonds implied.</desc>\n",
-    )
+    );
 }
 
 /// One size: both its marks, and the lots that they stand for.
-fn put_size<A: Allocator>(
-    out: &mut String<A>,
-    x: i64,
-    lots: u64,
-    most: u64,
-) -> Result<(), AllocError> {
+fn put_size<A: Allocator>(out: &mut SvgText<A>, x: i64, lots: u64, most: u64) {
     let radius = radius(lots, most);
     let (units, tenths) = (radius / 10, radius % 10);
     let far = corner(radius);
@@ -75,46 +69,46 @@ fn put_size<A: Allocator>(
     write!(
         out,
         "<g class=\"direct\"><circle class=\"size\" cx=\"{x}\" cy=\"107\" r=\"{units}.{tenths}\"/></g>"
-    )?;
+    );
     write!(
         out,
-        "<g class=\"implied\" transform=\"translate({across} 107) scale(.1)\"><path d=\"M0-{far}l{far} {far}-{far} {far}-{far}-{far}z\"/></g>"
-    )?;
+        "<g class=\"implied\" transform=\"translate({across} 107) scale(.1)\"><path d=\"M0-{far}"
+    );
+    put_diamond(out, far);
+    out.put("\"/></g>");
     let text = x.saturating_add(43);
-    write!(out, "<text x=\"{text}\" y=\"112\">")?;
-    put_count(out, lots)?;
-    out.push_str("</text>\n")
+    write!(out, "<text x=\"{text}\" y=\"112\">");
+    out.count(lots);
+    out.put("</text>\n");
 }
 
 /// What the sizes of marks mean.
-fn put_sizes<A: Allocator>(out: &mut String<A>, most: u64) -> Result<(), AllocError> {
+fn put_sizes<A: Allocator>(out: &mut SvgText<A>, most: u64) {
     let large = round_below(most);
     let middle = round_below(large / 4);
     let small = round_below(large / 20);
-    out.push_str(AREA)?;
-    put_size(out, 260, large, most)?;
+    out.put(AREA);
+    put_size(out, 260, large, most);
     if middle < large {
-        put_size(out, 390, middle, most)?;
+        put_size(out, 390, middle, most);
     }
     if small < middle {
-        put_size(out, 520, small, most)?;
+        put_size(out, 520, small, most);
     }
-    Ok(())
 }
 
 /// The head of the page.
-pub fn put_head<A: Allocator>(out: &mut String<A>, totals: &Totals) -> Result<(), AllocError> {
-    out.push_str(
-        "<text class=\"title\" x=\"100\" y=\"36\">Price over place in the journal</text>\n",
-    )?;
-    out.push_str("<text class=\"note\" x=\"100\" y=\"58\">")?;
-    put_totals(out, totals)?;
-    out.push_str("</text>\n")?;
+pub fn put_head<A: Allocator>(out: &mut SvgText<A>, totals: &Totals) {
+    out.put("<text class=\"title\" x=\"100\" y=\"36\">Price over place in the journal</text>\n");
+    out.put("<text class=\"note\" x=\"100\" y=\"58\">");
+    put_totals(out, totals);
+    out.put("</text>\n");
     if totals.most == 0 {
-        return out.push_str("<text x=\"100\" y=\"100\">Nothing was traded.</text>\n");
+        out.put("<text x=\"100\" y=\"100\">Nothing was traded.</text>\n");
+        return;
     }
-    out.push_str("<g id=\"legend\">\n")?;
-    out.push_str(KEYS)?;
-    put_sizes(out, totals.most)?;
-    out.push_str("</g>\n")
+    out.put("<g id=\"legend\">\n");
+    out.put(KEYS);
+    put_sizes(out, totals.most);
+    out.put("</g>\n");
 }

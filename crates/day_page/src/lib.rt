@@ -12,8 +12,8 @@ mod points;
 mod scale;
 mod steps;
 mod style;
-mod words;
+mod svg_text;
 
 pub use course::{Course, Kind, Trade, column_of};
 pub use page::page_of;
-pub use words::put_bytes;
+pub use svg_text::put_bytes;

@@ -4,9 +4,9 @@ use crate::legend::{HEAD, Totals, put_about, put_head};
 use crate::panel::{Panel, Room, panel_of};
 use crate::points::most_lots;
 use crate::style::STYLE;
+use crate::svg_text::SvgText;
 use spread_rules::{Instrument, Rulebook};
 use std::alloc::{AllocError, Allocator};
-use std::fmt::Write;
 
 /// How wide a page is, in units.
 const PAGE_WIDTH: i64 = 984;
@@ -97,36 +97,31 @@ fn height<A: Allocator>(panels: &[Panel<A>]) -> i64 {
 
 /// Panels one below the other.
 fn put_panels<A: Allocator>(
-    out: &mut String<A>,
+    out: &mut SvgText<A>,
     rulebook: &Rulebook,
     panels: &[Panel<A>],
     most: u64,
-) -> Result<(), AllocError> {
+) {
     let mut top = HEAD;
     for panel in panels {
-        panel.put(out, rulebook, top, most)?;
+        panel.put(out, rulebook, top, most);
         top = top.saturating_add(panel.height());
     }
-    Ok(())
 }
 
 /// What opens the file, and the head of the page.
-fn put_opening<A: Allocator>(
-    out: &mut String<A>,
-    totals: &Totals,
-    height: i64,
-) -> Result<(), AllocError> {
+fn put_opening<A: Allocator>(out: &mut SvgText<A>, totals: &Totals, height: i64) {
     write!(
         out,
         "<svg xmlns=\"http://www.w3.org/2000/svg\" viewBox=\"0 0 {PAGE_WIDTH} {height}\" role=\"img\" aria-labelledby=\"title desc\">\n"
-    )?;
-    put_about(out, totals)?;
-    out.push_str(STYLE)?;
+    );
+    put_about(out, totals);
+    out.put(STYLE);
     write!(
         out,
         "<rect class=\"page\" width=\"{PAGE_WIDTH}\" height=\"{height}\"/>\n"
-    )?;
-    put_head(out, totals)
+    );
+    put_head(out, totals);
 }
 
 /// The file of a day: the days of a rulebook's instruments, months first, over so many entries.
@@ -147,9 +142,9 @@ pub fn page_of<A: Allocator + Copy>(
         spreads,
         most: most_of(&panels),
     };
-    let mut out = String::new(alloc);
-    put_opening(&mut out, &totals, height(&panels))?;
-    put_panels(&mut out, rulebook, &panels, totals.most)?;
-    out.push_str("</svg>\n")?;
-    Ok(out)
+    let mut out = SvgText::new(alloc);
+    put_opening(&mut out, &totals, height(&panels));
+    put_panels(&mut out, rulebook, &panels, totals.most);
+    out.put("</svg>\n");
+    out.finish()
 }

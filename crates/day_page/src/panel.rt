@@ -3,10 +3,9 @@ use crate::course::{Course, Kind, Stretch};
 use crate::points::{Point, points_of};
 use crate::scale::{Scale, WIDTH, first_multiple, length_of, scale_of, step};
 use crate::steps::{put_steps, widened};
-use crate::words::{put_count, put_price, put_symbol};
+use crate::svg_text::SvgText;
 use spread_rules::{Instrument, Rulebook};
 use std::alloc::{AllocError, Allocator};
-use std::fmt::Write;
 
 /// Where panels begin, from the left.
 const LEFT: i64 = 100;
@@ -86,73 +85,62 @@ pub fn corner(radius: u64) -> i64 {
     length_of(radius.saturating_mul(1_253) / 1_000)
 }
 
+/// The edges of a diamond from its top, where its corners are that far from its middle.
+pub fn put_diamond<A: Allocator>(out: &mut SvgText<A>, far: i64) {
+    write!(out, "l{far} {far}-{far} {far}-{far}-{far}z");
+}
+
 /// One mark, in the order of a panel's points.
-fn put_mark<A: Allocator>(out: &mut String<A>, point: &Point, most: u64) -> Result<(), AllocError> {
+fn put_mark<A: Allocator>(out: &mut SvgText<A>, point: &Point, most: u64) {
     let radius = radius(point.lots, most);
     let x = point.x;
     match point.kind {
         Kind::Direct => {
             let y = point.y;
-            write!(out, "<circle cx=\"{x}\" cy=\"{y}\" r=\"{radius}\"/>")?;
+            write!(out, "<circle cx=\"{x}\" cy=\"{y}\" r=\"{radius}\"/>");
         }
         Kind::Implied => {
             let far = corner(radius);
             let top = point.y.saturating_sub(far);
-            write!(
-                out,
-                "<path d=\"M{x} {top}l{far} {far}-{far} {far}-{far}-{far}z\"/>"
-            )?;
+            write!(out, "<path d=\"M{x} {top}");
+            put_diamond(out, far);
+            out.put("\"/>");
         }
     }
-    Ok(())
 }
 
 /// The marks of one kind.
-fn put_marks<A: Allocator>(
-    out: &mut String<A>,
-    points: &[Point],
-    kind: Kind,
-    most: u64,
-) -> Result<(), AllocError> {
+fn put_marks<A: Allocator>(out: &mut SvgText<A>, points: &[Point], kind: Kind, most: u64) {
     let class = match kind {
         Kind::Direct => "direct",
         Kind::Implied => "implied",
     };
-    write!(out, "<g class=\"{class}\">")?;
+    write!(out, "<g class=\"{class}\">");
     for point in points {
         if point.kind == kind {
-            put_mark(out, point, most)?;
+            put_mark(out, point, most);
         }
     }
-    out.push_str("</g>\n")
+    out.put("</g>\n");
 }
 
 /// A line of the grid, and the place that it marks.
-fn put_place<A: Allocator>(
-    out: &mut String<A>,
-    scale: &Scale,
-    foot: i64,
-    place: u64,
-) -> Result<(), AllocError> {
+fn put_place<A: Allocator>(out: &mut SvgText<A>, scale: &Scale, foot: i64, place: u64) {
     let x = LEFT.saturating_add(scale.x_of_place(place) / 10);
-    write!(out, "<text class=\"note mid\" x=\"{x}\" y=\"{foot}\">")?;
-    put_count(out, place)?;
-    out.push_str("</text>")
+    write!(out, "<text class=\"note mid\" x=\"{x}\" y=\"{foot}\">");
+    out.count(place);
+    out.put("</text>");
 }
 
 /// The places below a panel.
-fn put_places<A: Allocator>(
-    out: &mut String<A>,
-    scale: &Scale,
-    foot: i64,
-) -> Result<(), AllocError> {
+fn put_places<A: Allocator>(out: &mut SvgText<A>, scale: &Scale, foot: i64) {
     for n in 0..MOST_PLACES {
         match nth_place(scale, n) {
-            Some(place) => put_place(out, scale, foot, place)?,
+            Some(place) => put_place(out, scale, foot, place),
             None => break,
         }
     }
-    out.push_str("\n")
+    out.put("\n");
 }
 
 /// The n-th round place of a panel, from 0.
@@ -185,113 +173,96 @@ fn nth_price(scale: &Scale, n: i64) -> Option<i64> {
 }
 
 /// The prices beside a panel.
-fn put_prices<A: Allocator>(
-    out: &mut String<A>,
-    scale: &Scale,
-    top: i64,
-) -> Result<(), AllocError> {
+fn put_prices<A: Allocator>(out: &mut SvgText<A>, scale: &Scale, top: i64) {
     let x = LEFT - 8;
     for n in 0..most_prices(scale).saturating_add(1) {
         let Some(price) = nth_price(scale, n) else {
             break;
         };
         let y = top.saturating_add(scale.y(price) / 10).saturating_add(4);
-        write!(out, "<text class=\"note end\" x=\"{x}\" y=\"{y}\">")?;
-        put_price(out, price)?;
-        out.push_str("</text>")?;
+        write!(out, "<text class=\"note end\" x=\"{x}\" y=\"{y}\">");
+        out.price(price);
+        out.put("</text>");
     }
-    out.push_str("\n")
+    out.put("\n");
 }
 
 /// The lines of a panel's grid at its round places.
-fn put_uprights<A: Allocator>(out: &mut String<A>, scale: &Scale) -> Result<(), AllocError> {
+fn put_uprights<A: Allocator>(out: &mut SvgText<A>, scale: &Scale) {
     let height = scale.height;
     for n in 0..MOST_PLACES {
         let Some(place) = nth_place(scale, n) else {
             break;
         };
         let x = scale.x_of_place(place);
-        write!(out, "M{x} 0v{height}")?;
+        write!(out, "M{x} 0v{height}");
     }
-    Ok(())
 }
 
 /// The lines of a panel's grid at its round prices.
-fn put_levels<A: Allocator>(out: &mut String<A>, scale: &Scale) -> Result<(), AllocError> {
+fn put_levels<A: Allocator>(out: &mut SvgText<A>, scale: &Scale) {
     for n in 0..most_prices(scale).saturating_add(1) {
         let Some(price) = nth_price(scale, n) else {
             break;
         };
         let y = scale.y(price);
-        write!(out, "M0 {y}h{WIDTH}")?;
+        write!(out, "M0 {y}h{WIDTH}");
     }
-    Ok(())
 }
 
 /// The ground of a panel, and its grid.
-fn put_ground<A: Allocator>(out: &mut String<A>, scale: &Scale) -> Result<(), AllocError> {
+fn put_ground<A: Allocator>(out: &mut SvgText<A>, scale: &Scale) {
     let height = scale.height;
     write!(
         out,
         "<rect class=\"ground\" width=\"{WIDTH}\" height=\"{height}\"/><path class=\"grid\" d=\""
-    )?;
-    put_uprights(out, scale)?;
-    put_levels(out, scale)?;
-    out.push_str("\"/>\n")
+    );
+    put_uprights(out, scale);
+    put_levels(out, scale);
+    out.put("\"/>\n");
 }
 
 /// The steps of one side.
-fn put_side<A: Allocator>(
-    out: &mut String<A>,
-    class: &str,
-    stretches: &[Stretch],
-    scale: &Scale,
-) -> Result<(), AllocError> {
+fn put_side<A: Allocator>(out: &mut SvgText<A>, class: &str, stretches: &[Stretch], scale: &Scale) {
     if stretches.is_empty() {
-        return Ok(());
+        return;
     }
-    write!(out, "<path class=\"{class}\" d=\"")?;
-    put_steps(out, stretches, scale)?;
-    out.push_str("\"/>\n")
+    write!(out, "<path class=\"{class}\" d=\"");
+    put_steps(out, stretches, scale);
+    out.put("\"/>\n");
 }
 
 impl<A: Allocator> Panel<A> {
     /// Its symbol, and what was traded.
-    fn put_heading(
-        &self,
-        out: &mut String<A>,
-        rulebook: &Rulebook,
-        top: i64,
-    ) -> Result<(), AllocError> {
+    fn put_heading(&self, out: &mut SvgText<A>, rulebook: &Rulebook, top: i64) {
         let y = top.saturating_sub(8);
         let right = LEFT + WIDTH / 10;
-        write!(out, "<text class=\"symbol\" x=\"{LEFT}\" y=\"{y}\">")?;
-        put_symbol(out, rulebook, self.instrument)?;
+        write!(out, "<text class=\"symbol\" x=\"{LEFT}\" y=\"{y}\">");
+        out.symbol(rulebook, self.instrument);
         write!(
             out,
             "</text><text class=\"note end\" x=\"{right}\" y=\"{y}\">"
-        )?;
-        put_count(out, self.direct)?;
-        out.push_str(" direct, ")?;
-        put_count(out, self.implied)?;
-        out.push_str(" implied, ")?;
-        put_count(out, self.lots)?;
-        out.push_str(" lots</text>\n")
+        );
+        out.count(self.direct);
+        out.put(" direct, ");
+        out.count(self.implied);
+        out.put(" implied, ");
+        out.count(self.lots);
+        out.put(" lots</text>\n");
     }
 
     /// What stands inside its frame.
-    fn put_inside(&self, out: &mut String<A>, most: u64) -> Result<(), AllocError> {
-        put_ground(out, &self.scale)?;
-        put_side(out, "buy", &self.buy, &self.scale)?;
-        put_side(out, "sell", &self.sell, &self.scale)?;
-        put_marks(out, &self.points, Kind::Direct, most)?;
-        put_marks(out, &self.points, Kind::Implied, most)?;
+    fn put_inside(&self, out: &mut SvgText<A>, most: u64) {
+        put_ground(out, &self.scale);
+        put_side(out, "buy", &self.buy, &self.scale);
+        put_side(out, "sell", &self.sell, &self.scale);
+        put_marks(out, &self.points, Kind::Direct, most);
+        put_marks(out, &self.points, Kind::Implied, most);
         let height = self.scale.height;
         write!(
             out,
             "<rect class=\"frame\" width=\"{WIDTH}\" height=\"{height}\"/></svg>\n"
-        )?;
-        Ok(())
+        );
     }
 
     /// How much of the page it takes, with its heading and its places.
@@ -302,25 +273,19 @@ impl<A: Allocator> Panel<A> {
     }
 
     /// The whole panel, that far from the top of the page. The greatest mark stands for so many lots.
-    pub fn put(
-        &self,
-        out: &mut String<A>,
-        rulebook: &Rulebook,
-        top: i64,
-        most: u64,
-    ) -> Result<(), AllocError> {
+    pub fn put(&self, out: &mut SvgText<A>, rulebook: &Rulebook, top: i64, most: u64) {
         let top = top.saturating_add(HEADING);
-        self.put_heading(out, rulebook, top)?;
+        self.put_heading(out, rulebook, top);
         let width = WIDTH / 10;
         let inside = self.scale.height;
         let height = inside / 10;
-        put_prices(out, &self.scale, top)?;
+        put_prices(out, &self.scale, top);
         let foot = top.saturating_add(height).saturating_add(17);
-        put_places(out, &self.scale, foot)?;
+        put_places(out, &self.scale, foot);
         write!(
             out,
             "<svg class=\"panel\" x=\"{LEFT}\" y=\"{top}\" width=\"{width}\" height=\"{height}\" viewBox=\"0 0 {WIDTH} {inside}\">"
-        )?;
-        self.put_inside(out, most)
+        );
+        self.put_inside(out, most);
     }
 }

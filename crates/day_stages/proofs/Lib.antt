@@ -1,3 +1,1 @@
 pub mod PostPairs
-pub mod Posters
-pub mod RingEnds

@@ -1,3 +1,1 @@
 pub mod Making
-pub mod Matching
-pub mod Posting

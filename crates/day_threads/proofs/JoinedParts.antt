@@ -27,12 +27,12 @@ use Rattle.stage_rings.specs.declared.post.Poster.{Poster}
 use Rattle.day_threads.specs.Streams.{IsThreadsFault}
 use Rattle.day_threads.specs.code.Concluding.{IsFaultOfEnds}
 use Rattle.day_stages.specs.code.Making.{of_apply}
-use Rattle.day_stages.specs.code.Matching.{MatchEnds}
+use Rattle.match_thread.specs.code.Matching.{MatchEnds}
 use Rattle.day_stages.specs.declared.fault.ThreadsFault.{ThreadsFault}
 use Rattle.day_stages.specs.declared.fault.ThreadsFault.TheVariants as threads
-use Rattle.day_stages.specs.declared.matching.Matched.{Matched}
-use Rattle.day_stages.specs.declared.matching.MatchEnd.{MatchEnd}
-use Rattle.day_stages.specs.declared.matching.MatchEnd.TheVariants.{Fault}
+use Rattle.match_thread.specs.declared.matching.Matched.{Matched}
+use Rattle.match_thread.specs.declared.matching.MatchEnd.{MatchEnd}
+use Rattle.match_thread.specs.declared.matching.MatchEnd.TheVariants.{Fault}
 use Rattle.day_apply.specs.Sending.{sending_rules}
 
 pub agrees_prefix : (b ended : Bool) (gave took : List Entry) → Agrees b ended gave took → IsPrefix took gave

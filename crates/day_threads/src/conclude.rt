@@ -4,14 +4,15 @@ ghost use Rattle.spread_report.specs.Sessions.{bytes_of};
 ghost use Rattle.day_apply.specs.Sending.{sending_rules, stamp_of};
 ghost use Rattle.day_threads.specs.Streams.{IsDayOfSessions, IsThreadsFault};
 ghost use Rattle.day_threads.specs.code.Concluding.{AreJoined, IsFaultOfEnds, IsWhole};
-ghost use Rattle.day_stages.specs.declared.matching.MatchEnd.TheVariants as matched_end;
-ghost use Rattle.day_stages.specs.code.Posting.{posted_at};
+ghost use Rattle.match_thread.specs.declared.matching.MatchEnd.TheVariants as matched_end;
+ghost use Rattle.match_thread.specs.code.Posting.{posted_at};
 ghost use Rattle.session_threads.specs.declared.sequencing.SequenceEnd.TheVariants as sequence_end;
 ghost use Rattle.session_threads.specs.code.Writing.{AreJoinedPairs, written_at};
 
 use day_apply::FillsAndMessages;
-use day_stages::{MatchEnd, Matched, ThreadsFault, of_apply};
+use day_stages::{ThreadsFault, of_apply};
 use gate_link::{Poster, agree, finished};
+use match_thread::{MatchEnd, Matched};
 use session_threads::{GivenStreams, SequenceEnd, Sequenced, Written};
 use spread_rules::Entry;
 use std::alloc::Allocator;

@@ -9,7 +9,8 @@ ghost use Rattle.day_stages.specs.Limits.{IsWithinLimits};
 ghost use Rattle.day_stages.specs.declared.fault.ThreadsFault.TheVariants.{NoMemory, Spawn};
 
 use crate::conclude::{SessionsDay, conclude};
-use day_stages::{Caps, DayRules, Stages, ThreadsFault, stages_of, start_matching};
+use day_stages::{Caps, DayRules, Stages, ThreadsFault, stages_of};
+use match_thread::start_matching;
 use session_threads::{
     Gate, SequenceEnd, Shared, Started, StartedWriters, Workers, Writing, join_all, join_writers,
     sequence, start_all, start_writers,

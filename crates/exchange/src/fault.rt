@@ -2,14 +2,13 @@
 use day_explain::ExplainFault;
 use day_picture::DrawFault;
 use gate_link::LinkFault;
-use spread_host::{Difference, HostFault};
+use spread_host::HostFault;
 use spread_journal::JournalFault;
 use spread_rules::RuleFault;
-use std::alloc::Global;
 use std::fmt;
 
 /// Why the program ended without its text.
-#[derive(Drop)]
+#[derive(Clone, Copy)]
 pub enum Fault<'a> {
     /// The stamp is empty, too long, or has a byte 1.
     Stamp,
@@ -17,8 +16,8 @@ pub enum Fault<'a> {
     File(&'a str),
     /// The run ended without its text.
     Host(HostFault),
-    /// A claim is not what the rule gives the journal.
-    Claim(Difference<Global>),
+    /// A claim is not what the rule gives the journal. Its first wrong line was told when it was found.
+    Claim,
     /// The journal has no entry of this place.
     Place(u32),
 }
@@ -63,7 +62,7 @@ impl<'a> Fault<'a> {
             Fault::Stamp => 2,
             Fault::File(_) => 3,
             Fault::Host(fault) => host_status(fault),
-            Fault::Claim(_) | Fault::Place(_) => 5,
+            Fault::Claim | Fault::Place(_) => 5,
         }
     }
 
@@ -73,7 +72,7 @@ impl<'a> Fault<'a> {
             Fault::Stamp => ("stamp", Detail::Nothing),
             Fault::File(path) => ("cannot read", Detail::Name(path)),
             Fault::Host(fault) => host_line(fault),
-            Fault::Claim(difference) => ("claim line", Detail::Number(difference.line)),
+            Fault::Claim => ("wrong claim", Detail::Nothing),
             Fault::Place(place) => ("no place", Detail::Number(*place as u64)),
         }
     }
@@ -100,25 +99,10 @@ impl<'a> fmt::Display for Fault<'a> {
     fn fmt<W: fmt::Write>(&self, f: &mut fmt::Formatter<W>) -> fmt::Result {
         let (text, detail) = self.line();
         match detail {
-            Detail::Nothing => f.write_str(text)?,
-            Detail::Number(number) => write!(f, "{} {}", text, number)?,
-            Detail::Name(name) => write!(f, "{} {}", text, name)?,
+            Detail::Nothing => f.write_str(text),
+            Detail::Number(number) => write!(f, "{} {}", text, number),
+            Detail::Name(name) => write!(f, "{} {}", text, name),
         }
-        match self {
-            Fault::Claim(difference) => put_right(f, difference),
-            _ => Ok(()),
-        }
-    }
-}
-
-/// What a line of a claim should be.
-fn put_right<W: fmt::Write>(
-    f: &mut fmt::Formatter<W>,
-    difference: &Difference<Global>,
-) -> fmt::Result {
-    match std::str::from_utf8(&difference.right) {
-        Ok(right) if !right.is_empty() => write!(f, " should be {}", right.trim_end()),
-        _ => f.write_str(" should not be there"),
     }
 }
 

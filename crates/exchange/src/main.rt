@@ -4,14 +4,15 @@
 mod fault;
 mod printing;
 
-use command_line::{Request, read_words, refuse, words_of};
+use command_line::{Request, Task, read_words, refuse, words_of};
 use day_explain::explain;
 use day_picture::draw;
 use fault::Fault;
 use host_base::{FromReader, Id, ToWriter};
 use printing::print_day;
-use spread_host::{AuditFault, Caps, Gate, HostFault, audit, check, replay, run_day};
+use spread_host::{AuditFault, Caps, Difference, Gate, HostFault, audit, check, replay, run_day};
 use spread_rules::Rulebook;
+use std::alloc::Global;
 use std::fs::Files;
 use std::process::ExitCode;
 use std::sync::Wait;
@@ -104,74 +105,106 @@ fn run_live<'a>(
     Ok(())
 }
 
-/// The rulebook of the one file and the text of the other.
-fn read_journal<'a>(
-    rt: &(impl Files + AllocGlobal),
-    rules: &'a str,
-    journal: &'a str,
-) -> Result<(Rulebook, Vec<u8>), Fault<'a>> {
-    let rulebook = read_rules(rt, rules)?;
-    let text = read_file(rt, journal)?;
-    Ok((rulebook, text))
-}
-
-/// A journal text.
+/// The journal is worked again.
 fn run_check<'a>(
-    rt: &(impl Print + Files + AllocGlobal),
-    rules: &'a str,
-    journal: &'a str,
+    rt: &(impl Print + AllocGlobal),
+    rulebook: &Rulebook,
+    text: &[u8],
 ) -> Result<(), Fault<'a>> {
-    let (rulebook, text) = read_journal(rt, rules, journal)?;
     let mut sink = ToWriter::new(io::writer(rt));
-    let _fills = check(rt.alloc(), &rulebook, &text, &mut sink)?;
-    Ok(())
-}
-
-/// A journal text, and what somebody claims of it.
-fn run_audit<'a>(
-    rt: &(impl Files + AllocGlobal),
-    rules: &'a str,
-    journal: &'a str,
-    claim: &'a str,
-) -> Result<(), Fault<'a>> {
-    let (rulebook, text) = read_journal(rt, rules, journal)?;
-    let claimed = read_file(rt, claim)?;
-    match audit(rt.alloc(), &rulebook, &text, &claimed) {
-        Ok(()) => Ok(()),
-        Err(AuditFault::Host(fault)) => Err(Fault::Host(fault)),
-        Err(AuditFault::Differs(difference)) => Err(Fault::Claim(difference)),
+    match check(rt.alloc(), rulebook, text, &mut sink) {
+        Ok(_fills) => Ok(()),
+        Err(fault) => Err(Fault::Host(fault)),
     }
 }
 
-/// A journal text, and the place of the entry that is explained.
+/// Says which line of a claim is the first wrong one, and what it should be.
+fn tell_difference(rt: &impl Eprint, difference: &Difference<Global>) {
+    let line = difference.line;
+    let _ = match std::str::from_utf8(&difference.right) {
+        Ok(right) if !right.is_empty() => {
+            eprintln!(rt;
+                "exchange: claim line {line} should be {}",
+                right.trim_end()
+            )
+        }
+        _ => eprintln!(rt; "exchange: claim line {line} should not be there"),
+    };
+}
+
+/// The journal is held against what somebody claims of it.
+fn run_audit<'a>(
+    rt: &(impl Files + Eprint + AllocGlobal),
+    rulebook: &Rulebook,
+    text: &[u8],
+    claim: &'a str,
+) -> Result<(), Fault<'a>> {
+    let claimed = read_file(rt, claim)?;
+    match audit(rt.alloc(), rulebook, text, &claimed) {
+        Ok(()) => Ok(()),
+        Err(AuditFault::Host(fault)) => Err(Fault::Host(fault)),
+        Err(AuditFault::Differs(difference)) => {
+            tell_difference(rt, &difference);
+            Err(Fault::Claim)
+        }
+    }
+}
+
+/// The entry of that place is explained.
 fn run_explain<'a>(
-    rt: &(impl Print + Files + AllocGlobal),
-    rules: &'a str,
-    journal: &'a str,
+    rt: &(impl Print + AllocGlobal),
+    rulebook: &Rulebook,
+    text: &[u8],
     place: u32,
 ) -> Result<(), Fault<'a>> {
-    let (rulebook, text) = read_journal(rt, rules, journal)?;
     let mut sink = ToWriter::new(io::writer(rt));
-    match explain(rt.alloc(), &rulebook, &text, place as u64, &mut sink) {
+    match explain(rt.alloc(), rulebook, text, place as u64, &mut sink) {
         Ok(()) => Ok(()),
         Err(fault) => Err(Fault::of_explain(fault, place)),
     }
 }
 
-/// A journal text, drawn.
+/// The journal's day is drawn.
 fn run_draw<'a>(
-    rt: &(impl Print + Files + AllocGlobal),
+    rt: &(impl Print + AllocGlobal),
+    rulebook: &Rulebook,
+    text: &[u8],
+) -> Result<(), Fault<'a>> {
+    let mut sink = ToWriter::new(io::writer(rt));
+    match draw(rt.alloc(), rulebook, text, &mut sink) {
+        Ok(()) => Ok(()),
+        Err(fault) => Err(Fault::from(fault)),
+    }
+}
+
+fn run_task<'a>(
+    rt: &(impl Print + Eprint + Files + AllocGlobal),
+    rulebook: &Rulebook,
+    text: &[u8],
+    task: Task<'a>,
+) -> Result<(), Fault<'a>> {
+    match task {
+        Task::Check => run_check(rt, rulebook, text),
+        Task::Audit { claim } => run_audit(rt, rulebook, text, claim),
+        Task::Explain { place } => run_explain(rt, rulebook, text, place),
+        Task::Draw => run_draw(rt, rulebook, text),
+    }
+}
+
+/// A journal text, under the rulebook of the other file.
+fn run_journal<'a>(
+    rt: &(impl Print + Eprint + Files + AllocGlobal),
     rules: &'a str,
     journal: &'a str,
+    task: Task<'a>,
 ) -> Result<(), Fault<'a>> {
-    let (rulebook, text) = read_journal(rt, rules, journal)?;
-    let mut sink = ToWriter::new(io::writer(rt));
-    draw(rt.alloc(), &rulebook, &text, &mut sink)?;
-    Ok(())
+    let rulebook = read_rules(rt, rules)?;
+    let text = read_file(rt, journal)?;
+    run_task(rt, &rulebook, &text, task)
 }
 
 fn run<'a>(
-    rt: &(impl Input + Print + Files + AllocGlobal + Threads + Wait + Sync),
+    rt: &(impl Input + Print + Eprint + Files + AllocGlobal + Threads + Wait + Sync),
     request: &Request<'a>,
 ) -> Result<(), Fault<'a>> {
     match request {
@@ -193,19 +226,20 @@ fn run<'a>(
             };
             run_live(rt, rules, sessions, stamp, caps)
         }
-        Request::Check { rules, journal } => run_check(rt, rules, journal),
-        Request::Audit {
+        Request::Journal {
             rules,
             journal,
-            claim,
-        } => run_audit(rt, rules, journal, claim),
-        Request::Explain {
-            rules,
-            journal,
-            place,
-        } => run_explain(rt, rules, journal, *place),
-        Request::Draw { rules, journal } => run_draw(rt, rules, journal),
+            task,
+        } => run_journal(rt, rules, journal, *task),
     }
+}
+
+/// Says why there is no text, where that is not said yet, and gives the status.
+fn tell_fault(rt: &impl Eprint, fault: Fault<'_>) -> u8 {
+    if !matches!(fault, Fault::Claim) {
+        let _ = eprintln!(rt; "exchange: {}", fault);
+    }
+    fault.status()
 }
 
 fn main(rt: HostRuntime) -> ExitCode {
@@ -216,10 +250,7 @@ fn main(rt: HostRuntime) -> ExitCode {
     match read_words(rt.alloc(), words.as_slice()) {
         Ok(request) => match run(&rt, &request) {
             Ok(()) => ExitCode::SUCCESS,
-            Err(fault) => {
-                let _ = eprintln!(rt; "exchange: {}", fault);
-                ExitCode::from(fault.status())
-            }
+            Err(fault) => ExitCode::from(tell_fault(&rt, fault)),
         },
         Err(refused) => ExitCode::from(refuse(&rt, refused)),
     }

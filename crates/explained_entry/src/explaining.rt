@@ -25,11 +25,11 @@ pub fn words_of_entry<A: Allocator + Copy>(
     let entry = &journal[n];
     let told = tell(alloc, rulebook, before, entry)?;
     let mut words = Words::new(alloc, rulebook);
-    put_entry(&mut words, n as u64 + 1, entry)?;
-    put_loses_place(&mut words, &told)?;
+    put_entry(&mut words, n as u64 + 1, entry);
+    put_loses_place(&mut words, &told);
     if let Some(traded) = &told.traded {
-        put_turns(&mut words, traded)?;
+        put_turns(&mut words, traded);
     }
-    put_outcome(&mut words, before, entry, &told)?;
-    Ok(words.text)
+    put_outcome(&mut words, before, entry, &told);
+    words.finish()
 }

@@ -7,7 +7,7 @@ use crate::told::Traded;
 use crate::words::Words;
 use explained_turns::{Beyond, Point, Turn, point_between};
 use spread_rules::{Candidate, Counterparty, Instrument, Order};
-use std::alloc::{AllocError, Allocator};
+use std::alloc::Allocator;
 
 /// The price and the rank of a candidate: direct or implied, the other month of an outright order, and the places of its
 /// members.
@@ -15,44 +15,38 @@ fn put_candidate<A: Allocator + Copy>(
     words: &mut Words<'_, A>,
     new: &Order,
     candidate: &Candidate,
-) -> Result<(), AllocError> {
-    words.put(b"price ")?;
-    words.price(candidate.price)?;
+) {
+    words.put(b"price ");
+    words.price(candidate.price);
     match candidate.counterparty {
         Counterparty::Direct(order) => words.named(b", direct, place ", order.place),
         Counterparty::Implied(a, b) => {
-            words.put(b", implied, ")?;
+            words.put(b", implied, ");
             if let Instrument::Outright(_) = new.instrument {
-                words.put(b"other month ")?;
-                words.month(b.instrument.far_month())?;
-                words.put(b", ")?;
+                words.put(b"other month ");
+                words.month(b.instrument.far_month());
+                words.put(b", ");
             }
-            words.named(b"places ", a.place)?;
-            words.named(b" and ", b.place)
+            words.named(b"places ", a.place);
+            words.named(b" and ", b.place);
         }
     }
 }
 
 /// A member of the candidate that was taken, as it rested.
-fn put_member<A: Allocator + Copy>(
-    words: &mut Words<'_, A>,
-    order: &Order,
-) -> Result<(), AllocError> {
-    words.put(b"    ")?;
-    words.order(order)?;
-    words.put(b"\n")
+fn put_member<A: Allocator + Copy>(words: &mut Words<'_, A>, order: &Order) {
+    words.put(b"    ");
+    words.order(order);
+    words.put(b"\n");
 }
 
 /// Each member in the order of their fills.
-fn put_members<A: Allocator + Copy>(
-    words: &mut Words<'_, A>,
-    counterparty: &Counterparty,
-) -> Result<(), AllocError> {
+fn put_members<A: Allocator + Copy>(words: &mut Words<'_, A>, counterparty: &Counterparty) {
     match counterparty {
         Counterparty::Direct(order) => put_member(words, order),
         Counterparty::Implied(a, b) => {
-            put_member(words, a)?;
-            put_member(words, b)
+            put_member(words, a);
+            put_member(words, b);
         }
     }
 }
@@ -70,19 +64,19 @@ fn put_legs<A: Allocator + Copy>(
     words: &mut Words<'_, A>,
     instrument: Instrument,
     legs: (i64, i64),
-) -> Result<(), AllocError> {
+) {
     match instrument {
-        Instrument::Outright(_) => Ok(()),
+        Instrument::Outright(_) => {}
         Instrument::Spread(near, far) => {
-            words.put(b"    legs: ")?;
-            words.month(near)?;
-            words.put(b" at ")?;
-            words.price(legs.0)?;
-            words.put(b", ")?;
-            words.month(far)?;
-            words.put(b" at ")?;
-            words.price(legs.1)?;
-            words.put(b"\n")
+            words.put(b"    legs: ");
+            words.month(near);
+            words.put(b" at ");
+            words.price(legs.0);
+            words.put(b", ");
+            words.month(far);
+            words.put(b" at ");
+            words.price(legs.1);
+            words.put(b"\n");
         }
     }
 }
@@ -104,81 +98,67 @@ fn put_next<A: Allocator + Copy>(
     new: &Order,
     taken: &Candidate,
     next: &Candidate,
-) -> Result<(), AllocError>
+)
     requires taken { HasLegPrice taken.now }
     requires next { HasLegPrice next.now }
 {
-    words.put(b"  next: ")?;
-    put_candidate(words, new, next)?;
-    words.put(b", behind by ")?;
-    words.put(point_text(point_between(new, taken, next)))?;
-    words.put(b"\n")
+    words.put(b"  next: ");
+    put_candidate(words, new, next);
+    words.put(b", behind by ");
+    words.put(point_text(point_between(new, taken, next)));
+    words.put(b"\n");
 }
 
 /// One turn: the candidate that was taken, and those that rank next.
-fn put_turn<A: Allocator + Copy>(
-    words: &mut Words<'_, A>,
-    new: &Order,
-    number: u64,
-    turn: &Turn,
-) -> Result<(), AllocError>
+fn put_turn<A: Allocator + Copy>(words: &mut Words<'_, A>, new: &Order, number: u64, turn: &Turn)
     requires { HaveLegPrices turn.now }
 {
-    words.named(b"turn ", number)?;
-    words.named(b": ", u64::from(turn.left))?;
-    words.named(b" left, ", u64::from(turn.quantity))?;
-    words.put(b" traded\n  taken: ")?;
-    put_candidate(words, new, &turn.taken)?;
-    words.put(b"\n")?;
-    put_members(words, &turn.taken.counterparty)?;
+    words.named(b"turn ", number);
+    words.named(b": ", u64::from(turn.left));
+    words.named(b" left, ", u64::from(turn.quantity));
+    words.put(b" traded\n  taken: ");
+    put_candidate(words, new, &turn.taken);
+    words.put(b"\n");
+    put_members(words, &turn.taken.counterparty);
     put_legs(
         words,
         traded_spread(new, &turn.taken.counterparty),
         turn.legs,
-    )?;
+    );
     for next in &turn.next {
         if let Some(next) = next {
-            put_next(words, new, &turn.taken, next)?;
+            put_next(words, new, &turn.taken, next);
         }
     }
-    Ok(())
 }
 
 /// The best candidate beyond the limit, and how far.
-fn put_beyond<A: Allocator + Copy>(
-    words: &mut Words<'_, A>,
-    new: &Order,
-    beyond: &Option<Beyond>,
-) -> Result<(), AllocError> {
+fn put_beyond<A: Allocator + Copy>(words: &mut Words<'_, A>, new: &Order, beyond: &Option<Beyond>) {
     match beyond {
         None => words.put(b"beyond the limit: none\n"),
         Some(beyond) => {
-            words.put(b"beyond the limit: ")?;
-            put_candidate(words, new, &beyond.candidate)?;
-            words.named(b", by ", beyond.ticks)?;
+            words.put(b"beyond the limit: ");
+            put_candidate(words, new, &beyond.candidate);
+            words.named(b", by ", beyond.ticks);
             if beyond.ticks == 1 {
-                words.put(b" tick\n")
+                words.put(b" tick\n");
             } else {
-                words.put(b" ticks\n")
+                words.put(b" ticks\n");
             }
         }
     }
 }
 
 /// Each turn, and what stopped them.
-pub fn put_turns<A: Allocator + Copy>(
-    words: &mut Words<'_, A>,
-    traded: &Traded<A>,
-) -> Result<(), AllocError>
+pub fn put_turns<A: Allocator + Copy>(words: &mut Words<'_, A>, traded: &Traded<A>)
     requires { All HaveLegPrices traded.now.explanation.turns.items }
 {
     let mut number = 0u64;
     for turn in &traded.explanation.turns {
         number = number.saturating_add(1);
-        put_turn(words, &traded.new, number, turn)?;
+        put_turn(words, &traded.new, number, turn);
     }
     if traded.explanation.left > 0 {
-        put_beyond(words, &traded.new, &traded.explanation.beyond)?;
+        put_beyond(words, &traded.new, &traded.explanation.beyond);
     }
-    Ok(())
 }

@@ -1,5 +1,4 @@
 pub mod code
-pub mod Table
 pub mod View
 pub mod Places
 pub mod Steps

@@ -10,9 +10,9 @@ use Rattle.fix_frames.specs.declared.tags.TheConstants as tags
 use Rattle.fix_values.specs.declared.values.Unread.{Unread}
 use Rattle.fix_values.specs.Values.{number_in}
 use Rattle.fix_frames.specs.Messages.{get, kind, number}
-use Rattle.fix_session.specs.declared.table.Meaning.{Meaning}
-use Rattle.fix_session.specs.declared.table.Meaning.TheVariants.{Nothing, Gives, Fills}
-use Rattle.fix_session.specs.Table.{meaning_of_message}
+use Rattle.kind_table.specs.declared.table.Meaning.{Meaning}
+use Rattle.kind_table.specs.declared.table.Meaning.TheVariants.{Nothing, Gives, Fills}
+use Rattle.kind_table.specs.Table.{meaning_of_message}
 use Rattle.fix_session.specs.declared.session.Logon.{Logon}
 
 infixl 10 ◌>>=◌

@@ -1,4 +1,3 @@
-pub mod Shown
 pub mod ReaderFields
 pub mod Changes
 pub mod Judged

@@ -6,7 +6,6 @@ pub mod laws;
 mod pieces;
 mod reader;
 mod session;
-mod table;
 
 pub use ahead::Ahead;
 pub use pieces::read_pieces;

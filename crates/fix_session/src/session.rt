@@ -1,17 +1,17 @@
 //! A session, message by message: which number is due, and what each message says.
 ghost use Rattle.std.specs.Prelude.{◌≡◌, ◌≤◌, ◌+◌, ℕ, List, Option, Some, false};
 ghost use Rattle.fix_frames.specs.Messages.{kind, number};
-ghost use Rattle.fix_session.specs.Table.{meaning_of_message};
+ghost use Rattle.kind_table.specs.Table.{meaning_of_message};
 ghost use Rattle.fix_session.specs.View.{given_id, given_number, is_opening, logon_of, is_duplicate, is_logout, comp_ids, are_same, view_with, event_of_accepted, due_after_accepted};
 ghost use Rattle.fix_session.specs.declared.session.Session.{Session};
 ghost use Rattle.fix_session.specs.declared.session.Running.{Running};
 ghost use Rattle.fix_session.specs.code.Changes.{changed, judgement_in, judgement_of};
 ghost use Rattle.fix_session.specs.Steps.{new_session, running, closes, opens, step_below, step_above, step_due, step_running, verdict_of, judge, ended, is_closed};
 
-use crate::table::{Meaning, meaning_of_message, order_texts, ticket_of};
 use fix_wire::{Message, msg_types, read_number, tags};
 use host_base::Id;
 use host_base::limits::{FIRST_MSG_SEQ_NUM, MAX_MSG_SEQ_NUM};
+use kind_table::{Meaning, meaning_of_message, order_texts, ticket_of};
 use spread_rules::Event;
 use spread_rules::codes::close_reason;
 

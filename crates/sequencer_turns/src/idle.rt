@@ -1,4 +1,7 @@
 //! What a thread does that finds nothing to do.
+ghost use Rattle.std.specs.Prelude.{◌≡◌, ◌<◌, ◌≤◌, ◌+◌, ◌-◌};
+ghost use Rattle.sequencer_turns.specs.declared.idle.TheConstants.{EAGER_LOOKS};
+
 use std::sync::Wait;
 use std::thread;
 use std::thread::Parker;
@@ -12,13 +15,18 @@ const SLEEP_MICROS: u64 = 50;
 
 /// One look less is counted, since one has found something: a thread that finds much stays eager, one that finds little
 /// sleeps.
-pub fn found(looks: u32) -> u32 {
+pub fn found(looks: u32) -> u32
+    ensures { result ≡ looks - 1 }
+{
     looks.saturating_sub(1)
 }
 
 /// Leaves the processor to the other threads after a look that found nothing, and counts it; behind so many looks it
 /// sleeps.
-pub fn rest<R: Wait>(rt: &R, looks: u32) -> u32 {
+pub fn rest<R: Wait>(rt: &R, looks: u32) -> u32
+    ensures eager { looks < EAGER_LOOKS → result ≡ looks + 1 }
+    ensures sleepy { EAGER_LOOKS ≤ looks → result ≡ looks }
+{
     if looks < EAGER_LOOKS {
         thread::yield_now();
         return looks + 1;

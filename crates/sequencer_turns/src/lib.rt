@@ -1,5 +1,5 @@
-//! The sequencer's turns, by which what joins the journal is given on to the thread that matches, and how a thread waits
-//! that finds nothing to do.
+//! The sequencer's turns, by which what joins the journal is given on to the thread that matches, and how a thread
+//! waits that finds nothing to do.
 #![tactic(auto)]
 
 mod idle;

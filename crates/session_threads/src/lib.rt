@@ -1,5 +1,5 @@
-//! The threads of the sessions: one that judges each session's stream and sends its events, the turns that make one
-//! journal of them, and one for each session that takes what it is sent.
+//! The threads of the sessions: one that judges each session's stream and sends its events, and one for each session
+//! that takes what it is sent; and the journal that is made of what they send.
 #![tactic(auto)]
 
 mod joining;

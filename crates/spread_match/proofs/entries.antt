@@ -9,3 +9,5 @@ pub mod MarketStaysReady
 pub mod PastStaysSound
 pub mod ReplacedStates
 pub mod NewEntriesStand
+pub mod StatusesOfThePast
+pub mod ThreeFillsAtMost

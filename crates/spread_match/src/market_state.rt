@@ -16,14 +16,16 @@ ghost use Rattle.spread_rules.specs.Meaning.{has_id, is_own, is_refused, outcome
 ghost use Rattle.spread_rulebook.specs.Rulebook.{month_count};
 ghost use Rattle.spread_match.specs.State.{empty_state};
 ghost use Rattle.quoted_books.specs.Listed.{IsInMonths, IsNearBeforeFar};
-ghost use Rattle.spread_match.specs.Trade.{IsPriced, IsTradable};
-ghost use Rattle.spread_match.specs.code.StateAfter.{statuses_after, with_order, with_refusal, refusal_in, matched_in, cancel_in, replace_refusal, replaced_in, moved_in, trading_in, meaning_in, state_after, state_with, orders_after_trading, AreKnown, IsReady};
-ghost use Rattle.spread_match.specs.code.Turns.{IsNewest};
+ghost use Rattle.spread_match.specs.Trade.{IsPriced};
+ghost use Rattle.order_clearing.specs.Tradable.{IsTradable};
+ghost use Rattle.order_statuses.specs.code.Statuses.{statuses_after};
+ghost use Rattle.spread_match.specs.code.StateAfter.{with_order, with_refusal, refusal_in, matched_in, cancel_in, replace_refusal, replaced_in, moved_in, trading_in, meaning_in, state_after, state_with, orders_after_trading, AreKnown, IsReady};
+ghost use Rattle.order_clearing.specs.code.Turns.{IsNewest};
 
-use crate::statuses::Statuses;
 use crate::ticket::{judge, keeps_place, moved_order, replace_refusal, resting_status};
-use crate::trade::trade;
 use host_base::{Id, NoMemory};
+use order_clearing::trade;
+use order_statuses::Statuses;
 use order_tables::{is_own, with_quantity};
 use spread_books::Book;
 use spread_rules::codes::{cxl_rej_reason, ord_rej_reason, ord_status};

@@ -1,4 +1,3 @@
 pub mod FrameRows
 pub mod BodyLengths
 pub mod ReadBack
-pub mod FieldsInTurn

@@ -1,5 +1,4 @@
 pub mod MoreMessages
 pub mod OneMessage
 pub mod OneFillMore
-pub mod SymbolIds
 pub mod InRange

@@ -2,7 +2,6 @@
 use Rattle.std.specs.Prelude.{ℕ, ◌+◌, ◌-◌, ◌==◌, nat_le, ◌&&◌, Bool, ℤ, if◌then◌else◌, List, [], ◌∷◌, ◌++◌, codes, Option, Some, None}
 use Rattle.fix_frames.specs.declared.msg_types.TheConstants as msg_types
 use Rattle.fix_frames.specs.declared.tags.TheConstants as tags
-use Rattle.fix_wire.specs.declared.writer.Value.TheVariants.{Text, Number, Price, Pair}
 use Rattle.fix_wire.specs.declared.writer.Field.{Field}
 use Rattle.spread_rules.specs.declared.codes.close_reason.TheConstants as close_reason
 use Rattle.spread_rules.specs.declared.order.Order.{Order}
@@ -17,12 +16,13 @@ use Rattle.spread_rules.specs.declared.outcome.Outcome.{Outcome}
 use Rattle.spread_rules.specs.declared.outcome.Outcome.TheVariants as outcomes
 use Rattle.spread_rulebook.specs.Rulebook.{Rules, symbol_of}
 use Rattle.spread_rules.specs.Legs.{other_side}
-use Rattle.spread_report.specs.declared.codes.TheConstants.{ENCRYPT_METHOD_NONE, EXEC_TRANS_TYPE_NEW, CXL_REJ_RESPONSE_TO_CANCEL, CXL_REJ_RESPONSE_TO_REPLACE}
-use Rattle.spread_report.specs.declared.codes.MultiLegReportingType.{MultiLegReportingType}
-use Rattle.spread_report.specs.declared.codes.MultiLegReportingType.TheVariants.{SingleSecurity, IndividualLeg, MultiLegSecurity}
-use Rattle.spread_report.specs.declared.codes.OrdStatus.{OrdStatus}
-use Rattle.spread_report.specs.declared.codes.OrdStatus.TheVariants as status
-use Rattle.spread_report.specs.Codes.{side_code, ord_status_code, multi_leg_code}
+use Rattle.report_bodies.specs.declared.codes.TheConstants.{ENCRYPT_METHOD_NONE, EXEC_TRANS_TYPE_NEW, CXL_REJ_RESPONSE_TO_CANCEL, CXL_REJ_RESPONSE_TO_REPLACE}
+use Rattle.report_bodies.specs.declared.codes.MultiLegReportingType.{MultiLegReportingType}
+use Rattle.report_bodies.specs.declared.codes.MultiLegReportingType.TheVariants.{SingleSecurity, IndividualLeg, MultiLegSecurity}
+use Rattle.report_bodies.specs.declared.codes.OrdStatus.{OrdStatus}
+use Rattle.report_bodies.specs.declared.codes.OrdStatus.TheVariants as status
+use Rattle.report_bodies.specs.Codes.{side_code, ord_status_code, multi_leg_code}
+use Rattle.report_bodies.specs.Fields.{text_field, number_field, price_field, pair_field}
 
 -- What goes into a message: one that bears the session's next number and uses it, or a gap fill.
 pub data MessageContent : Type 0 where
@@ -35,19 +35,6 @@ pub record AddressedMessage : Type 0 where
   pub content : MessageContent
 
 -- ---- fields
-
--- a field with a text, a number, a price in hundredths, or two numbers
-abbrev pub text_field : ℕ → List ℕ → Field
-text_field tag bytes = record { tag = tag; value = Text bytes }
-
-abbrev pub number_field : ℕ → ℕ → Field
-number_field tag n = record { tag = tag; value = Number n }
-
-abbrev pub price_field : ℕ → ℤ → Field
-price_field tag z = record { tag = tag; value = Price z }
-
-abbrev pub pair_field : ℕ → ℕ → ℕ → Field
-pair_field tag a b = record { tag = tag; value = Pair a b }
 
 -- 1 to 9 digits
 abbrev pub has_tag : Field → Bool

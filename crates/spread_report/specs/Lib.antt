@@ -1,4 +1,3 @@
-pub mod Codes
 pub mod EntryMessages
 pub mod Outgoing
 pub mod Sessions

@@ -14,7 +14,6 @@ mod admin;
 mod entry;
 mod execution_report;
 mod parties;
-mod report_body;
 
 use crate::fault::DeskFault;
 use crate::outbound::{CompIds, OutboundSession};

@@ -1,4 +1,5 @@
-//! Tests of `host_base`, `test_support`, `fix_values`, `fix_frames`, `fix_wire`, `fix_session` and `day_lines`.
+//! Tests of `host_base`, `test_support`, `fix_values`, `fix_frames`, `fix_wire`, `kind_table`, `fix_session` and
+//! `day_lines`.
 #![tactic(auto)]
 
 #[cfg(test)]

@@ -7,7 +7,7 @@ use Rattle.stage_rings.specs.Feeding.{given, AreFeedPair}
 use Rattle.day_apply.specs.declared.fault.ApplyFault.{ApplyFault}
 use Rattle.day_apply.specs.declared.fault.ApplyFault.TheVariants as apply
 use Rattle.session_threads.specs.code.Writing.{ArePostPairs}
-use Rattle.day_stages.specs.code.Matching.{IsUnfed}
+use Rattle.match_thread.specs.code.Matching.{IsUnfed}
 use Rattle.day_stages.specs.declared.fault.ThreadsFault.{ThreadsFault}
 use Rattle.day_stages.specs.declared.fault.ThreadsFault.TheVariants.{Link, NoMemory, NumbersSpent}
 use Rattle.day_stages.specs.declared.stages.Stages.{Stages}

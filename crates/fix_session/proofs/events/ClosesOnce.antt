@@ -13,7 +13,7 @@ use Rattle.fix_session.specs.declared.session.Verdict.{Verdict}
 use Rattle.fix_session.specs.declared.session.Verdict.TheVariants as verdicts
 use Rattle.fix_session.specs.View.{MessageView, are_same, view}
 use Rattle.fix_session.specs.Steps.{running, closed, verdict_of, closes, opens, step_below, step_above, step_due, step_running, step_at, step_or_stay, judge, ended, is_closed, is_closing}
-use Rattle.fix_session.proofs.events.TableInRange.{IsGiven}
+use Rattle.kind_table.proofs.TableInRange.{IsGiven}
 use Rattle.fix_session.proofs.events.InRangeAndOrder.{May, IsFair, view_fair}
 
 -- a step closes a session exactly where it says a Close

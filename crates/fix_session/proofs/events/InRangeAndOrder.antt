@@ -13,18 +13,18 @@ use Rattle.fix_values.specs.declared.values.Unread.TheVariants.{Range, Format}
 use Rattle.fix_values.specs.Digits.{number_of}
 use Rattle.fix_values.specs.Values.{is_number, within, number_in}
 use Rattle.fix_frames.specs.Messages.{get, number, at_least_one}
-use Rattle.fix_session.specs.declared.table.Meaning.{Meaning}
-use Rattle.fix_session.specs.declared.table.Meaning.TheVariants.{Nothing, Gives, Fills}
+use Rattle.kind_table.specs.declared.table.Meaning.{Meaning}
+use Rattle.kind_table.specs.declared.table.Meaning.TheVariants.{Nothing, Gives, Fills}
 use Rattle.fix_session.specs.declared.session.Logon.{Logon}
 use Rattle.fix_session.specs.declared.session.Running.{Running}
 use Rattle.fix_session.specs.declared.session.State.{State}
 use Rattle.fix_session.specs.declared.session.State.TheVariants as states
 use Rattle.fix_session.specs.declared.session.Session.{Session}
 use Rattle.fix_session.specs.declared.session.Verdict.{Verdict}
-use Rattle.fix_session.specs.Table.{meaning_of_message}
+use Rattle.kind_table.specs.Table.{meaning_of_message}
 use Rattle.fix_session.specs.View.{◌>>=◌, MessageView, are_same, is_opening, given_id, read_ok, given_number, logon_of, logon_event, event_of_accepted, due_after_accepted, view_with, view}
 use Rattle.fix_session.specs.Steps.{new_session, running, closed, verdict_of, closes, opens, step_below, step_above, step_due, step_running, step_at, step_or_stay, judge, event_in, events_said, session_after, events_at_end}
-use Rattle.fix_session.proofs.events.TableInRange.{Holds, IsGiven, FitsMeaning, meaning_holds}
+use Rattle.kind_table.proofs.TableInRange.{Holds, IsGiven, FitsMeaning, meaning_holds}
 use Rattle.fix_session.proofs.events.StateOfPlaces.{cons_two}
 
 abbrev pub May : {A : Type 0} → (A → Type 0) → Option A → Type 0

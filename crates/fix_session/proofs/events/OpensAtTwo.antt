@@ -5,7 +5,7 @@ use Rattle.std.proofs.lemmas.Bool.{and_parts}
 use Rattle.std.proofs.lemmas.Bool.Decides.{nat_tests}
 use Rattle.std.proofs.lemmas.Slice.Eq.{bytes_eq-Decides}
 use Rattle.fix_frames.specs.Messages.{kind, number}
-use Rattle.fix_session.specs.Table.{meaning_of_message, meaning_of_kind_text}
+use Rattle.kind_table.specs.Table.{meaning_of_message, meaning_of_kind_text}
 use Rattle.fix_session.specs.declared.session.Logon.{Logon}
 use Rattle.fix_session.specs.declared.session.State.TheVariants as states
 use Rattle.fix_session.specs.declared.session.Session.{Session}

@@ -14,14 +14,14 @@ use Rattle.spread_rules.specs.Candidates.{least_left, AllStandIn, is_within_limi
 use Rattle.spread_rules.specs.Clearing.{Trading, next_candidate, turn, turns, after_match, after_fill, removed, reduced, with_less_left, fills_of, fill_of, members, leg_prices}
 use Rattle.spread_rulebook.proofs.lists.Membership.{in_cons_cases, not_in_nil, from_map}
 use Rattle.spread_rules.proofs.clearings.TurnsEnd.{members_rest, next_meets, next_left, next_least, from_filter, less_place}
-use Rattle.spread_match.specs.Trade.{IsTradable}
-use Rattle.spread_match.specs.code.Turns.{AreApart}
+use Rattle.order_clearing.specs.Tradable.{IsTradable}
+use Rattle.order_clearing.specs.code.Turns.{AreApart}
 use Rattle.spread_match.specs.Sound.{IsCounted, IsNamed, KeepsLimit}
-use Rattle.spread_match.proofs.turns.NotAgainstItself.{are_apart}
-use Rattle.spread_match.proofs.turns.StaysTradable.{still_tradable}
-use Rattle.spread_match.proofs.turns.OneTurn.{least_some}
-use Rattle.spread_match.proofs.turns.StaysAfterAFill.{still_there, still_differ}
-use Rattle.spread_match.proofs.status_rows.MarkedRows.{same_number}
+use Rattle.order_clearing.proofs.turns.NotAgainstItself.{are_apart}
+use Rattle.order_clearing.proofs.turns.StaysTradable.{still_tradable}
+use Rattle.order_clearing.proofs.turns.OneTurn.{least_some}
+use Rattle.order_clearing.proofs.turns.StaysAfterAFill.{still_there, still_differ}
+use Rattle.order_statuses.proofs.status_rows.MarkedRows.{same_number}
 use Rattle.spread_rules.specs.Meaning.{PastTicket, filled}
 
 pub filled_push : (place : ℕ) (fs : List Fill) (f : Fill) → filled place (fs ++ f ∷ []) ≡ filled place fs + cond (f.order == place) f.quantity 0

@@ -19,12 +19,14 @@ use Rattle.spread_rulebook.specs.Rulebook.{Rules, month_count, references_of, fi
 use Rattle.spread_rules.proofs.clearings.TurnsEnd.{keeps_turns, members_rest, next_meets}
 use Rattle.spread_match.specs.State.{MarketState}
 use Rattle.quoted_books.specs.Listed.{IsNearFirst, IsInMonths}
-use Rattle.spread_match.specs.Trade.{IsTradable, IsPriced}
-use Rattle.spread_match.specs.code.StateAfter.{AreKnown, IsReady, place_of_id, first_status, meaning_in, state_after, state_with, status_after_fill, status_after_replace, statuses_after, statuses_after_replace}
-use Rattle.spread_match.proofs.status_rows.MarkedRows.{KeepsName, has_id_kept, has_own_id}
-use Rattle.spread_match.proofs.status_rows.MarksOfEntries.{fill_keeps, replace_keeps}
-use Rattle.spread_match.proofs.turns.NotAgainstItself.{are_apart}
-use Rattle.spread_match.proofs.turns.StaysTradable.{still_tradable}
+use Rattle.order_clearing.specs.Tradable.{IsTradable}
+use Rattle.spread_match.specs.Trade.{IsPriced}
+use Rattle.spread_match.specs.code.StateAfter.{AreKnown, IsReady, place_of_id, first_status, meaning_in, state_after, state_with, statuses_after_replace}
+use Rattle.order_statuses.specs.code.Statuses.{status_after_fill, status_after_replace, statuses_after}
+use Rattle.order_statuses.proofs.status_rows.MarkedRows.{KeepsName, has_id_kept, has_own_id}
+use Rattle.order_statuses.proofs.status_rows.MarksOfEntries.{fill_keeps, replace_keeps}
+use Rattle.order_clearing.proofs.turns.NotAgainstItself.{are_apart}
+use Rattle.order_clearing.proofs.turns.StaysTradable.{still_tradable}
 use Rattle.spread_match.proofs.entries.NewOrder.{turns_all, below_new, none_earlier, taken_is}
 use Rattle.spread_match.proofs.entries.NamedInstrument.{listed_found, near_of, months_of}
 use Rattle.spread_match.proofs.entries.PastStaysSound.{MayRest, later_all, moved_rests, new_rests, removed_tradable, rests_all, rest_tradable}

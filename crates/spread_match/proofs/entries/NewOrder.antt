@@ -9,15 +9,15 @@ use Rattle.spread_rules.specs.Clearing.{Trading, next_candidate, turn, turns, af
 use Rattle.spread_rulebook.proofs.lists.Membership.{in_head, in_tail}
 use Rattle.spread_rules.proofs.clearings.TurnsEnd.{keeps_turns}
 use Rattle.quoted_books.specs.Listed.{IsNearFirst, IsInMonths}
-use Rattle.spread_match.specs.Trade.{IsTradable}
+use Rattle.order_clearing.specs.Tradable.{IsTradable}
 use Rattle.spread_match.specs.code.StateAfter.{orders_after_trading}
-use Rattle.spread_match.specs.code.Turns.{IsNewest}
+use Rattle.order_clearing.specs.code.Turns.{IsNewest}
 use Rattle.spread_rulebook.specs.declared.instrument.Instrument.{Instrument}
 use Rattle.spread_rules.specs.declared.outcome.OrderStatus.{OrderStatus}
 use Rattle.spread_rules.specs.declared.event.Ticket.{Ticket}
 use Rattle.spread_rules.specs.declared.outcome.Outcome.TheVariants.{Rested, Filled, Ended}
-use Rattle.spread_match.proofs.turns.NotAgainstItself.{map_push}
-use Rattle.spread_match.proofs.turns.StaysTradable.{members_all}
+use Rattle.order_clearing.proofs.turns.NotAgainstItself.{map_push}
+use Rattle.order_clearing.proofs.turns.StaysTradable.{members_all}
 use Rattle.spread_rules.specs.Meaning.{is_refused, refusal_or_instrument, outcome_of, resting}
 use Rattle.spread_rulebook.specs.Rulebook.{Rules, find_symbol}
 

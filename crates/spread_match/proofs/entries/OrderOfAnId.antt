@@ -14,7 +14,7 @@ use Rattle.spread_rules.specs.Meaning.{has_id, is_own}
 use Rattle.order_tables.proofs.places.Ascending.{unfound, unfound_by}
 use Rattle.spread_match.specs.code.StateAfter.{AreKnown, place_of_id}
 use Rattle.spread_match.proofs.entries.FoundStands.{find_holds, find_none, find_stands}
-use Rattle.spread_match.proofs.status_rows.MarkedRows.{same_number}
+use Rattle.order_statuses.proofs.status_rows.MarkedRows.{same_number}
 
 -- an order of that session and id stands at the place that their status names
 known_own : (xs : List Order) (ss : List OrderStatus) (session : ℕ) (id : List ℕ) (o : Order) → AreKnown ss xs → Contains xs o → is_own session id o ≡ true → place_of_id ss session id ≡ Some o.place

@@ -18,8 +18,10 @@ use Rattle.spread_rules.specs.declared.event.Event.TheVariants.{Logon, New, Canc
 use Rattle.spread_rules.specs.declared.outcome.Outcome.{Outcome}
 use Rattle.spread_rules.specs.declared.outcome.Outcome.TheVariants.{Refused, Replaced}
 use Rattle.quoted_books.specs.Listed.{IsNearFirst, IsInMonths, IsNearBeforeFar}
-use Rattle.spread_match.specs.Trade.{IsTradable, IsPriced}
-use Rattle.spread_match.specs.code.StateAfter.{statuses_after, statuses_after_replace, first_status, meaning_in, state_after}
+use Rattle.order_clearing.specs.Tradable.{IsTradable}
+use Rattle.spread_match.specs.Trade.{IsPriced}
+use Rattle.order_statuses.specs.code.Statuses.{statuses_after}
+use Rattle.spread_match.specs.code.StateAfter.{statuses_after_replace, first_status, meaning_in, state_after}
 use Rattle.spread_match.specs.Sound.{HasEntry, IsCounted, IsEntryApplied, IsNamed, IsOriginalNamed, IsSound, IsStateOf, KeepsLimit}
 use Rattle.spread_match.proofs.entries.FillsCounted.{IsRunning, running}
 use Rattle.spread_match.proofs.entries.NamedInstrument.{listed_found, near_of, months_of}
@@ -29,7 +31,7 @@ use Rattle.spread_rules.specs.Meaning.{EntryMeaning, JournalState, PastTicket, c
 use Rattle.spread_rules.specs.Amended.{amended, done, with_quantity}
 use Rattle.spread_match.proofs.entries.FoundStands.{find_stands}
 use Rattle.spread_match.proofs.entries.Replaces.{IsOwn, accepted_unused, amended_place, amended_tradable, by_replace, from_amended, none_refused, own_is}
-use Rattle.spread_match.proofs.status_rows.StatusesOfThePast.{statuses_more, unused}
+use Rattle.spread_match.proofs.entries.StatusesOfThePast.{statuses_more, unused}
 use Rattle.spread_rulebook.specs.Rulebook.{Rules, month_count, references_of, find_symbol, implied}
 use Rattle.spread_match.specs.State.{MarketState}
 

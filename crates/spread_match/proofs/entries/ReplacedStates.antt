@@ -19,9 +19,10 @@ use Rattle.spread_rulebook.specs.Prices.{IsOrderPrice}
 use Rattle.spread_rulebook.specs.Rulebook.{Rules, references_of, implied}
 use Rattle.order_books.specs.Queues.{CanAmend}
 use Rattle.spread_match.specs.State.{MarketState}
-use Rattle.spread_match.specs.Trade.{IsTradable}
-use Rattle.spread_match.specs.code.StateAfter.{AreKnown, entered_status, meaning_in, moved_in, replace_refusal, replaced_in, state_after, state_with, status_after_replace, statuses_after}
-use Rattle.spread_match.specs.code.Turns.{IsNewest}
+use Rattle.order_clearing.specs.Tradable.{IsTradable}
+use Rattle.spread_match.specs.code.StateAfter.{AreKnown, entered_status, meaning_in, moved_in, replace_refusal, replaced_in, state_after, state_with}
+use Rattle.order_statuses.specs.code.Statuses.{status_after_replace, statuses_after}
+use Rattle.order_clearing.specs.code.Turns.{IsNewest}
 use Rattle.spread_match.proofs.entries.NewOrder.{below_new, removed_newest, tradable_more, first_is_four}
 use Rattle.spread_match.proofs.entries.PastStaysSound.{moved_rests, removed_tradable}
 use Rattle.spread_match.proofs.entries.OrderOfAnId.{unused_rests}

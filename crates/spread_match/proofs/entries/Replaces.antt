@@ -26,9 +26,9 @@ use Rattle.spread_rules.proofs.clearings.BoughtIsSold.{same_instrument_is}
 use Rattle.spread_rulebook.specs.Rulebook.{Rules, find_symbol, references_of, implied}
 use Rattle.spread_rulebook.proofs.lists.Membership.{from_map}
 use Rattle.quoted_books.specs.Listed.{IsNearFirst, IsInMonths}
-use Rattle.spread_match.specs.Trade.{IsTradable}
+use Rattle.order_clearing.specs.Tradable.{IsTradable}
 use Rattle.spread_match.proofs.entries.FoundStands.{find_holds}
-use Rattle.spread_match.proofs.status_rows.MarkedRows.{same_number}
+use Rattle.order_statuses.proofs.status_rows.MarkedRows.{same_number}
 
 -- ---- the order that is named
 

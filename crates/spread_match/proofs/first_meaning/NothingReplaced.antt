@@ -22,7 +22,7 @@ use Rattle.spread_match.specs.Sound.{IsSound}
 use Rattle.spread_match.proofs.entries.NewOrder.{none_earlier, taken_is}
 use Rattle.spread_match.proofs.entries.PastStaysSound.{filled_none, new_asks, rests_all, started}
 use Rattle.spread_match.proofs.first_meaning.FilledWhole.{AreExact, IsExact, IsMarked, IsTicketOf, exact_turns}
-use Rattle.spread_match.proofs.status_rows.StatusesOfThePast.{not_named, not_named_at, unused}
+use Rattle.spread_match.proofs.entries.StatusesOfThePast.{not_named, not_named_at, unused}
 use Rattle.spread_rules.specs.Candidates.{Pairs}
 use Rattle.spread_rules.proofs.clearings.TurnsEnd.{from_filter}
 

@@ -17,7 +17,7 @@ use Rattle.spread_match.specs.Trade.{ArePriced, IsPriced}
 use Rattle.spread_match.proofs.entries.PastStaysSound.{entry_kept}
 use Rattle.spread_match.proofs.first_meaning.NothingReplaced.{IsFirst, entry_first, none_first}
 use Rattle.spread_match.proofs.journals.AfterEveryEntry.{none_sound}
-use Rattle.spread_match.proofs.status_rows.StatusesOfThePast.{none_is}
+use Rattle.spread_match.proofs.entries.StatusesOfThePast.{none_is}
 
 -- the past as it was kept before
 

@@ -27,7 +27,8 @@ use Rattle.spread_rulebook.proofs.lists.Membership.{in_cons_cases, in_head, in_t
 use Rattle.spread_rules.proofs.clearings.TurnsEnd.{members_rest, next_meets, from_filter}
 use Rattle.spread_rules.proofs.clearings.BoughtIsSold.{on_price, so_is}
 use Rattle.spread_match.specs.Sound.{IsSound, IsCounted, IsFillWithinLimits}
-use Rattle.spread_match.specs.Trade.{IsPriced, IsTradable, ArePriced}
+use Rattle.spread_match.specs.Trade.{IsPriced, ArePriced}
+use Rattle.order_clearing.specs.Tradable.{IsTradable}
 use Rattle.spread_match.proofs.entries.FillsCounted.{IsRunning, running_with}
 use Rattle.spread_match.proofs.entries.NewOrder.{taken_is, traded_all}
 use Rattle.spread_rulebook.proofs.rulebook_texts.OrderPrices.{small_references}

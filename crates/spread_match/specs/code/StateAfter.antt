@@ -1,13 +1,12 @@
 -- The market's state after an entry: the orders that rest, and a status for each New and Replace entry in place of the
 -- past.
 -- Words of the code alone.
-use Rattle.std.specs.Prelude.{◌≡◌, ℕ, ◌-◌, ◌==◌, ◌≤◌, nat_le, ⊤, Bool, true, not, ◌&&◌, ◌||◌, cond, if◌then◌else◌, List, [], ◌∷◌, ◌++◌, map, fold, All, Option, Some, None, option_map, Result}
+use Rattle.std.specs.Prelude.{◌≡◌, ℕ, ◌-◌, ◌==◌, ◌≤◌, nat_le, Bool, not, ◌||◌, cond, if◌then◌else◌, List, [], ◌∷◌, ◌++◌, map, All, Option, Some, None, option_map, Result}
 use Rattle.std.specs.List.{find}
 use Rattle.spread_rules.specs.declared.codes.cxl_rej_reason.TheConstants as cxl_rej_reason
 use Rattle.spread_rules.specs.declared.codes.ord_rej_reason.TheConstants as ord_rej_reason
 use Rattle.spread_rules.specs.declared.codes.ord_status.TheConstants as ord_status
 use Rattle.spread_rules.specs.declared.order.Order.{Order}
-use Rattle.spread_rules.specs.declared.fill.Fill.{Fill}
 use Rattle.spread_rules.specs.Clearing.{clear, removed, reduced, Trading}
 use Rattle.spread_rules.specs.declared.outcome.OrderStatus.{OrderStatus}
 use Rattle.spread_rulebook.specs.declared.instrument.Instrument.{Instrument}
@@ -15,32 +14,12 @@ use Rattle.spread_rules.specs.declared.event.Ticket.{Ticket}
 use Rattle.spread_rules.specs.declared.event.Event.{Event}
 use Rattle.spread_rules.specs.declared.outcome.Outcome.{Outcome}
 use Rattle.spread_rules.specs.declared.outcome.Outcome.TheVariants.{Refused}
-use Rattle.spread_match.specs.Trade.{IsTradable}
+use Rattle.order_clearing.specs.Tradable.{IsTradable}
 use Rattle.spread_rules.specs.Amended.{done}
 use Rattle.spread_rules.specs.Meaning.{EntryMeaning, has_id, instrument_or_refusal_of, is_own, is_refused, may_replace, meaning_with, moved_to, moving_means, order_of, original_of, place_left, replace_of_resting, ticket_of, unchanged_with, clearing_means, cancel_means}
 use Rattle.spread_rulebook.specs.Rulebook.{implied, Rules, references_of}
 use Rattle.spread_match.specs.State.{MarketState}
-
--- the order of that session and id, which was not refused
-abbrev pub is_open : ℕ → List ℕ → OrderStatus → Bool
-is_open session id s = has_id session id s && not (s.status == ord_status.REJECTED)
-
--- an order whose fill leaves nothing is filled
-abbrev pub status_after_fill : Fill → OrderStatus → OrderStatus
-status_after_fill f s =
-    cond (is_open f.session f.id s && f.leaves == 0) (record s { status = ord_status.FILLED }) s
-
-abbrev pub statuses_after_fill : List OrderStatus → Fill → List OrderStatus
-statuses_after_fill ss f = map (status_after_fill f) ss
-
-abbrev pub statuses_after : List Fill → List OrderStatus → List OrderStatus
-statuses_after fills ss = fold statuses_after_fill ss fills
-
--- an order in whose place another came is replaced
-abbrev pub status_after_replace : ℕ → List ℕ → OrderStatus → OrderStatus
-status_after_replace session id s =
-    cond (has_id session id s && s.status == ord_status.CANCELED)
-    (record s { status = ord_status.REPLACED }) s
+use Rattle.order_statuses.specs.code.Statuses.{status_after_replace, statuses_after}
 
 abbrev pub statuses_after_replace :
     ℕ → Outcome → Option (List ℕ) → List OrderStatus → List OrderStatus
@@ -147,13 +126,6 @@ with_refusal m o =
     record m {
       statuses = m.statuses ++ record (entered_status o) { status = ord_status.REJECTED } ∷ [];
     }
-
--- of one session and id, all but the first were refused
-abbrev pub AreRefusedLater : List OrderStatus → Type 0
-AreRefusedLater [] = ⊤
-AreRefusedLater (s ∷ ss) =
-    All (λ t. has_id s.session s.id t ≡ true → t.status ≡ ord_status.REJECTED) ss
-    × AreRefusedLater ss
 
 -- what the book does with the new order once it has traded
 abbrev pub orders_after_trading : Bool → Order → ℕ → List Order → List Order

@@ -20,16 +20,17 @@ use Rattle.spread_rules.specs.declared.event.Event.{Event}
 use Rattle.spread_rules.specs.declared.event.Event.TheVariants.{Logon, New, Cancel, Replace, TestReply, Gap, Resend, Reject, Close}
 use Rattle.spread_rules.specs.declared.outcome.Outcome.{Outcome}
 use Rattle.spread_rules.specs.declared.outcome.Outcome.TheVariants.{Rested, Filled, Ended, Cancelled, Replaced, Refused, CancelRefused, Session}
-use Rattle.spread_report.specs.EntryMessages.{MessageContent, numbered, gap_fill, AddressedMessage, text_field, number_field, price_field, pair_field, ReportedTrade, ExecutionReport, original_field, reason_field, last_fields, legs_field, report_fields, numbered_message, report, new_report, rejected_report, ended_report, cancelled_report, replaced_report, fill_report, report_count, reports_by, fill_reports, fills_reports, reports_of, new_messages, place_field, cancel_reject_fields, cancel_messages, replace_messages, close_messages, event_messages}
-use Rattle.spread_report.specs.Codes.{side_code, ord_status_code, multi_leg_code}
-use Rattle.spread_report.specs.declared.codes.OrdStatus.{OrdStatus}
-use Rattle.spread_report.specs.declared.codes.OrdStatus.TheVariants as status
-use Rattle.spread_report.specs.declared.codes.MultiLegReportingType.{MultiLegReportingType}
-use Rattle.spread_report.specs.declared.codes.MultiLegReportingType.TheVariants.{SingleSecurity, IndividualLeg, MultiLegSecurity}
+use Rattle.spread_report.specs.EntryMessages.{MessageContent, numbered, gap_fill, AddressedMessage, ReportedTrade, ExecutionReport, original_field, reason_field, last_fields, legs_field, report_fields, numbered_message, report, new_report, rejected_report, ended_report, cancelled_report, replaced_report, fill_report, report_count, reports_by, fill_reports, fills_reports, reports_of, new_messages, place_field, cancel_reject_fields, cancel_messages, replace_messages, close_messages, event_messages}
+use Rattle.report_bodies.specs.Fields.{text_field, number_field, price_field, pair_field}
+use Rattle.report_bodies.specs.Codes.{side_code, ord_status_code, multi_leg_code}
+use Rattle.report_bodies.specs.declared.codes.OrdStatus.{OrdStatus}
+use Rattle.report_bodies.specs.declared.codes.OrdStatus.TheVariants as status
+use Rattle.report_bodies.specs.declared.codes.MultiLegReportingType.{MultiLegReportingType}
+use Rattle.report_bodies.specs.declared.codes.MultiLegReportingType.TheVariants.{SingleSecurity, IndividualLeg, MultiLegSecurity}
 use Rattle.spread_report.specs.Outgoing.{AppliedEntry, entry_messages}
 use Rattle.spread_report.specs.Ranges.{AreNames, FillInRange, OutcomeInRange, EntryInRange}
 use Rattle.spread_report.proofs.frames.BodyLengths.{FitsReport}
-use Rattle.spread_report.proofs.messages.SymbolIds.{joined_id}
+use Rattle.report_bodies.proofs.SymbolIds.{joined_id}
 
 -- ---- ids
 

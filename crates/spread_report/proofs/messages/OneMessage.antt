@@ -8,7 +8,8 @@ use Rattle.std.specs.declared.vec.Vec.{Vec}
 use Rattle.spread_report.specs.declared.outbound.OutboundSession.{OutboundSession}
 use Rattle.spread_report.specs.declared.outbound.CompIds.{CompIds}
 use Rattle.spread_report.specs.declared.fault.DeskFault.{DeskFault}
-use Rattle.spread_report.specs.EntryMessages.{AddressedMessage, MessageContent, gap_fill, text_field, number_field, place_field}
+use Rattle.spread_report.specs.EntryMessages.{AddressedMessage, MessageContent, gap_fill, place_field}
+use Rattle.report_bodies.specs.Fields.{text_field, number_field}
 use Rattle.spread_report.specs.Outgoing.{messages_bytes, outbound_after, spends, message_bytes, next_after, needs_number_above_limit, outbound_before_logon, new_seq_no, head_of}
 use Rattle.fix_wire.specs.Layout.{message_text}
 use Rattle.spread_report.specs.Messages.{IsRow, as_message, texts_to}

@@ -10,11 +10,11 @@ ghost use Rattle.spread_report.specs.Outgoing as outgoing;
 
 use super::Desk;
 use super::entry::{CancelRefusal, CancelRequest};
-use crate::codes::ENCRYPT_METHOD_NONE;
 use crate::fault::DeskFault;
 use fix_wire::{Field, Head, Value, msg_types, tags, write_message};
 use host_base::Id;
 use host_base::limits::SESSIONS;
+use report_bodies::{ENCRYPT_METHOD_NONE, number_field, text_field};
 use spread_rules::codes::close_reason;
 use std::alloc::Allocator;
 

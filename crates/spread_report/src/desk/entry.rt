@@ -10,12 +10,11 @@ ghost use Rattle.spread_report.specs.Sessions.{outbound_at};
 
 use super::Desk;
 use super::parties::spell_parties;
-use crate::codes::{CXL_REJ_RESPONSE_TO_CANCEL, CXL_REJ_RESPONSE_TO_REPLACE};
 use crate::fault::DeskFault;
 use crate::outbound::CompIds;
-use crate::symbol::symbol_of;
 use host_base::Id;
 use host_base::limits::SESSIONS;
+use report_bodies::{CXL_REJ_RESPONSE_TO_CANCEL, CXL_REJ_RESPONSE_TO_REPLACE, symbol_of};
 use spread_rules::{Entry, Event, Fill, Outcome, Rulebook, Ticket};
 use std::alloc::Allocator;
 

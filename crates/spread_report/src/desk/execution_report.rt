@@ -10,13 +10,14 @@ ghost use Rattle.spread_report.specs.EntryMessages.{report, new_report, rejected
 
 use super::Desk;
 use super::entry::{CancelRequest, NewOrder};
-use super::report_body::{CancelReport, ExecId, FillReport, OrderReport, RejectReport};
-use crate::codes::{MultiLegReportingType, OrdStatus};
 use crate::fault::DeskFault;
-use crate::symbol::symbol_of;
 use fix_wire::msg_types;
 use host_base::Id;
 use host_base::limits::SESSIONS;
+use report_bodies::{
+    CancelReport, ExecId, FillReport, MultiLegReportingType, OrdStatus, OrderReport, RejectReport,
+    symbol_of,
+};
 use spread_rules::{Fill, Instrument, Order, Rulebook, Side};
 use std::alloc::Allocator;
 

@@ -8,7 +8,8 @@ use Rattle.spread_rules.specs.Clearing.{clear, removed, Trading}
 use Rattle.spread_rules.specs.Meaning.{has_id, moved_to}
 use Rattle.spread_rulebook.specs.Rulebook.{month_count, references_of, implied}
 use Rattle.spread_match.specs.State.{MarketState}
-use Rattle.spread_match.specs.code.StateAfter.{entered_status, status_after_replace, statuses_after}
+use Rattle.spread_match.specs.code.StateAfter.{entered_status}
+use Rattle.order_statuses.specs.code.Statuses.{status_after_replace, statuses_after}
 use Rattle.spread_match.proofs.entries.NewOrder.{clear_same}
 use Rattle.spread_match.proofs.entries.ReplacedStates.{moved_newest, moved_rest, moved_state, moved_tradable, room_moved}
 use Rattle.spread_match.proofs.market_state.MarketState.lose_place.Goals as goal

@@ -12,8 +12,9 @@ use Rattle.spread_rules.specs.Meaning.{EntryMeaning, clearing_means, has_id, ord
 use Rattle.spread_rulebook.specs.Rulebook.{Rules, month_count, references_of, implied}
 use Rattle.quoted_books.specs.Listed.{IsNearFirst, IsInMonths}
 use Rattle.spread_match.specs.State.{MarketState}
-use Rattle.spread_match.specs.Trade.{IsTradable}
-use Rattle.spread_match.specs.code.StateAfter.{entered_status, matched_in, state_with, statuses_after, trading_in, with_order}
+use Rattle.order_clearing.specs.Tradable.{IsTradable}
+use Rattle.spread_match.specs.code.StateAfter.{entered_status, matched_in, state_with, trading_in, with_order}
+use Rattle.order_statuses.specs.code.Statuses.{statuses_after}
 use Rattle.spread_match.proofs.entries.IdNotUsed.{id_is_new}
 use Rattle.spread_match.proofs.entries.NewOrder.{below_new, clear_same, rest_is, room_new, tradable_more}
 use Rattle.spread_match.proofs.entries.ReplacedStates.{matched_state}

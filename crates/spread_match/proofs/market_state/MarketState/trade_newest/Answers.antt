@@ -5,9 +5,9 @@ use Rattle.spread_rules.specs.Clearing.{clear, removed, begin}
 use Rattle.spread_rules.specs.Meaning.{resting}
 use Rattle.spread_rulebook.specs.Rulebook.{month_count, references_of, implied}
 use Rattle.spread_match.specs.State.{MarketState}
-use Rattle.spread_match.specs.Trade.{IsTradable}
+use Rattle.order_clearing.specs.Tradable.{IsTradable}
 use Rattle.spread_match.specs.code.StateAfter.{orders_after_trading}
-use Rattle.spread_match.specs.code.Turns.{IsNewest}
+use Rattle.order_clearing.specs.code.Turns.{IsNewest}
 use Rattle.spread_match.proofs.entries.NewOrder.{newest_after, removed_newest, settled_is, turns_most}
 use Rattle.spread_match.proofs.market_state.MarketState.trade_newest.Goals as goal
 

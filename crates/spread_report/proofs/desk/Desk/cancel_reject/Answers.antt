@@ -1,7 +1,8 @@
 use Rattle.std.proofs.Common.{◌≡◌, List, ℕ, [], ◌∷◌, ap, sym, ◌∙◌}
 use Rattle.fix_wire.specs.declared.writer.Field.{Field}
 use Rattle.fix_wire.specs.declared.writer.Value.{Value}
-use Rattle.spread_report.specs.EntryMessages.{numbered_message, text_field, number_field, place_field}
+use Rattle.spread_report.specs.EntryMessages.{numbered_message, place_field}
+use Rattle.report_bodies.specs.Fields.{text_field, number_field}
 use Rattle.spread_report.proofs.messages.MoreMessages.{sends_same}
 use Rattle.spread_report.proofs.messages.OneMessage.{named_none, named_place}
 use Rattle.spread_report.proofs.desk.Desk.cancel_reject.Goals.{then-refusal-eq0, else-refusal-eq0}

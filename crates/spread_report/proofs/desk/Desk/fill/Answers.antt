@@ -4,7 +4,7 @@ use Rattle.std.proofs.lemmas.Int.{to_z-of_z}
 use Rattle.spread_rulebook.specs.declared.instrument.Instrument.{Instrument}
 use Rattle.spread_rulebook.specs.declared.instrument.Instrument.TheVariants.{Outright, Spread}
 use Rattle.spread_report.specs.EntryMessages.{report, fill_report, leg_reports, reports_by}
-use Rattle.spread_report.specs.declared.codes.MultiLegReportingType.TheVariants.{MultiLegSecurity}
+use Rattle.report_bodies.specs.declared.codes.MultiLegReportingType.TheVariants.{MultiLegSecurity}
 use Rattle.spread_rulebook.specs.Rulebook.{symbol_of}
 use Rattle.spread_report.proofs.messages.MoreMessages.{sends_after, sends_same}
 use Rattle.spread_report.proofs.desk.Desk.fill.Goals as goal

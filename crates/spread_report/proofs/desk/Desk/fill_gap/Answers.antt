@@ -2,7 +2,8 @@ use Rattle.std.proofs.Common.{◌≡◌, [], ◌∷◌, true, false, nat_lt, get
 use Rattle.std.proofs.lemmas.Result.{err_from_is_err_and}
 use Rattle.spread_report.specs.declared.outbound.OutboundSession.{OutboundSession}
 use Rattle.spread_report.proofs.messages.OneMessage.{gap_line, gap_text, gap_none, appended_line, sent_off}
-use Rattle.spread_report.specs.EntryMessages.{number_field, text_field, gap_fill}
+use Rattle.report_bodies.specs.Fields.{number_field, text_field}
+use Rattle.spread_report.specs.EntryMessages.{gap_fill}
 use Rattle.spread_report.specs.Outgoing.{head_of}
 use Rattle.spread_report.proofs.frames.FrameRows.{written_row}
 use Rattle.spread_report.proofs.desk.Desk.fill_gap.Goals as goal

@@ -1,0 +1,23 @@
+//! Tests of what a day comes to: `spread_report`, `spread_journal` and `day_text`; the days of day lines and `spread_host`;
+//! and what looks into a day that is over: `explained_turns`, `explained_entry` and `day_explain`, `day_page` and
+//! `day_picture`.
+#![tactic(auto)]
+
+#[cfg(test)]
+mod drawn;
+#[cfg(test)]
+mod expect;
+#[cfg(test)]
+mod explained;
+#[cfg(test)]
+mod headline;
+#[cfg(test)]
+mod host;
+#[cfg(test)]
+mod journal;
+#[cfg(test)]
+mod report;
+#[cfg(test)]
+mod said;
+#[cfg(test)]
+mod text;

@@ -1,0 +1,255 @@
+-- What the table gives is in range, and is neither a Logon nor a Close.
+use Rattle.std.proofs.Common.{◌≡◌, ℕ, ◌+◌, ◌*◌, ◌<◌, ◌≤◌, Bool, true, false, ◌&&◌, ◌||◌, List, [], ◌∷◌, ◌++◌, Option, Some, None, length, take, drop, refl, ap, ◌∙◌, arith, inl, inr, ◌⊎◌}
+use Rattle.std.specs.Prelude.{pos, neg_ℤ, nat_le, nat_lt, ◌==◌, if◌then◌else◌, Result, Ok, Err}
+use Rattle.std.specs.List.{list_any, list_all, before_first, after_first}
+use Rattle.std.proofs.lemmas.Bool.{false≢true}
+use Rattle.std.proofs.lemmas.Bool.Decides.{nat_tests}
+use Rattle.std.proofs.lemmas.Int.{ints}
+use Rattle.host_base.specs.Ids.{is_id, id_of}
+use Rattle.spread_rules.specs.Journal.{IsNumber, FitsTicket, FitsEvent, is_reject_reason, is_logon, is_close}
+use Rattle.spread_rulebook.specs.Prices.{IsOrderPrice}
+use Rattle.spread_rules.specs.declared.event.Event.{Event}
+use Rattle.spread_rules.specs.declared.event.Event.TheVariants as events
+use Rattle.fix_values.specs.declared.values.Unread.{Unread}
+use Rattle.fix_values.specs.declared.values.Unread.TheVariants.{Format, Range}
+use Rattle.fix_values.specs.Digits.{is_point, is_zero, number_of}
+use Rattle.fix_values.specs.Values.{is_number, within, number_in, quantity_in, hundredths, hundredths_in, signed, price_in}
+use Rattle.fix_frames.specs.Messages.{get, kind}
+use Rattle.kind_table.specs.declared.table.Meaning.{Meaning}
+use Rattle.kind_table.specs.declared.table.Meaning.TheVariants.{Nothing, Gives, Fills}
+use Rattle.kind_table.specs.Table.{◌>>=◌, required_text, value_at, or_out_of_range, id_at, or_reason, number_at, quantity_at, price_at, one_of, choice_at, allowed_if, side_at, side_of, time_in_force_of, gap_fill_flag_of, passed_over, test_request, resend_request, sequence_reset, new_order, cancel_request, replace_request, meaning_of_kind, meaning_of_kind_text, meaning_of_message}
+
+-- a result of that kind, or a reason to reject
+abbrev pub Holds : {A : Type 0} → (A → Type 0) → Result A ℕ → Type 0
+Holds P (Ok x) = P x
+Holds P (Err e) = is_reject_reason e ≡ true
+
+abbrev Any : {A : Type 0} → A → Type 0
+Any x = Unit {0}
+
+-- in range, and neither a Logon nor a Close
+pub record IsGiven (e : Event) : Type 0 where
+  pub fits : FitsEvent e
+  pub no_logon : is_logon e ≡ false
+  pub no_close : is_close e ≡ false
+
+abbrev pub FitsMeaning : ℕ → Meaning → Type 0
+FitsMeaning n Nothing = Unit {0}
+FitsMeaning n (Gives e) = IsGiven e
+FitsMeaning n (Fills next) = n < next
+
+chained : {A B : Type 0} (P : A → Type 0) (Q : B → Type 0) (r : Result A ℕ) (f : A → Result B ℕ) → Holds P r → ((x : A) → P x → Holds Q (f x)) → Holds Q (r >>= f)
+chained P Q (Ok x) f h g = g x h
+chained P Q (Err e) f h g = h
+
+either : {A : Type 0} (P : A → Type 0) (v : Bool) (r s : Result A ℕ) → Holds P r → Holds P s → Holds P (if v then r else s)
+either P true r s h g = h
+either P false r s h g = g
+
+-- ---- one field
+
+required_text_holds : (o : Option (List ℕ)) → Holds Any (required_text o)
+required_text_holds None = refl
+required_text_holds (Some text) = either Any (nat_lt 0 (length text)) (Ok text) (Err 4) tt refl
+
+value_holds : (tag : ℕ) (m : List ℕ) → Holds Any (value_at tag m)
+value_holds tag m = required_text_holds (get tag m)
+
+abbrev IsId : List ℕ → Type 0
+IsId text = is_id text ≡ true
+
+id_of_holds : (text : List ℕ) → Holds IsId (or_out_of_range (id_of text))
+id_of_holds text = by_test (is_id text) refl
+  where
+    by_test : (v : Bool) → is_id text ≡ v → Holds IsId (or_out_of_range (if v then Some text else None))
+    by_test true e = e
+    by_test false e = refl
+
+id_holds : (tag : ℕ) (m : List ℕ) → Holds IsId (id_at tag m)
+id_holds tag m = chained Any IsId (value_at tag m) (λ text. or_out_of_range (id_of text)) (value_holds tag m) (λ text h. id_of_holds text)
+
+within_holds : (most n : ℕ) → Holds (λ x. x ≤ most) (or_reason (within most n))
+within_holds most n = by_test (nat_le n most) refl
+  where
+    by_test : (v : Bool) → nat_le n most ≡ v → Holds (λ x. x ≤ most) (or_reason (if v then Ok n else Err Range))
+    by_test true e = grind (arith, nat_tests)
+    by_test false e = refl
+
+abbrev IsShort : ℕ → Type 0
+IsShort n = n ≤ 999999999
+
+number_in_holds : (text : List ℕ) → Holds IsShort (or_reason (number_in text))
+number_in_holds text = by_test (is_number text)
+  where
+    by_test : (v : Bool) → Holds IsShort (or_reason (if v then within 999999999 (number_of text) else Err Format))
+    by_test true = within_holds 999999999 (number_of text)
+    by_test false = refl
+
+number_holds : (tag : ℕ) (m : List ℕ) → Holds IsShort (number_at tag m)
+number_holds tag m = chained Any IsShort (value_at tag m) (λ text. or_reason (number_in text)) (value_holds tag m) (λ text h. number_in_holds text)
+
+quantity_in_holds : (text : List ℕ) → Holds IsShort (or_reason (quantity_in text))
+quantity_in_holds text = by_test (is_number (before_first is_point text) && list_all is_zero (after_first is_point text))
+  where
+    by_test : (v : Bool) → Holds IsShort (or_reason (if v then within 999999999 (number_of (before_first is_point text)) else Err Format))
+    by_test true = within_holds 999999999 (number_of (before_first is_point text))
+    by_test false = refl
+
+quantity_holds : (tag : ℕ) (m : List ℕ) → Holds IsShort (quantity_at tag m)
+quantity_holds tag m = chained Any IsShort (value_at tag m) (λ text. or_reason (quantity_in text)) (value_holds tag m) (λ text h. quantity_in_holds text)
+
+price_of : (negative : Bool) (n : ℕ) → n ≤ 1000000000 → IsOrderPrice (if negative then neg_ℤ (pos n) else pos n)
+price_of true n h = record { low = omega (arith, ints, h); high = omega (arith, ints, h) }
+price_of false n h = record { low = omega (arith, ints, h); high = omega (arith, ints, h) }
+
+signed_holds : (negative : Bool) (r : Result ℕ Unread) → Holds (λ x. x ≤ 1000000000) (or_reason r) → Holds IsOrderPrice (or_reason (signed negative r))
+signed_holds negative (Ok n) h = price_of negative n h
+signed_holds negative (Err fault) h = h
+
+hundredths_in_form : (whole part : List ℕ) → Holds (λ x. x ≤ 1000000000) (or_reason (hundredths whole part))
+hundredths_in_form whole part = by_form (is_number (whole ++ part)) (list_all is_zero (drop 2 part))
+  where
+    by_form : (v w : Bool) → Holds (λ x. x ≤ 1000000000) (or_reason (if v then (if w then within 1000000000 (100 * number_of whole + number_of (take 2 (part ++ 48 ∷ 48 ∷ []))) else Err Range) else Err Format))
+    by_form true true = within_holds 1000000000 (100 * number_of whole + number_of (take 2 (part ++ 48 ∷ 48 ∷ [])))
+    by_form true false = refl
+    by_form false w = refl
+
+hundredths_holds : (text : List ℕ) → Holds (λ x. x ≤ 1000000000) (or_reason (hundredths_in text))
+hundredths_holds text = hundredths_in_form (before_first is_point text) (after_first is_point text)
+
+price_in_holds : (text : List ℕ) → Holds IsOrderPrice (or_reason (price_in text))
+price_in_holds [] = refl
+price_in_holds (b ∷ bs) = by_sign (b == 45)
+  where
+    by_sign : (v : Bool) → Holds IsOrderPrice (or_reason (if v then signed true (hundredths_in bs) else signed false (hundredths_in (b ∷ bs))))
+    by_sign true = signed_holds true (hundredths_in bs) (hundredths_holds bs)
+    by_sign false = signed_holds false (hundredths_in (b ∷ bs)) (hundredths_holds (b ∷ bs))
+
+price_holds : (tag : ℕ) (m : List ℕ) → Holds IsOrderPrice (price_at tag m)
+price_holds tag m = chained Any IsOrderPrice (value_at tag m) (λ text. or_reason (price_in text)) (value_holds tag m) (λ text h. price_in_holds text)
+
+one_of_holds : (allowed text : List ℕ) → Holds Any (one_of allowed text)
+one_of_holds allowed [] = refl
+one_of_holds allowed (b ∷ []) = either Any (list_any (λ a. a == b) allowed) (Ok b) (Err 5) tt refl
+one_of_holds allowed (b ∷ c ∷ cs) = refl
+
+choice_holds : (allowed : List ℕ) (tag : ℕ) (m : List ℕ) → Holds Any (choice_at allowed tag m)
+choice_holds allowed tag m = chained Any Any (value_at tag m) (λ text. one_of allowed text) (value_holds tag m) (λ text h. one_of_holds allowed text)
+
+allowed_holds : (test : Bool) (n : ℕ) → Holds (λ x. (x ≡ n) × (test ≡ true)) (allowed_if test n)
+allowed_holds true n = (refl, refl)
+allowed_holds false n = refl
+
+side_holds : (m : List ℕ) → Holds Any (side_at m)
+side_holds m = chained Any Any (choice_at (49 ∷ 50 ∷ []) 54 m) (λ b. Ok (side_of b)) (choice_holds (49 ∷ 50 ∷ []) 54 m) (λ b h. tt)
+
+time_in_force_holds : (o : Option (List ℕ)) → Holds Any (time_in_force_of o)
+time_in_force_holds None = tt
+time_in_force_holds (Some text) =
+    chained Any Any (required_text (Some text)) _ (required_text_holds (Some text)) (λ t h.
+    chained Any Any (one_of (48 ∷ 51 ∷ []) t) _ (one_of_holds (48 ∷ 51 ∷ []) t) (λ b k. tt))
+
+gap_fill_flag_holds : (o : Option (List ℕ)) → Holds Any (gap_fill_flag_of o)
+gap_fill_flag_holds None = refl
+gap_fill_flag_holds (Some text) = chained Any Any (required_text (Some text)) _ (required_text_holds (Some text)) (λ t h. one_of_holds (89 ∷ []) t)
+
+-- ---- one kind
+
+passed_over_holds : (m : List ℕ) (n : ℕ) → Holds (FitsMeaning n) (passed_over m)
+passed_over_holds m n = chained Any (FitsMeaning n) (value_at 52 m) _ (value_holds 52 m) (λ stamp h. tt)
+
+test_request_holds : (m : List ℕ) (n : ℕ) → Holds (FitsMeaning n) (test_request m)
+unfolding test_request
+test_request_holds m n =
+    chained Any (FitsMeaning n) (value_at 52 m) _ (value_holds 52 m) (λ stamp h.
+    chained IsId (FitsMeaning n) (id_at 112 m) _ (id_holds 112 m) (λ text id.
+    record { fits = id; no_logon = refl; no_close = refl }))
+
+last_number : (first end : ℕ) → end ≤ 999999999 → ((end == 0) || nat_le first end) ≡ true → (end ≡ 0) ⊎ ((first ≤ end) × (end ≤ 999999999))
+last_number first end most e = by_test (end == 0) (nat_le first end) refl refl e
+  where
+    by_test : (v w : Bool) → (end == 0) ≡ v → nat_le first end ≡ w → (v || w) ≡ true → (end ≡ 0) ⊎ ((first ≤ end) × (end ≤ 999999999))
+    by_test true w h g t = inl (grind (arith, nat_tests))
+    by_test false true h g t = inr (grind (arith, nat_tests), most)
+    by_test false false h g t = absurd (false≢true t)
+
+resend_request_holds : (m : List ℕ) (n : ℕ) → Holds (FitsMeaning n) (resend_request m)
+unfolding resend_request
+resend_request_holds m n =
+    chained Any (FitsMeaning n) (value_at 52 m) _ (value_holds 52 m) (λ stamp h.
+    chained IsShort (FitsMeaning n) (number_at 7 m) _ (number_holds 7 m) (λ begin short.
+    chained (λ x. (x ≡ begin) × (nat_le 1 begin ≡ true)) (FitsMeaning n) (allowed_if (nat_le 1 begin) begin) _ (allowed_holds (nat_le 1 begin) begin) (λ first begins.
+    chained IsShort (FitsMeaning n) (number_at 16 m) _ (number_holds 16 m) (λ end ends.
+    chained (λ x. (x ≡ end) × (((end == 0) || nat_le first end) ≡ true)) (FitsMeaning n) (allowed_if ((end == 0) || nat_le first end) end) _ (allowed_holds ((end == 0) || nat_le first end) end) (λ last allowed.
+    let from : 1 ≤ begin = grind (arith, nat_tests) in
+    let is_number : IsNumber first = (omega (arith, from, begins.0), omega (arith, short, begins.0)) in
+    let is_last : (last ≡ 0) ⊎ ((first ≤ last) × (last ≤ 999999999)) = last_number first last (omega (arith, ends, allowed.0)) (ap (λ x. (x == 0) || nat_le first x) allowed.0 ∙ allowed.1) in
+    record { fits = (is_number, is_last); no_logon = refl; no_close = refl })))))
+
+sequence_reset_holds : (m : List ℕ) (n : ℕ) → Holds (FitsMeaning n) (sequence_reset m n)
+unfolding sequence_reset
+sequence_reset_holds m n =
+    chained Any (FitsMeaning n) (value_at 52 m) _ (value_holds 52 m) (λ stamp h.
+    chained IsShort (FitsMeaning n) (number_at 36 m) _ (number_holds 36 m) (λ new short.
+    chained (λ x. (x ≡ new) × (nat_lt n new ≡ true)) (FitsMeaning n) (allowed_if (nat_lt n new) new) _ (allowed_holds (nat_lt n new) new) (λ next above.
+    chained Any (FitsMeaning n) (gap_fill_flag_of (get 123 m)) _ (gap_fill_flag_holds (get 123 m)) (λ flag set.
+    let over : n < new = grind (arith, nat_tests) in
+    let result : n < next = omega (arith, over, above.0) in result))))
+
+new_order_holds : (m : List ℕ) → Holds FitsTicket (new_order m)
+unfolding new_order
+new_order_holds m =
+    chained Any FitsTicket (value_at 52 m) _ (value_holds 52 m) (λ stamp a.
+    chained IsId FitsTicket (id_at 11 m) _ (id_holds 11 m) (λ id is_id.
+    chained Any FitsTicket (choice_at (49 ∷ 50 ∷ 51 ∷ []) 21 m) _ (choice_holds (49 ∷ 50 ∷ 51 ∷ []) 21 m) (λ handling b.
+    chained IsId FitsTicket (id_at 55 m) _ (id_holds 55 m) (λ symbol is_symbol.
+    chained Any FitsTicket (side_at m) _ (side_holds m) (λ side c.
+    chained Any FitsTicket (value_at 60 m) _ (value_holds 60 m) (λ time d.
+    chained IsShort FitsTicket (quantity_at 38 m) _ (quantity_holds 38 m) (λ quantity short.
+    chained Any FitsTicket (choice_at (50 ∷ []) 40 m) _ (choice_holds (50 ∷ []) 40 m) (λ type e.
+    chained IsOrderPrice FitsTicket (price_at 44 m) _ (price_holds 44 m) (λ price is_price.
+    chained Any FitsTicket (time_in_force_of (get 59 m)) _ (time_in_force_holds (get 59 m)) (λ immediate f.
+    record { id = is_id; symbol = is_symbol; quantity = short; price = is_price }))))))))))
+
+cancel_request_holds : (m : List ℕ) (n : ℕ) → Holds (FitsMeaning n) (cancel_request m)
+unfolding cancel_request
+cancel_request_holds m n =
+    chained Any (FitsMeaning n) (value_at 52 m) _ (value_holds 52 m) (λ stamp a.
+    chained IsId (FitsMeaning n) (id_at 41 m) _ (id_holds 41 m) (λ original is_original.
+    chained IsId (FitsMeaning n) (id_at 11 m) _ (id_holds 11 m) (λ id is_id.
+    chained IsId (FitsMeaning n) (id_at 55 m) _ (id_holds 55 m) (λ symbol b.
+    chained Any (FitsMeaning n) (side_at m) _ (side_holds m) (λ side c.
+    chained Any (FitsMeaning n) (value_at 60 m) _ (value_holds 60 m) (λ time d.
+    record { fits = (is_id, is_original); no_logon = refl; no_close = refl }))))))
+
+replace_request_holds : (m : List ℕ) (n : ℕ) → Holds (FitsMeaning n) (replace_request m)
+unfolding replace_request
+replace_request_holds m n =
+    chained Any (FitsMeaning n) (value_at 52 m) _ (value_holds 52 m) (λ stamp a.
+    chained IsId (FitsMeaning n) (id_at 41 m) _ (id_holds 41 m) (λ original is_original.
+    chained FitsTicket (FitsMeaning n) (new_order m) _ (new_order_holds m) (λ ticket fits.
+    record { fits = (is_original, fits); no_logon = refl; no_close = refl })))
+
+-- ---- the table
+
+new_holds : (m : List ℕ) (n : ℕ) → Holds (FitsMeaning n) (new_order m >>= λ ticket. Ok (Gives (events.New ticket)))
+new_holds m n = chained FitsTicket (FitsMeaning n) (new_order m) _ (new_order_holds m) (λ t fits. record { fits = fits; no_logon = refl; no_close = refl })
+
+kind_holds : (k : ℕ) (m : List ℕ) (n : ℕ) → Holds (FitsMeaning n) (meaning_of_kind k m n)
+kind_holds k m n =
+    either (FitsMeaning n) (k == 48) _ _ (passed_over_holds m n) (
+    either (FitsMeaning n) (k == 49) _ _ (test_request_holds m n) (
+    either (FitsMeaning n) (k == 50) _ _ (resend_request_holds m n) (
+    either (FitsMeaning n) (k == 51) _ _ (passed_over_holds m n) (
+    either (FitsMeaning n) (k == 52) _ _ (sequence_reset_holds m n) (
+    either (FitsMeaning n) (k == 68) _ _ (new_holds m n) (
+    either (FitsMeaning n) (k == 70) _ _ (cancel_request_holds m n) (
+    either (FitsMeaning n) (k == 71) _ _ (replace_request_holds m n) refl)))))))
+
+with_holds : (kind m : List ℕ) (n : ℕ) → Holds (FitsMeaning n) (meaning_of_kind_text kind m n)
+with_holds [] m n = refl
+with_holds (k ∷ []) m n = kind_holds k m n
+with_holds (k ∷ l ∷ ks) m n = refl
+
+pub meaning_holds : (m : List ℕ) (n : ℕ) → Holds (FitsMeaning n) (meaning_of_message m n)
+meaning_holds m n = with_holds (kind m) m n

@@ -1,0 +1,188 @@
+-- What a message of each kind means: its tags in order, or the reason of the first that is at fault.
+use Rattle.std.specs.Prelude.{ℕ, ℤ, Bool, false, ◌||◌, ◌==◌, nat_le, nat_lt, length, List, [], ◌∷◌, Option, Some, None, Result, Ok, Err, if◌then◌else◌, codes}
+use Rattle.std.specs.List.{list_any}
+use Rattle.host_base.specs.Ids.{id_of}
+use Rattle.host_base.specs.declared.limits.TheConstants.{FIRST_MSG_SEQ_NUM}
+use Rattle.spread_rules.specs.declared.order.Side.{Side}
+use Rattle.spread_rules.specs.declared.order.Side.TheVariants.{Buy, Sell}
+use Rattle.spread_rules.specs.declared.codes.session_reject_reason.TheConstants as reject
+use Rattle.spread_rules.specs.declared.event.Ticket.{Ticket}
+use Rattle.spread_rules.specs.declared.event.Event.TheVariants as events
+use Rattle.fix_frames.specs.declared.field_values.TheConstants as field_values
+use Rattle.fix_frames.specs.declared.msg_types.TheConstants as msg_types
+use Rattle.fix_frames.specs.declared.tags.TheConstants as tags
+use Rattle.fix_values.specs.declared.values.Unread.{Unread}
+use Rattle.fix_values.specs.declared.values.Unread.TheVariants.{Format, Range}
+use Rattle.fix_values.specs.Values.{number_in, quantity_in, price_in}
+use Rattle.fix_frames.specs.Messages.{get, kind}
+use Rattle.kind_table.specs.declared.table.Meaning.{Meaning}
+use Rattle.kind_table.specs.declared.table.Meaning.TheVariants.{Nothing, Gives, Fills}
+
+infixl 10 ◌>>=◌
+abbrev pub ◌>>=◌ : {A B : Type 0} → Result A ℕ → (A → Result B ℕ) → Result B ℕ
+(Ok x) >>= f = f x
+(Err e) >>= f = Err e
+
+-- ---- one field
+
+-- the value of a field, which has to stand and hold something
+abbrev pub required_text : Option (List ℕ) → Result (List ℕ) ℕ
+required_text None = Err reject.REQUIRED_TAG_MISSING
+required_text (Some text) = if nat_lt 0 (length text) then Ok text else Err reject.TAG_WITHOUT_VALUE
+
+abbrev pub value_at : ℕ → List ℕ → Result (List ℕ) ℕ
+value_at tag message = required_text (get tag message)
+
+-- a value that is not allowed is out of range
+abbrev pub or_out_of_range : Option (List ℕ) → Result (List ℕ) ℕ
+or_out_of_range None = Err reject.VALUE_OUT_OF_RANGE
+or_out_of_range (Some id) = Ok id
+
+abbrev pub id_at : ℕ → List ℕ → Result (List ℕ) ℕ
+id_at tag message = value_at tag message >>= λ text. or_out_of_range (id_of text)
+
+-- why a value that can't be read is rejected
+abbrev pub reason_of : Unread → ℕ
+reason_of Format = reject.INCORRECT_FORMAT
+reason_of Range = reject.VALUE_OUT_OF_RANGE
+
+abbrev pub or_reason : {A : Type 0} → Result A Unread → Result A ℕ
+or_reason (Ok x) = Ok x
+or_reason (Err fault) = Err (reason_of fault)
+
+abbrev pub number_at : ℕ → List ℕ → Result ℕ ℕ
+number_at tag message = value_at tag message >>= λ text. or_reason (number_in text)
+
+abbrev pub quantity_at : ℕ → List ℕ → Result ℕ ℕ
+quantity_at tag message = value_at tag message >>= λ text. or_reason (quantity_in text)
+
+abbrev pub price_at : ℕ → List ℕ → Result ℤ ℕ
+price_at tag message = value_at tag message >>= λ text. or_reason (price_in text)
+
+-- one of the bytes that are allowed, and nothing else
+abbrev pub one_of : List ℕ → List ℕ → Result ℕ ℕ
+one_of allowed [] = Err reject.VALUE_OUT_OF_RANGE
+one_of allowed (b ∷ []) =
+    if list_any (λ a. a == b) allowed then Ok b else Err reject.VALUE_OUT_OF_RANGE
+one_of allowed (b ∷ c ∷ cs) = Err reject.VALUE_OUT_OF_RANGE
+
+abbrev pub choice_at : List ℕ → ℕ → List ℕ → Result ℕ ℕ
+choice_at allowed tag message = value_at tag message >>= λ text. one_of allowed text
+
+-- a value that is allowed, where the test holds
+abbrev pub allowed_if : Bool → ℕ → Result ℕ ℕ
+allowed_if test n = if test then Ok n else Err reject.VALUE_OUT_OF_RANGE
+
+-- Side
+abbrev pub side_of : ℕ → Side
+side_of b = if b == field_values.SIDE_BUY then Buy else Sell
+
+abbrev pub side_at : List ℕ → Result Side ℕ
+side_at message = choice_at (codes "12") tags.SIDE message >>= λ b. Ok (side_of b)
+
+-- TimeInForce: whether an order is immediate, a day order where the tag is missing
+abbrev pub time_in_force_of : Option (List ℕ) → Result Bool ℕ
+time_in_force_of None = Ok false
+time_in_force_of (Some text) =
+    required_text (Some text) >>= λ t. one_of (codes "03") t >>= λ b.
+    Ok (b == field_values.IMMEDIATE_OR_CANCEL)
+
+-- GapFillFlag: a gap fill has to say so; a missing tag is a value that isn't allowed
+abbrev pub gap_fill_flag_of : Option (List ℕ) → Result ℕ ℕ
+gap_fill_flag_of None = Err reject.VALUE_OUT_OF_RANGE
+gap_fill_flag_of (Some text) = required_text (Some text) >>= λ t. one_of (codes "Y") t
+
+-- ---- one kind
+
+-- a Heartbeat, and a Reject
+abbrev pub passed_over : List ℕ → Result Meaning ℕ
+passed_over m = value_at tags.SENDING_TIME m >>= λ stamp. Ok Nothing
+
+unfoldable pub test_request : List ℕ → Result Meaning ℕ
+test_request m = do
+  stamp ← value_at tags.SENDING_TIME m
+  text ← id_at tags.TEST_REQ_ID m
+  Ok (Gives (events.TestReply text))
+
+unfoldable pub resend_request : List ℕ → Result Meaning ℕ
+resend_request m = do
+  stamp ← value_at tags.SENDING_TIME m
+  begin ← number_at tags.BEGIN_SEQ_NO m
+  first ← allowed_if (nat_le FIRST_MSG_SEQ_NUM begin) begin
+  end ← number_at tags.END_SEQ_NO m
+  -- 0 asks for all that follow
+  last ← allowed_if ((end == 0) || nat_le first end) end
+  Ok (Gives (events.Resend first last))
+
+-- a gap fill of the message with number n
+unfoldable pub sequence_reset : List ℕ → ℕ → Result Meaning ℕ
+sequence_reset m n = do
+  stamp ← value_at tags.SENDING_TIME m
+  new ← number_at tags.NEW_SEQ_NO m
+  next ← allowed_if (nat_lt n new) new
+  flag ← gap_fill_flag_of (get tags.GAP_FILL_FLAG m)
+  Ok (Fills next)
+
+unfoldable pub new_order : List ℕ → Result Ticket ℕ
+new_order m = do
+  stamp ← value_at tags.SENDING_TIME m
+  id ← id_at tags.CL_ORD_ID m
+  handling ← choice_at (codes "123") tags.HANDL_INST m
+  symbol ← id_at tags.SYMBOL m
+  side ← side_at m
+  time ← value_at tags.TRANSACT_TIME m
+  quantity ← quantity_at tags.ORDER_QTY m
+  type ← choice_at (codes "2") tags.ORD_TYPE m
+  price ← price_at tags.PRICE m
+  immediate ← time_in_force_of (get tags.TIME_IN_FORCE m)
+  Ok (record {
+    id = id;
+    symbol = symbol;
+    side = side;
+    quantity = quantity;
+    price = price;
+    immediate = immediate;
+  })
+
+unfoldable pub cancel_request : List ℕ → Result Meaning ℕ
+cancel_request m = do
+  stamp ← value_at tags.SENDING_TIME m
+  original ← id_at tags.ORIG_CL_ORD_ID m
+  id ← id_at tags.CL_ORD_ID m
+  symbol ← id_at tags.SYMBOL m
+  side ← side_at m
+  time ← value_at tags.TRANSACT_TIME m
+  Ok (Gives (events.Cancel id original))
+
+-- the id of an order, and then all that a new order says
+unfoldable pub replace_request : List ℕ → Result Meaning ℕ
+replace_request m = do
+  stamp ← value_at tags.SENDING_TIME m
+  original ← id_at tags.ORIG_CL_ORD_ID m
+  ticket ← new_order m
+  Ok (Gives (events.Replace original ticket))
+
+-- ---- the table
+
+-- an accepted message of a kind of one byte
+abbrev pub meaning_of_kind : ℕ → List ℕ → ℕ → Result Meaning ℕ
+meaning_of_kind k m n =
+    if k == msg_types.HEARTBEAT then passed_over m
+    else (if k == msg_types.TEST_REQUEST then test_request m
+    else (if k == msg_types.RESEND_REQUEST then resend_request m
+    else (if k == msg_types.REJECT then passed_over m
+    else (if k == msg_types.SEQUENCE_RESET then sequence_reset m n
+    else (if k == msg_types.NEW_ORDER_SINGLE
+    then (new_order m >>= λ ticket. Ok (Gives (events.New ticket)))
+    else (if k == msg_types.ORDER_CANCEL_REQUEST then cancel_request m
+    else (if k == msg_types.ORDER_CANCEL_REPLACE_REQUEST then replace_request m
+    else Err reject.INVALID_MSG_TYPE)))))))
+
+abbrev pub meaning_of_kind_text : List ℕ → List ℕ → ℕ → Result Meaning ℕ
+meaning_of_kind_text [] m n = Err reject.TAG_WITHOUT_VALUE
+meaning_of_kind_text (k ∷ []) m n = meaning_of_kind k m n
+meaning_of_kind_text (k ∷ l ∷ ks) m n = Err reject.INVALID_MSG_TYPE
+
+-- what an accepted message with number n means, where it is neither the Logon nor a Logout
+abbrev pub meaning_of_message : List ℕ → ℕ → Result Meaning ℕ
+meaning_of_message m n = meaning_of_kind_text (kind m) m n

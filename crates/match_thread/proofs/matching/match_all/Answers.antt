@@ -1,0 +1,73 @@
+use Rattle.std.proofs.Common.{◌≡◌, ◌∙◌, refl, sym, ap, subst, List, [], ◌∷◌, length, length-append, arith}
+use Rattle.std.proofs.lemmas.List.{with_items_is}
+use Rattle.std.specs.Vec.{with_items}
+use Rattle.spread_rules.specs.declared.event.Entry.{Entry}
+use Rattle.stage_rings.specs.Feeding.{taken, SameMatcher}
+use Rattle.stage_rings.specs.declared.post.Poster.{Poster}
+use Rattle.match_thread.specs.code.Matching.{MatchEnds}
+use Rattle.match_thread.specs.code.Posting.{HasPosted, SamePosters, posted_at}
+use Rattle.match_thread.specs.declared.matching.MatchEnd.TheVariants.{Whole, Stopped}
+use Rattle.match_thread.specs.declared.posting.PostedEntries.{PostedEntries}
+use Rattle.match_thread.proofs.Posters.{same_posters_trans}
+use Rattle.match_thread.proofs.RingEnds.{has_matched, same_matcher_trans, step_ends, posted_still}
+use Rattle.match_thread.proofs.matching.match_all.Goals as goal
+use Rattle.match_thread.proofs.matching.match_all.Goals.{After-take, After-match_one}
+
+ring : (g : _) (c : After-take g) → SameMatcher c.args.matcher c.take.new.self
+ring g c = same_matcher_trans c.args.matcher c.loop.matcher c.take.new.self c.loop.invariant.ring c.take.ensures.ring
+
+writers : (g : _) (c : After-match_one g) → SamePosters c.args.posted.posters.items c.match_one.new.posted.posters.items
+writers g c = same_posters_trans c.args.posted.posters.items c.loop.posted.posters.items c.match_one.new.posted.posters.items c.loop.invariant.writers c.match_one.ensures.writers
+
+pub loop-preserved-in-Whole : goal.loop-preserved-in-Whole
+loop-preserved-in-Whole g c =
+    let took = c.in-Entry.ensures.take in
+    let was = c.loop.invariant in
+    let next = c.in-Whole.ensures.step (taken c.loop.matcher) was.posted in
+    let now : HasPosted (taken c.take.new.self) c.match_one.new.posted = subst (λ (es : List Entry). HasPosted es c.match_one.new.posted) (sym took.1) next in
+    record {
+      ring = ring g (goal.at.loop-preserved-in-Whole g c).After-take;
+      writers = writers g (goal.at.loop-preserved-in-Whole g c).After-match_one;
+      rules = c.match_one.ensures.rules ∙ was.rules;
+      stamp = c.match_one.ensures.stamp ∙ was.stamp;
+      posted = now;
+      rings = c.match_one.ensures.rings;
+      few = omega (arith, c.count-worked.ensures, now.reported.applied.count);
+      running = took.2;
+    }
+
+pub returns-in_default : goal.returns-in_default
+returns-in_default g c =
+    let took = c.in-Entry.ensures.take in
+    let was = c.loop.invariant in
+    let es = taken c.loop.matcher in
+    let ends = step_ends c.match_one.result es c.in-Entry.entry c.loop.posted c.match_one.new.posted c.match_one.ensures.rules c.match_one.ensures.step was.posted in
+    has_matched c.args.matcher c.take.new.self c.args.posted c.match_one.new.posted c.loop.worked c.match_one.result c.ended-in_default.result c.ended-in_default.ensures
+    (ring g (goal.at.returns-in_default g c).After-take) (writers g (goal.at.returns-in_default g c).After-match_one)
+    (c.match_one.ensures.rules ∙ was.rules) (c.match_one.ensures.stamp ∙ was.stamp)
+    (omega (arith, was.few, ap length took.1, length-append es (c.in-Entry.entry ∷ [])))
+    (subst (λ (xs : List Entry). MatchEnds c.match_one.result xs c.match_one.new.posted) (sym took.1) ends)
+
+pub returns-then-load : goal.returns-then-load
+returns-then-load g c =
+    let was = c.loop.invariant in
+    has_matched c.args.matcher c.loop.matcher c.args.posted c.loop.posted c.loop.worked Stopped c.ended.result c.ended.ensures was.ring was.writers was.rules was.stamp was.few tt
+
+pub returns-in-Ended : goal.returns-in-Ended
+returns-in-Ended g c =
+    let took = c.in-Ended.ensures.take in
+    let was = c.loop.invariant in
+    let old = c.loop.posted.posters in
+    let new = c.end_each.new.posters in
+    let p : PostedEntries g.row.A.Denot = record { reported = c.loop.posted.reported; posters = with_items old new } in
+    let value = c.as_mut_slice.ensures.value in
+    let is : (with_items old new).items ≡ new = with_items_is old new (c.end_each.ensures.rings.0 ∙ c.as_mut_slice.ensures.len) in
+    let same : SamePosters old.items new = subst (λ (ps : List (Poster g.row.A.Denot)). SamePosters ps new) value c.end_each.ensures.rings in
+    let all : SamePosters c.args.posted.posters.items (with_items old new).items =
+    subst (SamePosters c.args.posted.posters.items) (sym is) (same_posters_trans c.args.posted.posters.items old.items new was.writers same) in
+    let now : HasPosted (taken c.loop.matcher) p =
+    posted_still (taken c.loop.matcher) c.loop.posted p was.posted refl (ap length is ∙ same.0)
+    (λ s. ap (λ (ps : List (Poster g.row.A.Denot)). posted_at ps s) is ∙ (c.end_each.ensures.posted s ∙ ap (λ (ps : List (Poster g.row.A.Denot)). posted_at ps s) value)) in
+    has_matched c.args.matcher c.take.new.self c.args.posted p c.loop.worked Whole c.ended-in-Ended.result c.ended-in-Ended.ensures
+    (ring g (goal.at.returns-in-Ended g c).After-take) all was.rules was.stamp
+    (omega (arith, was.few, ap length took.0)) (subst (λ (es : List Entry). HasPosted es p) (sym took.0) now)

@@ -1,0 +1,2 @@
+pub mod Matching
+pub mod Posting

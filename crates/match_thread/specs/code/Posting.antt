@@ -1,0 +1,48 @@
+-- What the matching thread gives the sessions' writers.
+-- Words of the code alone.
+use Rattle.std.specs.Prelude.{◌≡◌, ℕ, ◌<◌, ◌≤◌, Bool, true, false, map, List, [], ◌++◌, length, slice_index_or}
+use Rattle.host_base.specs.declared.limits.TheConstants.{SESSIONS}
+use Rattle.spread_rules.specs.declared.event.Entry.{Entry}
+use Rattle.spread_report.specs.Sessions.{session_text}
+use Rattle.gate_link.specs.Rows.{row}
+use Rattle.stage_rings.specs.Posting.{posted, post_ended, SamePoster}
+use Rattle.stage_rings.specs.declared.post.Poster.{Poster}
+use Rattle.day_apply.specs.Sending.{HasReportedBehind}
+use Rattle.match_thread.specs.declared.posting.PostedEntries.{PostedEntries}
+
+-- what was given to writer s
+abbrev pub posted_at : {A : Type 0} → List (Poster A) → ℕ → List ℕ
+posted_at posters s = row posted posters s
+
+-- no end mark was pushed
+abbrev pub NoneEnded : {A : Type 0} → List (Poster A) → Type 0
+NoneEnded posters = (s : ℕ) → slice_index_or (map post_ended posters) s false ≡ false
+
+-- the same ends of the same rings
+abbrev pub SamePosters : {A : Type 0} → List (Poster A) → List (Poster A) → Type 0
+SamePosters ps qs =
+    (length qs ≡ length ps)
+    × ((s : ℕ) (p : Poster _) → s < length ps
+    → SamePoster (slice_index_or ps s p) (slice_index_or qs s p))
+
+-- the texts of the sessions that have a writer are empty
+abbrev pub AllGiven : {A : Type 0} → List (Poster A) → List (List ℕ) → Type 0
+AllGiven posters texts = (s : ℕ) → s < length posters → session_text texts s ≡ []
+
+-- what the texts had was given to the writers, nothing of it twice and nothing lost, and none has any left
+abbrev pub HasMoved : {A : Type 0} → Bool → List (Poster A) → List (List ℕ) → List (Poster A)
+    → List (List ℕ) → Type 0
+HasMoved true ps texts qs left =
+    AllGiven qs left
+    × ((s : ℕ) → posted_at qs s ++ session_text left s ≡ posted_at ps s ++ session_text texts s)
+HasMoved false ps texts qs left = Unit {0}
+
+-- these entries were applied, and what they send was given to the writers, whole and once
+pub record HasPosted {A : Type 0} (entries : List Entry) (p : PostedEntries A) : Type 0 where
+  pub reported : HasReportedBehind (posted_at p.posters.items) entries p.reported
+  pub given : AllGiven p.posters.items p.reported.texts
+
+-- more can be given
+pub record CanPost {A : Type 0} (p : PostedEntries A) : Type 0 where
+  pub open_ : NoneEnded p.posters.items
+  pub few : length p.posters.items ≤ SESSIONS

@@ -1,0 +1,5 @@
+pub mod StaysAfterAFill
+pub mod NotAgainstItself
+pub mod OneTurn
+pub mod StaysTradable
+pub mod FillsOfATurn

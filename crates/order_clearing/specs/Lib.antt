@@ -1,0 +1,2 @@
+pub mod Tradable
+pub mod code

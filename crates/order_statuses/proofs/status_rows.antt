@@ -1,0 +1,3 @@
+pub mod ByClOrdId
+pub mod MarkedRows
+pub mod MarksOfEntries

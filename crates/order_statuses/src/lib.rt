@@ -1,0 +1,6 @@
+//! How the order of each New and Replace entry so far stands, found by its session and id.
+#![tactic(auto)]
+
+mod statuses;
+
+pub use statuses::Statuses;

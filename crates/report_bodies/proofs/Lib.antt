@@ -1,0 +1,2 @@
+pub mod FieldsInTurn
+pub mod SymbolIds

@@ -1,0 +1,3 @@
+pub mod Codes
+pub mod Fields
+pub mod code

@@ -1,4 +1,0 @@
-pub mod ByClOrdId
-pub mod MarkedRows
-pub mod MarksOfEntries
-pub mod StatusesOfThePast

@@ -1,6 +1,0 @@
-pub mod StaysAfterAFill
-pub mod NotAgainstItself
-pub mod OneTurn
-pub mod StaysTradable
-pub mod ThreeFillsAtMost
-pub mod FillsOfATurn
