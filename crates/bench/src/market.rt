@@ -1,7 +1,7 @@
 //! Matching, and what the sessions are sent.
 ghost use Rattle.std.specs.Prelude.{◌≡◌, ◌<◌, [], All, OnOk, IfOk};
 ghost use Rattle.spread_rules.specs.Journal.{FitsEntry};
-ghost use Rattle.spread_match.specs.State.{empty_state};
+ghost use Rattle.market_state.specs.State.{empty_state};
 
 use crate::fault::Fault;
 use crate::reports::{Applied, send_all};

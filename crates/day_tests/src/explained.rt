@@ -4,7 +4,6 @@ use host_base::TestSink;
 use spread_rules::Rulebook;
 use std::alloc::Global;
 use std::process::Abort;
-use std::test::Fail;
 
 mod faults;
 mod orders;
@@ -24,17 +23,15 @@ struct Case {
     words: &'static [u8],
 }
 
-fn expect_words(rt: &impl Abort, alloc: Global, case: &Case) -> Result<(), Fail> {
-    let rules = Rulebook::read(case.rules)?;
-    let mut sink = TestSink::new(alloc, 4000, 0)?;
-    explain(alloc, &rules, case.journal, case.place, &mut sink)?;
+fn expect_words(rt: &impl Abort, alloc: Global, case: &Case) {
+    let rules = Rulebook::read(case.rules).expect(rt, "a rulebook");
+    let mut sink = TestSink::new(alloc, 4000, 0).expect(rt, "memory");
+    explain(alloc, &rules, case.journal, case.place, &mut sink).expect(rt, "an entry");
     assert!(rt; sink.bytes() == case.words, "{}", case.shows);
-    Ok(())
 }
 
-fn expect_all(rt: &impl Abort, alloc: Global, cases: &[Case]) -> Result<(), Fail> {
+fn expect_all(rt: &impl Abort, alloc: Global, cases: &[Case]) {
     for case in cases {
-        expect_words(rt, alloc, case)?;
+        expect_words(rt, alloc, case);
     }
-    Ok(())
 }

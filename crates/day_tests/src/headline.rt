@@ -12,7 +12,7 @@ ghost use Rattle.spread_match.specs.Sound.{KeepsOrder};
 ghost use Rattle.spread_report.specs.Messages.{IsRow, messages_to};
 ghost use Rattle.spread_report.specs.Sessions.{bytes_of};
 ghost use Rattle.spread_journal.specs.JournalReading.{ReadsJournal};
-ghost use Rattle.spread_journal.specs.JournalText.{journal_text};
+ghost use Rattle.journal_parts.specs.JournalText.{journal_text};
 ghost use Rattle.day_apply.specs.Applied.{outgoing_bytes, applied_entries};
 ghost use Rattle.day_lines.specs.Reading.{IsJournalOf, HasParts};
 ghost use Rattle.spread_host.specs.Days.{IsReplayFault, IsPartOut, text_of_day};

@@ -1,7 +1,7 @@
 -- The text of a day: its journal, its fills, what each session is sent, and the months.
 use Rattle.std.specs.Prelude.{ℕ, Bool, true, false, List, ◌++◌, map, All}
 use Rattle.std.specs.declared.vec.Vec.{Vec}
-use Rattle.spread_journal.specs.JournalText.{journal_text}
+use Rattle.journal_parts.specs.JournalText.{journal_text}
 use Rattle.spread_rules.specs.declared.event.Entry.{Entry}
 use Rattle.spread_rules.specs.declared.fill.Fill.{Fill}
 use Rattle.spread_rulebook.specs.Rulebook.{Rules, IsListed}

@@ -7,7 +7,7 @@ use Rattle.spread_rulebook.specs.declared.instrument.Instrument.TheVariants.{Out
 use Rattle.spread_rules.specs.declared.fill.Fill.{Fill}
 use Rattle.spread_rulebook.specs.Rulebook.{Rules, symbol_of}
 use Rattle.host_base.specs.Ascii.{line_feed, space}
-use Rattle.spread_journal.specs.JournalText.{side_byte}
+use Rattle.journal_parts.specs.JournalText.{side_byte}
 
 -- the near and the far price of a spread's fill
 abbrev pub legs_text : Instrument → ℤ → ℤ → List ℕ

@@ -1,4 +1,4 @@
-//! Tests of `spread_rulebook`, `spread_rules`, `order_statuses`, `order_clearing` and `spread_match`.
+//! Tests of `spread_rulebook`, `spread_rules`, `order_statuses`, `order_clearing`, `market_state` and `spread_match`.
 #![tactic(auto)]
 
 #[cfg(test)]

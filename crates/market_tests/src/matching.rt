@@ -1,7 +1,7 @@
 //! Tests by subject, and what they share.
 ghost use Rattle.std.specs.Prelude.{◌≡◌, true};
-ghost use Rattle.spread_match.specs.State.{empty_state};
-ghost use Rattle.spread_match.specs.Trade.{IsPriced};
+ghost use Rattle.market_state.specs.State.{empty_state};
+ghost use Rattle.market_state.specs.Trade.{IsPriced};
 
 use crate::expect::holds;
 use spread_books::Book;

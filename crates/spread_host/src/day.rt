@@ -5,7 +5,7 @@ ghost use Rattle.host_base.specs.Ends.{AppendsPrefix};
 ghost use Rattle.host_base.specs.declared.limits.TheConstants.{SESSIONS};
 ghost use Rattle.spread_rules.specs.Journal.{IsLawful};
 ghost use Rattle.spread_rulebook.specs.Rulebook.{IsListed};
-ghost use Rattle.spread_journal.specs.JournalText.{HasByteIds};
+ghost use Rattle.journal_parts.specs.JournalText.{HasByteIds};
 ghost use Rattle.fix_frames.specs.Frames.{IsFrameRow};
 ghost use Rattle.day_apply.specs.Applied.{IsApplyFault};
 ghost use Rattle.day_text.specs.DayText.{AreShown, day_text, fills_text, texts_of};

@@ -4,7 +4,7 @@ ghost use Rattle.host_base.specs.declared.limits.TheConstants.{MAX_INPUT_BYTES};
 ghost use Rattle.host_base.specs.Ends.{TakesAtMost};
 ghost use Rattle.day_lines.specs.declared.reading.TheConstants.{CHUNK_BYTES};
 ghost use Rattle.spread_journal.specs.JournalReading.{ReadsJournal};
-ghost use Rattle.spread_journal.specs.JournalText.{journal_text};
+ghost use Rattle.journal_parts.specs.JournalText.{journal_text};
 ghost use Rattle.spread_host.specs.Headline.{IsJournalOfText, HasFills, HasOutgoing, BoughtIsSold, PaidIsReceived, IsAlwaysQuiet, IsDayOf};
 ghost use Rattle.spread_host.specs.Days.{IsReadWhole, IsWritten, IsReplayFault, IsPartOut, text_of_day};
 ghost use Rattle.spread_host.specs.declared.fault.HostFault.{HostFault};

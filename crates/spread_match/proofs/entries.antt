@@ -1,13 +1,6 @@
 pub mod FillsCounted
-pub mod FoundStands
-pub mod OrderOfAnId
-pub mod Replaces
-pub mod NewOrder
-pub mod IdNotUsed
-pub mod NamedInstrument
 pub mod MarketStaysReady
 pub mod PastStaysSound
-pub mod ReplacedStates
 pub mod NewEntriesStand
 pub mod StatusesOfThePast
 pub mod ThreeFillsAtMost

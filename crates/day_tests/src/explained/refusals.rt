@@ -1,6 +1,5 @@
 //! New orders that are refused, and cancels.
 use super::{Case, TICK_5, expect_all};
-use std::test::Fail;
 
 const JOURNAL: &[u8] =
     b"JOURNAL 2\n0 logon 4331 484f5354 30\n0 new 61 4836 1 1 100 day\n0 new 61 4836 1 1 100 day\n0 new 62 5858 1 1 100 day\n0 new 63 4836 1 0 100 day\n0 new 64 4836 1 1 101 day\n0 cancel 65 61\n0 cancel 66 61\n0 cancel 67 70\n0 cancel 68 64\nEND 10\n";
@@ -65,6 +64,6 @@ const CASES: &[Case] = &[
 ];
 
 #[test]
-fn refusals_and_cancels(rt: HostRuntime) -> Result<(), Fail> {
-    expect_all(&rt, rt.alloc(), CASES)
+fn refusals_and_cancels(rt: HostRuntime) {
+    expect_all(&rt, rt.alloc(), CASES);
 }

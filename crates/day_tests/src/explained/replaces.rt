@@ -1,6 +1,5 @@
 //! Replaces: an order keeps its place, loses it, or stays as it is.
 use super::{Case, TICK_5, expect_all};
-use std::test::Fail;
 
 /// Two of five lots that are sold are filled; then the order of place 2 is to be replaced.
 const JOURNAL: &[u8] =
@@ -94,6 +93,6 @@ const CASES: &[Case] = &[
 ];
 
 #[test]
-fn replaces(rt: HostRuntime) -> Result<(), Fail> {
-    expect_all(&rt, rt.alloc(), CASES)
+fn replaces(rt: HostRuntime) {
+    expect_all(&rt, rt.alloc(), CASES);
 }

@@ -1,6 +1,6 @@
 //! Cases: a journal over a rulebook, and all that must come of it.
 ghost use Rattle.std.specs.Prelude.{◌≡◌};
-ghost use Rattle.spread_match.specs.State.{empty_state};
+ghost use Rattle.market_state.specs.State.{empty_state};
 
 use super::{buy, cancel, is_priced, logon, replace, sell, ticket};
 use crate::expect::holds;

@@ -1,6 +1,6 @@
 //! Runs of orders, cancels and replaces, which come to the same over every kind of book.
 ghost use Rattle.std.specs.Prelude.{◌≡◌, []};
-ghost use Rattle.spread_match.specs.State.{empty_state};
+ghost use Rattle.market_state.specs.State.{empty_state};
 
 use super::{append_resting, cancel, day, is_priced, replace};
 use crate::expect::holds;

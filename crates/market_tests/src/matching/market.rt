@@ -1,6 +1,6 @@
 //! The calls of a market.
 ghost use Rattle.std.specs.Prelude.{◌<◌, ◌≡◌};
-ghost use Rattle.spread_match.specs.State.{empty_state};
+ghost use Rattle.market_state.specs.State.{empty_state};
 
 use super::{H6_M6, buy, is_priced, sell};
 use crate::expect::holds;

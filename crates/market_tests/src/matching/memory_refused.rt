@@ -1,7 +1,7 @@
 //! Each request for memory that a market makes, refused in turn.
 ghost use Rattle.std.specs.Prelude.{◌<◌, ◌≡◌, []};
-ghost use Rattle.spread_match.specs.State.{empty_state};
-ghost use Rattle.spread_match.specs.Trade.{IsPriced};
+ghost use Rattle.market_state.specs.State.{empty_state};
+ghost use Rattle.market_state.specs.Trade.{IsPriced};
 
 use super::cases::Came::{Replaced, RequestRefused, Rested};
 use super::cases::Line::{Of, OfSpread};

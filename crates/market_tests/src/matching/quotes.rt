@@ -1,6 +1,6 @@
 //! Implied quotes of a market's book.
 ghost use Rattle.std.specs.Prelude.{◌≡◌, []};
-ghost use Rattle.spread_match.specs.State.{empty_state};
+ghost use Rattle.market_state.specs.State.{empty_state};
 
 use super::cases::Came::{Cancelled, Rested, Session};
 use super::cases::Sent::{Buy, Cancel, Logon, Sell};

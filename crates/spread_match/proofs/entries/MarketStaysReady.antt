@@ -17,21 +17,22 @@ use Rattle.spread_rulebook.specs.Prices.{IsOrderPrice}
 use Rattle.spread_rules.specs.Meaning.{EntryMeaning, cancel_means, has_id, is_own, is_refused, moved_to, new_order_means, order_of, original_of, outcome_of, place_left, refusal_or_instrument, replace_means, resting, ticket_of}
 use Rattle.spread_rulebook.specs.Rulebook.{Rules, month_count, references_of, find_symbol, implied}
 use Rattle.spread_rules.proofs.clearings.TurnsEnd.{keeps_turns, members_rest, next_meets}
-use Rattle.spread_match.specs.State.{MarketState}
+use Rattle.market_state.specs.State.{MarketState}
 use Rattle.quoted_books.specs.Listed.{IsNearFirst, IsInMonths}
 use Rattle.order_clearing.specs.Tradable.{IsTradable}
-use Rattle.spread_match.specs.Trade.{IsPriced}
-use Rattle.spread_match.specs.code.StateAfter.{AreKnown, IsReady, place_of_id, first_status, meaning_in, state_after, state_with, statuses_after_replace}
+use Rattle.market_state.specs.Trade.{IsPriced}
+use Rattle.market_state.specs.code.StateAfter.{AreKnown, IsReady, place_of_id, first_status, meaning_in, state_after, state_with, statuses_after_replace}
 use Rattle.order_statuses.specs.code.Statuses.{status_after_fill, status_after_replace, statuses_after}
 use Rattle.order_statuses.proofs.status_rows.MarkedRows.{KeepsName, has_id_kept, has_own_id}
 use Rattle.order_statuses.proofs.status_rows.MarksOfEntries.{fill_keeps, replace_keeps}
 use Rattle.order_clearing.proofs.turns.NotAgainstItself.{are_apart}
 use Rattle.order_clearing.proofs.turns.StaysTradable.{still_tradable}
-use Rattle.spread_match.proofs.entries.NewOrder.{turns_all, below_new, none_earlier, taken_is}
-use Rattle.spread_match.proofs.entries.NamedInstrument.{listed_found, near_of, months_of}
-use Rattle.spread_match.proofs.entries.PastStaysSound.{MayRest, later_all, moved_rests, new_rests, removed_tradable, rests_all, rest_tradable}
-use Rattle.spread_match.proofs.entries.FoundStands.{find_stands}
-use Rattle.spread_match.proofs.entries.Replaces.{CanReplace, all_amended, amended_tradable, by_replace, from_amended, own_is}
+use Rattle.market_state.proofs.entries.NewOrder.{turns_all, below_new, none_earlier, taken_is}
+use Rattle.market_state.proofs.entries.NamedInstrument.{listed_found, near_of, months_of}
+use Rattle.market_state.proofs.entries.MayRest.{MayRest, moved_rests, removed_tradable}
+use Rattle.spread_match.proofs.entries.PastStaysSound.{later_all, new_rests, rests_all, rest_tradable}
+use Rattle.market_state.proofs.entries.FoundStands.{find_stands}
+use Rattle.market_state.proofs.entries.Replaces.{CanReplace, all_amended, amended_tradable, by_replace, from_amended, own_is}
 use Rattle.spread_rules.specs.Amended.{amended, done}
 use Rattle.spread_rules.specs.declared.fill.Fill.{Fill}
 

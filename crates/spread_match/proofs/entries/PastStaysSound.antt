@@ -1,7 +1,7 @@
 -- one entry more: the past stays sound, and what is kept of it stays what it gives
 use Rattle.std.proofs.Common.{◌≡◌, ℕ, ◌==◌, ◌<◌, ◌≤◌, ℤ, Bool, true, false, not, ◌||◌, cond, List, [], ◌∷◌, ◌++◌, length, get_or, Contains, All, Option, Some, None, Result, Ok, Err, refl, subst, sym, ap, ◌∙◌, arith, inl, inr, append-nil}
 use Rattle.std.proofs.lemmas.Bool.Decides.{nat_tests}
-use Rattle.std.proofs.lemmas.List.Elements.{All-contains, All-filter, Contains-push_cases, Contains-append_cases, Contains-append_left, Contains-push, Contains-get_or}
+use Rattle.std.proofs.lemmas.List.Elements.{All-contains, Contains-push_cases, Contains-append_cases, Contains-append_left, Contains-push, Contains-get_or}
 use Rattle.std.specs.List.{find}
 use Rattle.spread_rules.specs.declared.order.Order.{Order}
 use Rattle.spread_rulebook.specs.declared.instrument.Instrument.{Instrument}
@@ -19,21 +19,22 @@ use Rattle.spread_rules.specs.declared.outcome.Outcome.{Outcome}
 use Rattle.spread_rules.specs.declared.outcome.Outcome.TheVariants.{Refused, Replaced}
 use Rattle.quoted_books.specs.Listed.{IsNearFirst, IsInMonths, IsNearBeforeFar}
 use Rattle.order_clearing.specs.Tradable.{IsTradable}
-use Rattle.spread_match.specs.Trade.{IsPriced}
+use Rattle.market_state.specs.Trade.{IsPriced}
 use Rattle.order_statuses.specs.code.Statuses.{statuses_after}
-use Rattle.spread_match.specs.code.StateAfter.{statuses_after_replace, first_status, meaning_in, state_after}
+use Rattle.market_state.specs.code.StateAfter.{statuses_after_replace, first_status, meaning_in, state_after}
 use Rattle.spread_match.specs.Sound.{HasEntry, IsCounted, IsEntryApplied, IsNamed, IsOriginalNamed, IsSound, IsStateOf, KeepsLimit}
 use Rattle.spread_match.proofs.entries.FillsCounted.{IsRunning, running}
-use Rattle.spread_match.proofs.entries.NamedInstrument.{listed_found, near_of, months_of}
+use Rattle.market_state.proofs.entries.NamedInstrument.{listed_found, near_of, months_of}
 use Rattle.spread_rulebook.specs.Prices.{IsOrderPrice}
-use Rattle.spread_match.proofs.entries.NewOrder.{tradable_more, turns_all, taken_is, below_new}
+use Rattle.market_state.proofs.entries.NewOrder.{tradable_more, turns_all, taken_is, below_new}
 use Rattle.spread_rules.specs.Meaning.{EntryMeaning, JournalState, PastTicket, cancel_means, filled, has_id, is_own, is_refused, keeping_means, meaning_of, meaning_with, moved_to, new_order_means, order_of, original_of, refusal_or_instrument, replace_means, resting, statuses_of, ticket_of, with_meaning}
 use Rattle.spread_rules.specs.Amended.{amended, done, with_quantity}
-use Rattle.spread_match.proofs.entries.FoundStands.{find_stands}
-use Rattle.spread_match.proofs.entries.Replaces.{IsOwn, accepted_unused, amended_place, amended_tradable, by_replace, from_amended, none_refused, own_is}
+use Rattle.market_state.proofs.entries.FoundStands.{find_stands}
+use Rattle.market_state.proofs.entries.MayRest.{MayRest, moved_rests, removed_tradable}
+use Rattle.market_state.proofs.entries.Replaces.{IsOwn, accepted_unused, amended_place, amended_tradable, by_replace, from_amended, none_refused, own_is}
 use Rattle.spread_match.proofs.entries.StatusesOfThePast.{statuses_more, unused}
 use Rattle.spread_rulebook.specs.Rulebook.{Rules, month_count, references_of, find_symbol, implied}
-use Rattle.spread_match.specs.State.{MarketState}
+use Rattle.market_state.specs.State.{MarketState}
 
 -- the past after an entry of that meaning, and what is kept of it
 pub record IsKept (months : ℕ) (past : JournalState) (place : ℕ) (e : Entry) (m : EntryMeaning) : Type 0 where
@@ -61,17 +62,6 @@ fewer months past last place ys l s t on =
       named = s.named;
       originals = s.originals;
     }))
-
-pub removed_tradable : (months place : ℕ) (xs : List Order) → IsTradable months xs → IsTradable months (removed place xs)
-removed_tradable months place xs t =
-    let p = λ (o : Order). not (o.place == place) in
-    record {
-      small = All-filter p HasOrderPrice xs t.small;
-      listed = All-filter p IsNearFirst xs t.listed;
-      within = All-filter p (λ (o : Order). IsInMonths months o.instrument) xs t.within;
-      places = λ a b ca cb e. t.places a b (from_filter p xs a ca) (from_filter p xs b cb) e;
-      left = All-filter p (λ (o : Order). 0 < o.leaves) xs t.left;
-    }
 
 cancel_sound : (months : ℕ) (past : JournalState) (last place session : ℕ) (id original : List ℕ) (earlier : Option OrderStatus) (found : Option Order) → last < place → IsSound months past last →
     IsSound months (with_meaning past place (record { session = session; event = Cancel id original }) (cancel_means past.orders earlier found)) place
@@ -144,12 +134,6 @@ pub record AsksFor (place : ℕ) (p : PastTicket) (n : Order) : Type 0 where
   pub side : p.ticket.side ≡ n.side
   pub price : p.ticket.price ≡ n.price
   pub left : n.leaves ≤ n.quantity
-
--- an order that may rest
-pub record MayRest (months : ℕ) (n : Order) : Type 0 where
-  pub small : HasOrderPrice n
-  pub listed : IsNearFirst n
-  pub within : IsInMonths months n.instrument
 
 -- the new order, at its entry
 own_counted : (past : JournalState) (last place : ℕ) (p : PastTicket) (n : Order) → last < place → AsksFor place p n → ((f : Fill) → Contains past.fills f → f.order ≤ last) →
@@ -291,13 +275,6 @@ keeping_sound months past last place session original t r l s stands own more mo
 pub moved_asks : (place session : ℕ) (original : List ℕ) (t : Ticket) (r : Order) (outcome : Outcome) → r.session ≡ session → t.side ≡ r.side →
     AsksFor place (record { place = place; session = session; original = Some original; ticket = t; outcome = outcome }) (moved_to place t r)
 moved_asks place session original t r outcome own side = record { asked = refl; placed = refl; session = sym own; id = refl; side = side; price = refl; left = omega arith }
-
-pub moved_rests : (months place : ℕ) (xs : List Order) (t : Ticket) (r : Order) → IsTradable months xs → Contains xs r → IsOrderPrice t.price → MayRest months (moved_to place t r)
-moved_rests months place xs t r s stands k = record {
-  small = record { low = k.low; high = k.high };
-  listed = let w = All-contains IsNearFirst xs r s.listed stands in record { near_before_far = w.near_before_far };
-  within = All-contains (λ (o : Order). IsInMonths months o.instrument) xs r s.within stands;
-}
 
 replace_sound : (rules : Rules) (past : JournalState) (last place session : ℕ) (original : List ℕ) (t : Ticket) (r : Result Instrument ℕ) (earlier : Option OrderStatus) (found : Option Order) →
     find (is_own session original) past.orders ≡ found → last < place → IsSound (month_count rules) past last → IsOrderPrice t.price →

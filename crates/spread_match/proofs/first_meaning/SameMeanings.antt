@@ -13,7 +13,7 @@ use Rattle.spread_rules.specs.FirstMeaning.{FirstState, PastNew, is_replace, new
 use Rattle.spread_rulebook.specs.Rulebook.{Rules, month_count}
 use Rattle.spread_rulebook.proofs.lists.Membership.{in_head, in_tail}
 use Rattle.spread_match.specs.Sound.{IsSound}
-use Rattle.spread_match.specs.Trade.{ArePriced, IsPriced}
+use Rattle.market_state.specs.Trade.{ArePriced, IsPriced}
 use Rattle.spread_match.proofs.entries.PastStaysSound.{entry_kept}
 use Rattle.spread_match.proofs.first_meaning.NothingReplaced.{IsFirst, entry_first, none_first}
 use Rattle.spread_match.proofs.journals.AfterEveryEntry.{none_sound}

@@ -2,7 +2,7 @@ use Rattle.std.proofs.Common.{◌≡◌, ◌++◌, Bool, true, List, ℕ, sym, a
 use Rattle.spread_rules.specs.declared.event.Entry.{Entry}
 use Rattle.spread_rules.specs.declared.fill.Fill.{Fill}
 use Rattle.host_base.specs.Ends.{AppendsPrefix}
-use Rattle.spread_journal.specs.JournalText.{journal_text}
+use Rattle.journal_parts.specs.JournalText.{journal_text}
 use Rattle.day_text.specs.DayText.{day_text, texts_of}
 use Rattle.day_text.specs.Fills.{fill_lines}
 use Rattle.day_text.specs.Months.{month_lines}

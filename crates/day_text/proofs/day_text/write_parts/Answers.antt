@@ -3,7 +3,7 @@ use Rattle.std.proofs.KnownBytes.{Appends-trans}
 use Rattle.std.specs.Io.KnownBytes.{Appends}
 use Rattle.host_base.specs.Ends.{AppendsPrefix}
 use Rattle.spread_rules.specs.declared.event.Entry.{Entry}
-use Rattle.spread_journal.specs.JournalText.{journal_text, HasByteIds}
+use Rattle.journal_parts.specs.JournalText.{journal_text, HasByteIds}
 use Rattle.day_text.specs.DayText.{texts_of}
 use Rattle.day_text.specs.Fills.{fill_lines}
 use Rattle.day_text.specs.Messages.{outgoing_lines_from}

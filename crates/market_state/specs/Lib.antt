@@ -1,0 +1,3 @@
+pub mod State
+pub mod Trade
+pub mod code
