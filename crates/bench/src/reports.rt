@@ -39,9 +39,7 @@ fn fit_fills(rules: &Rulebook, fills: &[Fill]) -> bool
     true
 }
 
-/// Whether what came of an entry fits its event. It is no part of its caller, so that the framing loop of `scan` begins
-/// at the half of 32 bytes at which it begins in the program `exchange` (docs/SPEED.md).
-#[inline(never)]
+/// Whether what came of an entry fits its event.
 fn fits_outcome(rules: &Rulebook, event: &Event, outcome: &Outcome) -> bool
     ensures { OnTrue result (FitsOutcome rules.now event.now outcome.now) }
 {
@@ -118,7 +116,8 @@ fn new_lists<A: Allocator + Copy>(alloc: A) -> Result<Vec<Vec<u8, A>, A>, AllocE
     Ok(lists)
 }
 
-/// Sends what each entry of an applied journal sends. It is no part of its caller: as with `fits_outcome`, for `scan`.
+/// Sends what each entry of an applied journal sends. It is no part of its caller, so that the framing loop of `scan`
+/// begins at the half of 32 bytes at which it begins in the program `exchange` (docs/SPEED.md).
 #[inline(never)]
 fn send_each<A: Allocator + Copy>(
     desk: &mut Desk,

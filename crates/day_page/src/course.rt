@@ -95,13 +95,6 @@ pub fn joined(one: Option<Span>, other: Option<Span>) -> Option<Span> {
     }
 }
 
-fn span_of(price: Option<i64>) -> Option<Span> {
-    price.map(|price| Span {
-        least: price,
-        most: price,
-    })
-}
-
 impl Stretch {
     /// The column with what came later in it.
     pub fn then(self, later: Stretch) -> Stretch {
@@ -121,7 +114,10 @@ fn note_best<A: Allocator>(
 ) -> Result<(), AllocError> {
     let noted = Stretch {
         column,
-        span: span_of(price),
+        span: price.map(|price| Span {
+            least: price,
+            most: price,
+        }),
         last: price,
     };
     match stretches.last_mut() {

@@ -124,21 +124,16 @@ fn put_marks<A: Allocator>(out: &mut SvgText<A>, points: &[Point], kind: Kind, m
     out.put("</g>\n");
 }
 
-/// A line of the grid, and the place that it marks.
-fn put_place<A: Allocator>(out: &mut SvgText<A>, scale: &Scale, foot: i64, place: u64) {
-    let x = LEFT.saturating_add(scale.x_of_place(place) / 10);
-    write!(out, "<text class=\"note mid\" x=\"{x}\" y=\"{foot}\">");
-    out.count(place);
-    out.put("</text>");
-}
-
 /// The places below a panel.
 fn put_places<A: Allocator>(out: &mut SvgText<A>, scale: &Scale, foot: i64) {
     for n in 0..MOST_PLACES {
-        match nth_place(scale, n) {
-            Some(place) => put_place(out, scale, foot, place),
-            None => break,
-        }
+        let Some(place) = nth_place(scale, n) else {
+            break;
+        };
+        let x = LEFT.saturating_add(scale.x_of_place(place) / 10);
+        write!(out, "<text class=\"note mid\" x=\"{x}\" y=\"{foot}\">");
+        out.count(place);
+        out.put("</text>");
     }
     out.put("\n");
 }
@@ -210,18 +205,6 @@ fn put_levels<A: Allocator>(out: &mut SvgText<A>, scale: &Scale) {
     }
 }
 
-/// The ground of a panel, and its grid.
-fn put_ground<A: Allocator>(out: &mut SvgText<A>, scale: &Scale) {
-    let height = scale.height;
-    write!(
-        out,
-        "<rect class=\"ground\" width=\"{WIDTH}\" height=\"{height}\"/><path class=\"grid\" d=\""
-    );
-    put_uprights(out, scale);
-    put_levels(out, scale);
-    out.put("\"/>\n");
-}
-
 /// The steps of one side.
 fn put_side<A: Allocator>(out: &mut SvgText<A>, class: &str, stretches: &[Stretch], scale: &Scale) {
     if stretches.is_empty() {
@@ -251,14 +234,20 @@ impl<A: Allocator> Panel<A> {
         out.put(" lots</text>\n");
     }
 
-    /// What stands inside its frame.
+    /// What stands inside its frame: its ground, and on it the grid, the best prices and the trades.
     fn put_inside(&self, out: &mut SvgText<A>, most: u64) {
-        put_ground(out, &self.scale);
+        let height = self.scale.height;
+        write!(
+            out,
+            "<rect class=\"ground\" width=\"{WIDTH}\" height=\"{height}\"/><path class=\"grid\" d=\""
+        );
+        put_uprights(out, &self.scale);
+        put_levels(out, &self.scale);
+        out.put("\"/>\n");
         put_side(out, "buy", &self.buy, &self.scale);
         put_side(out, "sell", &self.sell, &self.scale);
         put_marks(out, &self.points, Kind::Direct, most);
         put_marks(out, &self.points, Kind::Implied, most);
-        let height = self.scale.height;
         write!(
             out,
             "<rect class=\"frame\" width=\"{WIDTH}\" height=\"{height}\"/></svg>\n"
