@@ -1,6 +1,5 @@
 //! The text of an SVG file: names, prices and numbers.
 ghost use Rattle.std.specs.Prelude.{◌<◌};
-ghost use Rattle.spread_rulebook.specs.Rulebook.{month_count};
 
 use spread_rules::{Instrument, Rulebook};
 use std::alloc::{AllocError, Allocator};

@@ -1,5 +1,5 @@
 -- A journal text drawn: what is read, and what is written.
-use Rattle.std.specs.Prelude.{◌≡◌, ℕ, List, Option, Err}
+use Rattle.std.specs.Prelude.{ℕ, List, Option, Err}
 use Rattle.std.specs.Io.KnownBytes.{Appends}
 use Rattle.spread_rules.specs.declared.event.Entry.{Entry}
 use Rattle.host_base.specs.Ends.{AppendsPrefix}

@@ -177,6 +177,7 @@ fn run_draw<'a>(
     }
 }
 
+/// What is asked of a journal text, done.
 fn run_task<'a>(
     rt: &(impl Print + Eprint + Files + AllocGlobal),
     rulebook: &Rulebook,
@@ -203,6 +204,7 @@ fn run_journal<'a>(
     run_task(rt, &rulebook, &text, task)
 }
 
+/// What the command line asks for, done.
 fn run<'a>(
     rt: &(impl Input + Print + Eprint + Files + AllocGlobal + Threads + Wait + Sync),
     request: &Request<'a>,

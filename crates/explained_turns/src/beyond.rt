@@ -7,7 +7,7 @@ ghost use Rattle.explained_turns.specs.Explained.{IsBeyond, ticks_between, witho
 use crate::next::plain_next;
 use crate::turn::Beyond;
 use host_base::limits::MAX_LEG_PRICE;
-use spread_rules::{Candidate, Order, Rulebook, Side};
+use spread_rules::{Order, Rulebook, Side};
 
 /// The order at a limit that no price of a candidate lies beyond.
 fn without_limit(new: &Order) -> Order

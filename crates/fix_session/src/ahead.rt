@@ -1,5 +1,5 @@
 //! Judges the first messages that are held while they are still held, so that their events can be sent together.
-ghost use Rattle.std.specs.Prelude.{◌≡◌, ◌≤◌, ◌<◌, ℕ, length, drop, min, MatchBool, []};
+ghost use Rattle.std.specs.Prelude.{◌≡◌, ◌≤◌, ◌<◌, length, drop, min, MatchBool, []};
 ghost use Rattle.fix_frames.specs.Frames.{frames};
 ghost use Rattle.fix_session.specs.Ahead.{IsAhead};
 ghost use Rattle.fix_session.specs.code.Judged.{JudgesOne};

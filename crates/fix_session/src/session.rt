@@ -1,5 +1,5 @@
 //! A session, message by message: which number is due, and what each message says.
-ghost use Rattle.std.specs.Prelude.{◌≡◌, ◌≤◌, ◌+◌, ℕ, List, Option, Some, false};
+ghost use Rattle.std.specs.Prelude.{◌≡◌, ◌≤◌, ◌+◌, Option, Some, false};
 ghost use Rattle.fix_frames.specs.Messages.{kind, number};
 ghost use Rattle.kind_table.specs.Table.{meaning_of_message};
 ghost use Rattle.fix_session.specs.View.{given_id, given_number, is_opening, logon_of, is_duplicate, is_logout, comp_ids, are_same, view_with, event_of_accepted, due_after_accepted};

@@ -3,7 +3,8 @@ use Rattle.std.specs.Prelude.{ℕ, ℤ, pos, neg_ℤ, ◌+◌, ◌*◌, ◌/◌,
 use Rattle.std.specs.Char.{is_ascii_digit}
 use Rattle.std.specs.List.{list_all, before_first, after_first}
 use Rattle.host_base.specs.Ascii.{digit_zero, hyphen_minus, point}
-use Rattle.fix_values.specs.declared.values.TheConstants.{MAX_NUMBER, MAX_HUNDREDTHS}
+use Rattle.host_base.specs.declared.limits.TheConstants.{MAX_NUMBER}
+use Rattle.fix_values.specs.declared.values.TheConstants.{MAX_HUNDREDTHS}
 use Rattle.fix_values.specs.declared.values.Unread.{Unread}
 use Rattle.fix_values.specs.declared.values.Unread.TheVariants.{Format, Range}
 use Rattle.fix_values.specs.Digits.{is_point, is_zero, number_of, two_digits}

@@ -5,6 +5,4 @@ mod digits;
 mod values;
 
 pub use digits::{put, put_byte, put_number, put_price};
-pub use values::{
-    MAX_HUNDREDTHS, MAX_NUMBER, Unread, limited_digits, read_number, read_price, read_quantity,
-};
+pub use values::{MAX_HUNDREDTHS, Unread, limited_digits, read_number, read_price, read_quantity};

@@ -1,14 +1,12 @@
 //! The readers of values.
-ghost use Rattle.std.specs.Prelude.{◌≡◌, ◌≤◌, ◌<◌, if◌then◌else◌, Option, Some, None, min, [], ◌∷◌, ◌++◌, take, true};
+ghost use Rattle.std.specs.Prelude.{◌≡◌, ◌≤◌, ◌<◌, Option, Some, None, min, [], true};
 ghost use Rattle.std.specs.Char.{is_ascii_digit};
 ghost use Rattle.std.specs.List.{list_all, before_first, after_first};
-ghost use Rattle.fix_values.specs.Digits.{number_of, is_point, is_zero};
+ghost use Rattle.fix_values.specs.Digits.{is_point, is_zero};
 ghost use Rattle.fix_values.specs.Values.{number_in, quantity_in, price_in, within, hundredths_in, cents, limited_digits};
 
+use host_base::limits::MAX_NUMBER;
 use memchr::memchr;
-
-/// The greatest number or quantity that is read.
-pub const MAX_NUMBER: u64 = 999_999_999;
 
 /// The greatest price that is read, either way from 0, in hundredths.
 pub const MAX_HUNDREDTHS: u64 = 1_000_000_000;
@@ -53,7 +51,7 @@ pub fn read_number(text: &[u8]) -> Result<u32, Unread>
         return Err(Unread::Format);
     }
     match limited_digits(text) {
-        Some(value) => within(MAX_NUMBER, value),
+        Some(value) => within(MAX_NUMBER as u64, value),
         None => Err(Unread::Format),
     }
 }
@@ -89,7 +87,7 @@ pub fn read_quantity(text: &[u8]) -> Result<u32, Unread>
         return Err(Unread::Format);
     }
     match limited_digits(whole) {
-        Some(value) => within(MAX_NUMBER, value),
+        Some(value) => within(MAX_NUMBER as u64, value),
         None => Err(Unread::Format),
     }
 }

@@ -8,7 +8,6 @@ ghost use Rattle.host_base.specs.Ascii.{digit_zero, equals};
 ghost use Rattle.fix_wire.specs.declared.writer.Value.TheVariants.{Text};
 ghost use Rattle.host_base.specs.Ids.{is_plain};
 ghost use Rattle.fix_wire.specs.Layout.{value_text, field_text, field_of_given, orig_time, summed_text, FitsValueOf, FitsValue};
-ghost use Rattle.fix_values.specs.Values.{price_text};
 ghost use Rattle.fix_wire.specs.Spelling.{kind_text, orig_text, spelled, spelled_head, spelled_body};
 
 use crate::body::Body;

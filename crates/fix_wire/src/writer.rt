@@ -2,7 +2,6 @@
 ghost use Rattle.std.specs.Prelude.{◌≡◌, ◌++◌, ◌<◌, ◌≤◌, ◌*◌, ◌+◌, ◌^◌, ◌-◌, min, length, take};
 ghost use Rattle.std.specs.Prelude.{if◌then◌else◌, Option, Some, None, option_map, OnOk, OnErr};
 ghost use Rattle.std.specs.List.{AllByRecursion};
-ghost use Rattle.std.specs.Vec.{vec_len, vec_capacity};
 ghost use Rattle.fix_wire.specs.Layout.{body_text, frame_text, message_text, SpellsHead};
 ghost use Rattle.fix_wire.specs.Layout.{FitsKind, FitsTags, FitsBody, FitsValueOf, IsReadBack};
 ghost use Rattle.fix_wire.specs.Spelling.{spelled_body};

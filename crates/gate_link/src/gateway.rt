@@ -6,7 +6,7 @@ ghost use Rattle.fix_session.specs.Steps.{is_closed};
 ghost use Rattle.fix_wire.specs.declared.framer.TheConstants.{BUFFER_BYTES};
 ghost use Rattle.fix_frames.specs.Frames.{frames};
 ghost use Rattle.gate_link.specs.Rows.{entry_events};
-ghost use Rattle.std.specs.Prelude.{◌≡◌, ◌-◌, ◌↔◌, ℕ, List, ◌++◌, length, take, min, true, if◌then◌else◌, option_map, is_some};
+ghost use Rattle.std.specs.Prelude.{◌≡◌, ◌-◌, ℕ, List, ◌++◌, length, take, min, true, if◌then◌else◌, is_some};
 
 use fix_session::{Ahead, Reader, Verdict};
 use rtrb::Producer;

@@ -1,5 +1,5 @@
 //! Over all gateways of a link: what they have sent, and the first that is open.
-ghost use Rattle.std.specs.Prelude.{◌≡◌, ◌≤◌, length, IfSome, IfNone};
+ghost use Rattle.std.specs.Prelude.{◌≤◌, length, IfSome, IfNone};
 ghost use Rattle.host_base.specs.declared.limits.TheConstants.{SESSIONS};
 ghost use Rattle.gate_link.specs.Inboxes.{AllLooked, ArePairs};
 ghost use Rattle.gate_link.specs.Links.{AllClosed, IsFirstOpen};

@@ -1,5 +1,5 @@
 //! Ids: client order ids, CompIDs, symbols and stamps.
-ghost use Rattle.std.specs.Prelude.{◌≡◌, ◌≤◌, ◌<◌, ◌+◌, ◌-◌, ◌++◌, ◌∷◌, ℕ, List, length, replicate, true};
+ghost use Rattle.std.specs.Prelude.{◌≡◌, ◌≤◌, ◌<◌, ◌+◌, ◌-◌, ◌++◌, ℕ, List, length, replicate, true};
 ghost use Rattle.std.specs.Str.{bytes_eq};
 ghost use Rattle.host_base.specs.Ids.{id_of, is_id, is_plain};
 

@@ -1,5 +1,5 @@
 //! A session and an id as one key of an ordered table.
-ghost use Rattle.std.specs.Prelude.{◌≡◌, ℕ, ◌+◌, ◌-◌, ◌≤◌, ◌++◌, ◌∷◌, [], ◌<◌, length, get_or, take, drop, replicate};
+ghost use Rattle.std.specs.Prelude.{◌≡◌, ℕ, ◌+◌, ◌-◌, ◌≤◌, ◌∷◌, [], ◌<◌, get_or, take, drop};
 ghost use Rattle.std.specs.Int.{w64, from_be_bytes};
 ghost use Rattle.host_base.specs.IdKeys.{key_of, IsIdBytes};
 

@@ -1,8 +1,7 @@
 //! The kinds of messages with their tags, and what an accepted message of each kind means.
 //!
 //! The tags of a kind are read in their order. The first fault is the SessionRejectReason of the Reject.
-ghost use Rattle.std.specs.Prelude.{◌≡◌, ◌≤◌, ℕ, List, length, Result, ◌==◌, IfOk, true};
-ghost use Rattle.std.specs.Option.{option_copied};
+ghost use Rattle.std.specs.Prelude.{◌≡◌, Result, ◌==◌, IfOk, true};
 ghost use Rattle.std.specs.List.{list_any};
 ghost use Rattle.host_base.specs.Ids.{is_id};
 ghost use Rattle.fix_frames.specs.Messages.{get};

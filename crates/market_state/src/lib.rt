@@ -1,4 +1,4 @@
-//! The state of a market, and what each kind of entry does to it: refusals, direct and implied matching, cancels, replaces.
+//! The state of a market, and what each kind of entry does to it: refusals, matching, cancels, replaces.
 #![tactic(auto)]
 
 mod state;

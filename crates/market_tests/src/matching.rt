@@ -21,6 +21,7 @@ mod refusals;
 mod replaces;
 mod rows;
 mod sizes;
+mod statuses;
 
 const H6: Instrument = Instrument::Outright(0);
 

@@ -1,5 +1,4 @@
-//! The thread that matches: it takes the journal's entries as they come, applies each of them, and gives what it sends to
-//! the sessions' writers.
+//! The thread that matches: it applies the journal's entries as they come, and gives what it sends to the writers.
 #![tactic(auto)]
 
 mod matching;

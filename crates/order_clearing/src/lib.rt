@@ -1,5 +1,4 @@
-//! How a new order, which stands in the book already, is traded turn by turn: the fills of each turn, and what it leaves of
-//! the orders that took part.
+//! How a new order that stands in the book is traded, turn by turn: the fills of each, and what is left of the orders.
 #![tactic(auto)]
 
 mod parts;

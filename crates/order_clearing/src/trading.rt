@@ -1,5 +1,5 @@
 //! Turns over a book.
-ghost use Rattle.std.specs.Prelude.{◌≡◌, ◌<◌, ◌≤◌, ◌+◌, ◌-◌, ◌*◌, ◌++◌, ◌∷◌, [], List, All, Contains, vec_len, vec_capacity, fold, min, length};
+ghost use Rattle.std.specs.Prelude.{◌≡◌, ◌<◌, ◌≤◌, ◌+◌, ◌-◌, ◌*◌, ◌++◌, ◌∷◌, [], List, Contains, vec_len, vec_capacity, fold, min, length};
 ghost use Rattle.spread_rules.specs.Candidates.{least_left, AllStandIn, HasLegPrice, PlacesDiffer};
 ghost use Rattle.spread_rules.specs.Clearing.{leg_prices_of_fill, fill_of, after_fill, fills_of, members, clear};
 ghost use Rattle.order_clearing.specs.Tradable.{IsTradable};

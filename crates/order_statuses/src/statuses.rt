@@ -1,5 +1,5 @@
 //! How the order of each New and Replace entry so far stands, found by its session and id.
-ghost use Rattle.std.specs.Prelude.{◌≡◌, ◌<◌, slice_get, List, All, [], ◌++◌, ◌∷◌, map, OnOk, OnErr, IfSome, IfNone, cond, is_some, Some, None, IfOk, true, false};
+ghost use Rattle.std.specs.Prelude.{◌≡◌, ◌<◌, slice_get, List, All, [], ◌++◌, ◌∷◌, map, OnOk, OnErr, IfSome, IfNone, cond, is_some, Some, None, IfOk, false};
 ghost use Rattle.spread_rules.specs.declared.codes.ord_status.TheConstants.{REJECTED};
 ghost use Rattle.spread_rules.specs.declared.outcome.OrderStatus.{OrderStatus};
 ghost use Rattle.std.specs.List.{find};

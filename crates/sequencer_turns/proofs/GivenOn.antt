@@ -1,5 +1,5 @@
 -- What giving on keeps.
-use Rattle.std.proofs.Common.{◌≡◌, ◌∙◌}
+use Rattle.std.proofs.Common.{◌∙◌}
 use Rattle.stage_rings.specs.Feeding.{SameFeeder}
 use Rattle.stage_rings.specs.declared.feed.Feeder.{Feeder}
 

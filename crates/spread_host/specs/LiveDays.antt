@@ -1,5 +1,5 @@
 -- Why a day in threads was not handed out.
-use Rattle.std.specs.Prelude.{◌≡◌, ℕ, ◌<◌, ◌≤◌, ◌⊎◌, List, length}
+use Rattle.std.specs.Prelude.{◌≡◌, ℕ, ◌<◌, ◌⊎◌, List, length}
 use Rattle.std.specs.declared.vec.Vec.{Vec}
 use Rattle.spread_rulebook.specs.Rulebook.{Rules}
 use Rattle.gate_link.specs.Opening.{IsRefusal}

@@ -1,7 +1,6 @@
 //! A rulebook's text, read line by line from the top.
-ghost use Rattle.std.specs.Prelude.{◌≡◌, ◌≢◌, ◌≤◌, ◌<◌, ◌↔◌, ℕ, ℤ, true, length, IsTrue, IfSome, IfNone, Some, Ok, Err, MatchResult, IfOk, Result, List};
+ghost use Rattle.std.specs.Prelude.{◌≡◌, ◌≢◌, ◌<◌, ◌↔◌, ℕ, ℤ, true, IsTrue, IfSome, IfNone, Some, Ok, Err, MatchResult, IfOk, Result, List};
 ghost use Rattle.std.specs.Fmt.{signed_decimal};
-ghost use Rattle.host_base.specs.Cut.{Lacks};
 ghost use Rattle.spread_rulebook.specs.Rulebook.{Rules, IsMonth, is_name_byte, IsTick, IsName, IsReference};
 ghost use Rattle.spread_rulebook.specs.RulebookText.{names_in, IsPairLine, IsSkipped, tick_line, month_line, no_lines, LineGives, EndGives, ReadsRulebook};
 ghost use Rattle.spread_rulebook.specs.code.DraftFields.{IsDraft, so_far};

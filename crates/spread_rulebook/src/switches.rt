@@ -1,5 +1,5 @@
 //! Which pairs of months were switched on or off for implied trading.
-ghost use Rattle.std.specs.Prelude.{◌≡◌, ◌<◌, ℕ, length, set, Some};
+ghost use Rattle.std.specs.Prelude.{◌≡◌, ◌<◌, length, set, Some};
 ghost use Rattle.spread_rulebook.specs.Rulebook.{switch_number, switch_of, is_on};
 ghost use Rattle.spread_rulebook.specs.RulebookText.{no_switches};
 

@@ -4,5 +4,6 @@ mod frames;
 mod fronts;
 mod laws;
 mod messages;
+mod reports;
 mod values;
 mod writing;

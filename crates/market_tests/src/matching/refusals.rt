@@ -1,6 +1,6 @@
 //! Refused orders, cancels, and cancels that come too late.
 use super::H6;
-use super::cases::Came::{Cancelled, Filled, Refused, RequestRefused, Rested, Session};
+use super::cases::Came::{Cancelled, Refused, RequestRefused, Rested, Session};
 use super::cases::Line::Of;
 use super::cases::Sent::{Buy, Cancel, Logon, Sell};
 use super::cases::{Case, Kept, expect_cases};

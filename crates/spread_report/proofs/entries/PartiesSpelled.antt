@@ -1,10 +1,8 @@
 -- Which CompIDs are spelled, as sessions change and as they are spelled one after another.
-use Rattle.std.proofs.Common.{◌≡◌, ℕ, zero, suc, ◌+◌, ◌<◌, List, length, get_or, refl, sym, ap, ◌∙◌, inl, inr, arith, Some, None}
-use Rattle.std.specs.Prelude.{replicate}
+use Rattle.std.proofs.Common.{◌≡◌, ℕ, ◌+◌, ◌<◌, List, length, get_or, sym, ap, ◌∙◌, inl, inr, arith, Some}
 use Rattle.std.proofs.Math.ListN.{set}
 use Rattle.std.proofs.lemmas.Bool.{cases_eq}
 use Rattle.std.proofs.lemmas.List.{get_or_default, get_or-set_same, get_or-set_other}
-use Rattle.std.proofs.lemmas.Option.{none-some}
 use Rattle.fix_wire.specs.declared.parties.SpelledParties.{SpelledParties}
 use Rattle.fix_wire.specs.Layout.{SpellsParties}
 use Rattle.spread_report.specs.declared.outbound.CompIds.{CompIds}

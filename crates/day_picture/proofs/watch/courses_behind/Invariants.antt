@@ -1,4 +1,4 @@
-use Rattle.std.proofs.Common.{◌≡◌, take}
+use Rattle.std.proofs.Common.{take}
 use Rattle.day_apply.specs.Application.{HasApplied}
 use Rattle.day_picture.proofs.watch.courses_behind.Given as goal
 

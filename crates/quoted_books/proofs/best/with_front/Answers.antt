@@ -1,4 +1,4 @@
-use Rattle.std.proofs.Common.{◌≡◌, true, false, subst, sym, ◌∙◌, Some, None}
+use Rattle.std.proofs.Common.{true, false, subst, sym, ◌∙◌, Some, None}
 use Rattle.spread_rules.specs.declared.order.Side.{Side}
 use Rattle.order_books.specs.Queues.{IsFront}
 use Rattle.quoted_books.specs.code.Best.{IsBestDirect}

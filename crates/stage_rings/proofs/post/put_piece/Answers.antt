@@ -1,4 +1,4 @@
-use Rattle.std.proofs.Common.{refl, ap, subst, length, ◌/◌, ◌<◌, ◌≡◌, List, ℕ, get_or}
+use Rattle.std.proofs.Common.{refl, subst, length, ◌/◌, ◌<◌, ◌≡◌, List, ℕ, get_or}
 use Rattle.stage_rings.proofs.Pieces.{whole_piece}
 use Rattle.stage_rings.specs.declared.post.TheConstants.{PIECE_BYTES}
 use Rattle.stage_rings.proofs.post.put_piece.Goals as goal

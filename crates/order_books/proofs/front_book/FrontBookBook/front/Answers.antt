@@ -1,4 +1,4 @@
-use Rattle.std.proofs.Common.{List, Option, Some, None, sym, ap, ◌∙◌, subst}
+use Rattle.std.proofs.Common.{List, Option, Some, sym, ap, ◌∙◌, subst}
 use Rattle.spread_rules.specs.declared.order.Order.{Order}
 use Rattle.order_tables.specs.declared.front_table.BestPrice.{BestPrice}
 use Rattle.order_books.specs.Queues.{IsFront}
