@@ -2,7 +2,7 @@
 use crate::fault::Fault;
 use crate::timing::{Beside, Measured, Timer};
 use crate::wire::{PIECE, scanned};
-use gate_link::{Gateway, Sequencer, Step, Turn, link};
+use gate_link::{Burst, Gateway, Sequencer, Step, Takes, Turn, link};
 use std::alloc::{AllocGlobal, Allocator, Global};
 use std::thread;
 use std::thread::{Threads, join_mut};
@@ -109,10 +109,41 @@ pub fn time_link(
     Ok(measured("link", messages, used, &sequencer))
 }
 
+/// How many events go into a ring and out of it at once.
+#[derive(Clone, Copy)]
+pub enum AtOnce {
+    One,
+    /// Those of up to 64 messages, as `live` sends them.
+    Slice,
+}
+
+impl AtOnce {
+    fn phase(self) -> &'static str {
+        match self {
+            AtOnce::One => "threads",
+            AtOnce::Slice => "slices",
+        }
+    }
+}
+
+/// Judges a message, or those of a slice, and sends what comes of them.
+fn step_of<A: Allocator>(gateway: &mut Gateway<A>, at_once: AtOnce) -> Step {
+    match at_once {
+        AtOnce::One => gateway.step(),
+        AtOnce::Slice => match gateway.step_many(64) {
+            Burst::Sent(_) => Step::Sent,
+            Burst::Skipped => Step::Skipped,
+            Burst::Need => Step::Need,
+            Burst::Full => Step::Full,
+            Burst::Closed => Step::Closed,
+        },
+    }
+}
+
 /// Steps until no message stands, and lets other threads run where the ring is full.
-fn send_standing<A: Allocator>(gateway: &mut Gateway<A>) {
+fn send_standing<A: Allocator>(gateway: &mut Gateway<A>, at_once: AtOnce) {
     for _ in 0..u64::MAX {
-        match gateway.step() {
+        match step_of(gateway, at_once) {
             Step::Sent | Step::Skipped => {}
             Step::Full => thread::yield_now(),
             Step::Need | Step::Closed => return,
@@ -120,7 +151,7 @@ fn send_standing<A: Allocator>(gateway: &mut Gateway<A>) {
     }
 }
 
-fn send_piece<A: Allocator>(gateway: &mut Gateway<A>, piece: &[u8]) {
+fn send_piece<A: Allocator>(gateway: &mut Gateway<A>, piece: &[u8], at_once: AtOnce) {
     let mut rest = piece;
     for _ in 0..MOST {
         if rest.is_empty() {
@@ -128,7 +159,7 @@ fn send_piece<A: Allocator>(gateway: &mut Gateway<A>, piece: &[u8]) {
         }
         let taken = gateway.put(rest);
         rest = &rest[taken..];
-        send_standing(gateway);
+        send_standing(gateway, at_once);
     }
 }
 
@@ -143,27 +174,40 @@ fn close<A: Allocator>(gateway: &mut Gateway<A>) {
     }
 }
 
-fn send_stream<A: Allocator>(gateway: &mut Gateway<A>, stream: &[u8]) {
+fn send_stream<A: Allocator>(gateway: &mut Gateway<A>, stream: &[u8], at_once: AtOnce) {
     for piece in stream.chunks(PIECE) {
-        send_piece(gateway, piece);
+        send_piece(gateway, piece, at_once);
     }
     close(gateway);
 }
 
 /// Sends the streams of all sessions, one after another.
-fn send_streams<A: Allocator>(gateways: &mut [Gateway<A>], streams: &[Vec<u8>]) {
+fn send_streams<A: Allocator>(gateways: &mut [Gateway<A>], streams: &[Vec<u8>], at_once: AtOnce) {
     for (gateway, stream) in gateways.iter_mut().zip(streams.iter()) {
-        send_stream(gateway, stream);
+        send_stream(gateway, stream, at_once);
+    }
+}
+
+/// Takes an event of a session, or those of a slice.
+fn turn_of<A: Allocator>(sequencer: &mut Sequencer<A>, session: u8, at_once: AtOnce) -> Turn {
+    if usize::from(session) >= sequencer.sessions() {
+        return Turn::Done;
+    }
+    match at_once {
+        AtOnce::One => sequencer.turn(session),
+        AtOnce::Slice => match sequencer.turn_many(session, 64) {
+            Takes::Took(_) => Turn::Took,
+            Takes::Empty => Turn::Empty,
+            Takes::Done => Turn::Done,
+            Takes::JournalFull => Turn::JournalFull,
+        },
     }
 }
 
 /// Takes a session's events until its close, or until the journal is full.
-fn take_session<A: Allocator>(sequencer: &mut Sequencer<A>, session: u8) {
+fn take_session<A: Allocator>(sequencer: &mut Sequencer<A>, session: u8, at_once: AtOnce) {
     for _ in 0..u64::MAX {
-        if usize::from(session) >= sequencer.sessions() {
-            return;
-        }
-        match sequencer.turn(session) {
+        match turn_of(sequencer, session, at_once) {
             Turn::Took => {}
             Turn::Empty => thread::yield_now(),
             Turn::Done | Turn::JournalFull => return,
@@ -171,9 +215,9 @@ fn take_session<A: Allocator>(sequencer: &mut Sequencer<A>, session: u8) {
     }
 }
 
-fn take_sessions<A: Allocator>(sequencer: &mut Sequencer<A>) {
+fn take_sessions<A: Allocator>(sequencer: &mut Sequencer<A>, at_once: AtOnce) {
     for session in 0..16u8 {
-        take_session(sequencer, session);
+        take_session(sequencer, session, at_once);
     }
 }
 
@@ -183,11 +227,13 @@ fn send_and_take<R: Threads + Sync>(
     gateways: &mut [Gateway<Global>],
     sequencer: &mut Sequencer<Global>,
     streams: &[Vec<u8>],
+    at_once: AtOnce,
 ) {
+    let (sent, taken) = (at_once, at_once);
     join_mut(
         rt,
-        &mut || send_streams(gateways, streams),
-        &mut || take_sessions(sequencer),
+        &mut || send_streams(gateways, streams, sent),
+        &mut || take_sessions(sequencer, taken),
     );
 }
 
@@ -197,9 +243,10 @@ fn time_sending<R: Clock + Threads + Sync>(
     gateways: &mut [Gateway<Global>],
     sequencer: &mut Sequencer<Global>,
     streams: &[Vec<u8>],
+    at_once: AtOnce,
 ) -> Result<u64, Fault> {
     let start = Instant::now(rt)?;
-    send_and_take(rt, gateways, sequencer, streams);
+    send_and_take(rt, gateways, sequencer, streams, at_once);
     let used = start.elapsed(rt)?;
     Ok(u64::try_from(used.as_nanos()).unwrap_or(u64::MAX))
 }
@@ -208,11 +255,18 @@ fn time_sending<R: Clock + Threads + Sync>(
 pub fn time_threads<R: Clock + AllocGlobal + Threads + Sync>(
     rt: &R,
     streams: &[Vec<u8>],
+    at_once: AtOnce,
 ) -> Result<Measured, Fault> {
     let messages = scanned(streams);
     let Ok((mut gateways, mut sequencer)) = link(rt.alloc(), streams.len(), 256, 1_000_000) else {
         return Err(Fault::NoMemory);
     };
-    let used = time_sending(rt, gateways.as_mut_slice(), &mut sequencer, streams)?;
-    Ok(measured("threads", messages, used, &sequencer))
+    let used = time_sending(
+        rt,
+        gateways.as_mut_slice(),
+        &mut sequencer,
+        streams,
+        at_once,
+    )?;
+    Ok(measured(at_once.phase(), messages, used, &sequencer))
 }
