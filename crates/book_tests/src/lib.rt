@@ -1,4 +1,4 @@
-//! Tests of `row_index`, `order_tables`, `quoted_books` and `spread_books`.
+//! Tests of `row_index`, `order_tables`, `candidate_search`, `quoted_books` and `spread_books`.
 #![tactic(auto)]
 
 #[cfg(test)]

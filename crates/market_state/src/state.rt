@@ -15,7 +15,7 @@ ghost use Rattle.spread_rulebook.specs.Prices.{IsOrderPrice};
 ghost use Rattle.spread_rules.specs.Meaning.{has_id, is_own, is_refused, outcome_of, order_of, resting, resting_status, keeps_place, keeping_means, cancel_of_nothing_resting, unchanged_with};
 ghost use Rattle.spread_rulebook.specs.Rulebook.{month_count};
 ghost use Rattle.market_state.specs.State.{empty_state};
-ghost use Rattle.quoted_books.specs.Listed.{IsInMonths, IsNearBeforeFar};
+ghost use Rattle.candidate_search.specs.Listed.{IsInMonths, IsNearBeforeFar};
 ghost use Rattle.market_state.specs.Trade.{IsPriced};
 ghost use Rattle.order_clearing.specs.Tradable.{IsTradable};
 ghost use Rattle.order_statuses.specs.code.Statuses.{statuses_after};

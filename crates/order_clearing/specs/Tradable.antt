@@ -2,7 +2,7 @@
 use Rattle.std.specs.Prelude.{ℕ, ◌<◌, List, All}
 use Rattle.spread_rules.specs.declared.order.Order.{Order}
 use Rattle.spread_rules.specs.Candidates.{HasOrderPrice, PlacesDiffer}
-use Rattle.quoted_books.specs.Listed.{IsInMonths, IsNearFirst}
+use Rattle.candidate_search.specs.Listed.{IsInMonths, IsNearFirst}
 
 -- what a list has to be, to be traded with
 pub record IsTradable (months : ℕ) (xs : List Order) : Type 0 where

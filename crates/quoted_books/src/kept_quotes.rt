@@ -4,15 +4,14 @@ ghost use Rattle.host_base.specs.declared.limits.TheConstants.{MAX_MONTHS};
 ghost use Rattle.spread_rules.specs.Candidates.{HasOrderPrice};
 ghost use Rattle.spread_rulebook.specs.Rulebook.{implied};
 ghost use Rattle.spread_rules.specs.declared.order.Order.{Order};
-ghost use Rattle.quoted_books.specs.Listed.{IsInMonths};
-ghost use Rattle.quoted_books.specs.code.QuoteTable.{known_pair, no_quotes, AreQuotes, HasCome, HasLeft, IsOneWay, ChangesOneQueue, is_as_good};
-ghost use Rattle.quoted_books.specs.declared.quote_table.Change.TheVariants.{Came, Left};
+ghost use Rattle.candidate_search.specs.Listed.{IsInMonths};
+ghost use Rattle.quote_tables.specs.code.QuoteTable.{known_pair, no_quotes, AreQuotes, HasCome, HasLeft, IsOneWay, ChangesOneQueue, is_as_good};
+ghost use Rattle.quote_tables.specs.declared.quote_table.Change.TheVariants.{Came, Left};
 
-use crate::cheapest::MonthPairs;
-use crate::front_costs::FrontCosts;
-use crate::quote_table::{Change, QuoteTable};
+use candidate_search::MonthPairs;
 use host_base::NoMemory;
 use order_books::{Book, PairCost};
+use quote_tables::{Change, FrontCosts, QuoteTable};
 use spread_rules::{Level, Order, Side};
 use std::alloc::Allocator;
 use std::marker::Model;
@@ -25,7 +24,7 @@ pub struct Quotes<A: Allocator + Copy> {
 }
 
 impl<A: Allocator + Copy> Model for Quotes<A> {
-    ghost use Rattle.quoted_books.specs.code.QuoteTable.{QuotesView};
+    ghost use Rattle.quote_tables.specs.code.QuoteTable.{QuotesView};
 
     ghost Value = { QuotesView };
 

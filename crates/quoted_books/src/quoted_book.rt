@@ -3,16 +3,15 @@ ghost use Rattle.std.specs.Prelude.{◌≡◌, ◌<◌, ◌^◌, [], IfOk, IfSom
 ghost use Rattle.host_base.specs.declared.limits.TheConstants.{MAX_MONTHS};
 ghost use Rattle.spread_rulebook.specs.Rulebook.{implied};
 ghost use Rattle.order_books.specs.Pairs.{IsCheapest};
-ghost use Rattle.quoted_books.specs.code.PairsOn.{AreAllOn};
-ghost use Rattle.quoted_books.specs.code.QuoteTable.{IsListed};
+ghost use Rattle.quote_tables.specs.code.PairsOn.{AreAllOn};
+ghost use Rattle.quote_tables.specs.code.QuoteTable.{IsListed};
 
-use crate::cheapest::MonthPairs;
 use crate::kept_quotes::Quotes;
-use crate::pairs_on::is_all_on;
-use crate::quote_table::Change;
+use candidate_search::MonthPairs;
 use host_base::limits::MAX_PRICE;
 use host_base::{Id, NoMemory};
 use order_books::{Book, FrontBook, PairCost};
+use quote_tables::{Change, is_all_on};
 use spread_rules::{Instrument, Level, Order, Rulebook, Side};
 use std::alloc::Allocator;
 use std::marker::Model;
@@ -32,8 +31,8 @@ pub struct QuotedBook<'r, A: Allocator + Copy> {
 
 impl<'r, A: Allocator + Copy> Model for QuotedBook<'r, A> {
     ghost use Rattle.spread_rulebook.specs.Rulebook.{implied};
-    ghost use Rattle.quoted_books.specs.BookView.{BookView};
-    ghost use Rattle.quoted_books.specs.code.QuoteTable.{KeepsQuotes};
+    ghost use Rattle.candidate_search.specs.BookView.{BookView};
+    ghost use Rattle.quote_tables.specs.code.QuoteTable.{KeepsQuotes};
 
     ghost Value = { BookView };
 

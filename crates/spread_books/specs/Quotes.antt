@@ -8,7 +8,7 @@ use Rattle.spread_rules.specs.declared.candidate.Candidate.{Candidate}
 use Rattle.spread_rules.specs.declared.candidate.Choice.{Choice}
 use Rattle.spread_rules.specs.declared.candidate.Counterparty.TheVariants.{Implied}
 use Rattle.spread_rules.specs.Candidates.{Pairs, AllStandIn, price_of, is_before, members_of, HasOrderPrice}
-use Rattle.quoted_books.specs.Listed.{IsInMonths, IsNearFirst}
+use Rattle.candidate_search.specs.Listed.{IsInMonths, IsNearFirst}
 
 -- the implied candidate of two orders
 abbrev pub pair_at : Order → Order → ℤ → Candidate

@@ -5,9 +5,10 @@ ghost use Rattle.spread_rules.specs.Candidates.{HasOrderPrice};
 
 use super::checked::{add, remove};
 use crate::expect::holds;
+use candidate_search::{MonthPairs, cheapest_pair, is_pair_on, spreads_with};
 use host_base::NoMemory;
 use host_base::limits::MAX_PRICE;
-use quoted_books::{MonthPairs, QuotedBook, cheapest_pair, is_pair_on, spreads_with};
+use quoted_books::QuotedBook;
 use spread_books::{Book, PairCost};
 use spread_rules::Side::{Buy, Sell};
 use spread_rules::{Instrument, Order, Rulebook, Side};

@@ -8,7 +8,7 @@ use Rattle.spread_rules.specs.Clearing.{removed}
 use Rattle.spread_rules.specs.Meaning.{moved_to}
 use Rattle.spread_rules.proofs.clearings.TurnsEnd.{from_filter}
 use Rattle.spread_rulebook.specs.Prices.{IsOrderPrice}
-use Rattle.quoted_books.specs.Listed.{IsNearFirst, IsInMonths}
+use Rattle.candidate_search.specs.Listed.{IsNearFirst, IsInMonths}
 use Rattle.order_clearing.specs.Tradable.{IsTradable}
 
 -- an order that may rest

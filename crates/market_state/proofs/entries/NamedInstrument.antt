@@ -5,7 +5,7 @@ use Rattle.spread_rulebook.specs.declared.instrument.Instrument.{Instrument}
 use Rattle.spread_rulebook.specs.declared.instrument.Instrument.TheVariants.{Outright, Spread}
 use Rattle.spread_rulebook.specs.Rulebook.{Rules, month_count, instruments_of, IsListed, symbol_of, find_symbol}
 use Rattle.spread_rulebook.proofs.rulebook_texts.SymbolsNameOne.{from_instruments}
-use Rattle.quoted_books.specs.Listed.{IsInMonths, IsNearBeforeFar}
+use Rattle.candidate_search.specs.Listed.{IsInMonths, IsNearBeforeFar}
 use Rattle.market_state.proofs.entries.FoundStands.{find_stands}
 
 pub listed_found : (rules : Rules) (symbol : List ℕ) (i : Instrument) → find_symbol rules symbol ≡ Some i → IsListed rules i

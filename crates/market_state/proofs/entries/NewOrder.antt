@@ -8,7 +8,7 @@ use Rattle.spread_rules.specs.Candidates.{least_left, HasOrderPrice, Pairs, Plac
 use Rattle.spread_rules.specs.Clearing.{Trading, next_candidate, turn, turns, after_match, begin, clear, removed, reduced, with_less_left}
 use Rattle.spread_rulebook.proofs.lists.Membership.{in_head, in_tail}
 use Rattle.spread_rules.proofs.clearings.TurnsEnd.{keeps_turns}
-use Rattle.quoted_books.specs.Listed.{IsNearFirst, IsInMonths}
+use Rattle.candidate_search.specs.Listed.{IsNearFirst, IsInMonths}
 use Rattle.order_clearing.specs.Tradable.{IsTradable}
 use Rattle.market_state.specs.code.StateAfter.{orders_after_trading}
 use Rattle.order_clearing.specs.code.Turns.{IsNewest}

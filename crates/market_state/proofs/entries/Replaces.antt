@@ -25,7 +25,7 @@ use Rattle.spread_rules.specs.Meaning.{EntryMeaning, JournalState, cancel_of_not
 use Rattle.spread_rules.proofs.clearings.BoughtIsSold.{same_instrument_is}
 use Rattle.spread_rulebook.specs.Rulebook.{Rules, find_symbol, references_of, implied}
 use Rattle.spread_rulebook.proofs.lists.Membership.{from_map}
-use Rattle.quoted_books.specs.Listed.{IsNearFirst, IsInMonths}
+use Rattle.candidate_search.specs.Listed.{IsNearFirst, IsInMonths}
 use Rattle.order_clearing.specs.Tradable.{IsTradable}
 use Rattle.market_state.proofs.entries.FoundStands.{find_holds}
 use Rattle.order_statuses.proofs.status_rows.MarkedRows.{same_number}

@@ -10,7 +10,7 @@ use Rattle.spread_rules.specs.Candidates.{price_of, AllStandIn, least_left, leas
 use Rattle.spread_rules.specs.Clearing.{Trading, next_candidate, turn, turns, begin, clear, after_fill, removed, reduced, with_less_left, members}
 use Rattle.spread_rules.proofs.ranks.LeastIsOne.{best_is_first}
 use Rattle.spread_rules.proofs.clearings.TurnsEnd.{enough, one_end, keeps_turns}
-use Rattle.quoted_books.specs.Listed.{IsNearFirst, IsInMonths}
+use Rattle.candidate_search.specs.Listed.{IsNearFirst, IsInMonths}
 use Rattle.order_clearing.specs.Tradable.{IsTradable}
 use Rattle.order_clearing.specs.code.Turns.{AreApart, HaveLeft}
 use Rattle.order_clearing.proofs.turns.StaysAfterAFill.{still_there, still_differ}

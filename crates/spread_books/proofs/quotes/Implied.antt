@@ -15,16 +15,16 @@ use Rattle.spread_rules.specs.Candidates.{Pairs, all_on, takes_part, price_of, i
 use Rattle.spread_rules.specs.Legs.{other_side}
 use Rattle.spread_rules.specs.Quiet.{Rests}
 use Rattle.spread_rules.proofs.clearings.BoughtIsSold.{on_price}
-use Rattle.quoted_books.specs.Listed.{IsInMonths}
+use Rattle.candidate_search.specs.Listed.{IsInMonths}
 use Rattle.spread_books.specs.Quotes.{pair_at, IsImplied, IsLeastImplied, IsQuote, AreQuotable}
 use Rattle.order_books.specs.declared.pair.PairCost.{PairCost}
-use Rattle.quoted_books.specs.code.Best.{Beats, CoversTwo}
+use Rattle.candidate_search.specs.code.Best.{Beats, CoversTwo}
 use Rattle.order_books.specs.Pairs.{spread_of, spread_side, IsCheapest}
 use Rattle.spread_books.specs.code.PairQuote.{AreFrontsOf, IsQuoteOfFronts}
 use Rattle.spread_rules.proofs.ranks.PairsSwitched.{price_on}
-use Rattle.quoted_books.proofs.fronts.BeatAnyPair.{fronts_beat, was_on}
-use Rattle.quoted_books.proofs.fronts.MonthPairs.{cheapest_beats, none_beats, fronts_price}
-use Rattle.quoted_books.proofs.fronts.Suffice.{month_below, spread_pair}
+use Rattle.candidate_search.proofs.fronts.BeatAnyPair.{fronts_beat, was_on}
+use Rattle.candidate_search.proofs.fronts.MonthPairs.{cheapest_beats, none_beats, fronts_price}
+use Rattle.candidate_search.proofs.fronts.Suffice.{month_below, spread_pair}
 
 -- ---- an order whose limit is the candidate's price
 

@@ -18,7 +18,7 @@ use Rattle.spread_rules.specs.Meaning.{EntryMeaning, cancel_means, has_id, is_ow
 use Rattle.spread_rulebook.specs.Rulebook.{Rules, month_count, references_of, find_symbol, implied}
 use Rattle.spread_rules.proofs.clearings.TurnsEnd.{keeps_turns, members_rest, next_meets}
 use Rattle.market_state.specs.State.{MarketState}
-use Rattle.quoted_books.specs.Listed.{IsNearFirst, IsInMonths}
+use Rattle.candidate_search.specs.Listed.{IsNearFirst, IsInMonths}
 use Rattle.order_clearing.specs.Tradable.{IsTradable}
 use Rattle.market_state.specs.Trade.{IsPriced}
 use Rattle.market_state.specs.code.StateAfter.{AreKnown, IsReady, place_of_id, first_status, meaning_in, state_after, state_with, statuses_after_replace}

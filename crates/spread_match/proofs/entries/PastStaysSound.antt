@@ -17,7 +17,7 @@ use Rattle.spread_rules.specs.declared.event.Event.{Event}
 use Rattle.spread_rules.specs.declared.event.Event.TheVariants.{Logon, New, Cancel, Replace, TestReply, Gap, Resend, Reject, Close}
 use Rattle.spread_rules.specs.declared.outcome.Outcome.{Outcome}
 use Rattle.spread_rules.specs.declared.outcome.Outcome.TheVariants.{Refused, Replaced}
-use Rattle.quoted_books.specs.Listed.{IsNearFirst, IsInMonths, IsNearBeforeFar}
+use Rattle.candidate_search.specs.Listed.{IsNearFirst, IsInMonths, IsNearBeforeFar}
 use Rattle.order_clearing.specs.Tradable.{IsTradable}
 use Rattle.market_state.specs.Trade.{IsPriced}
 use Rattle.order_statuses.specs.code.Statuses.{statuses_after}

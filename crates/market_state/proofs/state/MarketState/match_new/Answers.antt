@@ -10,7 +10,7 @@ use Rattle.spread_rules.specs.Candidates.{HasOrderPrice}
 use Rattle.spread_rules.specs.Clearing.{clear, removed, Trading}
 use Rattle.spread_rules.specs.Meaning.{EntryMeaning, clearing_means, has_id, order_of, outcome_of, resting}
 use Rattle.spread_rulebook.specs.Rulebook.{Rules, month_count, references_of, implied}
-use Rattle.quoted_books.specs.Listed.{IsNearFirst, IsInMonths}
+use Rattle.candidate_search.specs.Listed.{IsNearFirst, IsInMonths}
 use Rattle.market_state.specs.State.{MarketState}
 use Rattle.order_clearing.specs.Tradable.{IsTradable}
 use Rattle.market_state.specs.code.StateAfter.{entered_status, matched_in, state_with, trading_in, with_order}

@@ -1,9 +1,9 @@
 use Rattle.std.proofs.Common.{sym, subst, ◌∙◌}
 use Rattle.spread_rulebook.specs.Rulebook.{implied}
-use Rattle.quoted_books.specs.code.QuoteTable.{IsOneWay}
-use Rattle.quoted_books.specs.declared.quote_table.Change.{Change}
-use Rattle.quoted_books.proofs.quotes.Tables.{come_one, left_one, come_kept, left_kept, none_left, none_came, all_kept}
-use Rattle.quoted_books.proofs.quotes.CostRows.{kept_costs}
+use Rattle.quote_tables.specs.code.QuoteTable.{IsOneWay}
+use Rattle.quote_tables.specs.declared.quote_table.Change.{Change}
+use Rattle.quote_tables.proofs.quotes.Tables.{come_one, left_one, come_kept, left_kept, none_left, none_came, all_kept}
+use Rattle.quote_tables.proofs.quotes.CostRows.{kept_costs}
 use Rattle.quoted_books.proofs.kept_quotes.Quotes.renew_for.Goals as goal
 
 pub returns-then-not-is_as_good-clause-came : goal.returns-then-not-is_as_good-clause-came

@@ -1,6 +1,6 @@
 use Rattle.std.proofs.Common.{subst}
 use Rattle.order_books.specs.Queues.{IsFront}
-use Rattle.quoted_books.specs.BookView.{BookView}
+use Rattle.candidate_search.specs.BookView.{BookView}
 use Rattle.quoted_books.proofs.quoted_book.QuotedBookBook.front.Goals as goal
 
 pub returns : goal.returns

@@ -2,8 +2,8 @@ use Rattle.std.proofs.Common.{List, refl, sym, subst}
 use Rattle.spread_rules.specs.declared.order.Order.{Order}
 use Rattle.order_tables.proofs.places.ChangedAt.{less}
 use Rattle.spread_rulebook.specs.Rulebook.{implied}
-use Rattle.quoted_books.specs.code.QuoteTable.{KeepsQuotes}
-use Rattle.quoted_books.proofs.quotes.Tables.{changed_table}
+use Rattle.quote_tables.specs.code.QuoteTable.{KeepsQuotes}
+use Rattle.quote_tables.proofs.quotes.Tables.{changed_table}
 use Rattle.quoted_books.proofs.quoted_book.QuotedBookBook.reduce.Goals as goal
 
 pub invariant_of-self : goal.invariant_of-self

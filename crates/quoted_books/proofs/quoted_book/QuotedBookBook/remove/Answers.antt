@@ -6,10 +6,10 @@ use Rattle.order_tables.specs.Places.{HasPlace}
 use Rattle.order_books.proofs.fronts.TableHoldsFronts.{rests_at, not_nobody}
 use Rattle.spread_rulebook.specs.Rulebook.{implied}
 use Rattle.std.proofs.lemmas.List.Elements.{All-contains}
-use Rattle.quoted_books.specs.Listed.{IsInMonths}
-use Rattle.quoted_books.specs.BookView.{BookView}
-use Rattle.quoted_books.specs.code.QuoteTable.{HasLeft}
-use Rattle.quoted_books.proofs.quotes.Tables.{removed_all, left_table}
+use Rattle.candidate_search.specs.Listed.{IsInMonths}
+use Rattle.candidate_search.specs.BookView.{BookView}
+use Rattle.quote_tables.specs.code.QuoteTable.{HasLeft}
+use Rattle.quote_tables.proofs.quotes.Tables.{removed_all, left_table}
 use Rattle.quoted_books.proofs.quoted_book.QuotedBookBook.remove.Goals as goal
 
 pub renew_for-requires : goal.renew_for-requires

@@ -8,7 +8,7 @@ use Rattle.spread_rules.specs.Legs.{other_side}
 use Rattle.order_books.specs.Pairs.{spread_of, spread_side}
 use Rattle.spread_books.specs.code.PairQuote.{IsQuoteOfFronts}
 use Rattle.spread_books.proofs.quotes.Implied.{no_quote, outright_quote, quote_on}
-use Rattle.quoted_books.proofs.fronts.MonthPairs.{month_takes_part}
+use Rattle.candidate_search.proofs.fronts.MonthPairs.{month_takes_part}
 use Rattle.spread_books.proofs.index.IndexBook.quote_outright.Goals as goal
 
 pub returns-in_default : goal.returns-in_default

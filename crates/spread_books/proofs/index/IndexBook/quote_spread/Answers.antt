@@ -4,7 +4,7 @@ use Rattle.spread_rulebook.specs.declared.instrument.Instrument.TheVariants.{Out
 use Rattle.spread_rules.specs.Candidates.{all_on}
 use Rattle.spread_rules.specs.Legs.{other_side}
 use Rattle.spread_rulebook.specs.Rulebook.{Rules, implied}
-use Rattle.quoted_books.specs.BookView.{BookView}
+use Rattle.candidate_search.specs.BookView.{BookView}
 use Rattle.spread_books.specs.code.PairQuote.{IsQuoteOfFronts}
 use Rattle.spread_books.proofs.quotes.Implied.{spread_quote, quote_on}
 use Rattle.spread_books.proofs.index.IndexBook.quote_spread.Goals as goal

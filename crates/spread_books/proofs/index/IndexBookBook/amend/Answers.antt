@@ -7,7 +7,7 @@ use Rattle.order_tables.proofs.places.Ascending.{ascends_changed}
 use Rattle.order_books.specs.Queues.{CanAmend}
 use Rattle.order_books.proofs.ranks.TablesThroughChanges.{from_both}
 use Rattle.order_books.proofs.places.LastOrder.{changed_newest, changed_before, amend_before}
-use Rattle.quoted_books.specs.BookView.{BookView}
+use Rattle.candidate_search.specs.BookView.{BookView}
 use Rattle.spread_books.proofs.index.IndexBookBook.amend.Goals as goal
 
 pub returns-in-Some-clause-ok : goal.returns-in-Some-clause-ok

@@ -3,7 +3,7 @@ use Rattle.std.specs.List.{find}
 use Rattle.std.specs.Option.{option_to_list}
 use Rattle.spread_rules.specs.declared.order.Order.{Order}
 use Rattle.order_books.proofs.places.LastOrder.{found_before, found_newest}
-use Rattle.quoted_books.specs.BookView.{BookView}
+use Rattle.candidate_search.specs.BookView.{BookView}
 use Rattle.spread_books.proofs.index.IndexBookBook.at.Goals as goal
 
 pub returns-in-None : goal.returns-in-None

@@ -5,7 +5,7 @@ use Rattle.spread_rules.specs.declared.order.Order.{Order}
 use Rattle.spread_rules.specs.declared.order.Level.{Level}
 use Rattle.order_books.specs.Queues.{IsFrontLevel}
 use Rattle.order_books.proofs.fronts.Changes.{level_of_no_queue}
-use Rattle.quoted_books.specs.BookView.{BookView}
+use Rattle.candidate_search.specs.BookView.{BookView}
 use Rattle.spread_books.proofs.index.IndexBookBook.front_level.Goals as goal
 
 pub returns-then-is_in : goal.returns-then-is_in

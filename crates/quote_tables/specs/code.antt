@@ -1,0 +1,3 @@
+pub mod FrontCosts
+pub mod QuoteTable
+pub mod PairsOn

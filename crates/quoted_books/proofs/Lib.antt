@@ -1,2 +1,0 @@
-pub mod fronts
-pub mod quotes
