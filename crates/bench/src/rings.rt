@@ -229,6 +229,7 @@ fn send_and_take<R: Threads + Sync>(
     streams: &[Vec<u8>],
     at_once: AtOnce,
 ) {
+    // Each thread reads a copy of its own.
     let (sent, taken) = (at_once, at_once);
     join_mut(
         rt,

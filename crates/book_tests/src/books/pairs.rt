@@ -2,14 +2,16 @@
 ghost use Rattle.std.specs.Prelude.{◌≡◌, true, Some, All, slice_get};
 ghost use Rattle.spread_rules.specs.declared.order.Order.{Order};
 ghost use Rattle.spread_rules.specs.Candidates.{HasOrderPrice};
+ghost use Rattle.candidate_search.specs.Listed.{IsInMonths};
 
 use super::checked::{add, remove};
 use crate::expect::holds;
-use candidate_search::{MonthPairs, cheapest_pair, is_pair_on, spreads_with};
+use candidate_search::{MonthPairs, cheapest_pair, front_cost, is_pair_on, spreads_with};
 use host_base::NoMemory;
 use host_base::limits::MAX_PRICE;
+use quote_tables::{Change, FrontCosts, QuoteTable, is_all_on};
 use quoted_books::QuotedBook;
-use spread_books::{Book, PairCost};
+use spread_books::{Book, ListBook, PairCost};
 use spread_rules::Side::{Buy, Sell};
 use spread_rules::{Instrument, Order, Rulebook, Side};
 use std::alloc::Global;
@@ -100,6 +102,63 @@ fn cheapest_of_two_months(rt: HostRuntime) {
     let rules = Rulebook::read(THREE_MONTHS).expect(&rt, "a rulebook");
     let mut book = QuotedBook::new(rt.alloc(), &rules).expect(&rt, "memory");
     expect_cheapest(&rt, &mut book);
+}
+
+/// Whether it is an instrument of so many months.
+fn is_in_months(months: u8, instrument: Instrument) -> bool
+    ensures { result ≡ true → IsInMonths months instrument }
+{
+    match instrument {
+        Instrument::Outright(month) => month < months,
+        Instrument::Spread(_, far) => far < months,
+    }
+}
+
+/// What fronts of three months cost, and their cheapest pairs.
+#[derive(Drop)]
+struct Tables {
+    fronts: FrontCosts<Global>,
+    cheapest: QuoteTable<Global>,
+}
+
+/// The order comes to the book, and both tables are told.
+fn come(
+    rt: &impl Abort,
+    rules: &Rulebook,
+    book: &mut ListBook<Global>,
+    tables: &mut Tables,
+    order: Order,
+) {
+    let pairs = MonthPairs { rules, months: 3 };
+    holds(rt, add(book, order).is_ok());
+    holds(rt, are_priced(book) && is_in_months(3, order.instrument));
+    tables.fronts.note(book, &pairs, &order);
+    tables
+        .cheapest
+        .renew(&tables.fronts, 3, &order, Change::Came);
+}
+
+// Who buys the first month by way of the second pays 100 for the spread and 9900 for the second.
+#[test]
+fn costs_of_fronts_and_their_cheapest_pair(rt: HostRuntime) {
+    let rules = Rulebook::read(THREE_MONTHS).expect(&rt, "a rulebook");
+    let mut book = ListBook::new(rt.alloc());
+    let mut tables = Tables {
+        fronts: FrontCosts::new(rt.alloc(), 3).expect(&rt, "memory"),
+        cheapest: QuoteTable::new(rt.alloc(), 3).expect(&rt, "memory"),
+    };
+    let spread = sell(1, Instrument::Spread(0, 1), 100);
+    come(&rt, &rules, &mut book, &mut tables, spread);
+    let second = sell(2, Instrument::Outright(1), 9900);
+    come(&rt, &rules, &mut book, &mut tables, second);
+    holds(&rt, are_priced(&book));
+    let cost = front_cost(&book, Instrument::Outright(1), Sell);
+    holds(&rt, cost == Some(9900));
+    holds(&rt, tables.fronts.spread_cell(Buy, 0, 1) == 100);
+    holds(&rt, tables.fronts.outright_cell(Buy, 1) == 9900);
+    let pair = tables.cheapest.known_pair(Buy, 0).expect(&rt, "a month");
+    holds(&rt, is_pair(pair, 10000, 1));
+    holds(&rt, is_all_on(&rules));
 }
 
 fn is_queue(side: Side, month: u8, other_month: u8, instrument: Instrument, of: Side) -> bool {

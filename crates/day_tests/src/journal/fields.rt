@@ -4,7 +4,7 @@ use journal_parts::{
     LATEST_VERSION, Stage, Version, id_field, may_follow, number_field, read_id, read_number,
     read_price, read_time_in_force, side_field, stage_after, version_field,
 };
-use spread_rules::{Event, Side};
+use spread_rules::{Event, Side, Ticket};
 use test_support::id;
 
 #[test]
@@ -69,11 +69,20 @@ fn a_session_runs_from_its_logon_to_its_close(rt: HostRuntime) {
 
 #[test]
 fn the_first_version_has_no_word_for_a_replace(rt: HostRuntime) {
-    let cancel = Event::Cancel {
-        id: id(b"c"),
+    let replace = Event::Replace {
         original: id(b"a"),
+        ticket: Ticket {
+            id: id(b"b"),
+            symbol: id(b"H6"),
+            side: Side::Buy,
+            quantity: 5,
+            price: 10_000,
+            immediate: false,
+        },
     };
-    holds(&rt, Version::First.knows(&cancel));
+    holds(&rt, !Version::First.knows(&replace));
+    holds(&rt, Version::Latest.knows(&replace));
+    holds(&rt, Version::First.knows(&Event::Close { reason: 1 }));
     holds(&rt, LATEST_VERSION == 2);
     holds(
         &rt,
