@@ -5,16 +5,24 @@ use spread_rules::{Instrument, Rulebook};
 use std::alloc::{AllocError, Allocator};
 use std::fmt::Display;
 
+/// What stands for a byte that may not stand for itself: its name, or a mark where it is no sign of ASCII.
+fn escaped(byte: u8) -> Option<&'static str> {
+    match byte {
+        b'&' => Some("&amp;"),
+        b'<' => Some("&lt;"),
+        b'>' => Some("&gt;"),
+        b'"' => Some("&quot;"),
+        b' '..=b'~' => None,
+        _ => Some("&#xfffd;"),
+    }
+}
+
 /// Bytes as text: letters, digits and signs of ASCII, a mark in the place of any other.
 pub fn put_bytes<A: Allocator>(out: &mut String<A>, bytes: &[u8]) -> Result<(), AllocError> {
     for byte in bytes {
-        match *byte {
-            b'&' => out.push_str("&amp;")?,
-            b'<' => out.push_str("&lt;")?,
-            b'>' => out.push_str("&gt;")?,
-            b'"' => out.push_str("&quot;")?,
-            b' '..=b'~' => out.push(char::from(*byte))?,
-            _ => out.push_str("&#xfffd;")?,
+        match escaped(*byte) {
+            Some(text) => out.push_str(text)?,
+            None => out.push(char::from(*byte))?,
         }
     }
     Ok(())

@@ -7,7 +7,7 @@ use Rattle.gate_link.proofs.inboxes.OneMore.{snoc_cases}
 use Rattle.stage_rings.specs.declared.post.Poster.{Poster}
 use Rattle.stage_rings.specs.declared.post.Writer.{Writer}
 use Rattle.stage_rings.specs.Posting.{post_ended, ArePostPair, SamePoster, SameWriter}
-use Rattle.match_thread.specs.code.Posting.{NoneEnded, SamePosters}
+use Rattle.entry_posting.specs.code.Posting.{NoneEnded, SamePosters}
 use Rattle.session_threads.specs.code.Writing.{AreJoinedPairs, ArePostPairs, AreWriting, AreWritten}
 use Rattle.session_threads.specs.declared.writing.Written.{Written}
 use Rattle.session_threads.specs.declared.writing.WritePromise.{WritePromise}

@@ -4,7 +4,7 @@ ghost use Rattle.day_apply.specs.Sending.{sending_rules, stamp_of};
 ghost use Rattle.stage_rings.specs.Faults.{IsRingRefusal, IsRingSize};
 ghost use Rattle.day_stages.specs.Limits.{IsWithinLimits};
 ghost use Rattle.day_stages.specs.code.Making.{IsMade, IsStagesFault};
-ghost use Rattle.match_thread.specs.code.Posting.{NoneEnded, posted_at};
+ghost use Rattle.entry_posting.specs.code.Posting.{NoneEnded, posted_at};
 ghost use Rattle.session_threads.specs.code.Writing.{ArePostPairs};
 
 use crate::fault::{ThreadsFault, of_apply};

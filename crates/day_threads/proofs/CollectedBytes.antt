@@ -8,8 +8,8 @@ use Rattle.stage_rings.specs.Posting.{posted}
 use Rattle.day_apply.specs.Applied.{outgoing_bytes}
 use Rattle.day_apply.specs.Sending.{sending_rules, stamp_of}
 use Rattle.day_apply.proofs.HandedOn.{behind_at, behind_length}
-use Rattle.match_thread.specs.code.Posting.{HasPosted, posted_at}
-use Rattle.match_thread.specs.declared.posting.PostedEntries.{PostedEntries}
+use Rattle.entry_posting.specs.code.Posting.{HasPosted, posted_at}
+use Rattle.entry_posting.specs.declared.posting.PostedEntries.{PostedEntries}
 
 pub collected : {A : Type 0} (es : List Entry) (p : PostedEntries A) (out : ℕ → List ℕ) → HasPosted es p
     → ((s : ℕ) → s < length p.posters.items → out s ≡ posted_at p.posters.items s)

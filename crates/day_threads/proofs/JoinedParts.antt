@@ -31,8 +31,8 @@ use Rattle.match_thread.specs.code.Matching.{MatchEnds}
 use Rattle.day_stages.specs.declared.fault.ThreadsFault.{ThreadsFault}
 use Rattle.day_stages.specs.declared.fault.ThreadsFault.TheVariants as threads
 use Rattle.match_thread.specs.declared.matching.Matched.{Matched}
-use Rattle.match_thread.specs.declared.matching.MatchEnd.{MatchEnd}
-use Rattle.match_thread.specs.declared.matching.MatchEnd.TheVariants.{Fault}
+use Rattle.entry_posting.specs.declared.step.MatchEnd.{MatchEnd}
+use Rattle.entry_posting.specs.declared.step.MatchEnd.TheVariants.{Fault}
 use Rattle.day_apply.specs.Sending.{sending_rules}
 
 pub agrees_prefix : (b ended : Bool) (gave took : List Entry) → Agrees b ended gave took → IsPrefix took gave

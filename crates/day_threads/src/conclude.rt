@@ -4,8 +4,8 @@ ghost use Rattle.spread_report.specs.Sessions.{bytes_of};
 ghost use Rattle.day_apply.specs.Sending.{sending_rules, stamp_of};
 ghost use Rattle.day_threads.specs.Streams.{IsDayOfSessions, IsThreadsFault};
 ghost use Rattle.day_threads.specs.code.Concluding.{AreJoined, IsFaultOfEnds, IsWhole};
-ghost use Rattle.match_thread.specs.declared.matching.MatchEnd.TheVariants as matched_end;
-ghost use Rattle.match_thread.specs.code.Posting.{posted_at};
+ghost use Rattle.entry_posting.specs.declared.step.MatchEnd.TheVariants as matched_end;
+ghost use Rattle.entry_posting.specs.code.Posting.{posted_at};
 ghost use Rattle.session_threads.specs.declared.sequencing.SequenceEnd.TheVariants as sequence_end;
 ghost use Rattle.session_threads.specs.code.Writing.{AreJoinedPairs, written_at};
 

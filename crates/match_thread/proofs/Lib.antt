@@ -1,2 +1,1 @@
-pub mod Posters
 pub mod RingEnds

@@ -2,7 +2,6 @@
 #![tactic(auto)]
 
 mod matching;
-mod posting;
 
-pub use matching::{MatchEnd, MatchPromise, Matched, start_matching};
-pub use posting::PostedEntries;
+pub use entry_posting::{MatchEnd, PostedEntries};
+pub use matching::{MatchPromise, Matched, start_matching};

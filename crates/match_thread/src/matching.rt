@@ -1,34 +1,18 @@
 //! The matching thread: it takes the journal's entries from a ring, applies them, and gives what they send to the
 //! writers.
-ghost use Rattle.std.specs.Prelude.{◌≡◌, List, IfSome};
-ghost use Rattle.spread_rules.specs.declared.event.Entry.{Entry};
-ghost use Rattle.day_apply.specs.Sending.{sending_rules, stamp_of};
-ghost use Rattle.match_thread.specs.code.Matching.{HasMatched, IsUnfed, StepEnds};
-ghost use Rattle.match_thread.specs.code.Posting.{CanPost, HasPosted, SamePosters};
+ghost use Rattle.std.specs.Prelude.{◌≡◌, IfSome};
+ghost use Rattle.match_thread.specs.code.Matching.{HasMatched, IsUnfed};
 
-use crate::posting::{PostedEntries, end_each, post_each};
-use day_apply::ApplyFault;
+use entry_posting::{MatchEnd, PostedEntries, end_each, match_one};
 use sequencer_turns::{found, rest};
 use session_threads::Gate;
-use spread_rules::Entry;
-use stage_rings::{Matcher, Taken, fits_entry};
+use stage_rings::{Matcher, Taken};
 use std::alloc::Allocator;
 use std::snapshot::Snapshot;
 use std::sync::Wait;
 use std::sync::atomic::{AtomicBool, Ordering};
 use std::thread;
 use std::thread::{Promise, PromisedHandle, Scope, Threads};
-
-/// How the matching thread ended.
-#[derive(Clone, Copy, PartialEq, Eq, Debug)]
-pub enum MatchEnd {
-    /// The end mark was taken, and every entry applied and given to the writers.
-    Whole,
-    /// The flag was set, or an entry was none that a session sends.
-    Stopped,
-    /// The last entry that was taken could not be applied.
-    Fault(ApplyFault),
-}
 
 /// What the matching thread hands back.
 #[derive(Drop)]
@@ -49,34 +33,6 @@ pub struct MatchPromise<'r, A: Allocator + Copy> {
 
 impl<'r, A: Allocator + Copy> Promise<Matched<'r, A>> for MatchPromise<'r, A> {
     ghost kept_by = { λ p r. HasMatched p.matcher.value p.posted.value r };
-}
-
-/// Applies one entry, where it is one that a session sends, and gives each session's bytes to its writer.
-fn match_one<R: Wait, A: Allocator + Copy>(
-    rt: &R,
-    stop: &AtomicBool,
-    posted: &mut PostedEntries<'_, A>,
-    entry: &Entry,
-) -> MatchEnd
-    requires posted { (entries : List Entry) × HasPosted entries posted.old }
-    requires rings { CanPost posted.old }
-    ensures rings { CanPost posted.new }
-    ensures writers { SamePosters posted.old.posters.items posted.new.posters.items }
-    ensures rules { sending_rules posted.new.reported ≡ sending_rules posted.old.reported }
-    ensures stamp { stamp_of posted.new.reported ≡ stamp_of posted.old.reported }
-    ensures step { StepEnds result entry.now posted.old posted.new }
-{
-    if !fits_entry(entry) || posted.reported.count() == u64::MAX {
-        return MatchEnd::Stopped;
-    }
-    let PostedEntries { reported, posters } = posted;
-    if let Err(fault) = reported.apply(entry) {
-        return MatchEnd::Fault(fault);
-    }
-    if !post_each(rt, stop, reported, posters.as_mut_slice()) {
-        return MatchEnd::Stopped;
-    }
-    MatchEnd::Whole
 }
 
 /// Applies the entries as they come, and gives what each of them sends to the writers before it takes the next, until

@@ -16,13 +16,13 @@ use Rattle.session_threads.specs.declared.writing.Written.{Written}
 use Rattle.day_apply.specs.declared.fault.ApplyFault.TheVariants as apply
 use Rattle.day_stages.specs.code.Making.{IsMade}
 use Rattle.match_thread.specs.code.Matching.{MatchEnds}
-use Rattle.match_thread.specs.code.Posting.{HasPosted, posted_at}
+use Rattle.entry_posting.specs.code.Posting.{HasPosted, posted_at}
 use Rattle.day_stages.specs.declared.fault.ThreadsFault.{ThreadsFault}
 use Rattle.day_stages.specs.declared.fault.ThreadsFault.TheVariants.{Link, Spawn, JournalFull, NoMemory, NumbersSpent}
 use Rattle.match_thread.specs.declared.matching.Matched.{Matched}
-use Rattle.match_thread.specs.declared.matching.MatchEnd.{MatchEnd}
-use Rattle.match_thread.specs.declared.matching.MatchEnd.TheVariants.{Fault}
-use Rattle.match_thread.specs.declared.posting.PostedEntries.{PostedEntries}
+use Rattle.entry_posting.specs.declared.step.MatchEnd.{MatchEnd}
+use Rattle.entry_posting.specs.declared.step.MatchEnd.TheVariants.{Fault}
+use Rattle.entry_posting.specs.declared.posting.PostedEntries.{PostedEntries}
 use Rattle.day_stages.specs.declared.stages.Stages.{Stages}
 
 -- the stages of a day that has not begun, one for each of these streams

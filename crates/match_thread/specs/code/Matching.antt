@@ -1,16 +1,16 @@
 -- What the matching thread is given, and what it hands back.
 -- Words of the code alone.
-use Rattle.std.specs.Prelude.{◌≡◌, ◌≤◌, false, List, [], ◌∷◌, ◌++◌, length}
+use Rattle.std.specs.Prelude.{◌≡◌, ◌≤◌, false, List, [], length}
 use Rattle.spread_rules.specs.declared.event.Entry.{Entry}
 use Rattle.stage_rings.specs.Feeding.{taken, take_ended, SameMatcher}
 use Rattle.stage_rings.specs.declared.feed.Matcher.{Matcher}
 use Rattle.day_apply.specs.Applied.{IsApplyFault}
 use Rattle.day_apply.specs.Sending.{sending_rules, stamp_of}
-use Rattle.match_thread.specs.code.Posting.{CanPost, HasPosted, SamePosters}
+use Rattle.entry_posting.specs.code.Posting.{CanPost, HasPosted, SamePosters}
 use Rattle.match_thread.specs.declared.matching.Matched.{Matched}
-use Rattle.match_thread.specs.declared.matching.MatchEnd.{MatchEnd}
-use Rattle.match_thread.specs.declared.matching.MatchEnd.TheVariants.{Whole, Stopped, Fault}
-use Rattle.match_thread.specs.declared.posting.PostedEntries.{PostedEntries}
+use Rattle.entry_posting.specs.declared.step.MatchEnd.{MatchEnd}
+use Rattle.entry_posting.specs.declared.step.MatchEnd.TheVariants.{Whole, Stopped, Fault}
+use Rattle.entry_posting.specs.declared.posting.PostedEntries.{PostedEntries}
 
 -- nothing was taken, applied or given
 pub record IsUnfed {A : Type 0} (m : Matcher A) (p : PostedEntries A) : Type 0 where
@@ -18,13 +18,6 @@ pub record IsUnfed {A : Type 0} (m : Matcher A) (p : PostedEntries A) : Type 0 w
   pub not_over : take_ended m ≡ false
   pub posted_none : HasPosted [] p
   pub rings : CanPost p
-
--- what became of entry e behind others, by how it ended: all that they send was given
-abbrev pub StepEnds : {A : Type 0} → MatchEnd → Entry → PostedEntries A → PostedEntries A → Type 0
-StepEnds Whole e a b = (es : List Entry) → HasPosted es a → HasPosted (es ++ e ∷ []) b
-StepEnds Stopped e a b = Unit {0}
-StepEnds (Fault f) e a b =
-    (es : List Entry) → HasPosted es a → IsApplyFault (sending_rules a.reported) (es ++ e ∷ []) f
 
 -- what the entries that were taken came to, by how it ended
 abbrev pub MatchEnds : {A : Type 0} → MatchEnd → List Entry → PostedEntries A → Type 0

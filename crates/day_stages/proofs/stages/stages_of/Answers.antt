@@ -1,6 +1,6 @@
 use Rattle.std.proofs.Common.{arith}
-use Rattle.match_thread.specs.declared.posting.PostedEntries.{PostedEntries}
-use Rattle.match_thread.proofs.RingEnds.{posted_none}
+use Rattle.entry_posting.specs.declared.posting.PostedEntries.{PostedEntries}
+use Rattle.entry_posting.proofs.OneEntryMore.{posted_none}
 use Rattle.day_stages.proofs.stages.stages_of.Goals as goal
 
 pub returns-clause-ready : goal.returns-clause-ready

@@ -1,6 +1,6 @@
 use Rattle.std.proofs.Common.{◌≡◌, ◌≤◌, ◌<◌, ℕ, get_or}
 use Rattle.stage_rings.specs.declared.post.Poster.{Poster}
-use Rattle.match_thread.specs.code.Posting.{posted_at}
+use Rattle.entry_posting.specs.code.Posting.{posted_at}
 use Rattle.session_threads.specs.code.Writing.{written_at}
 use Rattle.session_threads.specs.declared.writing.Written.{Written}
 use Rattle.day_threads.proofs.conclude.all_finished.Given as goal

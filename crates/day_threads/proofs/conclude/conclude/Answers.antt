@@ -12,7 +12,7 @@ use Rattle.session_threads.specs.code.Writing.{written_at}
 use Rattle.session_threads.specs.declared.writing.Written.{Written}
 use Rattle.day_threads.specs.Streams.{IsDayOfSessions}
 use Rattle.day_threads.specs.code.Concluding.{IsWhole}
-use Rattle.match_thread.specs.code.Posting.{posted_at}
+use Rattle.entry_posting.specs.code.Posting.{posted_at}
 use Rattle.day_stages.specs.declared.fault.ThreadsFault.{ThreadsFault}
 use Rattle.day_threads.proofs.CollectedBytes.{collected}
 use Rattle.day_threads.proofs.conclude.conclude.Goals as goal

@@ -10,8 +10,8 @@ use Rattle.session_threads.specs.code.Sequencing.{SequenceEnds}
 use Rattle.session_threads.specs.declared.sequencing.SequenceEnd.{SequenceEnd}
 use Rattle.day_stages.specs.declared.fault.ThreadsFault.{ThreadsFault}
 use Rattle.match_thread.specs.code.Matching.{MatchEnds}
-use Rattle.match_thread.specs.code.Posting.{HasPosted, posted_at}
-use Rattle.match_thread.specs.declared.matching.MatchEnd.{MatchEnd}
+use Rattle.entry_posting.specs.code.Posting.{HasPosted, posted_at}
+use Rattle.entry_posting.specs.declared.step.MatchEnd.{MatchEnd}
 use Rattle.day_threads.proofs.JoinedParts.{agrees_prefix, agrees_whole, parts_of_front, fault_of_day}
 use Rattle.day_threads.proofs.conclude.fault_of.Goals as goal
 use Rattle.day_threads.proofs.conclude.fault_of.Goals.{After-agree-agreed, After-saturating_add-place}

@@ -3,10 +3,10 @@ use Rattle.std.proofs.lemmas.Bool.Decides.{nat_tests}
 use Rattle.std.proofs.lemmas.List.{length-set}
 use Rattle.spread_report.specs.Sessions.{session_text}
 use Rattle.stage_rings.specs.Posting.{posted}
-use Rattle.match_thread.specs.code.Posting.{NoneEnded, SamePosters, posted_at}
-use Rattle.match_thread.proofs.Posters.{same_set, open_set, open_at, moved_set, empty_set}
-use Rattle.match_thread.proofs.posting.post_each.Goals as goal
-use Rattle.match_thread.proofs.posting.post_each.Goals.{After-post_all}
+use Rattle.entry_posting.specs.code.Posting.{NoneEnded, SamePosters, posted_at}
+use Rattle.entry_posting.proofs.Posters.{same_set, open_set, open_at, moved_set, empty_set}
+use Rattle.entry_posting.proofs.posting.post_each.Goals as goal
+use Rattle.entry_posting.proofs.posting.post_each.Goals.{After-post_all}
 
 below_or_not : (P : ℕ → Type 0) (m n s : ℕ) (b : Bool) → nat_lt s m ≡ b → ((k : ℕ) → k < m → P k) → ((k : ℕ) → m ≤ k → k < n → P k) → s < n → P s
 below_or_not P m n s true e low high lt = low s (grind (arith, nat_tests))

@@ -3,11 +3,11 @@ use Rattle.std.proofs.lemmas.List.{with_items_is}
 use Rattle.std.specs.Vec.{with_items}
 use Rattle.stage_rings.specs.declared.post.Poster.{Poster}
 use Rattle.day_apply.proofs.HandedOn.{behind_length}
-use Rattle.match_thread.specs.code.Posting.{NoneEnded, SamePosters, posted_at}
-use Rattle.match_thread.specs.declared.posting.PostedEntries.{PostedEntries}
-use Rattle.match_thread.proofs.RingEnds.{posted_more}
-use Rattle.match_thread.proofs.matching.match_one.Goals as goal
-use Rattle.match_thread.proofs.matching.match_one.Goals.{After-post_each}
+use Rattle.entry_posting.specs.code.Posting.{NoneEnded, SamePosters, posted_at}
+use Rattle.entry_posting.specs.declared.posting.PostedEntries.{PostedEntries}
+use Rattle.entry_posting.proofs.OneEntryMore.{posted_more}
+use Rattle.entry_posting.proofs.step.match_one.Goals as goal
+use Rattle.entry_posting.proofs.step.match_one.Goals.{After-post_each}
 
 -- the posters after those that were reached were given their lists
 posters : (g : _) (c : After-post_each g) → (with_items c.args.posted.now.posters c.post_each.new.posters).items ≡ c.post_each.new.posters

@@ -1,14 +1,17 @@
--- What the matching thread gives the sessions' writers.
+-- What the entries that were applied give the sessions' writers.
 -- Words of the code alone.
-use Rattle.std.specs.Prelude.{◌≡◌, ℕ, ◌<◌, ◌≤◌, Bool, true, false, map, List, [], ◌++◌, length, slice_index_or}
+use Rattle.std.specs.Prelude.{◌≡◌, ℕ, ◌<◌, ◌≤◌, Bool, true, false, map, List, [], ◌∷◌, ◌++◌, length, slice_index_or}
 use Rattle.host_base.specs.declared.limits.TheConstants.{SESSIONS}
 use Rattle.spread_rules.specs.declared.event.Entry.{Entry}
 use Rattle.spread_report.specs.Sessions.{session_text}
 use Rattle.gate_link.specs.Rows.{row}
 use Rattle.stage_rings.specs.Posting.{posted, post_ended, SamePoster}
 use Rattle.stage_rings.specs.declared.post.Poster.{Poster}
-use Rattle.day_apply.specs.Sending.{HasReportedBehind}
-use Rattle.match_thread.specs.declared.posting.PostedEntries.{PostedEntries}
+use Rattle.day_apply.specs.Applied.{IsApplyFault}
+use Rattle.day_apply.specs.Sending.{HasReportedBehind, sending_rules}
+use Rattle.entry_posting.specs.declared.posting.PostedEntries.{PostedEntries}
+use Rattle.entry_posting.specs.declared.step.MatchEnd.{MatchEnd}
+use Rattle.entry_posting.specs.declared.step.MatchEnd.TheVariants.{Whole, Stopped, Fault}
 
 -- what was given to writer s
 abbrev pub posted_at : {A : Type 0} → List (Poster A) → ℕ → List ℕ
@@ -46,3 +49,10 @@ pub record HasPosted {A : Type 0} (entries : List Entry) (p : PostedEntries A) :
 pub record CanPost {A : Type 0} (p : PostedEntries A) : Type 0 where
   pub open_ : NoneEnded p.posters.items
   pub few : length p.posters.items ≤ SESSIONS
+
+-- what became of entry e behind others, by how it ended: all that they send was given
+abbrev pub StepEnds : {A : Type 0} → MatchEnd → Entry → PostedEntries A → PostedEntries A → Type 0
+StepEnds Whole e a b = (es : List Entry) → HasPosted es a → HasPosted (es ++ e ∷ []) b
+StepEnds Stopped e a b = Unit {0}
+StepEnds (Fault f) e a b =
+    (es : List Entry) → HasPosted es a → IsApplyFault (sending_rules a.reported) (es ++ e ∷ []) f

@@ -1,6 +1,6 @@
 use Rattle.std.proofs.Common.{◌≡◌, ◌≤◌, ◌++◌, false, take, length}
 use Rattle.stage_rings.specs.Posting.{posted, post_ended, SamePoster}
-use Rattle.match_thread.proofs.posting.post_all.Given as goal
+use Rattle.entry_posting.proofs.posting.post_all.Given as goal
 
 abbrev pub invariant-loop : goal.invariant-loop
 invariant-loop g l = record {

@@ -1,7 +1,7 @@
 //! What the matching thread gives the sessions' writers: each entry's bytes before the next entry.
 ghost use Rattle.std.specs.Prelude.{◌≡◌, ◌≤◌, ◌<◌, ◌++◌, ℕ, length, true, false};
 ghost use Rattle.stage_rings.specs.Posting.{posted, post_ended, SamePoster};
-ghost use Rattle.match_thread.specs.code.Posting.{HasMoved, NoneEnded, SamePosters, posted_at};
+ghost use Rattle.entry_posting.specs.code.Posting.{HasMoved, NoneEnded, SamePosters, posted_at};
 
 use day_apply::ReportedEntries;
 use gate_link::{Post, Poster};

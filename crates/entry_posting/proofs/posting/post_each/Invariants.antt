@@ -1,7 +1,7 @@
 use Rattle.std.proofs.Common.{◌≡◌, ◌<◌, ◌-◌, ◌++◌, ℕ, [], length}
 use Rattle.spread_report.specs.Sessions.{session_text}
-use Rattle.match_thread.specs.code.Posting.{posted_at, NoneEnded, SamePosters}
-use Rattle.match_thread.proofs.posting.post_each.Given as goal
+use Rattle.entry_posting.specs.code.Posting.{posted_at, NoneEnded, SamePosters}
+use Rattle.entry_posting.proofs.posting.post_each.Given as goal
 
 abbrev pub invariant-loop-s : goal.invariant-loop-s
 invariant-loop-s g l = record {

@@ -1,8 +1,8 @@
 use Rattle.std.proofs.Common.{arith, take, drop, length, ◌≤◌, ◌-◌}
 use Rattle.std.proofs.lemmas.List.{length-take, length-drop}
 use Rattle.stage_rings.specs.Posting.{posted}
-use Rattle.match_thread.proofs.Posters.{same_poster_trans, pieces_join, tail_is}
-use Rattle.match_thread.proofs.posting.post_all.Goals as goal
+use Rattle.entry_posting.proofs.Posters.{same_poster_trans, pieces_join, tail_is}
+use Rattle.entry_posting.proofs.posting.post_all.Goals as goal
 
 pub loop-preserved-in-Posted : goal.loop-preserved-in-Posted
 loop-preserved-in-Posted g c =

@@ -1,6 +1,6 @@
 use Rattle.std.proofs.Common.{◌≡◌, ℕ}
-use Rattle.match_thread.specs.code.Posting.{posted_at, SamePosters}
-use Rattle.match_thread.proofs.posting.end_each.Given as goal
+use Rattle.entry_posting.specs.code.Posting.{posted_at, SamePosters}
+use Rattle.entry_posting.proofs.posting.end_each.Given as goal
 
 abbrev pub invariant-loop-s : goal.invariant-loop-s
 invariant-loop-s g l = record {

@@ -1,10 +1,10 @@
 use Rattle.std.proofs.Common.{◌≡◌, ◌∙◌, sym, ◌<◌, ℕ, length, arith, slice_set}
 use Rattle.stage_rings.specs.Posting.{posted}
 use Rattle.gate_link.proofs.links.PartOfASession.{row_at, row_kept}
-use Rattle.match_thread.specs.code.Posting.{posted_at, SamePosters}
-use Rattle.match_thread.proofs.Posters.{same_set}
-use Rattle.match_thread.proofs.posting.end_each.Goals as goal
-use Rattle.match_thread.proofs.posting.end_each.Goals.{After-end_one}
+use Rattle.entry_posting.specs.code.Posting.{posted_at, SamePosters}
+use Rattle.entry_posting.proofs.Posters.{same_set}
+use Rattle.entry_posting.proofs.posting.end_each.Goals as goal
+use Rattle.entry_posting.proofs.posting.end_each.Goals.{After-end_one}
 
 here : (g : _) (c : After-end_one g) → c.loop-s.s < length c.loop-s.posters
 here g c = omega (arith, c.loop-s-test.true, c.loop-s.auto.posters)

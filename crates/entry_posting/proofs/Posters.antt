@@ -9,7 +9,7 @@ use Rattle.stage_rings.specs.declared.post.Poster.{Poster}
 use Rattle.stage_rings.specs.Posting.{posted, post_ended, SamePoster}
 use Rattle.gate_link.proofs.links.PartOfASession.{row_at, row_same, row_other}
 use Rattle.spread_report.specs.Sessions.{session_text}
-use Rattle.match_thread.specs.code.Posting.{posted_at, NoneEnded, SamePosters}
+use Rattle.entry_posting.specs.code.Posting.{posted_at, NoneEnded, SamePosters}
 
 pub same_poster_trans : {A : Type 0} (a b d : Poster A) → SamePoster a b → SamePoster b d → SamePoster a d
 same_poster_trans a b d p q = ((q.0.0 ∙ p.0.0, q.0.1 ∙ p.0.1, q.0.2 ∙ p.0.2, q.0.3 ∙ p.0.3), q.1 ∙ p.1)

@@ -1,0 +1,2 @@
+pub mod Posters
+pub mod OneEntryMore
