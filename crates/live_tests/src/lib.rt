@@ -1,4 +1,5 @@
-//! Tests of the days in threads: `run_day` over real threads and rings.
+//! Tests of the rings and gateways, `stage_rings` and `gate_link`, and of the days in threads: `run_day` over real
+//! threads and rings.
 #![tactic(auto)]
 
 #[cfg(test)]
@@ -7,6 +8,8 @@ mod days;
 mod expect;
 #[cfg(test)]
 mod headline;
+#[cfg(test)]
+mod link;
 #[cfg(test)]
 mod no_memory;
 #[cfg(test)]

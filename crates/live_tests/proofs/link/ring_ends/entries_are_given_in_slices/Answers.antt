@@ -2,7 +2,7 @@ use Rattle.std.proofs.Common.{◌≡◌, List, [], ◌++◌, ap}
 use mathlib.Core.List.{IsPrefix}
 use Rattle.spread_rules.specs.declared.event.Entry.{Entry}
 use Rattle.stage_rings.specs.Feeding.{given}
-use Rattle.link_tests.proofs.link.ring_ends.entries_are_given_in_slices.Goals as goal
+use Rattle.live_tests.proofs.link.ring_ends.entries_are_given_in_slices.Goals as goal
 
 -- nothing is a beginning of every journal
 from_nothing : (none journal : List Entry) → none ≡ [] → IsPrefix none journal
