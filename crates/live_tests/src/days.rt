@@ -3,13 +3,14 @@ ghost use Rattle.day_text.specs.DayText.{AreShown};
 
 use crate::expect::holds;
 use crate::headline::day_of_streams;
+use crate::said::{logon, order};
 use crate::watch::{Meeting, Point, Watch};
 use day_text::{Day, put_months};
 use day_threads::{Caps, DayRules, Gate, run_sessions};
 use fix_wire::{Field, Head, Value, msg_types, tags, write_message};
 use gate_link::LinkFault;
 use spread_host::{HostFault, run_day};
-use spread_rules::{Entry, Event, Rulebook, Side, Ticket};
+use spread_rules::{Entry, Event, Rulebook, Side};
 use std::alloc::{AllocError, Allocator, Global};
 use std::process::Abort;
 use std::sync::Wait;
@@ -47,25 +48,6 @@ pub fn streams_of<A: Allocator + Copy>(
 }
 
 // ---- what is expected
-
-fn logon() -> Event {
-    Event::Logon {
-        client: id(b"C1"),
-        host: id(b"HOST"),
-        beat: 30,
-    }
-}
-
-fn order(text: &[u8], side: Side) -> Event {
-    Event::New(Ticket {
-        id: id(text),
-        symbol: id(b"H6"),
-        side,
-        quantity: 5,
-        price: 10_000,
-        immediate: false,
-    })
-}
 
 /// The events of the first trade's stream.
 fn first_trade() -> [Event; 4] {

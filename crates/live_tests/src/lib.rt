@@ -15,4 +15,6 @@ mod no_memory;
 #[cfg(test)]
 mod pieces;
 #[cfg(test)]
+mod said;
+#[cfg(test)]
 mod watch;

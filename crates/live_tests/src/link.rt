@@ -1,8 +1,8 @@
 //! Worked rows: gateways, rings of one event and the sequencer, in one thread and in several.
 use crate::expect::holds;
-use spread_rules::{Entry, Event, Side, Ticket};
+use crate::said::{logon, order};
+use spread_rules::{Entry, Event, Side};
 use std::process::Abort;
-use test_support::id;
 
 mod days;
 mod gateways;
@@ -26,24 +26,9 @@ enum Says {
 /// What the four messages of the first trade say.
 static FIRST_TRADE_SAYS: [Says; 4] = [Says::Logon, Says::Sell, Says::Buy, Says::Close(1)];
 
-fn order(text: &[u8], side: Side) -> Event {
-    Event::New(Ticket {
-        id: id(text),
-        symbol: id(b"H6"),
-        side,
-        quantity: 5,
-        price: 10_000,
-        immediate: false,
-    })
-}
-
 fn event_of(says: &Says) -> Event {
     match says {
-        Says::Logon => Event::Logon {
-            client: id(b"C1"),
-            host: id(b"HOST"),
-            beat: 30,
-        },
+        Says::Logon => logon(),
         Says::Sell => order(b"a", Side::Sell),
         Says::Buy => order(b"b", Side::Buy),
         Says::Close(reason) => Event::Close { reason: *reason },
