@@ -1,3 +1,5 @@
 pub mod CollectedBytes
 pub mod JoinedParts
 pub mod LawfulJournal
+pub mod PostPairs
+pub mod RingEnds

@@ -1,2 +1,3 @@
-pub mod code
+pub mod Limits
 pub mod Streams
+pub mod code

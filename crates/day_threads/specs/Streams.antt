@@ -10,8 +10,8 @@ use Rattle.spread_report.specs.Sessions.{bytes_of}
 use Rattle.day_apply.specs.Applied.{SpendsAt, applied_entries, outgoing_bytes}
 use Rattle.gate_link.specs.Opening.{IsRefusal}
 use Rattle.session_threads.specs.Streams.{IsBeginningOf, all_events, whole_at}
-use Rattle.day_stages.specs.declared.fault.ThreadsFault.{ThreadsFault}
-use Rattle.day_stages.specs.declared.fault.ThreadsFault.TheVariants.{Link, Spawn, JournalFull, NoMemory, NumbersSpent}
+use Rattle.day_threads.specs.declared.fault.ThreadsFault.{ThreadsFault}
+use Rattle.day_threads.specs.declared.fault.ThreadsFault.TheVariants.{Link, Spawn, JournalFull, NoMemory, NumbersSpent}
 use Rattle.day_threads.specs.declared.conclude.SessionsDay.{SessionsDay}
 
 -- a place of a journal that begins that of these streams, or the one behind its last entry

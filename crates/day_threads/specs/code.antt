@@ -1,1 +1,3 @@
 pub mod Concluding
+pub mod Making
+pub mod Matching

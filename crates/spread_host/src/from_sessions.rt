@@ -2,7 +2,7 @@
 //! caller's.
 ghost use Rattle.std.specs.Prelude.{◌≡◌, ◌<◌, ◌≤◌, ℕ, [], length, IfOk, IfErr, OnOk};
 ghost use Rattle.host_base.specs.declared.limits.TheConstants.{SESSIONS};
-ghost use Rattle.day_stages.specs.Limits.{IsWithinLimits};
+ghost use Rattle.day_threads.specs.Limits.{IsWithinLimits};
 ghost use Rattle.spread_report.specs.Sessions.{bytes_of};
 ghost use Rattle.spread_host.specs.Headline.{IsJournalOfStreams, HasFills, HasOutgoing, BoughtIsSold, PaidIsReceived, IsAlwaysQuiet, IsDayOf};
 ghost use Rattle.spread_host.specs.LiveDays.{IsRunDayFault};

@@ -7,7 +7,7 @@ use Rattle.stage_rings.specs.declared.feed.Matcher.{Matcher}
 use Rattle.day_apply.specs.Applied.{IsApplyFault}
 use Rattle.day_apply.specs.Sending.{sending_rules, stamp_of}
 use Rattle.entry_posting.specs.code.Posting.{CanPost, HasPosted, SamePosters}
-use Rattle.match_thread.specs.declared.matching.Matched.{Matched}
+use Rattle.day_threads.specs.declared.matching.Matched.{Matched}
 use Rattle.entry_posting.specs.declared.step.MatchEnd.{MatchEnd}
 use Rattle.entry_posting.specs.declared.step.MatchEnd.TheVariants.{Whole, Stopped, Fault}
 use Rattle.entry_posting.specs.declared.posting.PostedEntries.{PostedEntries}

@@ -1,7 +1,7 @@
 //! The matching thread: it takes the journal's entries from a ring, applies them, and gives what they send to the
 //! writers.
 ghost use Rattle.std.specs.Prelude.{◌≡◌, IfSome};
-ghost use Rattle.match_thread.specs.code.Matching.{HasMatched, IsUnfed};
+ghost use Rattle.day_threads.specs.code.Matching.{HasMatched, IsUnfed};
 
 use entry_posting::{MatchEnd, PostedEntries, end_each, match_one};
 use sequencer_turns::{found, rest};

@@ -2,18 +2,18 @@
 ghost use Rattle.std.specs.Prelude.{◌≡◌, ℕ, [], length, IfOk, IfErr, OnOk, vec_len};
 ghost use Rattle.day_apply.specs.Sending.{sending_rules, stamp_of};
 ghost use Rattle.stage_rings.specs.Faults.{IsRingRefusal, IsRingSize};
-ghost use Rattle.day_stages.specs.Limits.{IsWithinLimits};
-ghost use Rattle.day_stages.specs.code.Making.{IsMade, IsStagesFault};
+ghost use Rattle.day_threads.specs.Limits.{IsWithinLimits};
+ghost use Rattle.day_threads.specs.code.Making.{IsMade, IsStagesFault};
 ghost use Rattle.entry_posting.specs.code.Posting.{NoneEnded, posted_at};
 ghost use Rattle.session_threads.specs.code.Writing.{ArePostPairs};
 
 use crate::fault::{ThreadsFault, of_apply};
 use day_apply::ReportedEntries;
+use entry_posting::PostedEntries;
 use gate_link::{
     Feeder, Gateway, LinkFault, Matcher, Poster, Sequencer, Writer, feed_ring, link, post_ring,
 };
 use host_base::Id;
-use match_thread::PostedEntries;
 use spread_rules::Rulebook;
 use std::alloc::Allocator;
 

@@ -9,8 +9,8 @@ use Rattle.spread_rulebook.specs.Rulebook.{Rules}
 use Rattle.day_apply.specs.Sending.{sending_rules, stamp_of}
 use Rattle.entry_posting.specs.code.Posting.{HasPosted, SamePosters, StepEnds}
 use Rattle.entry_posting.specs.declared.posting.PostedEntries.{PostedEntries}
-use Rattle.match_thread.specs.code.Matching.{HasMatched, MatchEnds}
-use Rattle.match_thread.specs.declared.matching.Matched.{Matched}
+use Rattle.day_threads.specs.code.Matching.{HasMatched, MatchEnds}
+use Rattle.day_threads.specs.declared.matching.Matched.{Matched}
 use Rattle.entry_posting.specs.declared.step.MatchEnd.{MatchEnd}
 use Rattle.entry_posting.specs.declared.step.MatchEnd.TheVariants.{Whole, Stopped, Fault}
 

@@ -1,7 +1,0 @@
-//! The thread that matches: it applies the journal's entries as they come, and gives what it sends to the writers.
-#![tactic(auto)]
-
-mod matching;
-
-pub use entry_posting::{MatchEnd, PostedEntries};
-pub use matching::{MatchPromise, Matched, start_matching};
