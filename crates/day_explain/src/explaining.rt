@@ -3,8 +3,8 @@ ghost use Rattle.std.specs.Prelude.{◌≡◌, ◌≢◌, IfErr, IsErrOf, OnOk, 
 ghost use Rattle.day_explain.specs.Faults.{HasEntryAt, IsExplainFault};
 ghost use Rattle.day_explain.specs.declared.fault.ExplainFault.{ExplainFault};
 
+use crate::entry::words_of_entry;
 use crate::fault::ExplainFault;
-use explained_entry::words_of_entry;
 use host_base::{Sink, write_all};
 use spread_journal::{JournalFault, read_journal};
 use spread_rules::Rulebook;

@@ -1,9 +1,19 @@
-//! What the entry of a place in a journal text meant, told in words.
+//! An entry of a journal, explained in words: what rested before it, how its order was traded, and what came of it.
 #![tactic(auto)]
 
+mod entry;
+mod entry_words;
 mod explaining;
 mod fault;
+mod outcome_words;
+mod refusal_words;
+mod standing;
+mod telling;
+mod told;
+mod turn_words;
+mod words;
 
-pub use explained_entry::{Told, Traded, tell};
 pub use explaining::explain;
 pub use fault::ExplainFault;
+pub use telling::tell;
+pub use told::{Told, Traded};

@@ -1,5 +1,5 @@
 //! Tests of what a day comes to: `spread_report`, `spread_journal`, `day_text`; days of day lines and `spread_host`;
-//! and what looks into a day that is over: `explained_turns`, `explained_entry` and `day_explain`, `day_page` and
+//! and what looks into a day that is over: `explained_turns` and `day_explain`, `day_page` and
 //! `day_picture`.
 #![tactic(auto)]
 
