@@ -285,7 +285,7 @@ fn expect_look(rt: &impl Abort, framer: &Framer, at: usize, want: Option<(&[u8],
             holds(rt, after == place);
         }
         (Look::Need, None) => {}
-        _ => holds(rt, false),
+        _ => assert!(rt; false, "what stands from {at} on"),
     }
     let mut table = FrameTable::empty();
     match (framer.find(at, &mut table), want) {
@@ -294,7 +294,7 @@ fn expect_look(rt: &impl Abort, framer: &Framer, at: usize, want: Option<(&[u8],
             holds(rt, found.end == place);
         }
         (None, None) => {}
-        _ => holds(rt, false),
+        _ => assert!(rt; false, "where the next frame from {at} on stands"),
     }
 }
 
