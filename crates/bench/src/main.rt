@@ -10,7 +10,7 @@ mod wire;
 
 use fault::Fault;
 use market::{time_match, time_report};
-use rings::{AtOnce, time_link, time_threads};
+use rings::{AtOnce, time_threads};
 use std::alloc::AllocGlobal;
 use std::env::Env;
 use std::fs::Files;
@@ -31,8 +31,7 @@ scan STREAM..         frames of order messages, put in pieces of 4,096 bytes
 judge STREAM..        order messages framed and judged
 match RULES JOURNAL   entries of a journal worked by the market
 report RULES JOURNAL  what its sessions are sent, written
-link STREAM..         messages framed, judged, sent through rings and taken, in one thread
-threads STREAM..      the same in two threads, by the clock
+threads STREAM..      messages framed, judged, sent through rings and taken, in two threads, by the clock
 slices STREAM..       the same, the events of up to 64 messages at once
 
 A STREAM holds the raw bytes of a session; there are 1 to 16.";
@@ -56,7 +55,6 @@ fn time_phase<R: Clock + CpuClock + AllocGlobal + Threads + Sync>(
         ("report", [rules, journal]) => time_report(rt, rules, journal),
         ("scan", [_, ..]) => Ok(time_scan(rt, files)),
         ("judge", [_, ..]) => Ok(time_judge(rt, files)),
-        ("link", [_, ..]) => time_link(rt, files),
         ("threads", [_, ..]) => time_threads(rt, files, AtOnce::One),
         ("slices", [_, ..]) => time_threads(rt, files, AtOnce::Slice),
         _ => Err(Fault::Words),

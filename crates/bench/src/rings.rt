@@ -1,113 +1,15 @@
-//! Gateways, rings and the sequencer, in one thread and in two.
+//! Gateways, rings and the sequencer, in two threads.
 use crate::fault::Fault;
-use crate::timing::{Beside, Measured, Timer};
+use crate::timing::{Beside, Measured};
 use crate::wire::{PIECE, scanned};
 use gate_link::{Burst, Gateway, Sequencer, Step, Takes, Turn, link};
 use std::alloc::{AllocGlobal, Allocator, Global};
 use std::thread;
 use std::thread::{Threads, join_mut};
-use std::time::{Clock, CpuClock, Instant};
+use std::time::{Clock, Instant};
 
-/// More than a framer can hold messages, and than the rings of the benchmark have room.
+/// More than a framer can hold messages.
 const MOST: u32 = 8192;
-
-/// Steps for as long as messages stand and the ring has room, and says what ended it.
-fn step_all<A: Allocator>(gateway: &mut Gateway<A>) -> Step {
-    for _ in 0..MOST {
-        match gateway.step() {
-            Step::Sent | Step::Skipped => {}
-            end => return end,
-        }
-    }
-    Step::Need
-}
-
-/// Takes what stands in a session's ring.
-fn take_all<A: Allocator>(sequencer: &mut Sequencer<A>, session: u8) {
-    for _ in 0..MOST {
-        if usize::from(session) >= sequencer.sessions() {
-            break;
-        }
-        let Turn::Took = sequencer.turn(session) else {
-            break;
-        };
-    }
-}
-
-/// Judges and takes all messages that stand.
-fn work_standing<A: Allocator>(gateway: &mut Gateway<A>, sequencer: &mut Sequencer<A>) {
-    for _ in 0..MOST {
-        let end = step_all(gateway);
-        take_all(sequencer, gateway.session());
-        if end != Step::Full {
-            break;
-        }
-    }
-}
-
-fn work_piece<A: Allocator>(gateway: &mut Gateway<A>, sequencer: &mut Sequencer<A>, piece: &[u8]) {
-    let mut rest = piece;
-    for _ in 0..MOST {
-        if rest.is_empty() {
-            break;
-        }
-        let taken = gateway.put(rest);
-        rest = &rest[taken..];
-        work_standing(gateway, sequencer);
-    }
-}
-
-fn work_stream<A: Allocator>(
-    gateway: &mut Gateway<A>,
-    sequencer: &mut Sequencer<A>,
-    stream: &[u8],
-) {
-    for piece in stream.chunks(PIECE) {
-        work_piece(gateway, sequencer, piece);
-    }
-}
-
-/// Works the streams of all sessions, one after another.
-fn work_streams<A: Allocator>(
-    gateways: &mut [Gateway<A>],
-    sequencer: &mut Sequencer<A>,
-    streams: &[Vec<u8>],
-) {
-    for (gateway, stream) in gateways.iter_mut().zip(streams.iter()) {
-        work_stream(gateway, sequencer, stream);
-    }
-}
-
-/// The time of so many messages, and how many entries came of them.
-fn measured<A: Allocator>(
-    phase: &'static str,
-    messages: u64,
-    nanos: u64,
-    sequencer: &Sequencer<A>,
-) -> Measured {
-    Measured {
-        phase,
-        count: messages,
-        unit: "messages",
-        nanos,
-        beside: Beside::Count(sequencer.journal().len() as u64, "entries"),
-    }
-}
-
-/// Frames, judges, sends and takes the messages of streams.
-pub fn time_link(
-    rt: &(impl CpuClock + AllocGlobal),
-    streams: &[Vec<u8>],
-) -> Result<Measured, Fault> {
-    let messages = scanned(streams);
-    let Ok((mut gateways, mut sequencer)) = link(rt.alloc(), streams.len(), 256, 1_000_000) else {
-        return Err(Fault::NoMemory);
-    };
-    let timer = Timer::start(rt);
-    work_streams(gateways.as_mut_slice(), &mut sequencer, streams);
-    let used = timer.used(rt);
-    Ok(measured("link", messages, used, &sequencer))
-}
 
 /// How many events go into a ring and out of it at once.
 #[derive(Clone, Copy)]
@@ -252,7 +154,7 @@ fn time_sending<R: Clock + Threads + Sync>(
     Ok(u64::try_from(used.as_nanos()).unwrap_or(u64::MAX))
 }
 
-/// The same in two threads, by the clock: one frames, judges and sends, the other takes.
+/// Messages of streams in two threads, by the clock: one frames, judges and sends, the other takes.
 pub fn time_threads<R: Clock + AllocGlobal + Threads + Sync>(
     rt: &R,
     streams: &[Vec<u8>],
@@ -269,5 +171,11 @@ pub fn time_threads<R: Clock + AllocGlobal + Threads + Sync>(
         streams,
         at_once,
     )?;
-    Ok(measured(at_once.phase(), messages, used, &sequencer))
+    Ok(Measured {
+        phase: at_once.phase(),
+        count: messages,
+        unit: "messages",
+        nanos: used,
+        beside: Beside::Count(sequencer.journal().len() as u64, "entries"),
+    })
 }
