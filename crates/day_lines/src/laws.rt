@@ -5,9 +5,9 @@ ghost use Rattle.spread_rules.specs.declared.codes.close_reason.TheConstants.{ST
 ghost use Rattle.spread_rules.specs.declared.event.Event.TheVariants.{Close};
 ghost use Rattle.fix_frames.specs.Frames.{frames};
 ghost use Rattle.fix_wire.specs.Pieces.{SplitsInto};
-ghost use Rattle.fix_session.specs.Reading.{ReaderState, new_reader, IsBehind};
-ghost use Rattle.fix_session.specs.Steps.{events_said, events_at_end};
-ghost use Rattle.fix_session.specs.Streams.{events, stays_open};
+ghost use Rattle.session_judging.specs.Reading.{ReaderState, new_reader, IsBehind};
+ghost use Rattle.session_judging.specs.Steps.{events_said, events_at_end};
+ghost use Rattle.session_judging.specs.Streams.{events, stays_open};
 ghost use Rattle.spread_rules.specs.Journal.{restricted, IsLawful};
 ghost use Rattle.day_lines.specs.LineText.{DayLine};
 ghost use Rattle.day_lines.specs.DayLines.{new_events, journal_of_lines, read_on};

@@ -1,4 +1,3 @@
 pub mod FirstMessage
 pub mod BytesFed
 pub mod MessagesCopied
-pub mod JudgedAhead

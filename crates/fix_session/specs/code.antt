@@ -1,3 +1,1 @@
 pub mod ReaderFields
-pub mod Changes
-pub mod Judged

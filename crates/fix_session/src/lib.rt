@@ -1,13 +1,9 @@
-//! Sessions of FIX 4.2: what each message of a session says, by its number and its kind.
+//! Sessions of FIX 4.2: the bytes of a session read, and what each of its messages says.
 #![tactic(auto)]
 
-mod ahead;
-pub mod laws;
 mod pieces;
 mod reader;
-mod session;
 
-pub use ahead::Ahead;
 pub use pieces::read_pieces;
 pub use reader::Reader;
-pub use session::{Session, Verdict};
+pub use session_judging::{Ahead, Session, Verdict, laws};

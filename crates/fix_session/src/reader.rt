@@ -5,17 +5,16 @@ ghost use Rattle.fix_wire.specs.declared.framer.TheConstants.{BUFFER_BYTES};
 ghost use Rattle.fix_frames.specs.Frames.{frames};
 ghost use Rattle.fix_frames.specs.Held.{first_frame, from_first_start};
 ghost use Rattle.fix_wire.specs.Pieces.{IsDrained};
-ghost use Rattle.fix_session.specs.Steps.{judge, ended, is_closed};
-ghost use Rattle.fix_session.specs.Reading.{ReaderState, new_reader, with_more, first_message, first_verdict, after_skipping, after_passing, Fed};
+ghost use Rattle.session_judging.specs.Steps.{judge, ended, is_closed};
+ghost use Rattle.session_judging.specs.Reading.{ReaderState, new_reader, with_more, first_message, first_verdict, after_skipping, after_passing, Fed};
 ghost use Rattle.fix_wire.specs.FramePlaces.{FollowsFrames};
-ghost use Rattle.fix_session.specs.Ahead.{IsAhead, after_ahead};
-ghost use Rattle.fix_session.specs.code.Changes.{judgement_with};
+ghost use Rattle.session_judging.specs.Ahead.{IsAhead, after_ahead};
+ghost use Rattle.session_judging.specs.code.Changes.{judgement_with};
 ghost use Rattle.fix_session.specs.code.ReaderFields.{IsKept};
 
-use crate::ahead::{Ahead, count_messages, judge_ahead};
-use crate::session::{Change, Session, Verdict};
 use fix_wire::{Framer, Next};
 use host_base::NoMemory;
+use session_judging::{Ahead, Change, Session, Verdict, count_messages, judge_ahead};
 use spread_rules::Entry;
 use std::alloc::{AllocError, Allocator};
 use std::marker::Model;
@@ -32,7 +31,7 @@ pub struct Reader {
 }
 
 impl Model for Reader {
-    ghost use Rattle.fix_session.specs.Reading.{ReaderState};
+    ghost use Rattle.session_judging.specs.Reading.{ReaderState};
     ghost use Rattle.fix_session.specs.code.ReaderFields.{state_of, IsKept};
 
     ghost Value = { ReaderState };

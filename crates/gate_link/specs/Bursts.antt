@@ -3,9 +3,9 @@ use Rattle.std.specs.Prelude.{◌≡◌, ℕ, ◌+◌, ◌≤◌, ◌<◌, false
 use Rattle.spread_rules.specs.declared.event.Event.{Event}
 use Rattle.fix_frames.specs.Frames.{frames}
 use Rattle.fix_wire.specs.Pieces.{SplitsInto}
-use Rattle.fix_session.specs.Steps.{events_said, session_after}
-use Rattle.fix_session.specs.declared.ahead.Ahead.{Ahead}
-use Rattle.fix_session.specs.Ahead.{IsAhead, up_to_close, after_frames}
+use Rattle.session_judging.specs.Steps.{events_said, session_after}
+use Rattle.session_judging.specs.declared.ahead.Ahead.{Ahead}
+use Rattle.session_judging.specs.Ahead.{IsAhead, up_to_close, after_frames}
 use Rattle.gate_link.specs.Gateways.{session_number, session_state, bytes_held, events_sent, free_slots, pending_events, is_over, Needs, WasClosed}
 use Rattle.gate_link.specs.declared.gateway.Gateway.{Gateway}
 use Rattle.gate_link.specs.declared.gateway.Burst.{Burst}

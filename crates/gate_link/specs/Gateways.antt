@@ -7,8 +7,8 @@ use Rattle.spread_rules.specs.declared.event.Event.TheVariants.{Close}
 use Rattle.fix_frames.specs.Frames.{frames}
 use Rattle.fix_frames.specs.Held.{from_first_start, after_first_frame}
 use Rattle.fix_wire.specs.Pieces.{IsDrained}
-use Rattle.fix_session.specs.declared.session.Session.{Session}
-use Rattle.fix_session.specs.Steps.{judge, event_in, is_closed}
+use Rattle.session_judging.specs.declared.session.Session.{Session}
+use Rattle.session_judging.specs.Steps.{judge, event_in, is_closed}
 use Rattle.gate_link.specs.Owed.{events_left, Stands}
 use Rattle.gate_link.specs.Rows.{entry_events}
 use Rattle.gate_link.specs.declared.gateway.Gateway.{Gateway}

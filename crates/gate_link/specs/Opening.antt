@@ -1,7 +1,7 @@
 -- What `link` makes, and what it refuses.
 use Rattle.std.specs.Prelude.{◌≡◌, ℕ, ◌<◌, ◌≤◌, List, [], length, slice_index_or}
 use Rattle.host_base.specs.declared.limits.TheConstants.{SESSIONS, MAX_RING, MAX_JOURNAL_ENTRIES}
-use Rattle.fix_session.specs.Steps.{new_session}
+use Rattle.session_judging.specs.Steps.{new_session}
 use Rattle.gate_link.specs.Gateways.{session_number, events_sent, free_slots, session_state, bytes_held}
 use Rattle.gate_link.specs.declared.gateway.Gateway.{Gateway}
 use Rattle.stage_rings.specs.Faults.{Between, Outside}

@@ -3,8 +3,8 @@ use Rattle.std.specs.Prelude.{◌≡◌, ℕ, List, ◌++◌, Some}
 use Rattle.spread_rules.specs.declared.event.Event.{Event}
 use Rattle.fix_frames.specs.Frames.{frames}
 use Rattle.fix_frames.specs.Held.{first_frame}
-use Rattle.fix_session.specs.declared.session.Session.{Session}
-use Rattle.fix_session.specs.Steps.{events_said, session_after, events_at_end}
+use Rattle.session_judging.specs.declared.session.Session.{Session}
+use Rattle.session_judging.specs.Steps.{events_said, session_after, events_at_end}
 
 -- what a session says to these messages, and then where its stream ends
 abbrev pub whole_from : Session → List (List ℕ) → List Event

@@ -2,7 +2,7 @@
 ghost use Rattle.std.specs.List.{list_any};
 ghost use Rattle.rtrb.specs.Ring.{sent};
 ghost use Rattle.spread_rules.specs.Journal.{is_close};
-ghost use Rattle.fix_session.specs.Steps.{is_closed};
+ghost use Rattle.session_judging.specs.Steps.{is_closed};
 ghost use Rattle.fix_wire.specs.declared.framer.TheConstants.{BUFFER_BYTES};
 ghost use Rattle.fix_frames.specs.Frames.{frames};
 ghost use Rattle.gate_link.specs.Rows.{entry_events};
@@ -65,7 +65,7 @@ pub enum Burst {
 }
 
 impl<A: Allocator> Gateway<A> {
-    ghost use Rattle.fix_session.specs.Steps.{new_session};
+    ghost use Rattle.session_judging.specs.Steps.{new_session};
     ghost use Rattle.gate_link.specs.Gateways.{session_number, events_sent, free_slots, session_state, bytes_held, pending_events, is_over, SameGateway, OnlySkipped, Stepped, Ended};
     ghost use Rattle.gate_link.specs.Owed.{Stands};
     ghost use Rattle.gate_link.specs.Bursts.{held_messages, HasJudged, SteppedMany};

@@ -2,13 +2,13 @@
 use Rattle.std.proofs.Common.{◌≡◌, ℕ, ◌+◌, ◌-◌, List, ◌++◌, length, take, drop, sym, ap, subst, ◌∙◌}
 use Rattle.std.proofs.lemmas.List.{drop-drop, length-drop, take-append-drop}
 use Rattle.std.proofs.Math.Seq.{take-length}
-use Rattle.fix_session.specs.Steps.{new_session}
+use Rattle.session_judging.specs.Steps.{new_session}
 use Rattle.spread_rules.specs.declared.event.Event.{Event}
 use Rattle.fix_frames.specs.Frames.{frames}
-use Rattle.fix_session.specs.declared.session.Session.{Session}
-use Rattle.fix_session.proofs.events.StateOfPlaces.{whole_law}
+use Rattle.session_judging.specs.declared.session.Session.{Session}
+use Rattle.session_judging.proofs.events.StateOfPlaces.{whole_law}
 use Rattle.gate_link.specs.Owed.{events_left}
-use Rattle.fix_session.specs.Streams.{whole}
+use Rattle.session_judging.specs.Streams.{whole}
 use Rattle.gate_link.specs.Gateways.{events_sent, pending_events, session_state, bytes_held, SameGateway}
 use Rattle.gate_link.specs.declared.gateway.Gateway.{Gateway}
 use Rattle.gate_link.proofs.gateways.SentAndOwed.{kept_of_put, sent_is_prefix, sent_is_whole}

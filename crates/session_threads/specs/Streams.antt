@@ -4,7 +4,7 @@ use mathlib.Core.List.{IsPrefix}
 use Rattle.spread_rules.specs.declared.event.Event.{Event}
 use Rattle.spread_rules.specs.declared.event.Entry.{Entry}
 use Rattle.spread_rules.specs.Journal.{restricted}
-use Rattle.fix_session.specs.Streams.{whole}
+use Rattle.session_judging.specs.Streams.{whole}
 use Rattle.gate_link.specs.Counts.{sum_over}
 use Rattle.gate_link.specs.Rows.{row}
 

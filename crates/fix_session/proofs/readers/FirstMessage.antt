@@ -7,13 +7,13 @@ use Rattle.fix_frames.specs.Held.{first_frame, from_first_start, past_frame, aft
 use Rattle.fix_frames.proofs.framing.FrontStays.{frame_stays}
 use Rattle.fix_wire.proofs.framing.OneTurn.{on_true}
 use Rattle.fix_frames.proofs.framing.FramesHeld.{start_frame, start_again, start_frames, none_stands, no_frames, pass_law}
-use Rattle.fix_session.specs.declared.session.Session.{Session}
-use Rattle.fix_session.specs.declared.session.Verdict.{Verdict}
-use Rattle.fix_session.specs.Steps.{judge}
+use Rattle.session_judging.specs.declared.session.Session.{Session}
+use Rattle.session_judging.specs.declared.session.Verdict.{Verdict}
+use Rattle.session_judging.specs.Steps.{judge}
 use Rattle.fix_session.specs.declared.reader.Reader.TheInside.{Inside}
-use Rattle.fix_session.specs.Reading.{ReaderState, first_message, first_judgement, first_verdict, session_past, after_skipping, after_passing}
-use Rattle.fix_session.specs.declared.session.Change.{Change}
-use Rattle.fix_session.specs.code.Changes.{judgement_with}
+use Rattle.session_judging.specs.Reading.{ReaderState, first_message, first_judgement, first_verdict, session_past, after_skipping, after_passing}
+use Rattle.session_judging.specs.declared.session.Change.{Change}
+use Rattle.session_judging.specs.code.Changes.{judgement_with}
 use Rattle.fix_session.specs.code.ReaderFields.{IsKept}
 
 -- the message that was judged

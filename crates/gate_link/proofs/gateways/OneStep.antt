@@ -6,8 +6,8 @@ use Rattle.std.proofs.lemmas.List.Folds.{list_any-append}
 use Rattle.spread_rules.specs.Journal.{is_close}
 use Rattle.spread_rules.specs.declared.event.Event.{Event}
 use Rattle.spread_rules.specs.declared.event.Entry.{Entry}
-use Rattle.fix_session.specs.Steps.{judge, event_in}
-use Rattle.fix_session.specs.Reading.{ReaderState, first_message, after_skipping, after_passing}
+use Rattle.session_judging.specs.Steps.{judge, event_in}
+use Rattle.session_judging.specs.Reading.{ReaderState, first_message, after_skipping, after_passing}
 use Rattle.fix_session.proofs.readers.FirstMessage.{passed_skipped}
 use Rattle.fix_session.proofs.readers.BytesFed.{leaves_skipped, session_passed}
 use Rattle.gate_link.specs.Owed.{events_left}

@@ -4,9 +4,9 @@ use Rattle.std.proofs.lemmas.List.{length-map, length-take-le, map-append, nil_f
 use Rattle.spread_rules.specs.declared.event.Event.{Event}
 use Rattle.spread_rules.specs.declared.event.Entry.{Entry}
 use Rattle.fix_frames.specs.Frames.{frames}
-use Rattle.fix_session.specs.declared.ahead.Ahead.{Ahead}
-use Rattle.fix_session.specs.Reading.{ReaderState, entries_of}
-use Rattle.fix_session.specs.Ahead.{after_frames, IsAhead, after_ahead}
+use Rattle.session_judging.specs.declared.ahead.Ahead.{Ahead}
+use Rattle.session_judging.specs.Reading.{ReaderState, entries_of}
+use Rattle.session_judging.specs.Ahead.{after_frames, IsAhead, after_ahead}
 use Rattle.gate_link.specs.Rows.{entry_events, entry}
 use Rattle.gate_link.specs.Gateways.{bytes_held}
 use Rattle.gate_link.specs.Bursts.{first_messages, PassesMany}

@@ -4,7 +4,7 @@ use Rattle.std.specs.List.{list_any}
 use Rattle.std.proofs.Props.{props}
 use Rattle.rtrb.specs.Ring.{sent}
 use Rattle.spread_rules.specs.Journal.{is_close}
-use Rattle.fix_session.specs.Steps.{is_closed}
+use Rattle.session_judging.specs.Steps.{is_closed}
 use Rattle.gate_link.specs.Rows.{entry_events}
 use Rattle.gate_link.specs.declared.gateway.Gateway.{Gateway}
 

@@ -6,13 +6,13 @@ use Rattle.spread_rules.specs.Journal.{is_close}
 use Rattle.spread_rules.specs.declared.event.Event.{Event}
 use Rattle.fix_frames.specs.Frames.{frames}
 use Rattle.fix_wire.specs.Pieces.{SplitsInto}
-use Rattle.fix_session.specs.declared.session.Session.{Session}
-use Rattle.fix_session.specs.declared.session.Verdict.{Verdict}
-use Rattle.fix_session.specs.declared.session.Verdict.TheVariants.{Event as Says, Nothing}
-use Rattle.fix_session.specs.Steps.{judge, event_in, is_closed, is_closing, events_said, session_after, events_at_end}
-use Rattle.fix_session.specs.Ahead.{up_to_close}
-use Rattle.fix_session.proofs.events.StateOfPlaces.{said_two, after_two}
-use Rattle.fix_session.proofs.events.ClosesOnce.{closed_silent, closes_with}
+use Rattle.session_judging.specs.declared.session.Session.{Session}
+use Rattle.session_judging.specs.declared.session.Verdict.{Verdict}
+use Rattle.session_judging.specs.declared.session.Verdict.TheVariants.{Event as Says, Nothing}
+use Rattle.session_judging.specs.Steps.{judge, event_in, is_closed, is_closing, events_said, session_after, events_at_end}
+use Rattle.session_judging.specs.Ahead.{up_to_close}
+use Rattle.session_judging.proofs.events.StateOfPlaces.{said_two, after_two}
+use Rattle.session_judging.proofs.events.ClosesOnce.{closed_silent, closes_with}
 use Rattle.gate_link.specs.Owed.{whole_from, events_left}
 
 -- what a session says to some messages and then to others

@@ -6,14 +6,14 @@ use Rattle.spread_rules.specs.Journal.{is_close}
 use Rattle.spread_rules.specs.declared.event.Event.{Event}
 use Rattle.spread_rules.specs.declared.event.Event.TheVariants.{Close}
 use Rattle.fix_frames.specs.Frames.{frames}
-use Rattle.fix_session.specs.declared.session.State.{State}
-use Rattle.fix_session.specs.declared.session.State.TheVariants.{Before, Running, Closed}
-use Rattle.fix_session.specs.declared.session.Session.{Session}
-use Rattle.fix_session.specs.declared.session.Verdict.{Verdict}
-use Rattle.fix_session.specs.declared.session.Verdict.TheVariants.{Event as Says, Nothing}
-use Rattle.fix_session.specs.Steps.{judge, event_in, is_closed, is_closing, events_said, session_after, events_at_end}
-use Rattle.fix_session.proofs.events.StateOfPlaces.{cons_two}
-use Rattle.fix_session.proofs.events.ClosesOnce.{closed_silent, closes_with}
+use Rattle.session_judging.specs.declared.session.State.{State}
+use Rattle.session_judging.specs.declared.session.State.TheVariants.{Before, Running, Closed}
+use Rattle.session_judging.specs.declared.session.Session.{Session}
+use Rattle.session_judging.specs.declared.session.Verdict.{Verdict}
+use Rattle.session_judging.specs.declared.session.Verdict.TheVariants.{Event as Says, Nothing}
+use Rattle.session_judging.specs.Steps.{judge, event_in, is_closed, is_closing, events_said, session_after, events_at_end}
+use Rattle.session_judging.proofs.events.StateOfPlaces.{cons_two}
+use Rattle.session_judging.proofs.events.ClosesOnce.{closed_silent, closes_with}
 use Rattle.fix_wire.specs.Pieces.{SplitsInto}
 use Rattle.gate_link.specs.Owed.{whole_from, events_left}
 

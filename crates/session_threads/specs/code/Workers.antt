@@ -3,9 +3,9 @@
 use Rattle.std.specs.Prelude.{◌≡◌, ℕ, ◌<◌, true, List, [], ◌++◌, Option, IfSome}
 use mathlib.Core.List.{IsPrefix}
 use Rattle.spread_rules.specs.declared.event.Event.{Event}
-use Rattle.fix_session.specs.Steps.{new_session}
-use Rattle.fix_session.specs.Streams.{whole}
-use Rattle.fix_session.specs.declared.ahead.Ahead.{Ahead}
+use Rattle.session_judging.specs.Steps.{new_session}
+use Rattle.session_judging.specs.Streams.{whole}
+use Rattle.session_judging.specs.declared.ahead.Ahead.{Ahead}
 use Rattle.gate_link.specs.Bursts.{HasJudged}
 use Rattle.gate_link.specs.Gateways.{events_sent, pending_events, is_over, session_state, bytes_held, SameGateway}
 use Rattle.gate_link.specs.declared.gateway.Gateway.{Gateway}

@@ -1,6 +1,6 @@
 use Rattle.std.proofs.Common.{length, map}
 use Rattle.fix_wire.specs.Pieces.{SameSplit}
-use Rattle.fix_session.specs.Reading.{HasJudged}
+use Rattle.session_judging.specs.Reading.{HasJudged}
 use Rattle.fix_session.proofs.pieces.pass_messages.Given as goal
 
 abbrev pub invariant-loop-message : goal.invariant-loop-message

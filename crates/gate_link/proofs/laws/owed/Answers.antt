@@ -2,7 +2,7 @@ use Rattle.std.proofs.Common.{◌++◌, ◌∙◌, sym, ap, refl}
 use Rattle.std.specs.List.{list_any}
 use Rattle.spread_rules.specs.Journal.{is_close}
 use Rattle.fix_frames.specs.Frames.{frames}
-use Rattle.fix_session.specs.Steps.{new_session}
+use Rattle.session_judging.specs.Steps.{new_session}
 use Rattle.gate_link.proofs.gateways.StillOwed.{owes_nothing, owed_put, owed_same, owed_passed, end_owed, whole_has_close}
 use Rattle.gate_link.proofs.laws.owed.Goals as goal
 

@@ -1,5 +1,5 @@
 use Rattle.std.proofs.Common.{◌≡◌, ◌∙◌, arith, drop, rules}
-use Rattle.fix_session.specs.Streams.{whole}
+use Rattle.session_judging.specs.Streams.{whole}
 use Rattle.gate_link.specs.Gateways.{SameGateway}
 use Rattle.session_threads.specs.code.Workers.{sent_and_pending}
 use Rattle.session_threads.proofs.SentAndOwed.{same_gateway_trans, sent_of, stepped, unused_owes}

@@ -1,6 +1,6 @@
 use Rattle.std.proofs.Common.{sym, ap, ◌∙◌}
 use Rattle.std.specs.Prelude.{option_map}
-use Rattle.fix_session.specs.code.Changes.{judgement_with}
+use Rattle.session_judging.specs.code.Changes.{judgement_with}
 use Rattle.fix_session.specs.code.ReaderFields.{state_of}
 use Rattle.fix_session.proofs.readers.FirstMessage.{found_kept, none_passed, one_passed}
 use Rattle.fix_session.proofs.reader.Reader.pass.Goals as goal

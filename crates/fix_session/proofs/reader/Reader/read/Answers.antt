@@ -1,4 +1,4 @@
-use Rattle.fix_session.specs.Reading.{with_more}
+use Rattle.session_judging.specs.Reading.{with_more}
 use Rattle.fix_session.proofs.readers.BytesFed.{fed_put}
 use Rattle.fix_session.proofs.reader.Reader.read.Goals as goal
 

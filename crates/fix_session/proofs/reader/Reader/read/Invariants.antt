@@ -1,6 +1,6 @@
 use Rattle.std.proofs.Common.{length}
 use Rattle.fix_wire.specs.Pieces.{IsDrained}
-use Rattle.fix_session.specs.Reading.{with_more, Fed}
+use Rattle.session_judging.specs.Reading.{with_more, Fed}
 use Rattle.fix_session.proofs.reader.Reader.read.Given as goal
 
 abbrev pub invariant-loop-rest : goal.invariant-loop-rest

@@ -2,7 +2,7 @@ use Rattle.std.proofs.Common.{◌≡◌, ◌≢◌, ◌∙◌, false, length, ap
 use Rattle.std.proofs.lemmas.List.{length-take-le}
 use Rattle.rtrb.specs.Ring.{sent}
 use Rattle.fix_frames.specs.Frames.{frames}
-use Rattle.fix_session.specs.Steps.{is_closed}
+use Rattle.session_judging.specs.Steps.{is_closed}
 use Rattle.gate_link.specs.Rows.{entry_events}
 use Rattle.gate_link.specs.Bursts.{first_messages, first_events}
 use Rattle.gate_link.proofs.gateways.SeveralSteps.{owed_many, owed_silent, closed_later, open_where_judged}

@@ -4,9 +4,9 @@ use Rattle.rtrb.specs.Ring.{sent}
 use Rattle.spread_rules.specs.Journal.{is_close}
 use Rattle.fix_frames.specs.Frames.{frames}
 use Rattle.fix_wire.proofs.framing.OneTurn.{no_first}
-use Rattle.fix_session.specs.Steps.{event_in, is_closed, is_closing}
-use Rattle.fix_session.specs.Reading.{first_verdict}
-use Rattle.fix_session.proofs.events.ClosesOnce.{closes_with}
+use Rattle.session_judging.specs.Steps.{event_in, is_closed, is_closing}
+use Rattle.session_judging.specs.Reading.{first_verdict}
+use Rattle.session_judging.proofs.events.ClosesOnce.{closes_with}
 use Rattle.fix_session.proofs.readers.FirstMessage.{verdict_some, verdict_none}
 use Rattle.fix_session.proofs.readers.BytesFed.{leaves_passed, session_passed, drained_where_none}
 use Rattle.gate_link.specs.Rows.{entry_events, entry}

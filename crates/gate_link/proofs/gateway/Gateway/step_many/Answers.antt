@@ -1,9 +1,9 @@
 use Rattle.std.proofs.Common.{◌≡◌, ◌∙◌, false, length, sym, ap, arith}
 use Rattle.fix_frames.specs.Frames.{frames}
 use Rattle.fix_frames.specs.Held.{first_frame}
-use Rattle.fix_session.specs.Steps.{is_closed}
-use Rattle.fix_session.specs.Ahead.{next_messages}
-use Rattle.fix_session.specs.Reading.{after_skipping}
+use Rattle.session_judging.specs.Steps.{is_closed}
+use Rattle.session_judging.specs.Ahead.{next_messages}
+use Rattle.session_judging.specs.Reading.{after_skipping}
 use Rattle.fix_session.proofs.readers.BytesFed.{drained_where_none}
 use Rattle.gate_link.proofs.gateways.OneStep.{looked}
 use Rattle.gate_link.proofs.gateways.SeveralSteps.{none_first}

@@ -1,5 +1,0 @@
-use Rattle.fix_session.proofs.events.StateOfPlaces.{closed_law}
-use Rattle.fix_session.proofs.laws.closed_after.Goals as goal
-
-pub returns : goal.returns
-returns c = closed_law

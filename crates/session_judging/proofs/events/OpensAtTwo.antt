@@ -1,0 +1,38 @@
+-- After a lawful Logon the number 2 is due.
+use Rattle.std.proofs.Common.{◌≡◌, ℕ, ◌+◌, Bool, true, false, List, [], ◌∷◌, Some, None, option_map, refl, ap, ◌∙◌, arith}
+use Rattle.std.specs.Str.{bytes_eq}
+use Rattle.std.proofs.lemmas.Bool.{and_parts}
+use Rattle.std.proofs.lemmas.Bool.Decides.{nat_tests}
+use Rattle.std.proofs.lemmas.Slice.Eq.{bytes_eq-Decides}
+use Rattle.fix_frames.specs.Messages.{kind, number}
+use Rattle.kind_table.specs.Table.{meaning_of_message, meaning_of_kind_text}
+use Rattle.session_judging.specs.declared.session.Logon.{Logon}
+use Rattle.session_judging.specs.declared.session.State.TheVariants as states
+use Rattle.session_judging.specs.declared.session.Session.{Session}
+use Rattle.session_judging.specs.View.{is_opening, logon_of, due_after_accepted, view_with}
+use Rattle.session_judging.specs.Steps.{judge, opens, step_at, step_or_stay}
+
+pub opening_of : (m : List ℕ) (n : ℕ) (l : Logon) → logon_of m n ≡ Some l → is_opening m n ≡ true
+unfolding logon_of
+opening_of m n l e = by_test (is_opening m n) refl
+  where
+    by_test : (v : Bool) → is_opening m n ≡ v → v ≡ true
+    by_test true h = refl
+    by_test false h = let none : None ≡ Some l = rw h at e in cc
+
+same_bytes : (xs ys : List ℕ) → bytes_eq xs ys ≡ true → xs ≡ ys
+same_bytes xs ys e = (bytes_eq-Decides xs ys).0 e
+
+pub due_two : (m : List ℕ) (n : ℕ) (l : Logon) → logon_of m n ≡ Some l → due_after_accepted n (meaning_of_message m n) ≡ 2
+due_two m n l e =
+    let parts = and_parts _ _ (and_parts _ _ (and_parts _ _ (opening_of m n l e)).0).0 in
+    let kind_is = same_bytes (kind m) (65 ∷ []) parts.0 in
+    let one : n ≡ 1 = grind (arith, nat_tests) in
+    ap (λ k. due_after_accepted n (meaning_of_kind_text k m n)) kind_is ∙ (let h : n + 1 ≡ 2 = omega (arith, one) in h)
+
+pub judge_opens : (s : Session) (m : List ℕ) (n : ℕ) (l : Logon) → s.state ≡ states.Before → number m ≡ Some n → logon_of m n ≡ Some l → judge s m ≡ opens 2 (Some l)
+judge_opens s m n l state numbered logon =
+    ap (λ o. step_or_stay s (option_map (view_with m) o)) numbered
+    ∙ ap (λ t. step_at t (view_with m n)) state
+    ∙ ap (λ o. opens (due_after_accepted n (meaning_of_message m n)) o) logon
+    ∙ ap (λ k. opens k (Some l)) (due_two m n l logon)

@@ -1,0 +1,2 @@
+pub mod Changes
+pub mod Judged
