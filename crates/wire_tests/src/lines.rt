@@ -182,10 +182,11 @@ fn lines_with_memory_refused(rt: HostRuntime) {
         });
         match read_day_lines(&heap, &mut source) {
             Ok(journal) => {
-                holds(&rt, !heap.has_refused() && journal.len() == 2 && number > 4);
+                let is_whole = (journal.len() == 2) & (number > 4);
+                holds(&rt, is_whole & !heap.has_refused());
                 return;
             }
-            Err(fault) => holds(&rt, heap.has_refused() && fault == LinesFault::NoMemory),
+            Err(fault) => holds(&rt, (fault == LinesFault::NoMemory) & heap.has_refused()),
         }
     }
     holds(&rt, false);

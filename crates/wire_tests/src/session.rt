@@ -1,5 +1,5 @@
 //! Worked rows: messages of a session as its client writes them, and what the session says to them.
-use crate::expect::holds;
+use crate::expect::{holds, holds_for};
 use fix_session::{Session, Verdict};
 use fix_wire::Message;
 use spread_rules::{Event, Side, Ticket};
@@ -120,9 +120,9 @@ fn expect_said(rt: &impl Abort, verdict: Verdict, says: &Says) {
 
 /// These events and no others were said, in this order.
 fn expect_events(rt: &impl Abort, name: &str, events: &[Event], want: &[Says]) {
-    assert!(rt; events.len() == want.len(), "{name}");
+    holds_for(rt, events.len() == want.len(), name);
     for (event, says) in events.iter().zip(want) {
-        assert!(rt; is_said(Verdict::Event(*event), says), "{name}");
+        holds_for(rt, is_said(Verdict::Event(*event), says), name);
     }
 }
 
@@ -145,12 +145,18 @@ fn sum_of(bytes: &[u8]) -> u8 {
     sum
 }
 
+/// The CheckSum's field of three digits.
+fn end_of(sum: u8) -> [u8; 7] {
+    let digits = [b'0' + sum / 100, b'0' + sum / 10 % 10, b'0' + sum % 10];
+    [b'1', b'0', b'=', digits[0], digits[1], digits[2], 1]
+}
+
 /// A frame around a body.
 fn framed<A: Allocator + Copy>(rt: &impl Abort, alloc: A, body: &str) -> Vec<u8, A> {
     let text = format!(in alloc; "8=FIX.4.2|9={}|{body}", body.len()).expect(rt, "memory");
     let mut frame = bytes_of(rt, alloc, text.as_str());
-    let end = format!(in alloc; "10={:03}\x01", sum_of(&frame)).expect(rt, "memory");
-    frame.extend_from_slice(end.as_bytes()).expect(rt, "memory");
+    let end = end_of(sum_of(&frame));
+    frame.extend_from_slice(&end).expect(rt, "memory");
     frame
 }
 

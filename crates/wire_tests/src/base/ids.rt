@@ -36,22 +36,22 @@ fn keys_of_ids(rt: HostRuntime) {
     limits();
 }
 
+/// No byte, a byte 1, and 33 bytes, one too many.
+const NO_IDS: &[&[u8]] = &[b"", b"a\x01b", &[b'x'; 33]];
+
+const MOST: &[u8] = &[b'x'; 32];
+
 #[test]
 fn ids(rt: HostRuntime) {
-    let long = [b'x'; 33];
-    holds(&rt, Id::new(b"").is_none());
-    holds(&rt, Id::new(b"a\x01b").is_none());
-    holds(&rt, Id::new(&long).is_none());
-    let most = Id::new(&long[..32]).expect(&rt, "an id of 32 bytes");
+    for bytes in NO_IDS {
+        holds(&rt, Id::new(bytes).is_none() & !Id::fits(bytes));
+    }
+    let most = Id::new(MOST).expect(&rt, "an id of 32 bytes");
     let id = Id::new(b"C1").expect(&rt, "an id");
-    holds(&rt, most.bytes() == &long[..32]);
     holds(
         &rt,
-        Id::fits(b"C1") && !Id::fits(b"a\x01b") && !Id::fits(&long),
+        (most.bytes() == MOST) & (id.bytes() == b"C1".as_slice()),
     );
-    if Id::fits(b"C1") {
-        holds(&rt, Id::of(b"C1").is(&id));
-    }
-    holds(&rt, id.bytes() == b"C1".as_slice());
-    holds(&rt, id.is(&id) && !id.is(&most));
+    holds(&rt, Id::fits(b"C1"));
+    holds(&rt, Id::of(b"C1").is(&id) & id.is(&id) & !id.is(&most));
 }

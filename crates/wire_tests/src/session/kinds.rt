@@ -1,53 +1,54 @@
 //! Messages of each kind, and the reasons of their Rejects.
 use super::Says::{Cancel, New, Nothing, Reject, Replace, Resend, TestReply};
 use super::{LOGON, Order, SELL, Says, is_said, judged};
+use crate::expect::holds_for;
 use fix_session::Session;
 use spread_rules::Side;
 use std::alloc::Allocator;
 use std::process::Abort;
 
-const HEARTBEAT: &[(&str, &str)] = &[("52", "S")];
+const HEARTBEAT: &[(&str, &str)] = &[("52", "52=S|")];
 
-const TEST_REQUEST: &[(&str, &str)] = &[("52", "S"), ("112", "T")];
+const TEST_REQUEST: &[(&str, &str)] = &[("52", "52=S|"), ("112", "112=T|")];
 
-const RESEND_REQUEST: &[(&str, &str)] = &[("52", "S"), ("7", "2"), ("16", "0")];
+const RESEND_REQUEST: &[(&str, &str)] = &[("52", "52=S|"), ("7", "7=2|"), ("16", "16=0|")];
 
-const SEQUENCE_RESET: &[(&str, &str)] = &[("52", "S"), ("36", "9"), ("123", "Y")];
+const SEQUENCE_RESET: &[(&str, &str)] = &[("52", "52=S|"), ("36", "36=9|"), ("123", "123=Y|")];
 
 const ORDER: &[(&str, &str)] = &[
-    ("52", "S"),
-    ("11", "a"),
-    ("21", "1"),
-    ("55", "H6"),
-    ("54", "2"),
-    ("60", "T"),
-    ("38", "5"),
-    ("40", "2"),
-    ("44", "100"),
-    ("59", "0"),
+    ("52", "52=S|"),
+    ("11", "11=a|"),
+    ("21", "21=1|"),
+    ("55", "55=H6|"),
+    ("54", "54=2|"),
+    ("60", "60=T|"),
+    ("38", "38=5|"),
+    ("40", "40=2|"),
+    ("44", "44=100|"),
+    ("59", "59=0|"),
 ];
 
 const CANCEL: &[(&str, &str)] = &[
-    ("52", "S"),
-    ("41", "a"),
-    ("11", "b"),
-    ("55", "H6"),
-    ("54", "2"),
-    ("60", "T"),
+    ("52", "52=S|"),
+    ("41", "41=a|"),
+    ("11", "11=b|"),
+    ("55", "55=H6|"),
+    ("54", "54=2|"),
+    ("60", "60=T|"),
 ];
 
 const REPLACE: &[(&str, &str)] = &[
-    ("52", "S"),
-    ("41", "a"),
-    ("11", "b"),
-    ("21", "1"),
-    ("55", "H6"),
-    ("54", "2"),
-    ("60", "T"),
-    ("38", "5"),
-    ("40", "2"),
-    ("44", "100"),
-    ("59", "0"),
+    ("52", "52=S|"),
+    ("41", "41=a|"),
+    ("11", "11=b|"),
+    ("21", "21=1|"),
+    ("55", "55=H6|"),
+    ("54", "54=2|"),
+    ("60", "60=T|"),
+    ("38", "38=5|"),
+    ("40", "40=2|"),
+    ("44", "44=100|"),
+    ("59", "59=0|"),
 ];
 
 const FIELDS: &[(&str, &[(&str, &str)])] = &[
@@ -60,7 +61,7 @@ const FIELDS: &[(&str, &[(&str, &str)])] = &[
     ("G", REPLACE),
 ];
 
-/// The fields of a lawful message of a kind; those of an order where the kind has no row.
+/// The tags and fields of a lawful message of a kind; those of an order where the kind has no row.
 fn fields_of(kind: &str) -> &'static [(&'static str, &'static str)] {
     for (name, fields) in FIELDS {
         if *name == kind {
@@ -79,13 +80,9 @@ fn changed<A: Allocator + Copy>(
     text: &str,
 ) -> String<A> {
     let mut body = format!(in alloc; "35={kind}|34=2|49=C1|56=HOST|").expect(rt, "memory");
-    for (name, value) in fields_of(kind) {
-        if *name == tag {
-            body.push_str(text).expect(rt, "memory");
-        } else {
-            let field = format!(in alloc; "{name}={value}|").expect(rt, "memory");
-            body.push_str(field.as_str()).expect(rt, "memory");
-        }
+    for (name, field) in fields_of(kind) {
+        let field = if *name == tag { text } else { field };
+        body.push_str(field).expect(rt, "memory");
     }
     body
 }
@@ -94,7 +91,7 @@ fn changed<A: Allocator + Copy>(
 fn expect_second<A: Allocator + Copy>(rt: &impl Abort, alloc: A, body: &str, want: &Says) {
     let (_, session) = judged(rt, alloc, &Session::new(), LOGON);
     let (verdict, _) = judged(rt, alloc, &session, body);
-    assert!(rt; is_said(verdict, want), "{body}");
+    holds_for(rt, is_said(verdict, want), body);
 }
 
 /// What message 2 of each kind says, with other text in place of one field.

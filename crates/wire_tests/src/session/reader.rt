@@ -168,12 +168,13 @@ fn entries_of_a_text(rt: HostRuntime) {
     }
 }
 
+const DAY: [&[u8]; 4] = [day::LOGON, day::SELL, day::BUY, day::LOGOUT];
+
 fn expect_day<A: Allocator>(rt: &impl Abort, messages: &[Vec<u8, A>]) {
     holds(rt, messages.len() == 4);
-    holds(rt, messages[0].as_slice() == day::LOGON);
-    holds(rt, messages[1].as_slice() == day::SELL);
-    holds(rt, messages[2].as_slice() == day::BUY);
-    holds(rt, messages[3].as_slice() == day::LOGOUT);
+    for place in 0..4usize {
+        holds(rt, messages[place].as_slice() == DAY[place]);
+    }
 }
 
 #[test]

@@ -238,28 +238,25 @@ fn expect_heartbeat(rt: &impl Abort, stream: &[u8]) {
 enum Step {
     /// So many bytes of these are taken.
     Put(&'static [Part], usize),
-    /// The next message is this one.
-    Next(&'static [u8]),
-    Need,
+    /// The next message is this one, if any.
+    Next(Option<&'static [u8]>),
     /// Whether a message was passed.
     Pass(bool),
     Held(usize),
-    /// From this place on this message stands, and ends at that place.
-    Look(usize, &'static [u8], usize),
-    /// From this place on no message stands.
-    LookNeed(usize),
+    /// From this place on this message stands, if any, and ends at that place.
+    Look(usize, Option<(&'static [u8], usize)>),
 }
 
 const A_FULL_BUFFER: &[Step] = &[
     Step::Pass(false),
     Step::Put(&[Letters(8113), Bytes(LOGON)], 8192),
     Step::Put(&[Bytes(LOGON)], 0),
-    Step::Next(LOGON),
+    Step::Next(Some(LOGON)),
     Step::Held(79),
     Step::Put(&[Bytes(SELL)], 127),
     Step::Pass(true),
     Step::Pass(true),
-    Step::Need,
+    Step::Next(None),
     Step::Pass(false),
     Step::Held(0),
 ];
@@ -267,58 +264,49 @@ const A_FULL_BUFFER: &[Step] = &[
 const LOOKED_AT_FROM_A_PLACE: &[Step] = &[
     Step::Put(&[Bytes(b"xx"), Bytes(LOGON), Bytes(SELL), Bytes(BUY)], 335),
     Step::Held(335),
-    Step::Look(0, LOGON, 81),
-    Step::Look(2, LOGON, 81),
-    Step::Look(3, SELL, 208),
-    Step::Look(81, SELL, 208),
-    Step::Look(208, BUY, 335),
-    Step::LookNeed(335),
+    Step::Look(0, Some((LOGON, 81))),
+    Step::Look(2, Some((LOGON, 81))),
+    Step::Look(3, Some((SELL, 208))),
+    Step::Look(81, Some((SELL, 208))),
+    Step::Look(208, Some((BUY, 335))),
+    Step::Look(335, None),
     Step::Held(335),
 ];
 
-/// What stands from a place on: the message and the place after it.
-fn expect_look(rt: &impl Abort, framer: &Framer, at: usize, want: Option<(&[u8], usize)>) {
-    holds(rt, at <= framer.held());
-    match (framer.look(at), want) {
-        (Look::Message(message, after), Some((frame, place))) => {
-            holds(rt, message.bytes() == frame);
-            holds(rt, after == place);
-        }
-        (Look::Need, None) => {}
-        _ => assert!(rt; false, "what stands from {at} on"),
+/// Whether this stands from a place on: the message and the place after it.
+fn stands(framer: &Framer, at: usize, want: Option<(&[u8], usize)>) -> bool {
+    if framer.held() < at {
+        return false;
     }
+    let is_looked_at = match framer.look(at) {
+        Look::Message(message, after) => want == Some((message.bytes(), after)),
+        Look::Need => want.is_none(),
+    };
     let mut table = FrameTable::empty();
-    match (framer.find(at, &mut table), want) {
-        (Some(found), Some((frame, place))) => {
-            holds(rt, framer.message(found, &table).bytes() == frame);
-            holds(rt, found.end == place);
-        }
-        (None, None) => {}
-        _ => assert!(rt; false, "where the next frame from {at} on stands"),
-    }
+    let is_found = match framer.find(at, &mut table) {
+        Some(found) => want == Some((framer.message(found, &table).bytes(), found.end)),
+        None => want.is_none(),
+    };
+    is_looked_at & is_found
 }
 
-/// The message that stands next in a framer.
-fn expect_next(rt: &impl Abort, framer: &mut Framer, want: Option<&[u8]>) {
+/// Whether this message stands next in a framer.
+fn stands_next(framer: &mut Framer, want: Option<&[u8]>) -> bool {
     match framer.next() {
-        Next::Message(message) => holds(rt, want == Some(message.bytes())),
-        Next::Need => holds(rt, want.is_none()),
+        Next::Message(message) => want == Some(message.bytes()),
+        Next::Need => want.is_none(),
     }
 }
 
 fn expect_step<A: Allocator>(rt: &impl Abort, alloc: A, framer: &mut Framer, step: &Step) {
-    match step {
-        Step::Put(parts, taken) => {
-            let stream = stream_of(rt, alloc, parts);
-            holds(rt, framer.put(&stream) == *taken);
-        }
-        Step::Next(message) => expect_next(rt, framer, Some(message)),
-        Step::Need => expect_next(rt, framer, None),
-        Step::Pass(stands) => holds(rt, framer.pass() == *stands),
-        Step::Held(count) => holds(rt, framer.held() == *count),
-        Step::Look(at, message, after) => expect_look(rt, framer, *at, Some((message, *after))),
-        Step::LookNeed(at) => expect_look(rt, framer, *at, None),
-    }
+    let is_so = match step {
+        Step::Put(parts, taken) => framer.put(&stream_of(rt, alloc, parts)) == *taken,
+        Step::Next(message) => stands_next(framer, *message),
+        Step::Pass(stands) => framer.pass() == *stands,
+        Step::Held(count) => framer.held() == *count,
+        Step::Look(at, message) => stands(framer, *at, *message),
+    };
+    holds(rt, is_so);
 }
 
 fn expect_steps<A: Allocator + Copy>(rt: &impl Abort, alloc: A, steps: &[Step]) {

@@ -9,20 +9,15 @@ use fix_frames::{
 #[test]
 fn fronts_of_texts(rt: HostRuntime) {
     let mut table = FrameTable::empty();
-    holds(
-        &rt,
-        matches!(scan_front(&SELL[..20], &mut table), Scan::Incomplete),
-    );
-    holds(
-        &rt,
-        matches!(scan_front(&BEGIN_TEXT, &mut table), Scan::Incomplete),
-    );
-    holds(&rt, matches!(scan_front(b"9=5", &mut table), Scan::Garbled));
+    let is_cut = matches!(scan_front(&SELL[..20], &mut table), Scan::Incomplete);
+    let is_begin = matches!(scan_front(&BEGIN_TEXT, &mut table), Scan::Incomplete);
+    let is_garbled = matches!(scan_front(b"9=5", &mut table), Scan::Garbled);
+    holds(&rt, is_cut & is_begin & is_garbled);
     match scan_front(SELL, &mut table) {
         Scan::Frame(n) if n == SELL.len() => {
             let sell = Message::of_frame(SELL, &table);
-            holds(&rt, sell.kind() == b"D".as_slice());
-            holds(&rt, sell.get(55) == Some(b"H6".as_slice()));
+            let is_order = sell.kind() == b"D".as_slice();
+            holds(&rt, is_order & (sell.get(55) == Some(b"H6".as_slice())));
         }
         _ => holds(&rt, false),
     }

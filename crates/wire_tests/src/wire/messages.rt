@@ -3,7 +3,7 @@ ghost use Rattle.fix_frames.specs.Frames.{IsFrameRow};
 
 use super::writing::REPORT;
 use crate::day::{LOGON, SELL};
-use crate::expect::holds;
+use crate::expect::{holds, holds_for};
 use fix_wire::{Message, first_of_row, read_price};
 
 struct MessageCase {
@@ -69,7 +69,7 @@ static MESSAGES: &[MessageCase] = &[
 fn whole_messages(rt: HostRuntime) {
     for case in MESSAGES {
         let message = Message::whole(case.frame).expect(&rt, case.name);
-        assert!(rt; is_as_wanted(case, &message), "{}", case.name);
+        holds_for(&rt, is_as_wanted(case, &message), case.name);
     }
 }
 

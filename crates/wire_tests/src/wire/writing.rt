@@ -1,5 +1,5 @@
 //! Messages as they are written.
-use crate::expect::holds;
+use crate::expect::{holds, holds_for};
 use fix_wire::{
     Body, Field, FieldList, Head, Message, SpelledHead, SpelledParties, Value, put_field,
     put_text_field, read_price, write_body, write_message,
@@ -7,7 +7,7 @@ use fix_wire::{
 use host_base::Id;
 use std::alloc::Allocator;
 use std::process::Abort;
-use test_support::{Refusing, id};
+use test_support::{Refusing, id, stamp};
 
 const HEARTBEAT: &[u8] =
     b"8=FIX.4.2\x019=51\x0135=0\x0134=2\x0149=HOST\x0152=20260105-14:30:00\x0156=C1\x01112=T\x0110=211\x01";
@@ -124,7 +124,7 @@ fn written_messages(rt: HostRuntime) {
         let head = head(case.kind, case.number, case.duplicate);
         write_message(&mut out, &head, &fields).expect(&rt, "memory");
         want.extend_from_slice(case.text).expect(&rt, "memory");
-        assert!(rt; out == want, "{}", case.name);
+        holds_for(&rt, out == want, case.name);
     }
 }
 
@@ -205,8 +205,7 @@ const LENGTHS: &[(usize, &[u8])] = &[
 fn written_lengths(rt: HostRuntime) {
     let fields = [field_of(11, &Text(b"ABCDEFGHIJKLMNOPQRSTUVWXYZ012345")); 30];
     let mut room = [7; 2000];
-    let (host, client, stamp) = (id(b"HOST"), id(b"C1"), id(b"20260105-14:30:00"));
-    let parties = SpelledParties::new(&host, &client, &stamp);
+    let parties = SpelledParties::new(&id(b"HOST"), &id(b"C1"), &stamp());
     let head = SpelledHead {
         kind: b'0',
         number: 2,
