@@ -1,12 +1,12 @@
 //! Tests by subject, and what they share.
-ghost use Rattle.std.specs.Prelude.{◌≡◌, true};
+ghost use Rattle.std.specs.Prelude.{◌<◌, ◌≡◌, true};
 ghost use Rattle.market_state.specs.State.{empty_state};
 ghost use Rattle.market_state.specs.Trade.{IsPriced};
 
 use crate::expect::holds;
 use spread_books::Book;
 use spread_match::Market;
-use spread_rules::{Entry, Event, Fill, Instrument, Order, Side, Ticket};
+use spread_rules::{Entry, Event, Fill, Instrument, Order, Outcome, Rulebook, Side, Ticket};
 use std::alloc::Global;
 use std::process::Abort;
 use test_support::id;
@@ -113,6 +113,26 @@ fn is_priced(entry: &Entry) -> bool
     }
 }
 
+/// The rulebook of this text, which a test of that name needs.
+fn rulebook(rt: &impl Abort, text: &[u8], name: &str) -> Rulebook {
+    Rulebook::read(text).expect(rt, name)
+}
+
+/// What the entry of that place comes to.
+fn applied<B: Book>(
+    rt: &impl Abort,
+    market: &mut Market<'_, B, Global>,
+    place: u64,
+    entry: &Entry,
+    fills: &mut Vec<Fill>,
+) -> Outcome
+    requires { market.old.state.last < place }
+    ensures { market.new.state.last ≡ place }
+{
+    holds(rt, is_priced(entry));
+    market.apply(place, entry, fills).expect(rt, "memory")
+}
+
 /// The fills of the entries of a journal in a market before its first entry, places counting from 1.
 fn apply_all<B: Book>(
     rt: &impl Abort,
@@ -124,10 +144,7 @@ fn apply_all<B: Book>(
 {
     let mut fills = Vec::new(alloc);
     for n in 0..journal.len() {
-        holds(rt, is_priced(&journal[n]));
-        let _ = market
-            .apply(n as u64 + 1, &journal[n], &mut fills)
-            .expect(rt, "memory");
+        let _ = applied(rt, market, n as u64 + 1, &journal[n], &mut fills);
     }
     fills
 }

@@ -2,11 +2,11 @@
 ghost use Rattle.std.specs.Prelude.{◌≡◌};
 ghost use Rattle.market_state.specs.State.{empty_state};
 
-use super::{buy, cancel, is_priced, logon, replace, sell, ticket};
+use super::{applied, cancel, logon, rulebook, ticket};
 use crate::expect::holds;
 use spread_books::{Book, ListBook};
 use spread_match::Market;
-use spread_rules::{Entry, Event, Fill, Instrument, Order, Outcome, Rulebook, Side, Ticket};
+use spread_rules::{Entry, Event, Fill, Instrument, Order, Outcome, Side, Ticket};
 use std::alloc::Global;
 use std::process::Abort;
 use test_support::id;
@@ -80,41 +80,35 @@ pub(super) struct Case {
     pub(super) resting: &'static [(u64, u32)],
 }
 
-/// A new order that is immediate.
-fn buy_now(name: &[u8], symbol: &[u8], quantity: u32, price: i64) -> Event {
-    Event::New(Ticket {
-        immediate: true,
-        ..ticket(name, symbol, Side::Buy, quantity, price)
-    })
-}
-
-/// A request for an immediate order.
-fn sell_now(original: &[u8], name: &[u8], symbol: &[u8], quantity: u32, price: i64) -> Event {
-    Event::Replace {
-        original: id(original),
-        ticket: Ticket {
-            immediate: true,
-            ..ticket(name, symbol, Side::Sell, quantity, price)
-        },
+/// What the order that is sent asks for.
+fn ticket_of(sent: &Sent, name: &[u8], symbol: &[u8], quantity: u32, price: i64) -> Ticket {
+    let (side, immediate) = match sent {
+        Sent::Buy(_, _, _, _) | Sent::ReplaceBuy(_, _, _, _, _) => (Side::Buy, false),
+        Sent::BuyNow(_, _, _, _) => (Side::Buy, true),
+        Sent::ReplaceSellNow(_, _, _, _, _) => (Side::Sell, true),
+        _ => (Side::Sell, false),
+    };
+    Ticket {
+        immediate,
+        ..ticket(name, symbol, side, quantity, price)
     }
 }
 
 fn event_of(sent: &Sent) -> Event {
     match sent {
         Sent::Logon => logon().event,
-        Sent::Buy(name, symbol, quantity, price) => buy(name, symbol, *quantity, *price).event,
-        Sent::Sell(name, symbol, quantity, price) => sell(name, symbol, *quantity, *price).event,
-        Sent::BuyNow(name, symbol, quantity, price) => buy_now(name, symbol, *quantity, *price),
+        Sent::Buy(name, symbol, quantity, price)
+        | Sent::Sell(name, symbol, quantity, price)
+        | Sent::BuyNow(name, symbol, quantity, price) => {
+            Event::New(ticket_of(sent, name, symbol, *quantity, *price))
+        }
         Sent::Cancel(name, original) => cancel(name, original).event,
-        Sent::ReplaceBuy(original, name, symbol, quantity, price) => {
-            replace(original, name, symbol, Side::Buy, *quantity, *price).event
-        }
-        Sent::ReplaceSell(original, name, symbol, quantity, price) => {
-            replace(original, name, symbol, Side::Sell, *quantity, *price).event
-        }
-        Sent::ReplaceSellNow(original, name, symbol, quantity, price) => {
-            sell_now(original, name, symbol, *quantity, *price)
-        }
+        Sent::ReplaceBuy(original, name, symbol, quantity, price)
+        | Sent::ReplaceSell(original, name, symbol, quantity, price)
+        | Sent::ReplaceSellNow(original, name, symbol, quantity, price) => Event::Replace {
+            original: id(original),
+            ticket: ticket_of(sent, name, symbol, *quantity, *price),
+        },
     }
 }
 
@@ -216,10 +210,7 @@ fn expect_outcomes<B: Book>(
 {
     for n in 0..journal.len() {
         let entry = entry_of(&journal[n]);
-        holds(rt, is_priced(&entry));
-        let outcome = market
-            .apply(n as u64 + 1, &entry, fills)
-            .expect(rt, "memory");
+        let outcome = applied(rt, market, n as u64 + 1, &entry, fills);
         holds(rt, outcome == outcome_of(&journal[n]));
     }
 }
@@ -240,7 +231,7 @@ pub(super) fn expect_case<B: Book>(
 
 /// The same in a market over the list book.
 pub(super) fn expect_over_list(rt: &impl Abort, alloc: Global, case: &Case, fills: &mut Vec<Fill>) {
-    let rules = Rulebook::read(case.rulebook).expect(rt, case.name);
+    let rules = rulebook(rt, case.rulebook, case.name);
     let mut market = Market::new(alloc, &rules, ListBook::new(alloc));
     expect_case(rt, &mut market, case, fills)
 }

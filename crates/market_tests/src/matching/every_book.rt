@@ -2,7 +2,7 @@
 ghost use Rattle.std.specs.Prelude.{◌≡◌, []};
 ghost use Rattle.market_state.specs.State.{empty_state};
 
-use super::{append_resting, cancel, day, is_priced, replace};
+use super::{append_resting, applied, cancel, day, replace, rulebook};
 use crate::expect::holds;
 use spread_books::{Book, FrontBook, HeapBook, IndexBook, ListBook};
 use spread_match::Market;
@@ -65,10 +65,7 @@ fn note_all<B: Book>(
     requires { market.old.state ≡ empty_state }
 {
     for n in 0..journal.len() {
-        holds(rt, is_priced(&journal[n]));
-        let outcome = market
-            .apply(n as u64 + 1, &journal[n], &mut run.fills)
-            .expect(rt, "memory");
+        let outcome = applied(rt, market, n as u64 + 1, &journal[n], &mut run.fills);
         run.note(rt, outcome, market.book());
     }
 }
@@ -244,7 +241,7 @@ fn expect_runs(rt: &impl Abort, alloc: Global, rules: &Rulebook, journal: &[Entr
 
 #[test]
 fn every_book_answers_alike(rt: HostRuntime) {
-    let rules = Rulebook::read(THREE_MONTHS).expect(&rt, "a rulebook");
+    let rules = rulebook(&rt, THREE_MONTHS, "a rulebook");
     for seed in 0..12 {
         let journal = chosen_entries(&rt, rt.alloc(), seed);
         let wanted = wanted_run(&rt, rt.alloc(), &rules, &journal);

@@ -2,12 +2,12 @@
 ghost use Rattle.std.specs.Prelude.{◌<◌, ◌≡◌};
 ghost use Rattle.market_state.specs.State.{empty_state};
 
-use super::{H6_M6, buy, is_priced, sell};
+use super::{H6_M6, applied, buy, rulebook, sell};
 use crate::expect::holds;
 use spread_books::ListBook;
 use spread_match::Market;
 use spread_match::laws::{lawful, ranges, without_replace};
-use spread_rules::{Choice, Entry, Fill, Members, Order, Outcome, Rulebook, Side};
+use spread_rules::{Choice, Entry, Fill, Members, Order, Outcome, Side};
 use std::alloc::Global;
 use std::process::Abort;
 use test_support::{THREE_MONTHS, id};
@@ -23,8 +23,7 @@ fn expect_rested(
     requires { market.old.state.last < place }
     ensures { market.new.state.last ≡ place }
 {
-    holds(rt, is_priced(entry));
-    let outcome = market.apply(place, entry, fills).expect(rt, "memory");
+    let outcome = applied(rt, market, place, entry, fills);
     holds(rt, outcome == Outcome::Rested);
 }
 
@@ -51,7 +50,8 @@ fn expect_best(
     requires { market.old.state ≡ empty_state }
 {
     market.reserve(2).expect(rt, "memory");
-    holds(rt, market.best(&buyer()) == None);
+    let buyer = buyer();
+    holds(rt, market.best(&buyer) == None);
     expect_rested(rt, market, 2, &sell(b"a", b"H6", 3, 10000), fills);
     expect_rested(rt, market, 7, &buy(b"b", b"M6", 2, 9800), fills);
     let wanted = Choice {
@@ -59,12 +59,12 @@ fn expect_best(
         quantity: 2,
         members: Members::Implied(2, 7),
     };
-    holds(rt, market.best(&buyer()) == Some(wanted));
+    holds(rt, market.best(&buyer) == Some(wanted));
 }
 
 #[test]
 fn best_and_apply(rt: HostRuntime) {
-    let rules = Rulebook::read(THREE_MONTHS).expect(&rt, "a rulebook");
+    let rules = rulebook(&rt, THREE_MONTHS, "a rulebook");
     let mut market = Market::new(rt.alloc(), &rules, ListBook::new(rt.alloc()));
     expect_best(&rt, &mut market, &mut Vec::new(rt.alloc()));
 }

@@ -7,7 +7,7 @@ use super::cases::Came::{Replaced, RequestRefused, Rested};
 use super::cases::Line::{Of, OfSpread};
 use super::cases::Sent::{Buy, Cancel, ReplaceBuy, ReplaceSell, Sell};
 use super::cases::{Case, Kept, Step, entry_of, expect_over_list, outcome_of};
-use super::{H6, H6_M6, M6, append_resting, is_priced};
+use super::{H6, H6_M6, M6, append_resting, is_priced, rulebook};
 use crate::expect::holds;
 use host_base::NoMemory;
 use spread_books::{Book, IndexBook, ListBook};
@@ -64,17 +64,18 @@ fn apply_again<B: Book, A: Allocator + Copy>(
 fn expect_outcomes<B: Book, A: Allocator + Copy>(
     rt: &impl Abort,
     heaps: &Heaps<'_>,
+    alloc: A,
     market: &mut Market<'_, B, A>,
     journal: &[(Entry, Outcome)],
-    fills: &mut Vec<Fill, A>,
     wanted: &[Fill],
 )
     requires { market.old.state ≡ empty_state }
 {
+    let mut fills = Vec::new(alloc);
     for n in 0..journal.len() {
         let (entry, wanted) = &journal[n];
         holds(rt, is_priced(entry));
-        let outcome = apply_again(rt, heaps, market, n as u64 + 1, entry, fills);
+        let outcome = apply_again(rt, heaps, market, n as u64 + 1, entry, &mut fills);
         holds(rt, outcome == *wanted);
     }
     holds(rt, fills.as_slice() == wanted);
@@ -92,8 +93,7 @@ fn expect_applied<B: Book + Drop>(
     requires { B.orders book ≡ [] }
 {
     let mut market = Market::new(heaps.refusing, rules, book);
-    let mut fills = Vec::new(heaps.refusing);
-    expect_outcomes(rt, heaps, &mut market, journal, &mut fills, wanted)
+    expect_outcomes(rt, heaps, heaps.refusing, &mut market, journal, wanted)
 }
 
 /// The same over the index book, made again where a request was refused.
@@ -150,17 +150,14 @@ fn is_refused_over_list(
     refusing.has_refused()
 }
 
-/// Each request for memory of that journal is refused in turn, in a book of each kind that makes any by itself.
-fn refuse_each(
-    rt: &impl Abort,
-    alloc: Global,
-    rules: &Rulebook,
-    journal: &[(Entry, Outcome)],
-    wanted: &[Fill],
-) {
+/// Each request for memory of that case is refused in turn, in a book of each kind that makes any by itself.
+fn refuse_each(rt: &impl Abort, alloc: Global, rules: &Rulebook, case: &Case) {
+    let mut wanted = Vec::new(alloc);
+    expect_over_list(rt, alloc, case, &mut wanted);
+    let journal = entries_of(rt, alloc, case.journal);
     for number in 1..500u64 {
-        let index = is_refused_over_index(rt, alloc, rules, number, journal, wanted);
-        let list = is_refused_over_list(rt, alloc, rules, number, journal, wanted);
+        let index = is_refused_over_index(rt, alloc, rules, number, &journal, &wanted);
+        let list = is_refused_over_list(rt, alloc, rules, number, &journal, &wanted);
         if !index && !list {
             return;
         }
@@ -303,11 +300,8 @@ static CASES: &[Case] = &[
 
 #[test]
 fn each_request_refused_in_turn(rt: HostRuntime) {
-    let rules = Rulebook::read(THREE_MONTHS).expect(&rt, "a rulebook");
+    let rules = rulebook(&rt, THREE_MONTHS, "a rulebook");
     for case in CASES {
-        let mut wanted = Vec::new(rt.alloc());
-        expect_over_list(&rt, rt.alloc(), case, &mut wanted);
-        let journal = entries_of(&rt, rt.alloc(), case.journal);
-        refuse_each(&rt, rt.alloc(), &rules, &journal, &wanted);
+        refuse_each(&rt, rt.alloc(), &rules, case);
     }
 }

@@ -1,5 +1,5 @@
 //! Implied quotes of a market's book.
-ghost use Rattle.std.specs.Prelude.{◌≡◌, []};
+ghost use Rattle.std.specs.Prelude.{◌≡◌};
 ghost use Rattle.market_state.specs.State.{empty_state};
 
 use super::cases::Came::{Cancelled, Rested, Session};
@@ -7,7 +7,7 @@ use super::cases::Sent::{Buy, Cancel, Logon, Sell};
 use super::cases::{Case, Kept, expect_case, expect_over_list};
 use super::every_book::instrument;
 use super::pairs::H6_U6_OFF;
-use super::{H6, H6_M6, U6, append_resting, cancel, day, is_priced};
+use super::{H6, H6_M6, U6, append_resting, applied, cancel, day, rulebook};
 use crate::expect::holds;
 use spread_books::{Book, IndexBook};
 use spread_match::Market;
@@ -56,49 +56,64 @@ fn expect_quotes_of(
     }
 }
 
-/// What must come of the case comes of it in a market before its first entry, and its book has the quotes at the end.
-fn expect_quote_case(
-    rt: &impl Abort,
-    market: &mut Market<'_, IndexBook<'_, Global>, Global>,
-    quoted: &QuoteCase,
-    fills: &mut Vec<Fill>,
-)
-    requires { market.old.state ≡ empty_state }
-{
-    expect_case(rt, market, &quoted.case, fills);
-    expect_quotes_of(rt, market, quoted.quotes);
+/// What is done in a market over the index book. One function has all of these markets, as each that has one is dear.
+#[derive(Clone, Copy)]
+enum Course<'c> {
+    /// What must come of the case comes of it, and the book has the quotes at the end.
+    Quoted(&'c QuoteCase),
+    /// The run of this seed, each quote behind it as the search finds it.
+    Run(u64),
+    /// The case of a pair at hand, which is not at hand under these rules without it.
+    AtHand(&'c Rulebook),
 }
 
-/// A market before its first entry, over the index book.
-fn market_over_index<'r>(
+/// Takes that course in a market before its first entry. A run comes to how many quotes there were, the others to 0.
+fn take(
     rt: &impl Abort,
     alloc: Global,
-    rules: &'r Rulebook,
-) -> Market<'r, IndexBook<'r, Global>, Global>
-    ensures { result.state ≡ empty_state }
+    market: &mut Market<'_, IndexBook<'_, Global>, Global>,
+    rules: &Rulebook,
+    course: Course<'_>,
+    fills: &mut Vec<Fill>,
+) -> usize
+    requires { market.old.state ≡ empty_state }
 {
-    let book = IndexBook::new(alloc, rules).expect(rt, "memory");
-    Market::new(alloc, rules, book)
+    match course {
+        Course::Quoted(quoted) => {
+            expect_case(rt, market, &quoted.case, fills);
+            expect_quotes_of(rt, market, quoted.quotes);
+            0
+        }
+        Course::Run(seed) => quotes_behind(rt, alloc, market, &mut Chance::new(seed), fills),
+        Course::AtHand(without) => {
+            expect_case(rt, market, &AT_HAND, fills);
+            holds(rt, at_hand(market, rules) == Some(Some((9500, 0))));
+            holds(rt, at_hand(market, without) == None);
+            0
+        }
+    }
 }
 
 /// The same in a market over the index book.
-fn expect_over_index(
+fn take_over_index(
     rt: &impl Abort,
     alloc: Global,
     rules: &Rulebook,
-    quoted: &QuoteCase,
+    course: Course<'_>,
     fills: &mut Vec<Fill>,
-) {
-    let mut market = market_over_index(rt, alloc, rules);
-    expect_quote_case(rt, &mut market, quoted, fills)
+) -> usize {
+    let book = IndexBook::new(alloc, rules).expect(rt, "memory");
+    let mut market = Market::new(alloc, rules, book);
+    take(rt, alloc, &mut market, rules, course, fills)
 }
 
 /// The cases over the list book, and with their quotes over the index book.
 pub(super) fn expect_quotes(rt: &impl Abort, alloc: Global, cases: &[QuoteCase]) {
     for quoted in cases {
-        let rules = Rulebook::read(quoted.case.rulebook).expect(rt, quoted.case.name);
+        let rules = rulebook(rt, quoted.case.rulebook, quoted.case.name);
         expect_over_list(rt, alloc, &quoted.case, &mut Vec::new(alloc));
-        expect_over_index(rt, alloc, &rules, quoted, &mut Vec::new(alloc));
+        let course = Course::Quoted(quoted);
+        let _ = take_over_index(rt, alloc, &rules, course, &mut Vec::new(alloc));
     }
 }
 
@@ -208,28 +223,14 @@ fn at_hand<B: Book>(
     }
 }
 
-/// In a market over that book the pair of H6 is at hand. Under the rules without it it has to be searched for.
-fn expect_at_hand<B: Book + Drop>(
-    rt: &impl Abort,
-    alloc: Global,
-    rules: &Rulebook,
-    without: &Rulebook,
-    book: B,
-)
-    requires { B.orders book ≡ [] }
-{
-    let mut market = Market::new(alloc, rules, book);
-    expect_case(rt, &mut market, &AT_HAND, &mut Vec::new(alloc));
-    holds(rt, at_hand(&market, rules) == Some(Some((9500, 0))));
-    holds(rt, at_hand(&market, without) == None);
-}
-
+/// The pair of H6 is at hand. Under the rules without it it has to be searched for.
 #[test]
 fn pair_at_hand(rt: HostRuntime) {
-    let rules = Rulebook::read(THREE_MONTHS).expect(&rt, "rulebook");
-    let without = Rulebook::read(H6_U6_OFF).expect(&rt, "rulebook");
-    let book = IndexBook::new(rt.alloc(), &rules).expect(&rt, "memory");
-    expect_at_hand(&rt, rt.alloc(), &rules, &without, book)
+    let rules = rulebook(&rt, THREE_MONTHS, "a rulebook");
+    let without = rulebook(&rt, H6_U6_OFF, "a rulebook");
+    let course = Course::AtHand(&without);
+    let mut fills = Vec::new(rt.alloc());
+    let _ = take_over_index(&rt, rt.alloc(), &rules, course, &mut fills);
 }
 
 /// What two orders together cost an order of that instrument and side, a case for each line of the rule.
@@ -404,31 +405,18 @@ fn quotes_behind(
     let mut quotes = 0usize;
     for place in 1..100u64 {
         let entry = chosen_entry(chance);
-        holds(rt, is_priced(&entry));
-        let _ = market.apply(place, &entry, fills).expect(rt, "memory");
+        let _ = applied(rt, market, place, &entry, fills);
         quotes = quotes.wrapping_add(compare_all(rt, alloc, market));
     }
     quotes
 }
 
-fn quotes_of_a_run(
-    rt: &impl Abort,
-    alloc: Global,
-    rules: &Rulebook,
-    chance: &mut Chance,
-    fills: &mut Vec<Fill>,
-) -> usize {
-    let mut market = market_over_index(rt, alloc, rules);
-    quotes_behind(rt, alloc, &mut market, chance, fills)
-}
-
 #[test]
 fn as_a_search_finds_them(rt: HostRuntime) {
-    let rules = Rulebook::read(THREE_MONTHS).expect(&rt, "a rulebook");
+    let rules = rulebook(&rt, THREE_MONTHS, "a rulebook");
     for seed in 0..8 {
-        let mut chance = Chance::new(seed);
         let mut fills = Vec::new(rt.alloc());
-        let quotes = quotes_of_a_run(&rt, rt.alloc(), &rules, &mut chance, &mut fills);
+        let quotes = take_over_index(&rt, rt.alloc(), &rules, Course::Run(seed), &mut fills);
         holds(&rt, quotes > 200);
     }
 }

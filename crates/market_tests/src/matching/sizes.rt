@@ -3,11 +3,11 @@ use super::cases::Came::{Filled, Refused, RequestRefused, Rested, Session};
 use super::cases::Line::{Of, OfSpread};
 use super::cases::Sent::{Buy, Cancel, Logon, Sell};
 use super::cases::{Case, Line, expect_cases, expect_fill, expect_fills};
-use super::{H6, H6_M6, M6, apply_all, buy, sell};
+use super::{H6, H6_M6, M6, apply_all, buy, rulebook, sell};
 use crate::expect::holds;
 use spread_books::ListBook;
 use spread_match::Market;
-use spread_rules::{Entry, Fill, Instrument, Rulebook, Side};
+use spread_rules::{Entry, Fill, Instrument, Side};
 use std::alloc::Global;
 use std::process::Abort;
 use test_support::THREE_MONTHS;
@@ -97,7 +97,7 @@ static NAMES: [&[u8; 2]; 12] = [
 
 /// The fills of a journal over the rulebook with this text.
 fn fills_of(rt: &impl Abort, alloc: Global, months: &[u8], journal: &[Entry]) -> Vec<Fill> {
-    let rules = Rulebook::read(months).expect(rt, "a rulebook");
+    let rules = rulebook(rt, months, "a rulebook");
     let mut market = Market::new(alloc, &rules, ListBook::new(alloc));
     apply_all(rt, alloc, &mut market, journal)
 }

@@ -5,6 +5,7 @@ use order_statuses::Statuses;
 use spread_rules::codes::ord_status;
 use spread_rules::{Fill, Order, OrderStatus, Side};
 use std::alloc::Global;
+use std::process::Abort;
 use test_support::id;
 
 /// An order of session 0 whose entry stands at that place.
@@ -55,52 +56,56 @@ fn found(statuses: &Statuses<Global>, session: u8, name: &[u8]) -> Option<(u64, 
     Some((status.place, status.status))
 }
 
+fn expect_found(
+    rt: &impl Abort,
+    statuses: &Statuses<Global>,
+    session: u8,
+    name: &[u8],
+    wanted: Option<(u64, u8)>,
+) {
+    holds(rt, found(statuses, session, name) == wanted);
+}
+
+/// Adds an order of session 0 with that status. Its id was used before, or it was not.
+fn add(
+    rt: &impl Abort,
+    statuses: &mut Statuses<Global>,
+    place: u64,
+    name: &[u8],
+    code: u8,
+    was_used: bool,
+) {
+    let used = statuses.add(status(place, name, code));
+    holds(rt, used == Ok(was_used));
+}
+
 #[test]
 fn a_used_id_is_refused_and_the_earliest_found(rt: HostRuntime) {
     let mut statuses = Statuses::new(rt.alloc());
     statuses.reserve(2).expect(&rt, "memory");
-    holds(&rt, found(&statuses, 0, b"a") == None);
-    let used = statuses.add(status(2, b"a", ord_status::NEW));
-    holds(&rt, used == Ok(false));
-    let used = statuses.add(status(3, b"a", ord_status::NEW));
-    holds(&rt, used == Ok(true));
-    holds(&rt, found(&statuses, 0, b"a") == Some((2, ord_status::NEW)));
-    holds(&rt, found(&statuses, 1, b"a") == None);
+    expect_found(&rt, &statuses, 0, b"a", None);
+    add(&rt, &mut statuses, 2, b"a", ord_status::NEW, false);
+    add(&rt, &mut statuses, 3, b"a", ord_status::NEW, true);
+    expect_found(&rt, &statuses, 0, b"a", Some((2, ord_status::NEW)));
+    expect_found(&rt, &statuses, 1, b"a", None);
 }
 
 #[test]
 fn an_order_of_which_nothing_is_left_is_filled(rt: HostRuntime) {
     let mut statuses = Statuses::new(rt.alloc());
-    let _ = statuses
-        .add(status(2, b"a", ord_status::NEW))
-        .expect(&rt, "memory");
-    let _ = statuses
-        .add(status(3, b"b", ord_status::NEW))
-        .expect(&rt, "memory");
+    add(&rt, &mut statuses, 2, b"a", ord_status::NEW, false);
+    add(&rt, &mut statuses, 3, b"b", ord_status::NEW, false);
     statuses.mark_filled(&[fill(2, b"a", 2), fill(3, b"b", 0)]);
-    holds(&rt, found(&statuses, 0, b"a") == Some((2, ord_status::NEW)));
-    holds(
-        &rt,
-        found(&statuses, 0, b"b") == Some((3, ord_status::FILLED)),
-    );
+    expect_found(&rt, &statuses, 0, b"a", Some((2, ord_status::NEW)));
+    expect_found(&rt, &statuses, 0, b"b", Some((3, ord_status::FILLED)));
 }
 
 #[test]
 fn an_order_in_whose_place_another_came_is_replaced(rt: HostRuntime) {
     let mut statuses = Statuses::new(rt.alloc());
-    let _ = statuses
-        .add(status(2, b"a", ord_status::CANCELED))
-        .expect(&rt, "memory");
-    let _ = statuses
-        .add(status(3, b"b", ord_status::CANCELED))
-        .expect(&rt, "memory");
+    add(&rt, &mut statuses, 2, b"a", ord_status::CANCELED, false);
+    add(&rt, &mut statuses, 3, b"b", ord_status::CANCELED, false);
     statuses.mark_replaced(&order(2, b"a"));
-    holds(
-        &rt,
-        found(&statuses, 0, b"a") == Some((2, ord_status::REPLACED)),
-    );
-    holds(
-        &rt,
-        found(&statuses, 0, b"b") == Some((3, ord_status::CANCELED)),
-    );
+    expect_found(&rt, &statuses, 0, b"a", Some((2, ord_status::REPLACED)));
+    expect_found(&rt, &statuses, 0, b"b", Some((3, ord_status::CANCELED)));
 }

@@ -3,6 +3,7 @@ use super::THREE_MONTHS;
 use crate::expect::holds;
 use spread_rules::laws::{codes, least_in_rank, one_rulebook, quiet, twelve_months};
 use spread_rules::{Instrument, RuleFault, Rulebook};
+use std::process::Abort;
 use std::test::Fail;
 
 /// Each symbol, and the instrument that has it, where one has.
@@ -18,29 +19,30 @@ static SYMBOLS: &[(&[u8], Option<Instrument>)] = &[
     (b"", None),
 ];
 
+fn expect_found(rt: &impl Abort, rules: &Rulebook, symbols: &[(&[u8], Option<Instrument>)]) {
+    for (symbol, instrument) in symbols {
+        holds(rt, rules.find(symbol) == *instrument);
+    }
+}
+
+/// The months of the rulebook, and its tick.
+fn expect_three_months(rt: &impl Abort, rules: &Rulebook) {
+    holds(rt, rules.months() == 3);
+    holds(rt, rules.tick() == 1);
+    for month in 0..rules.months() {
+        let n = month as usize % 3;
+        let name: &[u8] = [b"H6", b"M6", b"U6"][n];
+        holds(rt, rules.name(month) == name);
+        holds(rt, rules.name_id(month).bytes() == name);
+        holds(rt, rules.reference(month) == [10000, 9800, 9500][n]);
+    }
+}
+
 #[test]
 fn rulebook_read(rt: HostRuntime) -> Result<(), Fail> {
-    let rules = match Rulebook::read(THREE_MONTHS) {
-        Ok(rules) => rules,
-        Err(fault) => {
-            assert!(rt; false, "{fault}");
-            return Ok(());
-        }
-    };
-    holds(&rt, rules.months() == 3);
-    holds(&rt, rules.tick() == 1);
-    for month in 0..rules.months() {
-        let name: &[u8] = [b"H6", b"M6", b"U6"][month as usize % 3];
-        holds(&rt, rules.name(month) == name);
-        holds(&rt, rules.name_id(month).bytes() == name);
-        holds(
-            &rt,
-            rules.reference(month) == [10000, 9800, 9500][month as usize % 3],
-        );
-    }
-    for (symbol, instrument) in SYMBOLS {
-        holds(&rt, rules.find(symbol) == *instrument);
-    }
+    let rules = Rulebook::read(THREE_MONTHS)?;
+    expect_three_months(&rt, &rules);
+    expect_found(&rt, &rules, SYMBOLS);
     one_rulebook();
     quiet();
     least_in_rank();
@@ -138,19 +140,21 @@ fn pairs_are_switched(rt: HostRuntime) -> Result<(), Fail> {
     Ok(())
 }
 
+/// Symbols of months of one first and one last letter.
+static ALIKE: &[(&[u8], Option<Instrument>)] = &[
+    (b"JAN6", Some(Instrument::Outright(0))),
+    (b"JUN6", Some(Instrument::Outright(1))),
+    (b"JUL6", Some(Instrument::Outright(2))),
+    (b"JAN6-JUL6", Some(Instrument::Spread(0, 2))),
+    (b"JUL6-JAN6", None),
+    (b"JXX6", None),
+];
+
 /// Months of one first and one last letter are told apart.
 #[test]
 fn names_alike(rt: HostRuntime) -> Result<(), Fail> {
     let rules = Rulebook::read(b"tick 1\nmonth JAN6 3\nmonth JUN6 2\nmonth JUL6 1\n")?;
-    holds(&rt, rules.find(b"JAN6") == Some(Instrument::Outright(0)));
-    holds(&rt, rules.find(b"JUN6") == Some(Instrument::Outright(1)));
-    holds(&rt, rules.find(b"JUL6") == Some(Instrument::Outright(2)));
-    holds(
-        &rt,
-        rules.find(b"JAN6-JUL6") == Some(Instrument::Spread(0, 2)),
-    );
-    holds(&rt, rules.find(b"JUL6-JAN6").is_none());
-    holds(&rt, rules.find(b"JXX6").is_none());
+    expect_found(&rt, &rules, ALIKE);
     Ok(())
 }
 
