@@ -1,4 +1,5 @@
 //! Entries of journals, explained.
+use crate::expect::holds_for;
 use day_explain::explain;
 use host_base::TestSink;
 use spread_rules::Rulebook;
@@ -27,7 +28,7 @@ fn expect_words(rt: &impl Abort, alloc: Global, case: &Case) {
     let rules = Rulebook::read(case.rules).expect(rt, "a rulebook");
     let mut sink = TestSink::new(alloc, 4000, 0).expect(rt, "memory");
     explain(alloc, &rules, case.journal, case.place, &mut sink).expect(rt, "an entry");
-    assert!(rt; sink.bytes() == case.words, "{}", case.shows);
+    holds_for(rt, sink.bytes() == case.words, case.shows);
 }
 
 fn expect_all(rt: &impl Abort, alloc: Global, cases: &[Case]) {

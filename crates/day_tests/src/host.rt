@@ -2,10 +2,9 @@
 ghost use Rattle.spread_rules.specs.Journal.{IsLawful};
 
 use spread_journal::read_journal;
-use spread_rules::{Entry, Rulebook};
+use spread_rules::Entry;
 use std::alloc::Global;
 use std::process::Abort;
-use test_support::THREE_MONTHS;
 
 mod applied;
 mod audit;
@@ -16,10 +15,6 @@ mod no_memory;
 mod replaces;
 mod replay;
 mod reported;
-
-fn three_months(rt: &impl Abort) -> Rulebook {
-    Rulebook::read(THREE_MONTHS).expect(rt, "a rulebook")
-}
 
 /// The journal of a text.
 fn read_again(rt: &impl Abort, alloc: Global, text: &[u8]) -> Vec<Entry>

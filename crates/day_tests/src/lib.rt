@@ -18,6 +18,8 @@ mod journal;
 #[cfg(test)]
 mod report;
 #[cfg(test)]
+mod rules;
+#[cfg(test)]
 mod said;
 #[cfg(test)]
 mod text;

@@ -5,12 +5,14 @@ ghost use Rattle.spread_rules.specs.declared.fill.Fill.{Fill};
 ghost use Rattle.spread_rulebook.specs.Rulebook.{IsListed};
 ghost use Rattle.spread_rules.specs.Ranges.{FitsOutcome, FitsFill};
 
+use crate::expect::holds_for;
+use crate::rules::three_months;
 use crate::said::{Said, entry_of};
 use spread_report::{Desk, DeskFault};
 use spread_rules::{Entry, Event, Fill, Instrument, Order, Outcome, Rulebook, Side};
 use std::alloc::{Allocator, Global};
 use std::process::Abort;
-use test_support::{THREE_MONTHS, id, stamp};
+use test_support::{id, stamp};
 
 mod admin_messages;
 mod definitions;
@@ -227,15 +229,15 @@ struct Run<A: Allocator + Copy> {
     place: u64,
 }
 
-/// A run of this desk, whose lists take their memory from the heap.
-fn run_of<A: Allocator + Copy>(rt: &impl Abort, alloc: Global, heap: A, desk: Desk) -> Run<A> {
+/// A run of such a desk, whose lists take their memory from the heap.
+fn run_of<A: Allocator + Copy>(rt: &impl Abort, alloc: Global, heap: A, start: &Start) -> Run<A> {
     let mut lists = Vec::new(alloc);
     for _ in 0..16 {
         lists.push(Vec::new(heap)).expect(rt, "memory");
     }
     Run {
-        rules: Rulebook::read(THREE_MONTHS).expect(rt, "a rulebook"),
-        desk,
+        rules: three_months(rt),
+        desk: desk_of(rt, start),
         lists,
         place: 1,
     }
@@ -294,60 +296,55 @@ impl<A: Allocator + Copy> Run<A> {
     }
 }
 
-/// The answer to a session's own message.
-fn answer_session(
+/// Whether a session's own message has this answer.
+fn answers_session(
     rt: &impl Abort,
     run: &mut Run<Global>,
     session: u8,
     said: &Said,
-) -> Result<(), DeskFault> {
-    run.answer(rt, &entry_of(session, said), &Outcome::Session, &[])
+    want: &Result<(), DeskFault>,
+) -> bool {
+    run.answer(rt, &entry_of(session, said), &Outcome::Session, &[]) == *want
 }
 
-/// The answer to a request of an order.
-fn answer_request(
+/// Whether a request of an order has this answer, where that came of it, with these fills.
+fn answers_request(
     rt: &impl Abort,
+    alloc: Global,
     run: &mut Run<Global>,
-    session: u8,
-    said: &Said,
-    came: &Came,
-    fills: &[Fill],
-) -> Result<(), DeskFault> {
-    run.answer(rt, &entry_of(session, said), &outcome_of(came), fills)
+    asked: (u8, &Said, &Came, &[Part]),
+    want: &Result<(), DeskFault>,
+) -> bool {
+    let (session, said, came, parts) = asked;
+    let fills = fills_of(rt, alloc, parts);
+    run.answer(rt, &entry_of(session, said), &outcome_of(came), &fills) == *want
 }
 
 const SPENT: Result<(), DeskFault> = Err(DeskFault::NumbersSpent);
 
 fn take_step(rt: &impl Abort, alloc: Global, run: &mut Run<Global>, step: &Step) -> bool {
-    match *step {
-        Step::Session(session, said) => answer_session(rt, run, session, &said).is_ok(),
+    match step {
+        Step::Session(session, said) => answers_session(rt, run, *session, said, &Ok(())),
         Step::Request(session, said, came, parts) => {
-            let fills = fills_of(rt, alloc, parts);
-            answer_request(rt, run, session, &said, &came, &fills).is_ok()
+            answers_request(rt, alloc, run, (*session, said, came, parts), &Ok(()))
         }
-        Step::SessionSpent(session, said) => answer_session(rt, run, session, &said) == SPENT,
+        Step::SessionSpent(session, said) => answers_session(rt, run, *session, said, &SPENT),
         Step::RequestSpent(session, said, came, parts) => {
-            let fills = fills_of(rt, alloc, parts);
-            answer_request(rt, run, session, &said, &came, &fills) == SPENT
+            answers_request(rt, alloc, run, (*session, said, came, parts), &SPENT)
         }
         Step::Place(place) => {
-            run.place = place;
+            run.place = *place;
             true
         }
-        Step::Sent(session, want) => run.was_sent(session, want),
+        Step::Sent(session, want) => run.was_sent(*session, want),
     }
 }
 
 /// Each step of a case is as the case says.
 fn expect_case(rt: &impl Abort, alloc: Global, case: &Case) {
-    let mut run = run_of(rt, alloc, alloc, desk_of(rt, &case.start));
-    for (number, step) in case.steps.iter().enumerate() {
-        assert!(rt;
-            take_step(rt, alloc, &mut run, step),
-            "{}, step {}",
-            case.shows,
-            number
-        );
+    let mut run = run_of(rt, alloc, alloc, &case.start);
+    for step in case.steps {
+        holds_for(rt, take_step(rt, alloc, &mut run, step), case.shows);
     }
 }
 

@@ -1,51 +1,65 @@
 //! Days that are not drawn.
 use super::pictures::{DIRECT_BEFORE_IMPLIED, drawn};
 use crate::expect::holds;
+use crate::rules::three_months;
 use day_picture::{DrawFault, draw};
 use host_base::TestSink;
 use spread_journal::JournalFault;
 use spread_rules::Rulebook;
 use std::alloc::{Allocator, Global};
 use std::process::Abort;
-use test_support::{Refusing, THREE_MONTHS};
+use test_support::Refusing;
+
+/// The day is not drawn to a sink of a thousand bytes, for this fault. What is out then.
+fn not_drawn(
+    rt: &impl Abort,
+    alloc: Global,
+    journal: &[u8],
+    fail: u32,
+    want: DrawFault,
+) -> TestSink {
+    let rules = three_months(rt);
+    let mut sink = TestSink::new(alloc, 1000, fail).expect(rt, "memory");
+    let fault = draw(alloc, &rules, journal, &mut sink).err();
+    holds(rt, fault == Some(want));
+    sink
+}
+
+/// Texts that are no journals, and their faults.
+static NO_JOURNALS: [(&[u8], JournalFault); 6] = [
+    (b"", JournalFault::Version),
+    (b"JOURNAL 3\nEND 0\n", JournalFault::Version),
+    (b"JOURNAL 1\n", JournalFault::Cut),
+    (b"JOURNAL 1\nEND 1\n", JournalFault::Line(2)),
+    (
+        b"JOURNAL 1\n0 new 61 4836 2 5 10000 day\nEND 1\n",
+        JournalFault::Order(2),
+    ),
+    (b"JOURNAL 1\n0 close 1\nEND 1\nx", JournalFault::Line(4)),
+];
 
 #[test]
 fn journal_faults(rt: HostRuntime) {
-    let rows: [(&[u8], JournalFault); 6] = [
-        (b"", JournalFault::Version),
-        (b"JOURNAL 3\nEND 0\n", JournalFault::Version),
-        (b"JOURNAL 1\n", JournalFault::Cut),
-        (b"JOURNAL 1\nEND 1\n", JournalFault::Line(2)),
-        (
-            b"JOURNAL 1\n0 new 61 4836 2 5 10000 day\nEND 1\n",
-            JournalFault::Order(2),
-        ),
-        (b"JOURNAL 1\n0 close 1\nEND 1\nx", JournalFault::Line(4)),
-    ];
-    let rules = Rulebook::read(THREE_MONTHS).expect(&rt, "a rulebook");
-    for (journal, want) in rows {
-        let mut sink = TestSink::new(rt.alloc(), 1000, 0).expect(&rt, "memory");
-        match draw(rt.alloc(), &rules, journal, &mut sink) {
-            Ok(()) => assert!(rt; false, "no {want}"),
-            Err(fault) => holds(&rt, fault == DrawFault::Journal(want)),
-        }
-        holds(&rt, sink.bytes() == b"".as_slice());
+    for (journal, fault) in &NO_JOURNALS {
+        let sink = not_drawn(&rt, rt.alloc(), journal, 0, DrawFault::Journal(*fault));
+        holds(&rt, sink.bytes().is_empty());
     }
 }
 
 /// The sink takes a thousand bytes, or fails at once: so much of the picture is out.
 #[test]
 fn failing_sink(rt: HostRuntime) {
-    let rules = Rulebook::read(THREE_MONTHS).expect(&rt, "a rulebook");
     let whole = drawn(&rt, rt.alloc(), DIRECT_BEFORE_IMPLIED);
-    for (fail, out) in [(0, 1000), (1, 0)] {
-        let mut sink = TestSink::new(rt.alloc(), 1000, fail).expect(&rt, "memory");
-        let fault = draw(rt.alloc(), &rules, DIRECT_BEFORE_IMPLIED, &mut sink).err();
-        holds(&rt, fault == Some(DrawFault::Write));
-        holds(
+    for (fail, out) in &[(0, 1000), (1, 0)] {
+        let sink = not_drawn(
             &rt,
-            sink.bytes().len() == out && whole.bytes().starts_with(sink.bytes()),
+            rt.alloc(),
+            DIRECT_BEFORE_IMPLIED,
+            *fail,
+            DrawFault::Write,
         );
+        holds(&rt, sink.bytes().len() == *out);
+        holds(&rt, whole.bytes().starts_with(sink.bytes()));
     }
 }
 
@@ -63,7 +77,7 @@ fn draw_over<A: Allocator + Copy>(
 
 #[test]
 fn refused_memory(rt: HostRuntime) {
-    let rules = Rulebook::read(THREE_MONTHS).expect(&rt, "a rulebook");
+    let rules = three_months(&rt);
     let whole = drawn(&rt, rt.alloc(), DIRECT_BEFORE_IMPLIED).bytes().len();
     let mut refused = 0u64;
     for number in 1..1000u64 {

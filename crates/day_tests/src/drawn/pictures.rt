@@ -1,11 +1,11 @@
 //! Pictures of small days, their parts counted and placed by hand.
 use crate::expect::holds;
+use crate::rules::three_months;
 use day_picture::{draw, put_bytes};
 use host_base::TestSink;
-use spread_rules::Rulebook;
 use std::alloc::Global;
 use std::process::Abort;
-use test_support::{FIRST_TRADE_JOURNAL, THREE_MONTHS};
+use test_support::FIRST_TRADE_JOURNAL;
 
 /// Orders to sell H6, H6-M6 and M6, and one to buy H6 that trades two lots with the first and three with the others.
 pub const DIRECT_BEFORE_IMPLIED: &[u8] =
@@ -13,7 +13,7 @@ pub const DIRECT_BEFORE_IMPLIED: &[u8] =
 
 /// The picture of a journal under the rulebook of three months.
 pub fn drawn(rt: &impl Abort, alloc: Global, journal: &[u8]) -> TestSink {
-    let rules = Rulebook::read(THREE_MONTHS).expect(rt, "a rulebook");
+    let rules = three_months(rt);
     let mut sink = TestSink::new(alloc, 100_000, 0).expect(rt, "memory");
     draw(alloc, &rules, journal, &mut sink).expect(rt, "a picture");
     sink
@@ -40,8 +40,8 @@ struct Picture {
 }
 
 fn expect_parts(rt: &impl Abort, picture: &[u8], parts: &[Part]) {
-    for (n, (part, times)) in parts.iter().enumerate() {
-        assert!(rt; count_of(picture, part) == *times, "part {n}");
+    for (part, times) in parts {
+        holds(rt, count_of(picture, part) == *times);
     }
 }
 

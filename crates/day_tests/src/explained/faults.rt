@@ -1,51 +1,61 @@
 //! What is not explained.
 use crate::expect::holds;
+use crate::rules::three_months;
 use day_explain::{ExplainFault, explain};
 use host_base::TestSink;
 use spread_journal::JournalFault;
 use spread_rules::Rulebook;
 use std::alloc::{Allocator, Global};
 use std::process::Abort;
-use test_support::{FIRST_TRADE_JOURNAL, Refusing, THREE_MONTHS};
+use test_support::{FIRST_TRADE_JOURNAL, Refusing};
 
-#[test]
-fn no_such_place(rt: HostRuntime) {
-    let rules = Rulebook::read(THREE_MONTHS).expect(&rt, "a rulebook");
-    for place in [0, 5, u64::MAX] {
-        let mut sink = TestSink::new(rt.alloc(), 1000, 0).expect(&rt, "memory");
-        let fault = explain(rt.alloc(), &rules, FIRST_TRADE_JOURNAL, place, &mut sink).err();
-        holds(&rt, fault == Some(ExplainFault::Place));
-        holds(&rt, sink.bytes() == b"".as_slice());
-    }
+/// The entry is not explained to a sink of so much room, for this fault, and this is written.
+fn expect_fault(
+    rt: &impl Abort,
+    alloc: Global,
+    journal: &[u8],
+    place: u64,
+    room: usize,
+    want: (ExplainFault, &[u8]),
+) {
+    let rules = three_months(rt);
+    let mut sink = TestSink::new(alloc, room, 0).expect(rt, "memory");
+    let fault = explain(alloc, &rules, journal, place, &mut sink).err();
+    holds(rt, fault == Some(want.0));
+    holds(rt, sink.bytes() == want.1);
 }
 
 #[test]
+fn no_such_place(rt: HostRuntime) {
+    for place in &[0, 5, u64::MAX] {
+        let want = (ExplainFault::Place, b"".as_slice());
+        expect_fault(&rt, rt.alloc(), FIRST_TRADE_JOURNAL, *place, 1000, want);
+    }
+}
+
+/// Texts that are no journals, and their faults.
+static NO_JOURNALS: [(&[u8], JournalFault); 4] = [
+    (b"", JournalFault::Version),
+    (b"JOURNAL 1\n", JournalFault::Cut),
+    (b"JOURNAL 1\nEND 1\n", JournalFault::Line(2)),
+    (
+        b"JOURNAL 1\n0 new 61 4836 2 5 10000 day\nEND 1\n",
+        JournalFault::Order(2),
+    ),
+];
+
+#[test]
 fn bad_journals(rt: HostRuntime) {
-    let rules = Rulebook::read(THREE_MONTHS).expect(&rt, "a rulebook");
-    let rows: [(&[u8], JournalFault); 4] = [
-        (b"", JournalFault::Version),
-        (b"JOURNAL 1\n", JournalFault::Cut),
-        (b"JOURNAL 1\nEND 1\n", JournalFault::Line(2)),
-        (
-            b"JOURNAL 1\n0 new 61 4836 2 5 10000 day\nEND 1\n",
-            JournalFault::Order(2),
-        ),
-    ];
-    for (journal, want) in rows {
-        let mut sink = TestSink::new(rt.alloc(), 1000, 0).expect(&rt, "memory");
-        let fault = explain(rt.alloc(), &rules, journal, 1, &mut sink).err();
-        holds(&rt, fault == Some(ExplainFault::Journal(want)));
-        holds(&rt, sink.bytes() == b"".as_slice());
+    for (journal, fault) in &NO_JOURNALS {
+        let want = (ExplainFault::Journal(*fault), b"".as_slice());
+        expect_fault(&rt, rt.alloc(), journal, 1, 1000, want);
     }
 }
 
 #[test]
 fn sink_that_fails(rt: HostRuntime) {
-    let rules = Rulebook::read(THREE_MONTHS).expect(&rt, "a rulebook");
-    let mut sink = TestSink::new(rt.alloc(), 10, 0).expect(&rt, "memory");
-    let fault = explain(rt.alloc(), &rules, FIRST_TRADE_JOURNAL, 3, &mut sink).err();
-    holds(&rt, fault == Some(ExplainFault::Write));
-    holds(&rt, sink.bytes() == b"entry 3, s".as_slice());
+    let want = (ExplainFault::Write, b"entry 3, s".as_slice());
+    expect_fault(&rt, rt.alloc(), FIRST_TRADE_JOURNAL, 3, 10, want);
 }
 
 /// An explanation in which all memory is the heap's: nothing is written where it has no answer.
@@ -66,7 +76,7 @@ fn explain_over<A: Allocator + Copy>(
 
 #[test]
 fn refused_memory(rt: HostRuntime) {
-    let rules = Rulebook::read(THREE_MONTHS).expect(&rt, "a rulebook");
+    let rules = three_months(&rt);
     for number in 1..500u64 {
         let heap = Refusing::new(rt.alloc(), number);
         match explain_over(&rt, rt.alloc(), &heap, &rules) {

@@ -3,9 +3,10 @@ ghost use Rattle.std.specs.Prelude.{All};
 ghost use Rattle.spread_rules.specs.Journal.{FitsEntry};
 
 use super::check::DIRECT_BEFORE_IMPLIED;
+use super::read_again;
 use super::reported::first_fills;
-use super::{read_again, three_months};
 use crate::expect::holds;
+use crate::rules::three_months;
 use day_apply::{AppliedEntries, apply_journal, fills_of_journal};
 use spread_books::Book;
 use spread_rules::{Entry, Fill, Rulebook};

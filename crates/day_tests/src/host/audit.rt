@@ -1,7 +1,7 @@
 //! Claims of a journal's fills and months.
 use super::check::{DIRECT_BEFORE_IMPLIED, DIRECT_BEFORE_IMPLIED_TEXT};
-use super::three_months;
 use crate::expect::holds;
+use crate::rules::three_months;
 use spread_host::{AuditFault, HostFault, audit};
 use spread_journal::JournalFault;
 use spread_rules::Rulebook;

@@ -1,7 +1,7 @@
 //! Journal texts, and the lines of their fills and months.
 use super::replaces::{ORDERS_FILLS, ORDERS_JOURNAL};
-use super::three_months;
 use crate::expect::holds;
+use crate::rules::three_months;
 use host_base::TestSink;
 use spread_host::{HostFault, check};
 use spread_journal::JournalFault;

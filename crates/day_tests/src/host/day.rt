@@ -3,8 +3,9 @@ ghost use Rattle.std.specs.Prelude.{◌<◌, ◌≤◌, All, length};
 ghost use Rattle.fix_frames.specs.Frames.{IsFrameRow};
 ghost use Rattle.day_text.specs.DayText.{AreShown, texts_of};
 
-use super::{read_again, three_months};
+use super::read_again;
 use crate::expect::holds;
+use crate::rules::three_months;
 use day_text::{Day, write_sessions};
 use host_base::TestSink;
 use spread_host::{day_of, write_day};

@@ -1,7 +1,7 @@
 //! Each request for memory refused in turn.
 use super::check::{DIRECT_BEFORE_IMPLIED, DIRECT_BEFORE_IMPLIED_TEXT};
-use super::three_months;
 use crate::expect::holds;
+use crate::rules::three_months;
 use host_base::{TestSink, TestSource};
 use spread_host::{HostFault, check, replay};
 use spread_rules::Rulebook;

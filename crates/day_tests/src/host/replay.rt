@@ -1,7 +1,7 @@
 //! Day lines cut anywhere, and the faults of `replay`.
-use super::three_months;
 use crate::expect::holds;
 use crate::headline::day_of_lines;
+use crate::rules::three_months;
 use host_base::{TestSink, TestSource};
 use spread_host::HostFault;
 use spread_rules::Rulebook;

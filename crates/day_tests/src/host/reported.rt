@@ -2,8 +2,9 @@
 ghost use Rattle.std.specs.Prelude.{All};
 ghost use Rattle.spread_rules.specs.Journal.{FitsEntry};
 
-use super::{read_again, three_months};
+use super::read_again;
 use crate::expect::holds;
+use crate::rules::three_months;
 use day_apply::{FillsAndMessages, ReportedEntries};
 use spread_rules::{Entry, Fill, Instrument, Rulebook, Side};
 use std::alloc::Global;

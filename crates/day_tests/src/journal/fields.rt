@@ -29,20 +29,28 @@ fn numbers_have_nine_digits_at_most(rt: HostRuntime) {
     holds(&rt, read_price(b"1000000001") == None);
 }
 
+/// Fields, the sides that they name, and what follows them.
+static SIDES: [(&[u8], Option<(Side, &[u8])>); 3] = [
+    (b"1 5", Some((Side::Buy, b"5"))),
+    (b"2 5", Some((Side::Sell, b"5"))),
+    (b"3 5", None),
+];
+
+/// Words, and whether an order with that time in force is immediate.
+static TIMES: [(&[u8], Option<bool>); 3] = [
+    (b"day", Some(false)),
+    (b"ioc", Some(true)),
+    (b"gtc", None),
+];
+
 #[test]
 fn sides_are_one_and_two_and_times_in_force_words(rt: HostRuntime) {
-    holds(
-        &rt,
-        side_field(b"1 5") == Some((Side::Buy, b"5".as_slice())),
-    );
-    holds(
-        &rt,
-        side_field(b"2 5") == Some((Side::Sell, b"5".as_slice())),
-    );
-    holds(&rt, side_field(b"3 5") == None);
-    holds(&rt, read_time_in_force(b"day") == Some(false));
-    holds(&rt, read_time_in_force(b"ioc") == Some(true));
-    holds(&rt, read_time_in_force(b"gtc") == None);
+    for (field, side) in &SIDES {
+        holds(&rt, side_field(field) == *side);
+    }
+    for (word, is_immediate) in &TIMES {
+        holds(&rt, read_time_in_force(word) == *is_immediate);
+    }
 }
 
 /// A session's entries are a logon and what comes behind it, and a close at their end, or a close alone.

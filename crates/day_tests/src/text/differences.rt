@@ -18,14 +18,12 @@ static ROWS: [(&[u8], &[u8], u64, &[u8]); 8] = [
 
 /// The two texts differ, and first in that line.
 fn expect_difference(rt: &impl Abort, alloc: Global, row: &(&[u8], &[u8], u64, &[u8])) {
-    let (claim, right, line, wanted) = *row;
-    if claim == right {
-        rt.panic("no difference");
-    }
+    let (claim, right, line, wanted) = row;
+    holds(rt, claim != right);
     let difference = first_difference(alloc, claim, right).expect(rt, "memory");
     holds(
         rt,
-        difference.line == line && difference.right.as_slice() == wanted,
+        difference.line == *line && difference.right.as_slice() == *wanted,
     );
 }
 

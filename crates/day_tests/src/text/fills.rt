@@ -1,11 +1,14 @@
 //! The lines of fills and of months.
 ghost use Rattle.std.specs.Prelude.{◌≡◌};
+ghost use Rattle.day_text.specs.DayText.{AreShown};
 
 use crate::expect::holds;
+use crate::rules::three_months;
 use day_text::{MonthTotals, TextFault, month_totals, text_of_fills, write_fills};
 use host_base::TestSink;
 use spread_rules::{Fill, Instrument, Rulebook, Side};
-use test_support::THREE_MONTHS;
+use std::alloc::Global;
+use std::process::Abort;
 
 /// A fill of one lot, as far as its lines show it.
 fn one_lot(at: u64, order: u64, instrument: Instrument, side: Side, prices: (i64, i64, i64)) -> Fill
@@ -26,6 +29,43 @@ fn one_lot(at: u64, order: u64, instrument: Instrument, side: Side, prices: (i64
         far: prices.2,
         ..Fill::default()
     }
+}
+
+/// The sums of a month in which one lot was bought and one sold at this price.
+fn one_each(price: i128) -> MonthTotals {
+    MonthTotals {
+        bought: 1,
+        sold: 1,
+        paid: price,
+        received: price,
+    }
+}
+
+/// The room of a sink, the write at which it fails (0: none), and how many bytes are in it then.
+type Room = (usize, u32, usize);
+
+/// The text of the fills, and so much of it in a sink of this room.
+fn expect_text(
+    rt: &impl Abort,
+    alloc: Global,
+    rules: &Rulebook,
+    fills: &[Fill],
+    text: &[u8],
+    room: &Room,
+)
+    requires { AreShown rules.now fills.now }
+{
+    let (room, fail, written) = *room;
+    let mut sink = TestSink::new(alloc, room, fail).expect(rt, "memory");
+    let fault = write_fills(alloc, rules, fills, &mut sink).err();
+    holds(
+        rt,
+        fault == (written != text.len()).then_some(TextFault::Write),
+    );
+    holds(rt, sink.bytes().len() == written);
+    holds(rt, text.starts_with(sink.bytes()));
+    let whole = text_of_fills(alloc, rules, fills).expect(rt, "memory");
+    holds(rt, whole.as_slice() == text);
 }
 
 #[test]
@@ -50,26 +90,17 @@ fn spread_lifts_two_months(rt: HostRuntime) {
     let text =
         b"F 4 4 0 H6-M6 1 1 200 10000 9800\nF 4 2 0 H6 2 1 10000\nF 4 3 0 M6 1 1 9800\nM H6 1 1 10000 10000\nM M6 1 1 9800 9800\nM U6 0 0 0 0\n";
     let totals = month_totals(&fills);
-    for (month, price) in [(0, 10000), (1, 9800)] {
-        let one_each = MonthTotals {
-            bought: 1,
-            sold: 1,
-            paid: price,
-            received: price,
-        };
-        holds(&rt, totals[month] == one_each);
-    }
-    let rules = Rulebook::read(THREE_MONTHS).expect(&rt, "a rulebook");
-    holds(&rt, rules.months() == 3);
-    let mut sink = TestSink::new(rt.alloc(), 1000, 0).expect(&rt, "memory");
-    write_fills(rt.alloc(), &rules, &fills, &mut sink).expect(&rt, "a sink that works");
-    holds(&rt, sink.bytes() == text.as_slice());
-    let whole = text_of_fills(rt.alloc(), &rules, &fills).expect(&rt, "memory");
-    holds(&rt, whole.as_slice() == text.as_slice());
+    holds(
+        &rt,
+        totals[0] == one_each(10000) && totals[1] == one_each(9800),
+    );
+    let rules = three_months(&rt);
+    let room = (1000, 0, text.len());
+    expect_text(&rt, rt.alloc(), &rules, &fills, text, &room);
 }
 
-/// The room of a sink, the write at which it fails (0: none), and how many bytes are in it then, of the 120.
-static SINKS: [(usize, u32, usize); 3] = [(1000, 0, 120), (30, 0, 30), (1000, 1, 0)];
+/// Rooms for a text of 120 bytes.
+static ROOMS: [Room; 3] = [(1000, 0, 120), (30, 0, 30), (1000, 1, 0)];
 
 #[test]
 fn negative_prices(rt: HostRuntime) {
@@ -86,14 +117,9 @@ fn negative_prices(rt: HostRuntime) {
     ];
     let text =
         b"F 4 4 0 H6 1 1 -100\nF 4 2 0 H6-M6 2 1 -300 -100 200\nF 4 3 0 M6 2 1 200\nM H6 1 1 -100 -100\nM M6 1 1 200 200\nM U6 0 0 0 0\n";
-    let rules = Rulebook::read(THREE_MONTHS).expect(&rt, "a rulebook");
-    holds(&rt, rules.months() == 3);
+    let rules = three_months(&rt);
     holds(&rt, text.len() == 120);
-    for (room, fail, written) in &SINKS {
-        let mut sink = TestSink::new(rt.alloc(), *room, *fail).expect(&rt, "memory");
-        let fault = write_fills(rt.alloc(), &rules, &fills, &mut sink).err();
-        holds(&rt, fault == (*written != 120).then_some(TextFault::Write));
-        holds(&rt, sink.bytes().len() == *written);
-        holds(&rt, text.starts_with(sink.bytes()));
+    for room in &ROOMS {
+        expect_text(&rt, rt.alloc(), &rules, &fills, text, room);
     }
 }
