@@ -33,6 +33,28 @@ const H6_M6: Instrument = Instrument::Spread(0, 1);
 
 const H6_U6: Instrument = Instrument::Spread(0, 2);
 
+const M6_U6: Instrument = Instrument::Spread(1, 2);
+
+/// A spread whose months stand the wrong way round: no rulebook has it.
+const M6_H6: Instrument = Instrument::Spread(1, 0);
+
+/// A month that no rulebook has.
+const X6: Instrument = Instrument::Outright(9);
+
+/// The symbol of an instrument of these months.
+fn symbol_of(instrument: Instrument) -> &'static [u8] {
+    match instrument {
+        Instrument::Outright(0) => b"H6",
+        Instrument::Outright(1) => b"M6",
+        Instrument::Outright(2) => b"U6",
+        Instrument::Outright(_) => b"X6",
+        Instrument::Spread(0, 1) => b"H6-M6",
+        Instrument::Spread(0, 2) => b"H6-U6",
+        Instrument::Spread(1, 2) => b"M6-U6",
+        Instrument::Spread(_, _) => b"M6-H6",
+    }
+}
+
 /// A day order.
 fn ticket(name: &[u8], symbol: &[u8], side: Side, quantity: u32, price: i64) -> Ticket {
     Ticket {

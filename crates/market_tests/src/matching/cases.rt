@@ -2,7 +2,7 @@
 ghost use Rattle.std.specs.Prelude.{◌≡◌};
 ghost use Rattle.market_state.specs.State.{empty_state};
 
-use super::{applied, cancel, logon, rulebook, ticket};
+use super::{applied, cancel, logon, rulebook, symbol_of, ticket};
 use crate::expect::holds;
 use spread_books::{Book, ListBook};
 use spread_match::Market;
@@ -11,27 +11,27 @@ use std::alloc::Global;
 use std::process::Abort;
 use test_support::id;
 
-/// What a session sends. An order is its id, its symbol, its quantity and its price.
+/// What a session sends. An order is its id, of one letter, its instrument, its quantity and its price.
 pub(super) enum Sent {
     Logon,
-    Buy(&'static [u8], &'static [u8], u32, i64),
-    Sell(&'static [u8], &'static [u8], u32, i64),
+    Buy(u8, Instrument, u32, i64),
+    Sell(u8, Instrument, u32, i64),
     /// An immediate order.
-    BuyNow(&'static [u8], &'static [u8], u32, i64),
+    BuyNow(u8, Instrument, u32, i64),
     /// Its own id, and the id of the order that it names.
-    Cancel(&'static [u8], &'static [u8]),
+    Cancel(u8, u8),
     /// The id of the order that it names, then the order to buy in its place.
-    ReplaceBuy(&'static [u8], &'static [u8], &'static [u8], u32, i64),
+    ReplaceBuy(u8, u8, Instrument, u32, i64),
     /// The id of the order that it names, then the order to sell in its place.
-    ReplaceSell(&'static [u8], &'static [u8], &'static [u8], u32, i64),
+    ReplaceSell(u8, u8, Instrument, u32, i64),
     /// The same with an immediate order.
-    ReplaceSellNow(&'static [u8], &'static [u8], &'static [u8], u32, i64),
+    ReplaceSellNow(u8, u8, Instrument, u32, i64),
 }
 
 /// An order of session 0: its place, its id, its instrument, its side, its price, its quantity, and what is left of it.
 pub(super) struct Kept(
     pub(super) u64,
-    pub(super) &'static [u8],
+    pub(super) u8,
     pub(super) Instrument,
     pub(super) Side,
     pub(super) i64,
@@ -81,7 +81,7 @@ pub(super) struct Case {
 }
 
 /// What the order that is sent asks for.
-fn ticket_of(sent: &Sent, name: &[u8], symbol: &[u8], quantity: u32, price: i64) -> Ticket {
+fn ticket_of(sent: &Sent, name: u8, instrument: Instrument, quantity: u32, price: i64) -> Ticket {
     let (side, immediate) = match sent {
         Sent::Buy(_, _, _, _) | Sent::ReplaceBuy(_, _, _, _, _) => (Side::Buy, false),
         Sent::BuyNow(_, _, _, _) => (Side::Buy, true),
@@ -90,24 +90,24 @@ fn ticket_of(sent: &Sent, name: &[u8], symbol: &[u8], quantity: u32, price: i64)
     };
     Ticket {
         immediate,
-        ..ticket(name, symbol, side, quantity, price)
+        ..ticket(&[name], symbol_of(instrument), side, quantity, price)
     }
 }
 
 fn event_of(sent: &Sent) -> Event {
     match sent {
         Sent::Logon => logon().event,
-        Sent::Buy(name, symbol, quantity, price)
-        | Sent::Sell(name, symbol, quantity, price)
-        | Sent::BuyNow(name, symbol, quantity, price) => {
-            Event::New(ticket_of(sent, name, symbol, *quantity, *price))
+        Sent::Buy(name, instrument, quantity, price)
+        | Sent::Sell(name, instrument, quantity, price)
+        | Sent::BuyNow(name, instrument, quantity, price) => {
+            Event::New(ticket_of(sent, *name, *instrument, *quantity, *price))
         }
-        Sent::Cancel(name, original) => cancel(name, original).event,
-        Sent::ReplaceBuy(original, name, symbol, quantity, price)
-        | Sent::ReplaceSell(original, name, symbol, quantity, price)
-        | Sent::ReplaceSellNow(original, name, symbol, quantity, price) => Event::Replace {
-            original: id(original),
-            ticket: ticket_of(sent, name, symbol, *quantity, *price),
+        Sent::Cancel(name, original) => cancel(&[*name], &[*original]).event,
+        Sent::ReplaceBuy(original, name, instrument, quantity, price)
+        | Sent::ReplaceSell(original, name, instrument, quantity, price)
+        | Sent::ReplaceSellNow(original, name, instrument, quantity, price) => Event::Replace {
+            original: id(&[*original]),
+            ticket: ticket_of(sent, *name, *instrument, *quantity, *price),
         },
     }
 }
@@ -124,7 +124,7 @@ fn order_of(kept: &Kept) -> Order {
     Order {
         place: kept.0,
         session: 0,
-        id: id(kept.1),
+        id: id(&[kept.1]),
         instrument: kept.2,
         side: kept.3,
         price: kept.4,

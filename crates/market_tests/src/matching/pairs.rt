@@ -4,7 +4,7 @@ use super::cases::Line::{Of, OfSpread};
 use super::cases::Sent::{Buy, Logon, Sell};
 use super::cases::{Case, expect_cases};
 use super::quotes::{QuoteCase, expect_quotes};
-use super::{H6, H6_M6, H6_U6, M6, U6};
+use super::{H6, H6_M6, H6_U6, M6, M6_U6, U6};
 use spread_rules::{Instrument, Side};
 
 const H6_M6_OFF: &[u8] = b"tick 1\nmonth H6 10000\nmonth M6 9800\nmonth U6 9500\npair H6 M6 off\n";
@@ -18,9 +18,9 @@ static PAIRS: &[Case] = &[
         rulebook: H6_M6_OFF,
         journal: &[
             (0, Logon, Session),
-            (0, Sell(b"a", b"H6", 1, 10000), Rested),
-            (0, Buy(b"b", b"M6", 1, 9800), Rested),
-            (0, Buy(b"c", b"H6-M6", 1, 200), Rested),
+            (0, Sell(b'a', H6, 1, 10000), Rested),
+            (0, Buy(b'b', M6, 1, 9800), Rested),
+            (0, Buy(b'c', H6_M6, 1, 200), Rested),
         ],
         fills: &[],
         resting: &[(2, 1), (3, 1), (4, 1)],
@@ -30,11 +30,11 @@ static PAIRS: &[Case] = &[
         rulebook: H6_U6_OFF,
         journal: &[
             (0, Logon, Session),
-            (0, Sell(b"a", b"H6", 1, 10000), Rested),
-            (0, Buy(b"b", b"H6-U6", 1, 500), Rested),
-            (0, Sell(b"c", b"M6", 1, 9800), Rested),
-            (0, Buy(b"d", b"M6-U6", 1, 300), Rested),
-            (0, Buy(b"e", b"U6", 1, 9500), Filled),
+            (0, Sell(b'a', H6, 1, 10000), Rested),
+            (0, Buy(b'b', H6_U6, 1, 500), Rested),
+            (0, Sell(b'c', M6, 1, 9800), Rested),
+            (0, Buy(b'd', M6_U6, 1, 300), Rested),
+            (0, Buy(b'e', U6, 1, 9500), Filled),
         ],
         fills: &[
             Of(6, 6, U6, Side::Buy, 1, 9500),
@@ -57,8 +57,8 @@ static PAIRS: &[Case] = &[
         rulebook: H6_M6_OFF,
         journal: &[
             (0, Logon, Session),
-            (0, Sell(b"a", b"H6-M6", 4, 200), Rested),
-            (0, Buy(b"b", b"H6-M6", 3, 250), Filled),
+            (0, Sell(b'a', H6_M6, 4, 200), Rested),
+            (0, Buy(b'b', H6_M6, 3, 250), Filled),
         ],
         fills: &[
             OfSpread(3, 3, H6_M6, Side::Buy, 3, 200, 10000, 9800),
@@ -81,10 +81,10 @@ static QUOTED: &[QuoteCase] = &[
             rulebook: H6_M6_OFF,
             journal: &[
                 (0, Logon, Session),
-                (0, Sell(b"a", b"H6", 1, 10000), Rested),
-                (0, Buy(b"b", b"M6", 1, 9800), Rested),
-                (0, Buy(b"c", b"U6", 1, 9500), Rested),
-                (0, Buy(b"d", b"H6-U6", 1, 400), Rested),
+                (0, Sell(b'a', H6, 1, 10000), Rested),
+                (0, Buy(b'b', M6, 1, 9800), Rested),
+                (0, Buy(b'c', U6, 1, 9500), Rested),
+                (0, Buy(b'd', H6_U6, 1, 400), Rested),
             ],
             fills: &[],
             resting: &[(2, 1), (3, 1), (4, 1), (5, 1)],
@@ -102,10 +102,10 @@ static QUOTED: &[QuoteCase] = &[
             rulebook: H6_U6_OFF,
             journal: &[
                 (0, Logon, Session),
-                (0, Sell(b"a", b"H6", 1, 10000), Rested),
-                (0, Buy(b"b", b"M6", 1, 9800), Rested),
-                (0, Buy(b"c", b"U6", 1, 9500), Rested),
-                (0, Buy(b"d", b"H6-U6", 1, 400), Rested),
+                (0, Sell(b'a', H6, 1, 10000), Rested),
+                (0, Buy(b'b', M6, 1, 9800), Rested),
+                (0, Buy(b'c', U6, 1, 9500), Rested),
+                (0, Buy(b'd', H6_U6, 1, 400), Rested),
             ],
             fills: &[],
             resting: &[(2, 1), (3, 1), (4, 1), (5, 1)],

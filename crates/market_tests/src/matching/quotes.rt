@@ -7,7 +7,7 @@ use super::cases::Sent::{Buy, Cancel, Logon, Sell};
 use super::cases::{Case, Kept, expect_case, expect_over_list};
 use super::every_book::instrument;
 use super::pairs::H6_U6_OFF;
-use super::{H6, H6_M6, U6, append_resting, applied, cancel, day, rulebook};
+use super::{H6, H6_M6, H6_U6, M6, M6_U6, U6, append_resting, applied, cancel, day, rulebook};
 use crate::expect::holds;
 use spread_books::{Book, IndexBook};
 use spread_match::Market;
@@ -124,8 +124,8 @@ static QUOTES: &[QuoteCase] = &[
             rulebook: THREE_MONTHS,
             journal: &[
                 (0, Logon, Session),
-                (0, Sell(b"a", b"H6", 1, 10000), Rested),
-                (0, Buy(b"b", b"M6", 1, 9800), Rested),
+                (0, Sell(b'a', H6, 1, 10000), Rested),
+                (0, Buy(b'b', M6, 1, 9800), Rested),
             ],
             fills: &[],
             resting: &[(2, 1), (3, 1)],
@@ -138,12 +138,12 @@ static QUOTES: &[QuoteCase] = &[
             rulebook: THREE_MONTHS,
             journal: &[
                 (0, Logon, Session),
-                (0, Sell(b"a", b"H6", 1, 10000), Rested),
-                (0, Buy(b"b", b"M6", 1, 9800), Rested),
+                (0, Sell(b'a', H6, 1, 10000), Rested),
+                (0, Buy(b'b', M6, 1, 9800), Rested),
                 (
                     0,
-                    Cancel(b"c", b"a"),
-                    Cancelled(Kept(2, b"a", H6, Side::Sell, 10000, 1, 1)),
+                    Cancel(b'c', b'a'),
+                    Cancelled(Kept(2, b'a', H6, Side::Sell, 10000, 1, 1)),
                 ),
             ],
             fills: &[],
@@ -157,10 +157,10 @@ static QUOTES: &[QuoteCase] = &[
             rulebook: THREE_MONTHS,
             journal: &[
                 (0, Logon, Session),
-                (0, Sell(b"a", b"H6", 1, 10000), Rested),
-                (0, Buy(b"b", b"H6-U6", 1, 500), Rested),
-                (0, Sell(b"c", b"M6", 1, 9800), Rested),
-                (0, Buy(b"d", b"M6-U6", 1, 300), Rested),
+                (0, Sell(b'a', H6, 1, 10000), Rested),
+                (0, Buy(b'b', H6_U6, 1, 500), Rested),
+                (0, Sell(b'c', M6, 1, 9800), Rested),
+                (0, Buy(b'd', M6_U6, 1, 300), Rested),
             ],
             fills: &[],
             resting: &[(2, 1), (3, 1), (4, 1), (5, 1)],
@@ -173,14 +173,14 @@ static QUOTES: &[QuoteCase] = &[
             rulebook: THREE_MONTHS,
             journal: &[
                 (0, Logon, Session),
-                (0, Sell(b"a", b"H6", 1, 10000), Rested),
-                (0, Buy(b"b", b"H6-U6", 1, 500), Rested),
-                (0, Sell(b"c", b"M6", 1, 9800), Rested),
-                (0, Buy(b"d", b"M6-U6", 1, 300), Rested),
+                (0, Sell(b'a', H6, 1, 10000), Rested),
+                (0, Buy(b'b', H6_U6, 1, 500), Rested),
+                (0, Sell(b'c', M6, 1, 9800), Rested),
+                (0, Buy(b'd', M6_U6, 1, 300), Rested),
                 (
                     0,
-                    Cancel(b"e", b"a"),
-                    Cancelled(Kept(2, b"a", H6, Side::Sell, 10000, 1, 1)),
+                    Cancel(b'e', b'a'),
+                    Cancelled(Kept(2, b'a', H6, Side::Sell, 10000, 1, 1)),
                 ),
             ],
             fills: &[],
@@ -201,11 +201,11 @@ static AT_HAND: Case = Case {
     rulebook: THREE_MONTHS,
     journal: &[
         (0, Logon, Session),
-        (0, Sell(b"a", b"H6", 1, 10000), Rested),
-        (0, Buy(b"b", b"H6-U6", 1, 500), Rested),
-        (0, Sell(b"c", b"M6", 1, 9800), Rested),
-        (0, Buy(b"d", b"M6-U6", 1, 300), Rested),
-        (0, Buy(b"e", b"H6", 1, 9000), Rested),
+        (0, Sell(b'a', H6, 1, 10000), Rested),
+        (0, Buy(b'b', H6_U6, 1, 500), Rested),
+        (0, Sell(b'c', M6, 1, 9800), Rested),
+        (0, Buy(b'd', M6_U6, 1, 300), Rested),
+        (0, Buy(b'e', H6, 1, 9000), Rested),
     ],
     fills: &[],
     resting: &[(2, 1), (3, 1), (4, 1), (5, 1), (6, 1)],

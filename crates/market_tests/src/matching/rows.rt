@@ -3,7 +3,7 @@ use super::cases::Came::{Ended, Filled, Rested, Session};
 use super::cases::Line::{Of, OfSpread};
 use super::cases::Sent::{Buy, BuyNow, Logon, Sell};
 use super::cases::{Case, expect_cases};
-use super::{H6, H6_M6, H6_U6, M6, U6};
+use super::{H6, H6_M6, H6_U6, M6, M6_U6, U6};
 use spread_rules::Side;
 use test_support::THREE_MONTHS;
 
@@ -13,9 +13,9 @@ static ROWS: &[Case] = &[
         rulebook: THREE_MONTHS,
         journal: &[
             (0, Logon, Session),
-            (0, Sell(b"a", b"H6", 1, 10000), Rested),
-            (0, Buy(b"b", b"M6", 1, 9800), Rested),
-            (0, Buy(b"c", b"H6-M6", 1, 200), Filled),
+            (0, Sell(b'a', H6, 1, 10000), Rested),
+            (0, Buy(b'b', M6, 1, 9800), Rested),
+            (0, Buy(b'c', H6_M6, 1, 200), Filled),
         ],
         fills: &[
             OfSpread(4, 4, H6_M6, Side::Buy, 1, 200, 10000, 9800),
@@ -29,10 +29,10 @@ static ROWS: &[Case] = &[
         rulebook: THREE_MONTHS,
         journal: &[
             (0, Logon, Session),
-            (0, Sell(b"a", b"H6", 2, 10000), Rested),
-            (0, Sell(b"b", b"H6-M6", 3, 200), Rested),
-            (0, Sell(b"c", b"M6", 4, 9800), Rested),
-            (0, Buy(b"d", b"H6", 6, 10000), Rested),
+            (0, Sell(b'a', H6, 2, 10000), Rested),
+            (0, Sell(b'b', H6_M6, 3, 200), Rested),
+            (0, Sell(b'c', M6, 4, 9800), Rested),
+            (0, Buy(b'd', H6, 6, 10000), Rested),
         ],
         fills: &[
             Of(5, 5, H6, Side::Buy, 2, 10000),
@@ -48,11 +48,11 @@ static ROWS: &[Case] = &[
         rulebook: THREE_MONTHS,
         journal: &[
             (0, Logon, Session),
-            (0, Sell(b"a", b"H6", 1, 10000), Rested),
-            (0, Buy(b"b", b"H6-U6", 1, 500), Rested),
-            (0, Sell(b"c", b"M6", 1, 9800), Rested),
-            (0, Buy(b"d", b"M6-U6", 1, 300), Rested),
-            (0, Buy(b"e", b"U6", 1, 9500), Filled),
+            (0, Sell(b'a', H6, 1, 10000), Rested),
+            (0, Buy(b'b', H6_U6, 1, 500), Rested),
+            (0, Sell(b'c', M6, 1, 9800), Rested),
+            (0, Buy(b'd', M6_U6, 1, 300), Rested),
+            (0, Buy(b'e', U6, 1, 9500), Filled),
         ],
         fills: &[
             Of(6, 6, U6, Side::Buy, 1, 9500),
@@ -66,9 +66,9 @@ static ROWS: &[Case] = &[
         rulebook: THREE_MONTHS,
         journal: &[
             (0, Logon, Session),
-            (0, Sell(b"a", b"H6-M6", 1, -300), Rested),
-            (0, Sell(b"b", b"M6", 1, 200), Rested),
-            (0, Buy(b"c", b"H6", 1, -100), Filled),
+            (0, Sell(b'a', H6_M6, 1, -300), Rested),
+            (0, Sell(b'b', M6, 1, 200), Rested),
+            (0, Buy(b'c', H6, 1, -100), Filled),
         ],
         fills: &[
             Of(4, 4, H6, Side::Buy, 1, -100),
@@ -82,8 +82,8 @@ static ROWS: &[Case] = &[
         rulebook: THREE_MONTHS,
         journal: &[
             (0, Logon, Session),
-            (0, Sell(b"a", b"H6-M6", 4, 200), Rested),
-            (0, Buy(b"b", b"H6-M6", 3, 250), Filled),
+            (0, Sell(b'a', H6_M6, 4, 200), Rested),
+            (0, Buy(b'b', H6_M6, 3, 250), Filled),
         ],
         fills: &[
             OfSpread(3, 3, H6_M6, Side::Buy, 3, 200, 10000, 9800),
@@ -96,9 +96,9 @@ static ROWS: &[Case] = &[
         rulebook: THREE_MONTHS,
         journal: &[
             (0, Logon, Session),
-            (0, Buy(b"a", b"H6-M6", 1, 200), Rested),
-            (0, Buy(b"b", b"M6", 1, 9800), Rested),
-            (0, Sell(b"c", b"H6", 1, 9900), Filled),
+            (0, Buy(b'a', H6_M6, 1, 200), Rested),
+            (0, Buy(b'b', M6, 1, 9800), Rested),
+            (0, Sell(b'c', H6, 1, 9900), Filled),
         ],
         fills: &[
             Of(4, 4, H6, Side::Sell, 1, 10000),
@@ -112,9 +112,9 @@ static ROWS: &[Case] = &[
         rulebook: THREE_MONTHS,
         journal: &[
             (0, Logon, Session),
-            (0, Sell(b"a", b"H6-M6", 1, 200), Rested),
-            (0, Buy(b"b", b"H6", 1, 10000), Rested),
-            (0, Sell(b"c", b"M6", 1, 9000), Filled),
+            (0, Sell(b'a', H6_M6, 1, 200), Rested),
+            (0, Buy(b'b', H6, 1, 10000), Rested),
+            (0, Sell(b'c', M6, 1, 9000), Filled),
         ],
         fills: &[
             Of(4, 4, M6, Side::Sell, 1, 9800),
@@ -128,8 +128,8 @@ static ROWS: &[Case] = &[
         rulebook: THREE_MONTHS,
         journal: &[
             (0, Logon, Session),
-            (0, Sell(b"a", b"H6", 4, 10000), Rested),
-            (0, BuyNow(b"b", b"H6", 10, 10000), Ended(6)),
+            (0, Sell(b'a', H6, 4, 10000), Rested),
+            (0, BuyNow(b'b', H6, 10, 10000), Ended(6)),
         ],
         fills: &[
             Of(3, 3, H6, Side::Buy, 4, 10000),

@@ -3,7 +3,7 @@ use super::cases::Came::{Filled, Refused, RequestRefused, Rested, Session};
 use super::cases::Line::{Of, OfSpread};
 use super::cases::Sent::{Buy, Cancel, Logon, Sell};
 use super::cases::{Case, Line, expect_cases, expect_fill, expect_fills};
-use super::{H6, H6_M6, M6, apply_all, buy, rulebook, sell};
+use super::{H6, H6_M6, M6, M6_H6, apply_all, buy, rulebook, sell};
 use crate::expect::holds;
 use spread_books::ListBook;
 use spread_match::Market;
@@ -18,16 +18,16 @@ static SIZES: &[Case] = &[
         rulebook: THREE_MONTHS,
         journal: &[
             (0, Logon, Session),
-            (0, Sell(b"a", b"H6", 1, 10000), Rested),
+            (0, Sell(b'a', H6, 1, 10000), Rested),
             (0, Logon, Session),
-            (0, Buy(b"b", b"M6-H6", 1, 0), Refused(1)),
-            (0, Sell(b"c", b"H6", 1, 10010), Rested),
+            (0, Buy(b'b', M6_H6, 1, 0), Refused(1)),
+            (0, Sell(b'c', H6, 1, 10010), Rested),
             (0, Logon, Session),
-            (0, Sell(b"d", b"H6", 1, 10020), Rested),
-            (0, Buy(b"e", b"H6", 1, 10000), Filled),
-            (0, Cancel(b"f", b"a"), RequestRefused(0, 2, 2)),
-            (0, Cancel(b"g", b"b"), RequestRefused(0, 4, 8)),
-            (0, Cancel(b"h", b"e"), RequestRefused(0, 8, 2)),
+            (0, Sell(b'd', H6, 1, 10020), Rested),
+            (0, Buy(b'e', H6, 1, 10000), Filled),
+            (0, Cancel(b'f', b'a'), RequestRefused(0, 2, 2)),
+            (0, Cancel(b'g', b'b'), RequestRefused(0, 4, 8)),
+            (0, Cancel(b'h', b'e'), RequestRefused(0, 8, 2)),
         ],
         fills: &[
             Of(8, 8, H6, Side::Buy, 1, 10000),
@@ -39,11 +39,11 @@ static SIZES: &[Case] = &[
         name: "prices at both limits",
         rulebook: THREE_MONTHS,
         journal: &[
-            (0, Buy(b"a", b"H6-M6", 1, 1_000_000_000), Rested),
-            (0, Buy(b"b", b"M6", 1, 1_000_000_000), Rested),
-            (0, Sell(b"c", b"H6", 1, -1_000_000_000), Filled),
-            (0, Sell(b"d", b"H6-M6", 1, -1_000_000_000), Rested),
-            (0, Buy(b"e", b"H6-M6", 1, -1_000_000_000), Filled),
+            (0, Buy(b'a', H6_M6, 1, 1_000_000_000), Rested),
+            (0, Buy(b'b', M6, 1, 1_000_000_000), Rested),
+            (0, Sell(b'c', H6, 1, -1_000_000_000), Filled),
+            (0, Sell(b'd', H6_M6, 1, -1_000_000_000), Rested),
+            (0, Buy(b'e', H6_M6, 1, -1_000_000_000), Filled),
         ],
         fills: &[
             Of(3, 3, H6, Side::Sell, 1, 2_000_000_000),
