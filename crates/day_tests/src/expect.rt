@@ -11,7 +11,7 @@ pub fn holds(rt: &impl Abort, is_so: bool)
     assert!(rt; is_so);
 }
 
-/// Fails the test, with the name of its case, unless it is so.
+/// The same, and a failure tells the name of the case.
 pub fn holds_for(rt: &impl Abort, is_so: bool, name: &str)
     ensures { is_so ≡ true }
 {

@@ -10,3 +10,10 @@ pub fn holds(rt: &impl Abort, is_so: bool)
 {
     assert!(rt; is_so);
 }
+
+/// The same, and a failure tells the name of the case.
+pub fn holds_for(rt: &impl Abort, is_so: bool, name: &str)
+    ensures { is_so ≡ true }
+{
+    assert!(rt; is_so, "{name}");
+}

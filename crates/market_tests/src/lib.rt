@@ -1,5 +1,5 @@
-//! Tests of the tables of resting orders, of books and of the market: `row_index` to `spread_match`, with `spread_rulebook` and
-//! `spread_rules`.
+//! Tests of the tables of resting orders, of books and of the market: `row_index` to `spread_match`, with
+//! `spread_rulebook` and `spread_rules`.
 #![tactic(auto)]
 
 #[cfg(test)]

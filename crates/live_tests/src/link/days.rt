@@ -3,7 +3,7 @@ ghost use Rattle.gate_link.specs.Gateways.{SameGateway};
 ghost use Rattle.gate_link.specs.Links.{IsLinkOf, SameLink};
 
 use super::{Says, expect_journal};
-use crate::expect::holds;
+use crate::expect::{holds, holds_for};
 use gate_link::{Burst, Gateway, Sequencer, Settle, Step, Takes, Turn, link};
 use std::alloc::{Allocator, Global};
 use std::process::Abort;
@@ -90,7 +90,7 @@ fn expect_gateway_act<A: Allocator>(rt: &impl Abort, gateway: &mut Gateway<A>, a
             expect_judged(rt, gateway, *frames, *messages, *burst);
         }
         Act::IsClosed(is_closed) => holds(rt, gateway.is_closed() == *is_closed),
-        _ => assert!(rt; false, "no act of a gateway"),
+        _ => holds_for(rt, false, "no act of a gateway"),
     }
 }
 

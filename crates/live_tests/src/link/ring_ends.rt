@@ -1,5 +1,5 @@
 //! The rings behind the sequencer: to the thread that matches, and to a session's writer.
-use crate::expect::holds;
+use crate::expect::{holds, holds_for};
 use gate_link::{
     Give, LinkFault, Post, Poster, Taken, Writer, Wrote, agree, feed_ring, finished, post_ring,
 };
@@ -218,7 +218,7 @@ fn writer_with_memory_refused(rt: HostRuntime) {
             return;
         }
     }
-    assert!(rt; false, "no request was refused");
+    holds_for(&rt, false, "no request was refused");
 }
 
 fn expect_no_feed<A: Allocator + Copy>(rt: &impl Abort, alloc: A, ring: usize, want: LinkFault) {

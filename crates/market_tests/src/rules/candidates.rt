@@ -2,7 +2,7 @@
 ghost use Rattle.spread_rules.specs.Candidates.{HasOrderPrice};
 
 use super::{H6, M6, THREE_MONTHS, order};
-use crate::expect::holds;
+use crate::expect::{holds, holds_for};
 use spread_rules::{
     Candidate, Choice, Counterparty, Instrument, Level, Members, Order, Rank, Rulebook, Side,
     better, candidate_for, chosen, is_within, leg_prices, levels_meet, plain_candidate, price_at,
@@ -68,7 +68,7 @@ fn candidates_ranked(rt: HostRuntime) {
     let direct = candidate_for(&buy, Counterparty::Direct(seller()));
     let pair = Counterparty::Implied(spread_seller(), far_seller());
     match better(&buy, direct, candidate_for(&buy, pair)) {
-        None => assert!(rt; false, "no candidate"),
+        None => holds_for(&rt, false, "no candidate"),
         Some(best) => {
             let rank = Rank {
                 cost: 9900,
@@ -92,7 +92,7 @@ fn candidates_ranked(rt: HostRuntime) {
 fn plain_candidate_found(rt: HostRuntime) -> Result<(), Fail> {
     let rules = Rulebook::read(THREE_MONTHS)?;
     match plain_candidate(&rules, &[seller()], &buyer()) {
-        None => assert!(rt; false, "no candidate"),
+        None => holds_for(&rt, false, "no candidate"),
         Some(found) => holds(&rt, found.price == 10000),
     }
     Ok(())

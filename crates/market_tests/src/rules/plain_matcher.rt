@@ -3,7 +3,7 @@ ghost use Rattle.std.specs.Prelude.{◌≡◌, All, true};
 ghost use Rattle.spread_rules.specs.Candidates.{HasOrderPrice};
 
 use super::{H6, M6, THREE_MONTHS, U6};
-use crate::expect::holds;
+use crate::expect::{holds, holds_for};
 use host_base::Id;
 use spread_rules::Side::{Buy, Sell};
 use spread_rules::{Choice, Instrument, Members, Order, Rulebook, Side, plain_best};
@@ -136,11 +136,8 @@ fn are_priced(orders: &[Order]) -> bool
 /// What the new order of a case would trade with first is what is wanted.
 fn expect_choice(rt: &impl Abort, rules: &Rulebook, orders: &[Order], case: &Case) {
     holds(rt, are_priced(orders));
-    assert!(rt;
-        plain_best(rules, orders, &order_of(&case.new)) == case.wanted,
-        "{}",
-        case.name
-    );
+    let choice = plain_best(rules, orders, &order_of(&case.new));
+    holds_for(rt, choice == case.wanted, case.name);
 }
 
 #[test]

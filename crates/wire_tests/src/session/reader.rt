@@ -5,7 +5,9 @@ use super::Says::{Close, Logon, Nothing};
 use super::{BUY, FIRST_TRADE_SAYS, SELL, Says, expect_said};
 use crate::day;
 use crate::expect::holds;
-use fix_session::{Reader, Verdict, read_pieces};
+use fix_session::{Reader, Session, Verdict, read_pieces};
+use fix_wire::{Framer, Message};
+use session_judging::{count_messages, judge_ahead};
 use spread_rules::{Entry, Event};
 use std::alloc::Allocator;
 use std::process::Abort;
@@ -194,6 +196,37 @@ fn no_entry() -> Entry {
         session: 0,
         event: Event::Close { reason: 0 },
     }
+}
+
+/// What a framer holds is counted, and judged ahead up to what closes the session.
+#[test]
+fn messages_of_a_framer(rt: HostRuntime) {
+    let mut framer = Framer::new();
+    holds(&rt, framer.put(FIRST_TRADE) == 400);
+    holds(&rt, count_messages(&framer, 64) == 4);
+    holds(&rt, count_messages(&framer, 2) == 2);
+    let mut entries = [no_entry(); 64];
+    let ahead = judge_ahead(&framer, Session::new(), 3, 64, &mut entries);
+    holds(
+        &rt,
+        (ahead.messages, ahead.events, ahead.place) == (4, 4, 400),
+    );
+    holds(&rt, ahead.session.is_closed());
+    expect_first_trade(&rt, &entries[..4], 3);
+}
+
+/// A session says of each message what it changes, and changes so.
+#[test]
+fn changes_of_a_session(rt: HostRuntime) {
+    let mut session = Session::new();
+    for place in 0..4usize {
+        let message = Message::whole(DAY[place]).expect(&rt, "a message");
+        let mut verdict = Verdict::Nothing;
+        let change = session.judged(&message, &mut verdict);
+        session.change(&verdict, change);
+        expect_said(&rt, verdict, &FIRST_TRADE_SAYS[place]);
+    }
+    holds(&rt, session.is_closed());
 }
 
 /// Messages are judged ahead, and nothing changes.
