@@ -5,7 +5,6 @@ mod day_reader;
 mod lanes;
 pub mod laws;
 mod lines;
-mod reading;
 
+pub use day_reader::DayReader;
 pub use lines::LinesFault;
-pub use reading::{CHUNK_BYTES, read_day_lines};

@@ -1,5 +1,5 @@
-//! Tests of what stands below a day: bytes, messages and sessions (`host_base` to `fix_session`, and `day_lines`); rulebooks
-//! and rules; the tables of resting orders, books and the market (`row_index` to `spread_match`).
+//! Tests of what stands below a day: bytes, messages and sessions (`host_base` to `fix_session`), day lines; rulebooks and
+//! rules; the tables of resting orders, books and the market (`row_index` to `spread_match`).
 #![tactic(auto)]
 
 #[cfg(test)]

@@ -1,7 +1,8 @@
 //! Day lines as they are read.
 use crate::expect::holds;
+use day_input::read_day_lines;
+use day_lines::LinesFault;
 use day_lines::laws::day_journal;
-use day_lines::{LinesFault, read_day_lines};
 use host_base::{FromReader, TestSource};
 use spread_rules::{Entry, Event};
 use std::alloc::Global;

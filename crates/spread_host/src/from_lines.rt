@@ -2,7 +2,7 @@
 ghost use Rattle.std.specs.Prelude.{◌≡◌, ◌<◌, ◌⊎◌, ◌+◌, ◌≢◌, IfOk, IfErr, IfSome, OnOk, IsErrOf, length, true, false, Ok};
 ghost use Rattle.host_base.specs.declared.limits.TheConstants.{MAX_INPUT_BYTES};
 ghost use Rattle.host_base.specs.Ends.{TakesAtMost};
-ghost use Rattle.day_lines.specs.declared.reading.TheConstants.{CHUNK_BYTES};
+ghost use Rattle.day_input.specs.declared.reading.TheConstants.{CHUNK_BYTES};
 ghost use Rattle.spread_journal.specs.JournalReading.{ReadsJournal};
 ghost use Rattle.journal_parts.specs.JournalText.{journal_text};
 ghost use Rattle.spread_host.specs.Headline.{IsJournalOfText, HasFills, HasOutgoing, BoughtIsSold, PaidIsReceived, IsAlwaysQuiet, IsDayOf};
@@ -11,7 +11,7 @@ ghost use Rattle.spread_host.specs.declared.fault.HostFault.{HostFault};
 
 use crate::day::{day_of, write_day};
 use crate::fault::HostFault;
-use day_lines::read_day_lines;
+use day_input::read_day_lines;
 use day_text::Day;
 use host_base::{Id, Sink, Source};
 use spread_journal::laws::read_back;

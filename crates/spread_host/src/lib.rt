@@ -1,6 +1,6 @@
 //! A day, from day lines or from sessions in threads, to its journal, fills, outgoing messages and text.
 //!
-//! `replay` reads day lines (`day_lines`), applies their journal (`day_apply`) and writes the day's text (`day_text`).
+//! `replay` reads day lines (`day_input`), applies their journal (`day_apply`) and writes the day's text (`day_text`).
 //! `run_day` takes its journal from a thread for each session (`day_threads`). `check` applies a journal text again,
 //! and `audit` holds a claim against what comes of it.
 #![tactic(auto)]

@@ -8,8 +8,7 @@ ghost use Rattle.spread_rules.specs.Journal.{IsLawful};
 ghost use Rattle.day_lines.specs.Reading.{IsJournalOf, HasParts, IsLinesFault};
 ghost use Rattle.day_lines.specs.code.PiecesRead.{HasRead, IsReading};
 
-use crate::day_reader::DayReader;
-use crate::lines::LinesFault;
+use day_lines::{DayReader, LinesFault};
 use host_base::limits::MAX_INPUT_BYTES;
 use host_base::{Failed, Source};
 use spread_rules::Entry;

@@ -4,7 +4,7 @@ use Rattle.std.specs.Io.KnownBytes.{Consumes}
 use Rattle.std.proofs.KnownBytes.{Consumes-nil, Consumes-trans, Consumes-whole}
 use Rattle.fix_frames.specs.Texts.{soh_for_bar, with_soh}
 use Rattle.day_lines.specs.code.PiecesRead.{HasRead}
-use Rattle.day_lines.proofs.reading.read_pieces.Goals as goal
+use Rattle.day_input.proofs.reading.read_pieces.Goals as goal
 
 pub loop-count-init : goal.loop-count-init
 loop-count-init g c = (refl, omega arith, c.requires, omega (arith, c.in_ok-reader.ensures.number), ([], refl, Consumes-nil (g.S.Source.left c.args.source.now), c.in_ok-reader.ensures.read))

@@ -5,7 +5,7 @@ use Rattle.fix_frames.specs.Texts.{with_soh}
 use Rattle.day_lines.specs.Reading.{IsJournalOf, HasParts, IsLinesFault}
 use Rattle.day_lines.specs.code.PiecesRead.{HasRead}
 use Rattle.day_lines.specs.declared.day_reader.DayReader.{DayReader}
-use Rattle.day_lines.proofs.reading.read_day_lines.Goals as goal
+use Rattle.day_input.proofs.reading.read_day_lines.Goals as goal
 
 -- what a reader answers of each input that it may have read is so of what its source had left, where that is known
 of_source : {A X : Type 0} (reader : DayReader A) (left : Option (List ℕ)) → IfSome left (λ input. HasRead (with_soh input) reader) → (P : List ℕ → X → Type 0) (x : X) → ((input : List ℕ) → HasRead (with_soh input) reader → P input x) → IfSome left (λ input. P input x)

@@ -3,8 +3,8 @@ use Rattle.std.specs.Io.KnownBytes.{Consumes}
 use Rattle.host_base.specs.declared.limits.TheConstants.{MAX_INPUT_BYTES}
 use Rattle.fix_frames.specs.Texts.{with_soh}
 use Rattle.day_lines.specs.code.PiecesRead.{HasRead}
-use Rattle.day_lines.specs.declared.reading.TheConstants.{CHUNK_BYTES}
-use Rattle.day_lines.proofs.reading.read_pieces.Given as goal
+use Rattle.day_input.specs.declared.reading.TheConstants.{CHUNK_BYTES}
+use Rattle.day_input.proofs.reading.read_pieces.Given as goal
 
 -- what was taken from the source was read
 abbrev pub invariant-loop-count : goal.invariant-loop-count
