@@ -45,29 +45,50 @@ fn contents(rt: &(impl Files + AllocGlobal), files: &[String]) -> Result<Vec<Vec
     Ok(contents)
 }
 
+/// A phase over a rulebook and a journal.
+fn time_journal(
+    rt: &(impl CpuClock + AllocGlobal),
+    phase: &str,
+    files: &[Vec<u8>],
+) -> Result<Measured, Fault> {
+    let [rules, journal] = files else {
+        return Err(Fault::Words);
+    };
+    match phase {
+        "match" => time_match(rt, rules, journal),
+        "report" => time_report(rt, rules, journal),
+        _ => Err(Fault::Words),
+    }
+}
+
 fn time_phase<R: Clock + CpuClock + AllocGlobal + Threads + Sync>(
     rt: &R,
     phase: &str,
     files: &[Vec<u8>],
 ) -> Result<Measured, Fault> {
-    match (phase, files) {
-        ("match", [rules, journal]) => time_match(rt, rules, journal),
-        ("report", [rules, journal]) => time_report(rt, rules, journal),
-        ("scan", [_, ..]) => Ok(time_scan(rt, files)),
-        ("judge", [_, ..]) => Ok(time_judge(rt, files)),
-        ("threads", [_, ..]) => time_threads(rt, files, AtOnce::One),
-        ("slices", [_, ..]) => time_threads(rt, files, AtOnce::Slice),
-        _ => Err(Fault::Words),
+    if files.is_empty() {
+        return Err(Fault::Words);
     }
+    match phase {
+        "scan" => Ok(time_scan(rt, files)),
+        "judge" => Ok(time_judge(rt, files)),
+        "threads" => time_threads(rt, files, AtOnce::One),
+        "slices" => time_threads(rt, files, AtOnce::Slice),
+        _ => time_journal(rt, phase, files),
+    }
+}
+
+fn print_help(rt: &impl Print) -> Result<(), Fault> {
+    println!(rt; "{HELP}")?;
+    Ok(())
 }
 
 fn run_words<R: Clock + CpuClock + Print + Files + AllocGlobal + Threads + Sync>(
     rt: &R,
     words: &[String],
 ) -> Result<(), Fault> {
-    let Some((phase, files)) = words.get(1..).and_then(|w| w.split_first()) else {
-        println!(rt; "{HELP}")?;
-        return Ok(());
+    let [_, phase, files @ ..] = words else {
+        return print_help(rt);
     };
     let files = contents(rt, files)?;
     let measured = time_phase(rt, phase.as_str(), &files)?;
