@@ -1,8 +1,10 @@
 //! Day lines as they are read.
+ghost use Rattle.std.specs.Prelude.{◌<◌, length};
+
 use crate::expect::holds;
 use day_input::read_day_lines;
-use day_lines::LinesFault;
 use day_lines::laws::day_journal;
+use day_lines::{DayReader, LinesFault};
 use host_base::{FromReader, TestSource};
 use spread_rules::{Entry, Event};
 use std::alloc::Global;
@@ -69,6 +71,24 @@ fn expect_closes(rt: &impl Abort, journal: &[Entry], sessions: &[u8]) {
         holds(rt, entry.session == *session);
         holds(rt, entry.event == Event::Close { reason: 5 });
     }
+}
+
+/// What one piece of day lines gives.
+fn read_piece(alloc: Global, piece: &mut [u8]) -> Result<Vec<Entry>, LinesFault>
+    requires { length piece.old < 1000 }
+{
+    let mut reader = DayReader::new(alloc)?;
+    reader.take_piece(piece)?;
+    reader.into_journal()
+}
+
+/// A piece is read by itself as a source of it is.
+#[test]
+fn piece_of_day_lines(rt: HostRuntime) {
+    let mut piece = Vec::from_slice(rt.alloc(), b"3:a\n5:b").expect(&rt, "memory");
+    holds(&rt, piece.len() < 1000);
+    let journal = read_piece(rt.alloc(), &mut piece).expect(&rt, "day lines");
+    expect_closes(&rt, &journal, b"\x03\x05");
 }
 
 /// Day lines, and the number of the first line that is bad.
