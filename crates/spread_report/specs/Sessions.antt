@@ -4,7 +4,14 @@ use Rattle.std.specs.declared.vec.Vec.{Vec}
 use Rattle.host_base.specs.declared.limits.TheConstants.{SESSIONS}
 use Rattle.spread_report.specs.declared.outbound.OutboundSession.{OutboundSession}
 use Rattle.spread_rulebook.specs.Rulebook.{Rules}
-use Rattle.spread_report.specs.Outgoing.{AppliedEntry, entry_spends, outbound_before_logon}
+use Rattle.spread_report.specs.Outgoing.{AppliedEntry, outbound_before_logon}
+use Rattle.spread_report.specs.code.PerSession.{entry_spends}
+
+-- the bytes of session s
+abbrev pub bytes_of : {A : Type 0} → List (Vec ℕ A) → ℕ → List ℕ
+bytes_of {A} lists s = slice_index_or (map (λ (v : Vec ℕ A). v.items) lists) s []
+
+-- ---- words of the code alone
 
 -- the texts of the sessions' lists
 abbrev pub texts_of : {A : Type 0} → List (Vec ℕ A) → List (List ℕ)
@@ -13,10 +20,6 @@ texts_of {A} lists = map (λ (v : Vec ℕ A). v.items) lists
 -- the text of session s
 abbrev pub session_text : List (List ℕ) → ℕ → List ℕ
 session_text texts s = slice_index_or texts s []
-
--- the bytes of session s
-abbrev pub bytes_of : {A : Type 0} → List (Vec ℕ A) → ℕ → List ℕ
-bytes_of lists s = session_text (texts_of lists) s
 
 -- the outbound state of session s
 abbrev pub outbound_at : List OutboundSession → ℕ → OutboundSession

@@ -1,2 +1,4 @@
 -- Words of the code alone: no public promise needs them to be read.
+pub mod Reports
+pub mod PerSession
 pub mod Sending

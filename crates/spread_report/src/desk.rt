@@ -4,9 +4,10 @@ ghost use Rattle.std.specs.List.{list_all};
 ghost use Rattle.spread_rules.specs.Ranges.{FitsOutcome, FitFills};
 ghost use Rattle.spread_report.specs.Desk.{desk_starting, desk_at};
 ghost use Rattle.spread_report.specs.code.Sending.{Sends};
-ghost use Rattle.spread_report.specs.EntryMessages.{numbered_message, has_tag};
-ghost use Rattle.spread_report.specs.Messages.{IsRow, entry_texts};
-ghost use Rattle.spread_report.specs.Outgoing.{entry_bytes, entry_outbound, entry_spends, applied_at};
+ghost use Rattle.spread_report.specs.code.PerSession.{entry_bytes, entry_texts, entry_outbound, entry_spends, applied_at};
+ghost use Rattle.spread_report.specs.code.Reports.{has_tag};
+ghost use Rattle.spread_report.specs.EntryMessages.{numbered_message};
+ghost use Rattle.spread_report.specs.Messages.{IsRow};
 ghost use Rattle.spread_report.specs.Sessions.{bytes_of, outbound_at, KeepsBytes, RunsOut};
 ghost use Rattle.spread_report.specs.declared.fault.DeskFault.TheVariants.{NumbersSpent};
 

@@ -5,7 +5,7 @@ use Rattle.std.proofs.lemmas.List.{get_or-map, get_or-set_same, get_or-set_other
 use Rattle.spread_report.specs.declared.outbound.OutboundSession.{OutboundSession}
 use Rattle.spread_report.specs.declared.fault.DeskFault.{DeskFault}
 use Rattle.spread_report.specs.declared.fault.DeskFault.TheVariants.{NoMemory, NumbersSpent}
-use Rattle.spread_report.specs.EntryMessages.{AddressedMessage}
+use Rattle.spread_report.specs.EntryMessages.{AddressedStep}
 use Rattle.std.proofs.lemmas.Bool.{cases_eq}
 use Rattle.std.specs.declared.vec.Vec.{Vec}
 use Rattle.std.specs.Prelude.{OnErr, Result, Ok, ◌==◌, if◌then◌else◌, Option, refl}
@@ -14,7 +14,8 @@ use Rattle.std.proofs.lemmas.Bool.{eq-eqb, ne_eqb}
 use Rattle.spread_rules.specs.declared.event.Event.{Event}
 use Rattle.spread_rules.specs.declared.event.Event.TheVariants.{Logon, New, Cancel, Replace, TestReply, Gap, Resend, Reject, Close}
 use Rattle.spread_report.specs.declared.outbound.CompIds.{CompIds}
-use Rattle.spread_report.specs.Outgoing.{outbound_before_logon, outbound_at_entry}
+use Rattle.spread_report.specs.Outgoing.{outbound_before_logon}
+use Rattle.spread_report.specs.code.PerSession.{outbound_at_entry}
 use Rattle.spread_report.specs.Desk.{DeskState}
 use Rattle.spread_report.specs.Sessions.{bytes_of, outbound_at}
 use Rattle.spread_report.specs.code.Sending.{OnlyAppended, SendResult}
@@ -42,7 +43,7 @@ module _ {A : Type 0} (x : List (Vec ℕ A)) (i n : ℕ) (w : Vec ℕ A) (ns : L
       elim (cases_eq t i) [ inl e ↦ rw e here | inr apart ↦ get_or-set_other ns i t n 0 apart ∙ done t (omega (arith, h, apart)) ]
 
 -- what was taken back is as it was
-pub appended_of : {A : Type 0} (T : Type 0) (stamp : List ℕ) (a b : List OutboundSession) (x y : List (Vec ℕ A)) (ms : List AddressedMessage) (f : DeskFault) → SendResult {T = T} stamp a b x y ms (Err f) → OnlyAppended a b x y
+pub appended_of : {A : Type 0} (T : Type 0) (stamp : List ℕ) (a b : List OutboundSession) (x y : List (Vec ℕ A)) (ms : List AddressedStep) (f : DeskFault) → SendResult {T = T} stamp a b x y ms (Err f) → OnlyAppended a b x y
 appended_of T stamp a b x y ms NoMemory w = w
 appended_of T stamp a b x y ms NumbersSpent w = w.0
 
@@ -118,7 +119,7 @@ sessions_back a k b z x y ns session v r in_a in_z below noted appended numbers 
     ext_get_or (outbound_before_logon 1) z a (in_z ∙ sym in_a) (λ i h. each i (omega (arith, h, in_z)))
 
 -- what holds after a refusal, holds where there was one
-pub after_refusal : {A T : Type 0} (P : Type 0) (stamp : List ℕ) (a b : List OutboundSession) (x y : List (Vec ℕ A)) (ms : List AddressedMessage) (r : Result T DeskFault) → SendResult stamp a b x y ms r → (OnlyAppended a b x y → P) → OnErr r P
+pub after_refusal : {A T : Type 0} (P : Type 0) (stamp : List ℕ) (a b : List OutboundSession) (x y : List (Vec ℕ A)) (ms : List AddressedStep) (r : Result T DeskFault) → SendResult stamp a b x y ms r → (OnlyAppended a b x y → P) → OnErr r P
 after_refusal P stamp a b x y ms (Ok t) w f = tt
 after_refusal P stamp a b x y ms (Err NoMemory) w f = f w
 after_refusal P stamp a b x y ms (Err NumbersSpent) w f = f w.0

@@ -8,8 +8,8 @@ use Rattle.fix_wire.specs.declared.writer.Field.{Field}
 use Rattle.fix_wire.specs.declared.writer.Head.{Head}
 use Rattle.fix_wire.specs.Layout.{message_text, body_text, FitsKind, FitsTags, FitsBody, IsReadBack}
 use Rattle.fix_frames.specs.Frames.{IsFrame, frames}
-use Rattle.spread_report.specs.EntryMessages.{has_tag}
-use Rattle.spread_report.specs.Messages.{IsRow, as_message}
+use Rattle.spread_report.specs.Messages.{IsRow}
+use Rattle.spread_report.specs.code.Reports.{has_tag}
 
 pub no_row : IsRow [] []
 no_row = record { joined = refl; whole = tt; read = λ more. refl }
@@ -28,8 +28,8 @@ rows_both ts us t u m r = record {
 }
 
 pub message_row : (h : Head) (fs : List Field) → IsFrame (message_text h fs) → ((more : List ℕ) → frames (message_text h fs ++ more) ≡ message_text h fs ∷ frames more)
-    → IsRow (as_message (message_text h fs)) (message_text h fs)
-message_row h fs lawful first = record { joined = append-nil (message_text h fs); whole = (lawful, tt); read = first }
+    → IsRow (message_text h fs ∷ []) (concat (message_text h fs ∷ []))
+message_row h fs lawful first = record { joined = refl; whole = (lawful, tt); read = λ more. ap (λ (t : List ℕ). frames (t ++ more)) (append-nil (message_text h fs)) ∙ first more }
 
 tags_of : (fs : List Field) → list_all has_tag fs ≡ true → FitsTags fs
 tags_of [] e = tt
@@ -41,7 +41,7 @@ tags_of (f ∷ fs) e =
 
 -- what the writer wrote is one frame
 pub written_row : (h : Head) (fs : List Field) → h.kind ≢ 1 → list_all has_tag fs ≡ true → length fs ≤ 18 → length (body_text h fs) ≤ 64 * length fs + 180
-    → (FitsKind h → FitsTags fs → FitsBody h fs → IsReadBack h fs) → IsRow (as_message (message_text h fs)) (message_text h fs)
+    → (FitsKind h → FitsTags fs → FitsBody h fs → IsReadBack h fs) → IsRow (message_text h fs ∷ []) (concat (message_text h fs ∷ []))
 written_row h fs kind tags few short lawful =
     let back : IsReadBack h fs = lawful kind (tags_of fs tags) (omega (arith, few, short)) in
     message_row h fs back.lawful back.first

@@ -1,6 +1,9 @@
 -- What a session is sent is a row of whole frames, read as the messages that were written.
-use Rattle.std.proofs.Common.{◌≡◌, ◌≢◌, ℕ, ◌+◌, ◌<◌, ◌≤◌, ◌^◌, ◌==◌, nat_lt, Bool, true, false, ◌&&◌, ◌||◌, if◌then◌else◌, List, [], ◌∷◌, length, refl, arith, Option, Some, None}
-use Rattle.std.specs.List.{AllByRecursion}
+use Rattle.std.proofs.Common.{◌≡◌, ◌≢◌, ℕ, ◌+◌, ◌<◌, ◌≤◌, ◌^◌, ◌==◌, nat_lt, Bool, true, false, ◌&&◌, ◌||◌, if◌then◌else◌, List, [], ◌∷◌, ◌++◌, map, cond, codes, length, refl, sym, subst, arith, Option, Some, None}
+use Rattle.std.specs.List.{AllByRecursion, concat, flat_map}
+use Rattle.std.specs.Prelude.{filter}
+use Rattle.std.proofs.lemmas.List.Folds.{concat-append}
+use Rattle.report_bodies.specs.Fields.{text_field, number_field}
 use Rattle.std.proofs.lemmas.Bool.Decides.{nat_tests}
 use Rattle.fix_wire.specs.declared.writer.Field.{Field}
 use Rattle.fix_wire.specs.Layout.{FitsMessage, message_text}
@@ -8,18 +11,16 @@ use Rattle.fix_frames.specs.Frames.{IsFrame}
 use Rattle.fix_wire.proofs.writing.WrittenMessage.{written_frame, read_first}
 use Rattle.host_base.specs.Ids.{is_id}
 use Rattle.spread_rulebook.specs.Rulebook.{Rules}
-use Rattle.spread_rules.specs.declared.event.Event.{Event}
-use Rattle.spread_rules.specs.declared.event.Event.TheVariants.{Logon, New, Cancel, Replace, TestReply, Gap, Resend, Reject, Close}
-use Rattle.spread_rules.specs.Journal.{FitsEvent}
 use Rattle.spread_report.specs.declared.outbound.OutboundSession.{OutboundSession}
 use Rattle.spread_report.specs.declared.outbound.CompIds.{CompIds}
-use Rattle.spread_report.specs.EntryMessages.{MessageContent, numbered, gap_fill, AddressedMessage}
-use Rattle.spread_report.specs.Outgoing.{AppliedEntry, new_seq_no, head_of, gap_fields, message_bytes, next_after, needs_number_above_limit, bytes_for, outbound_for, needs_number_for, messages_bytes, outbound_after, spends, outbound_at_entry, entry_messages, entry_bytes, entry_outbound, entry_spends, journal_bytes, spends_from}
+use Rattle.spread_report.specs.EntryMessages.{OutgoingStep, logged_on, numbered, gap_fill, AddressedStep}
+use Rattle.spread_report.specs.Outgoing.{AppliedEntry, new_seq_no, head_of, step_texts, steps_texts, after_step, is_above_limit, pass_limit, steps_of, session_steps, entry_messages}
+use Rattle.spread_report.specs.code.PerSession.{texts_from, journal_bytes, spends_from}
 use Rattle.spread_report.proofs.frames.FrameRows.{no_row, rows_both, message_row}
-use Rattle.spread_report.specs.Messages.{IsRow, as_message, texts_to, entry_texts, texts_from}
+use Rattle.spread_report.specs.Messages.{IsRow}
 use Rattle.spread_report.specs.Ranges.{AreNames, EntryInRange}
 use Rattle.spread_report.proofs.frames.BodyLengths.{FitsReport, IsShortHead, fields_fit, body_short}
-use Rattle.spread_report.proofs.messages.InRange.{FitsContent, FitsAddressed, id_plain, id_short, entry_fits}
+use Rattle.spread_report.proofs.messages.InRange.{FitsStep, FitsAddressed, all_append, id_plain, id_short, entry_fits}
 
 -- ---- outbound states
 
@@ -34,13 +35,17 @@ pub record OutboundFits (out : OutboundSession) : Type 0 where
 
 -- ---- one message
 
--- a text that is nothing or one frame
-abbrev IsOne : List ℕ → Type 0
-IsOne t = IsRow (as_message t) t
+-- texts that are a row of frames
+abbrev AreFrames : List (List ℕ) → Type 0
+AreFrames ts = IsRow ts (concat ts)
+
+-- the fields of a gap fill
+abbrev gap_fields : ℕ → ℕ → List Field
+gap_fields next last = number_field 36 (new_seq_no next last) ∷ text_field 123 (codes "Y") ∷ []
 
 module _ (stamp : List ℕ) (stamp_id : is_id stamp ≡ true) where
   written : (ids : CompIds) (kind n : ℕ) (d : Bool) (fs : List Field) → IdsFit (Some ids) → kind ≢ 1 → n < 2 ^ 64 → AllByRecursion FitsReport fs → length fs ≤ 18
-      → IsOne (message_text (head_of stamp ids kind n d) fs)
+      → AreFrames (message_text (head_of stamp ids kind n d) fs ∷ [])
   written ids kind n d fs i k small fit few =
       let short : IsShortHead (head_of stamp ids kind n d) = record { number = small; sender = id_short ids.host i.1; target = id_short ids.client i.0; stamp = id_short stamp stamp_id } in
       let fits : FitsMessage (head_of stamp ids kind n d) fs =
@@ -63,36 +68,25 @@ module _ (stamp : List ℕ) (stamp_id : is_id stamp ≡ true) where
   new_small next last h = new_by (last == 0) (nat_lt next (last + 2)) next last h (not_below next (last + 2))
 
   gap_is : (ids : CompIds) (next first last : ℕ) (b : Bool) → nat_lt first next ≡ b → IdsFit (Some ids) → next ≤ 1000000000
-      → IsOne (if b then message_text (head_of stamp ids 52 first true) (gap_fields next last) else [])
+      → AreFrames (if b then message_text (head_of stamp ids 52 first true) (gap_fields next last) ∷ [] else [])
   gap_is ids next first last true e i h =
       let below : first < next = below_of first next e in
       written ids 52 first true (gap_fields next last) i (omega arith) (omega (arith, below, h))
       (record { fits = (omega arith, omega arith, new_small next last h); short = tt }, (record { fits = (omega arith, omega arith, refl); short = omega arith }, tt)) (omega arith)
   gap_is ids next first last false e i h = no_row
 
-  under_is : (o : Option CompIds) (next : ℕ) (m : MessageContent) → IdsFit o → next ≤ 1000000000 → FitsContent m → needs_number_above_limit o next m ≡ false → IsOne (message_bytes stamp o next m)
-  under_is None next m i h fit spent = no_row
+  under_is : (o : Option CompIds) (next : ℕ) (c : OutgoingStep) → IdsFit o → next ≤ 1000000000 → FitsStep c → is_above_limit (record { next = next; comp_ids = o }) c ≡ false
+      → AreFrames (step_texts stamp o next c) × OutboundFits (after_step (record { next = next; comp_ids = o }) c)
+  under_is None next (logged_on ids) i h fit spent = (no_row, record { next = h; ids = fit })
+  under_is None next (numbered kind fields) i h fit spent = (no_row, record { next = h; ids = i })
+  under_is None next (gap_fill first last) i h fit spent = (no_row, record { next = h; ids = i })
+  under_is (Some ids) next (logged_on new) i h fit spent = (no_row, record { next = h; ids = fit })
   under_is (Some ids) next (numbered kind fields) i h fit spent =
       let small : next ≤ 999999999 = not_below 999999999 next spent in
-      written ids kind next false fields i fit.0 (omega (arith, small)) fit.1 fit.2
-  under_is (Some ids) next (gap_fill first last) i h fit spent = gap_is ids next first last (nat_lt first next) refl i h
+      (written ids kind next false fields i fit.0 (omega (arith, small)) fit.1 fit.2, record { next = omega (arith, small); ids = i })
+  under_is (Some ids) next (gap_fill first last) i h fit spent = (gap_is ids next first last (nat_lt first next) refl i h, record { next = h; ids = i })
 
-  next_small : (o : Option CompIds) (next : ℕ) (m : MessageContent) → next ≤ 1000000000 → needs_number_above_limit o next m ≡ false → next_after o next m ≤ 1000000000
-  next_small None next m h spent = h
-  next_small (Some ids) next (numbered kind fields) h spent =
-      let small : next ≤ 999999999 = not_below 999999999 next spent in
-      omega (arith, small)
-  next_small (Some ids) next (gap_fill first last) h spent = h
-
-  for_is : (s : ℕ) (out : OutboundSession) (m : AddressedMessage) → OutboundFits out → FitsAddressed m → needs_number_for s out m ≡ false → IsOne (bytes_for stamp s out m) × OutboundFits (outbound_for s out m)
-  for_is s out m h fit =
-      elim (m.to == s) as (λ b. b && needs_number_above_limit out.comp_ids out.next m.content ≡ false
-      → IsOne (if b then message_bytes stamp out.comp_ids out.next m.content else []) × OutboundFits (if b then record { next = next_after out.comp_ids out.next m.content; comp_ids = out.comp_ids } else out)) [
-        | true ↦ λ spent. (under_is out.comp_ids out.next m.content h.ids h.next fit spent, record { next = next_small out.comp_ids out.next m.content h.next spent; ids = h.ids })
-        | false ↦ λ spent. (no_row, h)
-      ]
-
-  -- ---- more messages
+  -- ---- more steps
 
   or_first : (a b : Bool) → a || b ≡ false → a ≡ false
   or_first true b e = e
@@ -102,35 +96,29 @@ module _ (stamp : List ℕ) (stamp_id : is_id stamp ≡ true) where
   or_second true b e = cc
   or_second false b e = e
 
-  to_is : (s : ℕ) (out : OutboundSession) (ms : List AddressedMessage) → OutboundFits out → AllByRecursion FitsAddressed ms → spends s out ms ≡ false → IsRow (texts_to stamp s out ms) (messages_bytes stamp s out ms) × OutboundFits (outbound_after s out ms)
-  to_is s out [] h fit spent = (no_row, h)
-  to_is s out (m ∷ ms) h fit spent =
-      let first = for_is s out m h fit.0 (or_first (needs_number_for s out m) (spends s (outbound_for s out m) ms) spent) in
-      let rest = to_is s (outbound_for s out m) ms first.1 fit.1 (or_second (needs_number_for s out m) (spends s (outbound_for s out m) ms) spent) in
-      (rows_both (as_message (bytes_for stamp s out m)) (texts_to stamp s (outbound_for s out m) ms) (bytes_for stamp s out m) (messages_bytes stamp s (outbound_for s out m) ms) first.0 rest.0, rest.1)
+  steps_are : (out : OutboundSession) (cs : List OutgoingStep) → OutboundFits out → AllByRecursion FitsStep cs → pass_limit out cs ≡ false → AreFrames (steps_texts stamp out cs)
+  steps_are out [] h fit spent = no_row
+  steps_are out (c ∷ cs) h fit spent =
+      let ts : List (List ℕ) = step_texts stamp out.comp_ids out.next c in
+      let us : List (List ℕ) = steps_texts stamp (after_step out c) cs in
+      let first = under_is out.comp_ids out.next c h.ids h.next fit.0 (or_first (is_above_limit out c) (pass_limit (after_step out c) cs) spent) in
+      let rest = steps_are (after_step out c) cs first.1 fit.1 (or_second (is_above_limit out c) (pass_limit (after_step out c) cs) spent) in
+      subst (λ (t : List ℕ). IsRow (ts ++ us) t) (sym (concat-append ts us)) (rows_both ts us (concat ts) (concat us) first.0 rest)
 
-  -- ---- entries
+-- ---- the steps of one session
 
-  opened : (s : ℕ) (out : OutboundSession) (session : ℕ) (v : Event) → OutboundFits out → FitsEvent v → OutboundFits (outbound_at_entry s out session v)
-  opened s out session (Logon client host beat) h fit =
-      elim (session == s) as (λ b. OutboundFits (if b then record { next = out.next; comp_ids = Some (record { client = client; host = host }) } else out)) [
-        | true ↦ record { next = h.next; ids = (fit.0, fit.1) }
-        | false ↦ h
-      ]
-  opened s out session (New t) h fit = h
-  opened s out session (Cancel id original) h fit = h
-  opened s out session (Replace original t) h fit = h
-  opened s out session (TestReply answer) h fit = h
-  opened s out session (Gap first) h fit = h
-  opened s out session (Resend first last) h fit = h
-  opened s out session (Reject n reason) h fit = h
-  opened s out session (Close reason) h fit = h
+steps_fit : (s : ℕ) (ms : List AddressedStep) → AllByRecursion FitsAddressed ms → AllByRecursion FitsStep (steps_of s ms)
+steps_fit s [] fit = tt
+steps_fit s (m ∷ ms) fit =
+    elim (m.to == s) as (λ b. AllByRecursion FitsStep (map (λ (m : AddressedStep). m.step) (cond b (m ∷ filter (λ (m : AddressedStep). m.to == s) ms) (filter (λ (m : AddressedStep). m.to == s) ms)))) [
+      | true ↦ (fit.0, steps_fit s ms fit.1)
+      | false ↦ steps_fit s ms fit.1
+    ]
 
-  module _ (rules : Rules) (names : AreNames rules) (s : ℕ) where
-    pub from_is : (out : OutboundSession) (ws : List AppliedEntry) → OutboundFits out → AllByRecursion (EntryInRange rules) ws → spends_from rules s out ws ≡ false → IsRow (texts_from stamp rules s out ws) (journal_bytes stamp rules s out ws)
-    from_is out [] h fit spent = no_row
-    from_is out (w ∷ ws) h fit spent =
-        let first = to_is s (outbound_at_entry s out w.entry.session w.entry.event) (entry_messages rules w) (opened s out w.entry.session w.entry.event h fit.0.event) (entry_fits rules names w fit.0)
-        (or_first (entry_spends rules s out w) (spends_from rules s (entry_outbound rules s out w) ws) spent) in
-        rows_both (entry_texts stamp rules s out w) (texts_from stamp rules s (entry_outbound rules s out w) ws) (entry_bytes stamp rules s out w) (journal_bytes stamp rules s (entry_outbound rules s out w) ws) first.0
-        (from_is (entry_outbound rules s out w) ws first.1 fit.1 (or_second (entry_spends rules s out w) (spends_from rules s (entry_outbound rules s out w) ws) spent))
+module _ (stamp : List ℕ) (stamp_id : is_id stamp ≡ true) (rules : Rules) (names : AreNames rules) (s : ℕ) where
+  entries_messages_fit : (ws : List AppliedEntry) → AllByRecursion (EntryInRange rules) ws → AllByRecursion FitsAddressed (flat_map (entry_messages rules) ws)
+  entries_messages_fit [] fit = tt
+  entries_messages_fit (w ∷ ws) fit = all_append (entry_messages rules w) (flat_map (entry_messages rules) ws) (entry_fits rules names w fit.0) (entries_messages_fit ws fit.1)
+
+  pub from_is : (out : OutboundSession) (ws : List AppliedEntry) → OutboundFits out → AllByRecursion (EntryInRange rules) ws → spends_from rules s out ws ≡ false → IsRow (texts_from stamp rules s out ws) (journal_bytes stamp rules s out ws)
+  from_is out ws h fit spent = steps_are stamp stamp_id out (session_steps rules ws s) h (steps_fit s (flat_map (entry_messages rules) ws) (entries_messages_fit ws fit)) spent

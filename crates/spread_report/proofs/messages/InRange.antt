@@ -1,7 +1,7 @@
 -- Every message of an entry in range is in range.
 use Rattle.std.proofs.Common.{◌≡◌, ◌≢◌, ℕ, ◌+◌, ◌*◌, ◌<◌, ◌≤◌, ◌^◌, ◌==◌, true, false, ◌&&◌, if◌then◌else◌, ◌||◌, List, [], ◌∷◌, ◌++◌, length, get_or, codes, refl, arith, length-append, Option, Some, None}
-use Rattle.std.specs.Prelude.{ℤ, unsigned_abs, nat_le}
-use Rattle.std.specs.List.{AllByRecursion}
+use Rattle.std.specs.Prelude.{ℤ, unsigned_abs, nat_le, option_map, option_to_list}
+use Rattle.std.specs.List.{AllByRecursion, cons_option}
 use Rattle.std.proofs.lemmas.Bool.{leb-true, and_parts}
 use Rattle.std.proofs.lemmas.Bool.Decides.{nat_tests}
 use Rattle.fix_wire.specs.declared.writer.Field.{Field}
@@ -20,7 +20,9 @@ use Rattle.spread_rules.specs.declared.event.Event.{Event}
 use Rattle.spread_rules.specs.declared.event.Event.TheVariants.{Logon, New, Cancel, Replace, TestReply, Gap, Resend, Reject, Close}
 use Rattle.spread_rules.specs.declared.outcome.Outcome.{Outcome}
 use Rattle.spread_rules.specs.declared.outcome.Outcome.TheVariants.{Rested, Filled, Ended, Cancelled, Replaced, Refused, CancelRefused, Session}
-use Rattle.spread_report.specs.EntryMessages.{MessageContent, numbered, gap_fill, AddressedMessage, ReportedTrade, ExecutionReport, original_field, reason_field, last_fields, legs_field, report_fields, numbered_message, report, new_report, rejected_report, ended_report, cancelled_report, replaced_report, fill_report, report_count, reports_by, fill_reports, fills_reports, reports_of, new_messages, place_field, cancel_reject_fields, cancel_messages, replace_messages, close_messages, event_messages}
+use Rattle.spread_report.specs.EntryMessages.{OutgoingStep, logged_on, numbered, gap_fill, AddressedStep, ReportedTrade, ExecutionReport, report_fields, numbered_message, report, fill_report, fill_reports, fills_reports, accepted_messages, new_messages, order_cancel_reject, cancel_messages, replace_messages, close_messages, event_messages}
+use Rattle.spread_report.specs.code.Reports.{new_report, rejected_report, ended_report, cancelled_report, replaced_report, report_count, reports_of, place_field}
+use Rattle.spread_report.proofs.messages.OneFillMore.{fills_reports-cons, reports_length, index_behind}
 use Rattle.report_bodies.specs.Fields.{text_field, number_field, price_field, pair_field}
 use Rattle.report_bodies.specs.Codes.{side_code, ord_status_code, multi_leg_code}
 use Rattle.report_bodies.specs.declared.codes.OrdStatus.{OrdStatus}
@@ -42,13 +44,14 @@ id_short t e = leb-true (length t) 32 (and_parts (nat_le 1 (length t)) (nat_le (
 
 -- ---- contents
 
--- at most 18 fields in range, under a kind that isn't byte 1
-abbrev pub FitsContent : MessageContent → Type 0
-FitsContent (numbered kind fields) = (kind ≢ 1) × AllByRecursion FitsReport fields × (length fields ≤ 18)
-FitsContent (gap_fill first last) = Unit {0}
+-- CompIDs that are ids; at most 18 fields in range, under a kind that isn't byte 1
+abbrev pub FitsStep : OutgoingStep → Type 0
+FitsStep (logged_on ids) = (is_id ids.client ≡ true) × (is_id ids.host ≡ true)
+FitsStep (numbered kind fields) = (kind ≢ 1) × AllByRecursion FitsReport fields × (length fields ≤ 18)
+FitsStep (gap_fill first last) = Unit {0}
 
-abbrev pub FitsAddressed : AddressedMessage → Type 0
-FitsAddressed m = FitsContent m.content
+abbrev pub FitsAddressed : AddressedStep → Type 0
+FitsAddressed m = FitsStep m.step
 
 text_fits : (tag : ℕ) (id : List ℕ) → 1 ≤ tag → tag < 1000000000 → is_id id ≡ true → FitsReport (text_field tag id)
 text_fits tag id low high e = record { fits = (low, high, id_plain id e); short = id_short id e }
@@ -62,11 +65,7 @@ price_fits tag z low high h = record { fits = (low, high, h); short = tt }
 pair_fits : (tag a b : ℕ) → 1 ≤ tag → tag < 1000000000 → a < 2 ^ 64 → b < 2 ^ 64 → FitsReport (pair_field tag a b)
 pair_fits tag a b low high h k = record { fits = (low, high, (h, k)); short = tt }
 
-fits_append : (fs gs : List Field) → AllByRecursion FitsReport fs → AllByRecursion FitsReport gs → AllByRecursion FitsReport (fs ++ gs)
-fits_append [] gs a b = b
-fits_append (f ∷ fs) gs a b = (a.0, fits_append fs gs a.1 b)
-
-pub all_append : (ms ns : List AddressedMessage) → AllByRecursion FitsAddressed ms → AllByRecursion FitsAddressed ns → AllByRecursion FitsAddressed (ms ++ ns)
+pub all_append : (ms ns : List AddressedStep) → AllByRecursion FitsAddressed ms → AllByRecursion FitsAddressed ns → AllByRecursion FitsAddressed (ms ++ ns)
 all_append [] ns a b = b
 all_append (m ∷ ms) ns a b = (a.0, all_append ms ns a.1 b)
 
@@ -110,35 +109,49 @@ legs_small SingleSecurity = omega arith
 legs_small IndividualLeg = omega arith
 legs_small MultiLegSecurity = omega arith
 
-original_fits : (o : Option (List ℕ)) → OptionalId o → AllByRecursion FitsReport (original_field o)
+-- a field that may be there
+abbrev OptionFits : Option Field → Type 0
+OptionFits None = Unit {0}
+OptionFits (Some f) = FitsReport f
+
+cons_fits : (o : Option Field) (fs : List Field) → OptionFits o → AllByRecursion FitsReport fs → AllByRecursion FitsReport (cons_option o fs)
+cons_fits None fs h a = a
+cons_fits (Some f) fs h a = (h, a)
+
+cons_length : (o : Option Field) (fs : List Field) → length (cons_option o fs) ≤ length fs + 1
+cons_length None fs = omega arith
+cons_length (Some f) fs = omega arith
+
+original_fits : (o : Option (List ℕ)) → OptionalId o → OptionFits (option_map (text_field 41) o)
 original_fits None h = tt
-original_fits (Some id) h = (text_fits 41 id (omega arith) (omega arith) h, tt)
+original_fits (Some id) h = text_fits 41 id (omega arith) (omega arith) h
 
-reason_fits : (o : Option ℕ) → OptionalNumber o → AllByRecursion FitsReport (reason_field o)
+reason_fits : (o : Option ℕ) → OptionalNumber o → OptionFits (option_map (number_field 103) o)
 reason_fits None h = tt
-reason_fits (Some n) h = (number_fits 103 n (omega arith) (omega arith) h, tt)
+reason_fits (Some n) h = number_fits 103 n (omega arith) (omega arith) h
 
-last_fit : (o : Option ReportedTrade) → TradedFits o → AllByRecursion FitsReport (last_fields o)
-last_fit None h = tt
-last_fit (Some t) h = (number_fits 32 t.last_shares (omega arith) (omega arith) h.0, (price_fits 31 t.last_px (omega arith) (omega arith) h.1, tt))
+abbrev shares_of : Option ReportedTrade → Option Field
+shares_of o = option_map (λ (t : ReportedTrade). number_field 32 t.last_shares) o
 
-legs_fits : (o : Option ReportedTrade) → TradedFits o → AllByRecursion FitsReport (legs_field o)
-legs_fits None h = tt
-legs_fits (Some t) h = (number_fits 442 (multi_leg_code t.multi_leg) (omega arith) (omega arith) (legs_small t.multi_leg), tt)
+abbrev px_of : Option ReportedTrade → Option Field
+px_of o = option_map (λ (t : ReportedTrade). price_field 31 t.last_px) o
 
-original_length : (o : Option (List ℕ)) → length (original_field o) ≤ 1
-original_length None = omega arith
-original_length (Some id) = omega arith
+abbrev legs_of : Option ReportedTrade → Option Field
+legs_of o = option_map (λ (t : ReportedTrade). number_field 442 (multi_leg_code t.multi_leg)) o
 
-reason_length : (o : Option ℕ) → length (reason_field o) ≤ 1
-reason_length None = omega arith
-reason_length (Some n) = omega arith
+shares_fit : (o : Option ReportedTrade) → TradedFits o → OptionFits (shares_of o)
+shares_fit None h = tt
+shares_fit (Some t) h = number_fits 32 t.last_shares (omega arith) (omega arith) h.0
 
-last_length : (o : Option ReportedTrade) → length (last_fields o) ≤ 2
-last_length None = omega arith
-last_length (Some t) = omega arith
+px_fits : (o : Option ReportedTrade) → TradedFits o → OptionFits (px_of o)
+px_fits None h = tt
+px_fits (Some t) h = price_fits 31 t.last_px (omega arith) (omega arith) h.1
 
-legs_length : (o : Option ReportedTrade) → length (legs_field o) ≤ 1
+legs_fit : (o : Option ReportedTrade) → AllByRecursion FitsReport (option_to_list (legs_of o))
+legs_fit None = tt
+legs_fit (Some t) = (number_fits 442 (multi_leg_code t.multi_leg) (omega arith) (omega arith) (legs_small t.multi_leg), tt)
+
+legs_length : (o : Option ReportedTrade) → length (option_to_list (legs_of o)) ≤ 1
 legs_length None = omega arith
 legs_length (Some t) = omega arith
 
@@ -147,30 +160,50 @@ side_small Buy = omega arith
 side_small Sell = omega arith
 
 module _ (r : ExecutionReport) where
-  abbrev tail : List Field
-  tail = number_field 151 r.leaves_qty ∷ number_field 14 r.cum_qty ∷ number_field 6 0 ∷ legs_field r.traded
+  abbrev left_part : List Field
+  left_part = number_field 151 r.leaves_qty ∷ number_field 14 r.cum_qty ∷ number_field 6 0 ∷ option_to_list (legs_of r.traded)
 
   abbrev order_part : List Field
-  order_part = text_field 55 r.symbol ∷ number_field 54 (side_code r.side) ∷ number_field 38 r.order_qty ∷ (last_fields r.traded ++ tail)
+  order_part = text_field 55 r.symbol ∷ number_field 54 (side_code r.side) ∷ number_field 38 r.order_qty ∷ cons_option (shares_of r.traded) (cons_option (px_of r.traded) left_part)
 
   abbrev status_part : List Field
-  status_part = pair_field 17 r.place r.index ∷ number_field 20 0 ∷ number_field 150 (ord_status_code r.ord_status) ∷ number_field 39 (ord_status_code r.ord_status) ∷ (reason_field r.ord_rej_reason ++ order_part)
+  status_part = pair_field 17 r.place r.index ∷ number_field 20 0 ∷ number_field 150 (ord_status_code r.ord_status) ∷ number_field 39 (ord_status_code r.ord_status) ∷ cons_option (option_map (number_field 103) r.ord_rej_reason) order_part
 
   report_fit : ReportFits r → AllByRecursion FitsReport (report_fields r)
   report_fit h =
-      let tail_fits : AllByRecursion FitsReport tail = (number_fits 151 r.leaves_qty (omega arith) (omega arith) h.leaves, (number_fits 14 r.cum_qty (omega arith) (omega arith) h.filled, (number_fits 6 0 (omega arith) (omega arith) (omega arith), legs_fits r.traded h.traded))) in
-      let order_fits : AllByRecursion FitsReport order_part =
-      (text_fits 55 r.symbol (omega arith) (omega arith) h.symbol, (number_fits 54 (side_code r.side) (omega arith) (omega arith) (side_small r.side), (number_fits 38 r.order_qty (omega arith) (omega arith) h.quantity, fits_append (last_fields r.traded) tail (last_fit r.traded h.traded) tail_fits))) in
-      let status_fits : AllByRecursion FitsReport status_part =
-      (pair_fits 17 r.place r.index (omega arith) (omega arith) h.place h.index, (number_fits 20 0 (omega arith) (omega arith) (omega arith), (number_fits 150 (ord_status_code r.ord_status) (omega arith) (omega arith) (status_small r.ord_status), (number_fits 39 (ord_status_code r.ord_status) (omega arith) (omega arith) (status_small r.ord_status), fits_append (reason_field r.ord_rej_reason) order_part (reason_fits r.ord_rej_reason h.reason) order_fits)))) in
-      (number_fits 37 r.order_id (omega arith) (omega arith) h.order, (text_fits 11 r.cl_ord_id (omega arith) (omega arith) h.id, fits_append (original_field r.orig_cl_ord_id) status_part (original_fits r.orig_cl_ord_id h.original) status_fits))
+      let left_fits : AllByRecursion FitsReport left_part = (number_fits 151 r.leaves_qty (omega arith) (omega arith) h.leaves, (number_fits 14 r.cum_qty (omega arith) (omega arith) h.filled, (number_fits 6 0 (omega arith) (omega arith) (omega arith), legs_fit r.traded))) in
+      let order_fits : AllByRecursion FitsReport order_part = (
+        text_fits 55 r.symbol (omega arith) (omega arith) h.symbol,
+        (
+          number_fits 54 (side_code r.side) (omega arith) (omega arith) (side_small r.side),
+          (
+            number_fits 38 r.order_qty (omega arith) (omega arith) h.quantity,
+            cons_fits (shares_of r.traded) (cons_option (px_of r.traded) left_part) (shares_fit r.traded h.traded) (cons_fits (px_of r.traded) left_part (px_fits r.traded h.traded) left_fits),
+          ),
+        ),
+      ) in
+      let status_fits : AllByRecursion FitsReport status_part = (
+        pair_fits 17 r.place r.index (omega arith) (omega arith) h.place h.index,
+        (
+          number_fits 20 0 (omega arith) (omega arith) (omega arith),
+          (
+            number_fits 150 (ord_status_code r.ord_status) (omega arith) (omega arith) (status_small r.ord_status),
+            (
+              number_fits 39 (ord_status_code r.ord_status) (omega arith) (omega arith) (status_small r.ord_status),
+              cons_fits (option_map (number_field 103) r.ord_rej_reason) order_part (reason_fits r.ord_rej_reason h.reason) order_fits,
+            ),
+          ),
+        ),
+      ) in
+      (number_fits 37 r.order_id (omega arith) (omega arith) h.order, (text_fits 11 r.cl_ord_id (omega arith) (omega arith) h.id, cons_fits (option_map (text_field 41) r.orig_cl_ord_id) status_part (original_fits r.orig_cl_ord_id h.original) status_fits))
 
   report_length : length (report_fields r) ≤ 18
   report_length =
-      let a : length (original_field r.orig_cl_ord_id ++ status_part) ≡ length (original_field r.orig_cl_ord_id) + length status_part = length-append (original_field r.orig_cl_ord_id) status_part in
-      let b : length (reason_field r.ord_rej_reason ++ order_part) ≡ length (reason_field r.ord_rej_reason) + length order_part = length-append (reason_field r.ord_rej_reason) order_part in
-      let d : length (last_fields r.traded ++ tail) ≡ length (last_fields r.traded) + length tail = length-append (last_fields r.traded) tail in
-      omega (arith, a, b, d, original_length r.orig_cl_ord_id, reason_length r.ord_rej_reason, last_length r.traded, legs_length r.traded)
+      let a = cons_length (option_map (text_field 41) r.orig_cl_ord_id) status_part in
+      let b = cons_length (option_map (number_field 103) r.ord_rej_reason) order_part in
+      let d = cons_length (shares_of r.traded) (cons_option (px_of r.traded) left_part) in
+      let e = cons_length (px_of r.traded) left_part in
+      omega (arith, a, b, d, e, legs_length r.traded)
 
   report_in_range : (to : ℕ) → ReportFits r → FitsAddressed (report to r)
   report_in_range to h = (omega arith, report_fit h, report_length)
@@ -206,7 +239,7 @@ module _ (rules : Rules) (names : AreNames rules) where
     filled = omega (arith, h.total);
   })
 
-  reports_fit : (k : Instrument) (place index : ℕ) (f : Fill) → IsListed rules k → FillInRange rules f → place < 2 ^ 64 → index + 3 < 2 ^ 64 → AllByRecursion FitsAddressed (reports_by k rules place index f)
+  reports_fit : (k : Instrument) (place index : ℕ) (f : Fill) → IsListed rules k → FillInRange rules f → place < 2 ^ 64 → index + 3 < 2 ^ 64 → AllByRecursion FitsAddressed (fill_reports k rules place index f)
   reports_fit (Outright m) place index f listed h p i = (fill_fits place index f (symbol_of rules f.instrument) f.side f.price SingleSecurity h p (omega (arith, i)) (symbol_fits f.instrument h.listed) h.price, tt)
   reports_fit (Spread a b) place index f listed h p i = (
     fill_fits place index f (symbol_of rules f.instrument) f.side f.price MultiLegSecurity h p (omega (arith, i)) (symbol_fits f.instrument h.listed) h.price,
@@ -223,9 +256,10 @@ module _ (rules : Rules) (names : AreNames rules) where
   fills_fit : (place index : ℕ) (fs : List Fill) → AllByRecursion (FillInRange rules) fs → place < 2 ^ 64 → index + 3 * length fs < 2 ^ 64 → AllByRecursion FitsAddressed (fills_reports rules place index fs)
   fills_fit place index [] h p i = tt
   fills_fit place index (f ∷ fs) h p i =
-      all_append (fill_reports rules place index f) (fills_reports rules place (index + report_count f.instrument) fs)
+      rw (fills_reports-cons rules place index f fs)
+      (all_append (fill_reports f.instrument rules place index f) (fills_reports rules place (index + report_count f.instrument) fs)
       (reports_fit f.instrument place index f h.0.listed h.0 p (omega (arith, i)))
-      (fills_fit place (index + report_count f.instrument) fs h.1 p (omega (arith, i, count_small f.instrument)))
+      (fills_fit place (index + report_count f.instrument) fs h.1 p (omega (arith, i, count_small f.instrument))))
 
   reports_small : (fs : List Fill) → reports_of fs ≤ 3 * length fs
   reports_small [] = omega arith
@@ -320,8 +354,9 @@ module _ (rules : Rules) (names : AreNames rules) where
   news_fit place session t Rested fs p h o few fits = traded_fits place session t fs p h few fits
   news_fit place session t Filled fs p h o few fits = traded_fits place session t fs p h few fits
   news_fit place session t (Ended left) fs p h o few fits =
-      all_append (report session (new_report place t) ∷ fills_reports rules place 2 fs) (report session (ended_report place (2 + reports_of fs) t left) ∷ [])
-      (traded_fits place session t fs p h few fits) (ended_fits place (2 + reports_of fs) session t left p (omega (arith, few, reports_small fs)) h, tt)
+      all_append (report session (new_report place t) ∷ fills_reports rules place 2 fs) (report session (ended_report place (1 + length (accepted_messages rules place session t fs)) t left) ∷ [])
+      (traded_fits place session t fs p h few fits)
+      (ended_fits place (1 + length (accepted_messages rules place session t fs)) session t left p (omega (arith, few, reports_small fs, index_behind rules place session t fs)) h, tt)
   news_fit place session t (Cancelled x) fs p h o few fits = tt
   news_fit place session t (Replaced x) fs p h o few fits = tt
   news_fit place session t (CancelRefused reason of status) fs p h o few fits = tt
@@ -331,7 +366,7 @@ module _ (rules : Rules) (names : AreNames rules) where
   place_fits of h = elim (of == 0) as (λ b. FitsReport (if b then text_field 37 (codes "NONE") else number_field 37 of)) [ true ↦ text_fits 37 (codes "NONE") (omega arith) (omega arith) refl | false ↦ number_fits 37 of (omega arith) (omega arith) h ]
 
   cancel_reject_fits : (session request : ℕ) (id original : List ℕ) (reason of status : ℕ) → request < 2 ^ 64 → is_id id ≡ true → is_id original ≡ true → reason < 2 ^ 64 → of < 2 ^ 64 → status < 2 ^ 64
-      → FitsAddressed (numbered_message session 57 (cancel_reject_fields request id original reason of status))
+      → FitsAddressed (order_cancel_reject session request id original reason of status)
   cancel_reject_fits session request id original reason of status q e d r n s =
       (omega arith, (place_fits of n, (text_fits 11 id (omega arith) (omega arith) e, (text_fits 41 original (omega arith) (omega arith) d, (number_fits 39 status (omega arith) (omega arith) s, (number_fits 434 request (omega arith) (omega arith) q, (number_fits 102 reason (omega arith) (omega arith) r, tt)))))), omega arith)
 
@@ -375,7 +410,7 @@ module _ (rules : Rules) (names : AreNames rules) where
 
   event_fits : (place session : ℕ) (v : Event) (outcome : Outcome) (fs : List Fill) → place < 2 ^ 64 → FitsEvent v → OutcomeInRange rules outcome → length fs ≤ 1000000000 → AllByRecursion (FillInRange rules) fs
       → AllByRecursion FitsAddressed (event_messages rules place session v outcome fs)
-  event_fits place session (Logon client host beat) outcome fs p h o few fits = ((omega arith, (number_fits 98 0 (omega arith) (omega arith) (omega arith), (number_fits 108 beat (omega arith) (omega arith) (omega (arith, h.2)), tt)), omega arith), tt)
+  event_fits place session (Logon client host beat) outcome fs p h o few fits = ((h.0, h.1), ((omega arith, (number_fits 98 0 (omega arith) (omega arith) (omega arith), (number_fits 108 beat (omega arith) (omega arith) (omega (arith, h.2)), tt)), omega arith), tt))
   event_fits place session (New t) outcome fs p h o few fits = news_fit place session t outcome fs p h o few fits
   event_fits place session (Cancel id original) outcome fs p h o few fits = cancels_fit place session id original outcome p h.0 h.1 o
   event_fits place session (Replace original t) outcome fs p h o few fits = replaces_fit place session original t outcome fs p h.0 h.1 o few fits

@@ -1,59 +1,27 @@
 -- Messages, and more messages after them.
 use Rattle.std.proofs.Common.{◌≡◌, ℕ, ◌≤◌, ◌==◌, Bool, true, false, List, [], ◌∷◌, ◌++◌, ◌||◌, length, take, subst, refl, sym, ap, ◌∙◌, arith, append_assoc, length-append, Ok, Err, Result}
-use Rattle.std.proofs.Math.Bool.{or_assoc}
+use Rattle.std.proofs.lemmas.List.Folds.{concat-append}
 use Rattle.std.proofs.Math.Seq.{take-append_seam}
 use Rattle.std.proofs.lemmas.List.{take-take}
 use Rattle.std.specs.declared.vec.Vec.{Vec}
 use Rattle.spread_report.specs.declared.outbound.OutboundSession.{OutboundSession}
-use Rattle.std.specs.Prelude.{if◌then◌else◌}
 use Rattle.spread_report.specs.declared.fault.DeskFault.{DeskFault}
 use Rattle.spread_report.specs.declared.fault.DeskFault.TheVariants.{NoMemory, NumbersSpent}
-use Rattle.spread_report.specs.EntryMessages.{AddressedMessage}
-use Rattle.spread_report.specs.Outgoing.{next_after, messages_bytes, outbound_after, spends, bytes_for, outbound_for, needs_number_for}
-use Rattle.spread_report.specs.Messages.{IsRow, as_message, texts_to}
+use Rattle.spread_report.specs.EntryMessages.{AddressedStep}
+use Rattle.spread_report.specs.Messages.{IsRow}
+use Rattle.spread_report.specs.code.PerSession.{messages_bytes, texts_to, outbound_after, spends}
+use Rattle.spread_report.proofs.messages.Steps.{outbound_after-append, messages_bytes-append, texts_to-append, spends-append}
 use Rattle.spread_report.proofs.frames.FrameRows.{rows_both}
 use Rattle.spread_report.specs.Desk.{DeskState}
 use Rattle.spread_report.specs.code.Sending.{Sends}
 use Rattle.spread_report.specs.Sessions.{bytes_of, outbound_at}
 use Rattle.spread_report.specs.code.Sending.{Sent, OnlyAppended, NumbersRunOut, SendResult}
 
-pub outbound_after-append : (s : ℕ) (l : OutboundSession) (xs ys : List AddressedMessage) → outbound_after s l (xs ++ ys) ≡ outbound_after s (outbound_after s l xs) ys
-outbound_after-append s l [] ys = refl
-outbound_after-append s l (m ∷ ms) ys = outbound_after-append s (outbound_for s l m) ms ys
-
-pub messages_bytes-append : (stamp : List ℕ) (s : ℕ) (l : OutboundSession) (xs ys : List AddressedMessage) → messages_bytes stamp s l (xs ++ ys) ≡ messages_bytes stamp s l xs ++ messages_bytes stamp s (outbound_after s l xs) ys
-messages_bytes-append stamp s l [] ys = refl
-messages_bytes-append stamp s l (m ∷ ms) ys =
-    ap (λ (t : List ℕ). bytes_for stamp s l m ++ t) (messages_bytes-append stamp s (outbound_for s l m) ms ys)
-    ∙ sym (append_assoc (bytes_for stamp s l m) (messages_bytes stamp s (outbound_for s l m) ms) (messages_bytes stamp s (outbound_after s (outbound_for s l m) ms) ys))
-
-pub texts_to-append : (stamp : List ℕ) (s : ℕ) (l : OutboundSession) (xs ys : List AddressedMessage) → texts_to stamp s l (xs ++ ys) ≡ texts_to stamp s l xs ++ texts_to stamp s (outbound_after s l xs) ys
-texts_to-append stamp s l [] ys = refl
-texts_to-append stamp s l (m ∷ ms) ys =
-    ap (λ (t : List (List ℕ)). as_message (bytes_for stamp s l m) ++ t) (texts_to-append stamp s (outbound_for s l m) ms ys)
-    ∙ sym (append_assoc (as_message (bytes_for stamp s l m)) (texts_to stamp s (outbound_for s l m) ms) (texts_to stamp s (outbound_after s (outbound_for s l m) ms) ys))
-
-abbrev chosen : Bool → ℕ → OutboundSession → AddressedMessage → OutboundSession
-chosen b s l m = if b then record { next = next_after l.comp_ids l.next m.content; comp_ids = l.comp_ids } else l
-
-for_ids : (s : ℕ) (l : OutboundSession) (m : AddressedMessage) → (outbound_for s l m).comp_ids ≡ l.comp_ids
-for_ids s l m = elim (m.to == s) as (λ b. (chosen b s l m).comp_ids ≡ l.comp_ids) [ true ↦ refl | false ↦ refl ]
-
-pub ids_after : (s : ℕ) (l : OutboundSession) (ms : List AddressedMessage) → (outbound_after s l ms).comp_ids ≡ l.comp_ids
-ids_after s l [] = refl
-ids_after s l (m ∷ ms) = ids_after s (outbound_for s l m) ms ∙ for_ids s l m
-
-pub row-append : (stamp : List ℕ) (s : ℕ) (l k : OutboundSession) (xs ys : List AddressedMessage) → k ≡ outbound_after s l xs
+pub row-append : (stamp : List ℕ) (s : ℕ) (l k : OutboundSession) (xs ys : List AddressedStep) → k ≡ outbound_after s l xs
     → IsRow (texts_to stamp s l xs) (messages_bytes stamp s l xs) → IsRow (texts_to stamp s k ys) (messages_bytes stamp s k ys) → IsRow (texts_to stamp s l (xs ++ ys)) (messages_bytes stamp s l (xs ++ ys))
 row-append stamp s l k xs ys e p q =
     let after : IsRow (texts_to stamp s (outbound_after s l xs) ys) (messages_bytes stamp s (outbound_after s l xs) ys) = subst (λ (j : OutboundSession). IsRow (texts_to stamp s j ys) (messages_bytes stamp s j ys)) e q in
-    rw (texts_to-append stamp s l xs ys, messages_bytes-append stamp s l xs ys) (rows_both (texts_to stamp s l xs) (texts_to stamp s (outbound_after s l xs) ys) (messages_bytes stamp s l xs) (messages_bytes stamp s (outbound_after s l xs) ys) p after)
-
-pub spends-append : (s : ℕ) (l : OutboundSession) (xs ys : List AddressedMessage) → spends s l (xs ++ ys) ≡ spends s l xs || spends s (outbound_after s l xs) ys
-spends-append s l [] ys = refl
-spends-append s l (m ∷ ms) ys =
-    ap (λ (t : Bool). needs_number_for s l m || t) (spends-append s (outbound_for s l m) ms ys)
-    ∙ sym (or_assoc (needs_number_for s l m) (spends s (outbound_for s l m) ms) (spends s (outbound_after s (outbound_for s l m) ms) ys))
+    rw (texts_to-append stamp s l xs ys, concat-append (texts_to stamp s l xs) (texts_to stamp s (outbound_after s l xs) ys)) (rows_both (texts_to stamp s l xs) (texts_to stamp s (outbound_after s l xs) ys) (messages_bytes stamp s l xs) (messages_bytes stamp s (outbound_after s l xs) ys) p after)
 
 or_left : (a b : Bool) → a ≡ true → a || b ≡ true
 or_left a b e = rw e refl
@@ -71,7 +39,7 @@ begins_both u v w t e h =
     let n : length u ≤ length w = rw (e, length-append u v) (omega arith) in
     sym (take-take (length u) (length w) t n) ∙ (ap (λ (l : List ℕ). take (length u) l) (h ∙ e) ∙ take-append_seam u v)
 
-module _ {A : Type 0} (stamp : List ℕ) (a b d : List OutboundSession) (x y z : List (Vec ℕ A)) (ms ns : List AddressedMessage) where
+module _ {A : Type 0} (stamp : List ℕ) (a b d : List OutboundSession) (x y z : List (Vec ℕ A)) (ms ns : List AddressedStep) where
   -- these were sent, and then those
   pub sent_both : Sent stamp a b x y ms → Sent stamp b d y z ns → Sent stamp a d x z (ms ++ ns)
   sent_both p q = record {
@@ -84,6 +52,7 @@ module _ {A : Type 0} (stamp : List ℕ) (a b d : List OutboundSession) (x y z :
         ∙ ap (λ (t : List ℕ). bytes_of x s ++ t)
         (ap (λ (l : OutboundSession). messages_bytes stamp s (outbound_at a s) ms ++ messages_bytes stamp s l ns) (p.outbound s below) ∙ sym (messages_bytes-append stamp s (outbound_at a s) ms ns))));
     outbound = λ s below. q.outbound s below ∙ (ap (λ (l : OutboundSession). outbound_after s l ns) (p.outbound s below) ∙ sym (outbound_after-append s (outbound_at a s) ms ns));
+    comp_ids = λ s below. q.comp_ids s below ∙ p.comp_ids s below;
     unspent = λ s below.
         spends-append s (outbound_at a s) ms ns
         ∙ or_none (spends s (outbound_at a s) ms) (spends s (outbound_after s (outbound_at a s) ms) ns) (p.unspent s below) (ap (λ (l : OutboundSession). spends s l ns) (sym (p.outbound s below)) ∙ q.unspent s below);
@@ -95,7 +64,7 @@ module _ {A : Type 0} (stamp : List ℕ) (a b d : List OutboundSession) (x y z :
   appended_after p q = record {
     sessions = q.sessions ∙ p.sessions;
     lists = q.lists ∙ p.lists;
-    comp_ids = λ s below. q.comp_ids s below ∙ (ap (λ (l : OutboundSession). l.comp_ids) (p.outbound s below) ∙ ids_after s (outbound_at a s) ms);
+    comp_ids = λ s below. q.comp_ids s below ∙ p.comp_ids s below;
     begins = λ s below. begins_both (bytes_of x s) (messages_bytes stamp s (outbound_at a s) ms) (bytes_of y s) (bytes_of z s) (p.bytes s below) (q.begins s below);
   }
 
@@ -115,7 +84,7 @@ module _ {A : Type 0} (stamp : List ℕ) (a b d : List OutboundSession) (x y z :
   result_after (Err NoMemory) p w = appended_after p w
   result_after (Err NumbersSpent) p w = (appended_after p w.0, spends_after p w.1)
 
-module _ {A : Type 0} (stamp : List ℕ) (a b : List OutboundSession) (x y : List (Vec ℕ A)) (ms ns : List AddressedMessage) where
+module _ {A : Type 0} (stamp : List ℕ) (a b : List OutboundSession) (x y : List (Vec ℕ A)) (ms ns : List AddressedStep) where
   spends_first : NumbersRunOut a ms → NumbersRunOut a (ms ++ ns)
   spends_first q = record {
     session = q.session;
@@ -136,7 +105,7 @@ module _ {A : Type 0} (stamp : List ℕ) (a b : List OutboundSession) (x y : Lis
 abbrev pub all_sent : Result (Unit {0}) DeskFault
 all_sent = Ok tt
 
-module _ {A : Type 0} (a b d : DeskState) (x y z : List (Vec ℕ A)) (ms ns : List AddressedMessage) where
+module _ {A : Type 0} (a b d : DeskState) (x y z : List (Vec ℕ A)) (ms ns : List AddressedStep) where
   -- these were sent, and this became of those
   pub sends_after : {T U : Type 0} (t : U) (r : Result T DeskFault)
       → Sends a b x y ms (Ok t) → Sends b d y z ns r → Sends a d x z (ms ++ ns) r
@@ -148,7 +117,7 @@ module _ {A : Type 0} (a b d : DeskState) (x y z : List (Vec ℕ A)) (ms ns : Li
         result = result_after a.stamp a.sessions b.sessions d.sessions x y z ms ns r p.result rest;
       }
 
-module _ {A : Type 0} (a b : DeskState) (x y : List (Vec ℕ A)) (ms ns : List AddressedMessage) where
+module _ {A : Type 0} (a b : DeskState) (x y : List (Vec ℕ A)) (ms ns : List AddressedStep) where
   -- where these were not sent, more were not
   pub sends_no_more : (T U : Type 0) (f : DeskFault)
       → Sends {T = T} a b x y ms (Err f) → Sends {T = U} a b x y (ms ++ ns) (Err f)
@@ -159,10 +128,10 @@ module _ {A : Type 0} (a b : DeskState) (x y : List (Vec ℕ A)) (ms ns : List A
 
   -- messages that are the same
   pub sends_same : {T : Type 0} (r : Result T DeskFault) → ms ≡ ns → Sends a b x y ms r → Sends a b x y ns r
-  sends_same r e w = subst (λ (l : List AddressedMessage). Sends a b x y l r) e w
+  sends_same r e w = subst (λ (l : List AddressedStep). Sends a b x y l r) e w
 
 -- what was sent, or was not, whatever is told besides
-module _ {A : Type 0} (a b : DeskState) (x y : List (Vec ℕ A)) (ms : List AddressedMessage) where
+module _ {A : Type 0} (a b : DeskState) (x y : List (Vec ℕ A)) (ms : List AddressedStep) where
   pub sends_ok : {T U : Type 0} (t : T) (u : U) → Sends a b x y ms (Ok t) → Sends a b x y ms (Ok u)
   sends_ok t u p = record { stamp = p.stamp; result = p.result }
 

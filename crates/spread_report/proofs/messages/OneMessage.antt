@@ -8,18 +8,21 @@ use Rattle.std.specs.declared.vec.Vec.{Vec}
 use Rattle.spread_report.specs.declared.outbound.OutboundSession.{OutboundSession}
 use Rattle.spread_report.specs.declared.outbound.CompIds.{CompIds}
 use Rattle.spread_report.specs.declared.fault.DeskFault.{DeskFault}
-use Rattle.spread_report.specs.EntryMessages.{AddressedMessage, MessageContent, gap_fill, place_field}
+use Rattle.spread_report.specs.EntryMessages.{AddressedStep, OutgoingStep, gap_fill}
 use Rattle.report_bodies.specs.Fields.{text_field, number_field}
-use Rattle.spread_report.specs.Outgoing.{messages_bytes, outbound_after, spends, message_bytes, next_after, needs_number_above_limit, outbound_before_logon, new_seq_no, head_of}
+use Rattle.spread_report.specs.Outgoing.{step_texts, after_step, is_above_limit, outbound_before_logon, new_seq_no, head_of}
+use Rattle.spread_report.specs.code.PerSession.{message_bytes, messages_bytes, texts_to, outbound_after, spends}
+use Rattle.spread_report.specs.code.Reports.{place_field}
+use Rattle.std.specs.List.{concat}
 use Rattle.fix_wire.specs.Layout.{message_text}
-use Rattle.spread_report.specs.Messages.{IsRow, as_message, texts_to}
+use Rattle.spread_report.specs.Messages.{IsRow}
 use Rattle.spread_report.proofs.frames.FrameRows.{no_row}
 use Rattle.spread_report.specs.Sessions.{bytes_of, outbound_at}
 use Rattle.spread_report.specs.code.Sending.{Sent, OnlyAppended, NumbersRunOut, SendResult}
 
 -- the message
-abbrev pub one : ℕ → MessageContent → List AddressedMessage
-one to content = record { to = to; content = content } ∷ []
+abbrev pub one : ℕ → OutgoingStep → List AddressedStep
+one to content = record { to = to; step = content } ∷ []
 
 module _ {A : Type 0} (x : List (Vec ℕ A)) (i : ℕ) where
   items : Vec ℕ A → List ℕ
@@ -36,40 +39,41 @@ module _ {A : Type 0} (x : List (Vec ℕ A)) (i : ℕ) where
       ∙ get_or-set_other (map (λ (w : Vec ℕ A). w.items) x) i s v.items [] apart
 
 -- what one message does to its own session, and to another
-module _ (stamp : List ℕ) (l : OutboundSession) (content : MessageContent) where
-  pub bytes_same : (i : ℕ) → messages_bytes stamp i l (one i content) ≡ message_bytes stamp l.comp_ids l.next content
-  bytes_same i = rw (eq-eqb i i refl) (append-nil (message_bytes stamp l.comp_ids l.next content))
+module _ (stamp : List ℕ) (l : OutboundSession) (content : OutgoingStep) where
+  pub bytes_same : (i : ℕ) → messages_bytes stamp i l (one i content) ≡ message_bytes stamp l content
+  bytes_same i = rw (eq-eqb i i refl) (ap concat (append-nil (step_texts stamp l.comp_ids l.next content)))
 
   pub bytes_other : (i s : ℕ) → s ≢ i → messages_bytes stamp s l (one i content) ≡ []
   bytes_other i s apart = rw (ne_eqb i s (λ h. apart (sym h))) refl
 
-  pub texts_same : (i : ℕ) → texts_to stamp i l (one i content) ≡ as_message (message_bytes stamp l.comp_ids l.next content)
-  texts_same i = rw (eq-eqb i i refl) (append-nil (as_message (message_bytes stamp l.comp_ids l.next content)))
+  pub texts_same : (i : ℕ) → texts_to stamp i l (one i content) ≡ step_texts stamp l.comp_ids l.next content
+  texts_same i = rw (eq-eqb i i refl) (append-nil (step_texts stamp l.comp_ids l.next content))
 
   pub texts_other : (i s : ℕ) → s ≢ i → texts_to stamp s l (one i content) ≡ []
   texts_other i s apart = rw (ne_eqb i s (λ h. apart (sym h))) refl
 
-  pub line_same : (i : ℕ) → outbound_after i l (one i content) ≡ record { next = next_after l.comp_ids l.next content; comp_ids = l.comp_ids }
+  pub line_same : (i : ℕ) → outbound_after i l (one i content) ≡ after_step l content
   line_same i = rw (eq-eqb i i refl) refl
 
   pub line_other : (i s : ℕ) → s ≢ i → outbound_after s l (one i content) ≡ l
   line_other i s apart = rw (ne_eqb i s (λ h. apart (sym h))) refl
 
-  pub spends_same : (i : ℕ) → spends i l (one i content) ≡ needs_number_above_limit l.comp_ids l.next content
-  spends_same i = rw (eq-eqb i i refl) (or-false (needs_number_above_limit l.comp_ids l.next content))
+  pub spends_same : (i : ℕ) → spends i l (one i content) ≡ is_above_limit l content
+  spends_same i = rw (eq-eqb i i refl) (or-false (is_above_limit l content))
 
   pub spends_other : (i s : ℕ) → s ≢ i → spends s l (one i content) ≡ false
   spends_other i s apart = rw (ne_eqb i s (λ h. apart (sym h))) refl
 
-module _ {A : Type 0} (stamp : List ℕ) (a : List OutboundSession) (x : List (Vec ℕ A)) (i : ℕ) (content : MessageContent) where
+module _ {A : Type 0} (stamp : List ℕ) (a : List OutboundSession) (x : List (Vec ℕ A)) (i : ℕ) (content : OutgoingStep) where
   -- the session's list got the text, and its outbound state went on
   pub sent_at : (v : Vec ℕ A) (l : OutboundSession) → i < length a → i < length x
-      → v.items ≡ bytes_of x i ++ message_bytes stamp (outbound_at a i).comp_ids (outbound_at a i).next content
-      → l ≡ record { next = next_after (outbound_at a i).comp_ids (outbound_at a i).next content; comp_ids = (outbound_at a i).comp_ids }
-      → needs_number_above_limit (outbound_at a i).comp_ids (outbound_at a i).next content ≡ false
-      → IsRow (as_message (message_bytes stamp (outbound_at a i).comp_ids (outbound_at a i).next content)) (message_bytes stamp (outbound_at a i).comp_ids (outbound_at a i).next content)
+      → v.items ≡ bytes_of x i ++ message_bytes stamp (outbound_at a i) content
+      → l ≡ after_step (outbound_at a i) content
+      → l.comp_ids ≡ (outbound_at a i).comp_ids
+      → is_above_limit (outbound_at a i) content ≡ false
+      → IsRow (step_texts stamp (outbound_at a i).comp_ids (outbound_at a i).next content) (message_bytes stamp (outbound_at a i) content)
       → Sent stamp a (set a i l) x (set x i v) (one i content)
-  sent_at v l in_a in_x text line spent row = record {
+  sent_at v l in_a in_x text line ids spent row = record {
     sessions = length-set a i l;
     lists = length-set x i v;
     bytes = λ s below.
@@ -82,6 +86,11 @@ module _ {A : Type 0} (stamp : List ℕ) (a : List OutboundSession) (x : List (V
           | inl e ↦ rw e (get_or-set_same a i l _ in_a ∙ (line ∙ sym (line_same stamp (outbound_at a i) content i)))
           | inr apart ↦ get_or-set_other a i s l _ apart ∙ sym (line_other stamp (outbound_at a s) content i s apart)
         ];
+    comp_ids = λ s below.
+        elim (cases_eq s i) [
+          | inl e ↦ rw e (ap (λ (o : OutboundSession). o.comp_ids) (get_or-set_same a i l _ in_a) ∙ ids)
+          | inr apart ↦ ap (λ (o : OutboundSession). o.comp_ids) (get_or-set_other a i s l _ apart)
+        ];
     unspent = λ s below.
         elim (cases_eq s i) [
           | inl e ↦ rw e (spends_same stamp (outbound_at a i) content i ∙ spent)
@@ -89,27 +98,28 @@ module _ {A : Type 0} (stamp : List ℕ) (a : List OutboundSession) (x : List (V
         ];
     row = λ s below.
         elim (cases_eq s i) [
-          | inl e ↦ rw e (rw (texts_same stamp (outbound_at a i) content i, bytes_same stamp (outbound_at a i) content i) row)
-          | inr apart ↦ rw (texts_other stamp (outbound_at a s) content i s apart, bytes_other stamp (outbound_at a s) content i s apart) no_row
+          | inl e ↦ rw e (rw (texts_same stamp (outbound_at a i) content i) row)
+          | inr apart ↦ rw (texts_other stamp (outbound_at a s) content i s apart) no_row
         ];
   }
 
   -- nothing was to be sent
-  pub sent_quiet : message_bytes stamp (outbound_at a i).comp_ids (outbound_at a i).next content ≡ [] → next_after (outbound_at a i).comp_ids (outbound_at a i).next content ≡ (outbound_at a i).next
-      → needs_number_above_limit (outbound_at a i).comp_ids (outbound_at a i).next content ≡ false → Sent stamp a a x x (one i content)
+  pub sent_quiet : step_texts stamp (outbound_at a i).comp_ids (outbound_at a i).next content ≡ [] → after_step (outbound_at a i) content ≡ outbound_at a i
+      → is_above_limit (outbound_at a i) content ≡ false → Sent stamp a a x x (one i content)
   sent_quiet text next spent = record {
     sessions = refl;
     lists = refl;
     bytes = λ s below.
         elim (cases_eq s i) [
-          | inl e ↦ rw e (sym (append-nil (bytes_of x i)) ∙ ap (λ (t : List ℕ). bytes_of x i ++ t) (sym (bytes_same stamp (outbound_at a i) content i ∙ text)))
+          | inl e ↦ rw e (sym (append-nil (bytes_of x i)) ∙ ap (λ (t : List ℕ). bytes_of x i ++ t) (sym (bytes_same stamp (outbound_at a i) content i ∙ ap concat text)))
           | inr apart ↦ sym (append-nil (bytes_of x s)) ∙ ap (λ (t : List ℕ). bytes_of x s ++ t) (sym (bytes_other stamp (outbound_at a s) content i s apart))
         ];
     outbound = λ s below.
         elim (cases_eq s i) [
-          | inl e ↦ rw e (ap (λ (n : ℕ). record { next = n; comp_ids = (outbound_at a i).comp_ids }) (sym next) ∙ sym (line_same stamp (outbound_at a i) content i))
+          | inl e ↦ rw e (sym (line_same stamp (outbound_at a i) content i ∙ next))
           | inr apart ↦ sym (line_other stamp (outbound_at a s) content i s apart)
         ];
+    comp_ids = λ s below. refl;
     unspent = λ s below.
         elim (cases_eq s i) [
           | inl e ↦ rw e (spends_same stamp (outbound_at a i) content i ∙ spent)
@@ -117,14 +127,14 @@ module _ {A : Type 0} (stamp : List ℕ) (a : List OutboundSession) (x : List (V
         ];
     row = λ s below.
         elim (cases_eq s i) [
-          | inl e ↦ rw e (rw (texts_same stamp (outbound_at a i) content i, bytes_same stamp (outbound_at a i) content i, text) no_row)
-          | inr apart ↦ rw (texts_other stamp (outbound_at a s) content i s apart, bytes_other stamp (outbound_at a s) content i s apart) no_row
+          | inl e ↦ rw e (rw (texts_same stamp (outbound_at a i) content i, text) no_row)
+          | inr apart ↦ rw (texts_other stamp (outbound_at a s) content i s apart) no_row
         ];
   }
 
 -- no message
 pub sent_none : {A : Type 0} (stamp : List ℕ) (a : List OutboundSession) (x : List (Vec ℕ A)) → Sent stamp a a x x []
-sent_none stamp a x = record { sessions = refl; lists = refl; bytes = λ s below. sym (append-nil (bytes_of x s)); outbound = λ s below. refl; unspent = λ s below. refl; row = λ s below. no_row }
+sent_none stamp a x = record { sessions = refl; lists = refl; bytes = λ s below. sym (append-nil (bytes_of x s)); outbound = λ s below. refl; comp_ids = λ s below. refl; unspent = λ s below. refl; row = λ s below. no_row }
 
 module _ {A : Type 0} (a : List OutboundSession) (x : List (Vec ℕ A)) where
   -- nothing was appended
@@ -143,28 +153,38 @@ module _ {A : Type 0} (a : List OutboundSession) (x : List (Vec ℕ A)) where
   }
 
 -- the same, as the code reads the session and the list
-module _ {A : Type 0} (stamp : List ℕ) (a : List OutboundSession) (x : List (Vec ℕ A)) (i : ℕ) (content : MessageContent) (r : OutboundSession) (w : Vec ℕ A) (ids : CompIds) where
+module _ {A : Type 0} (stamp : List ℕ) (a : List OutboundSession) (x : List (Vec ℕ A)) (i : ℕ) (content : OutgoingStep) (r : OutboundSession) (w : Vec ℕ A) (ids : CompIds) where
   pub line_is : r ≡ get_or a i r → i < length a → outbound_at a i ≡ r
   line_is e below = get_or_default a i (outbound_before_logon 1) r below ∙ sym e
 
   pub row_is : i < length x → bytes_of x i ≡ (get_or x i w).items
   row_is below = get_or-map (λ (v : Vec ℕ A). v.items) x i w [] below
 
-  pub sent_line : (v : Vec ℕ A) (n : ℕ) → length a ≡ 16 → length x ≡ 16 → i < 16 → r ≡ get_or a i r → r.comp_ids ≡ Some ids
-      → v.items ≡ (get_or x i w).items ++ message_bytes stamp (Some ids) r.next content → n ≡ next_after (Some ids) r.next content → needs_number_above_limit (Some ids) r.next content ≡ false
-      → IsRow (as_message (message_bytes stamp (Some ids) r.next content)) (message_bytes stamp (Some ids) r.next content)
+  -- the session as it is read, with its CompIDs
+  abbrev pub known : OutboundSession
+  known = record { next = r.next; comp_ids = Some ids }
+
+  pub known_is : length a ≡ 16 → i < 16 → r ≡ get_or a i r → r.comp_ids ≡ Some ids → outbound_at a i ≡ known
+  known_is in_a below is_r is_ids = line_is is_r (rw in_a below) ∙ ap (λ (o : Option CompIds). record { next = r.next; comp_ids = o }) is_ids
+
+  pub sent_line : (v : Vec ℕ A) (t : List ℕ) (n : ℕ) → length a ≡ 16 → length x ≡ 16 → i < 16 → r ≡ get_or a i r → r.comp_ids ≡ Some ids
+      → v.items ≡ (get_or x i w).items ++ t → t ∷ [] ≡ step_texts stamp (Some ids) r.next content → record { next = n; comp_ids = Some ids } ≡ after_step known content → is_above_limit known content ≡ false
+      → IsRow (t ∷ []) (concat (t ∷ []))
       → Sent stamp a (set a i (record { next = n; comp_ids = Some ids })) x (set x i v) (one i content)
-  sent_line v n in_a in_x below is_r is_ids text next unspent row =
-      let here : outbound_at a i ≡ r = line_is is_r (rw in_a below) in
+  sent_line v t n in_a in_x below is_r is_ids text is_t next unspent row =
+      let bytes : t ≡ message_bytes stamp known content = sym (append-nil t) ∙ ap concat is_t in
+      let whole : IsRow (step_texts stamp (Some ids) r.next content) (message_bytes stamp known content) = subst (λ (ts : List (List ℕ)). IsRow ts (concat ts)) is_t row in
+      let here : outbound_at a i ≡ known = known_is in_a below is_r is_ids in
       let there : bytes_of x i ≡ (get_or x i w).items = row_is (rw in_x below) in
       sent_at stamp a x i content v (record { next = n; comp_ids = Some ids }) (rw in_a below) (rw in_x below)
-      (rw (here, there, is_ids) text) (rw (here, is_ids, next) refl) (rw (here, is_ids) unspent) (rw (here, is_ids) row)
+      (rw (here, there) (text ∙ ap (λ (u : List ℕ). (get_or x i w).items ++ u) bytes)) (rw here next) (rw here refl) (rw here unspent) (rw here whole)
 
-module _ (stamp : List ℕ) (a : List OutboundSession) (i : ℕ) (content : MessageContent) (r : OutboundSession) (ids : CompIds) where
-  pub spent_line : length a ≡ 16 → i < 16 → r ≡ get_or a i r → r.comp_ids ≡ Some ids → needs_number_above_limit (Some ids) r.next content ≡ true → NumbersRunOut a (one i content)
+module _ (stamp : List ℕ) (a : List OutboundSession) (i : ℕ) (content : OutgoingStep) (r : OutboundSession) (ids : CompIds) where
+  pub spent_line : length a ≡ 16 → i < 16 → r ≡ get_or a i r → r.comp_ids ≡ Some ids → is_above_limit (record { next = r.next; comp_ids = Some ids }) content ≡ true → NumbersRunOut a (one i content)
   spent_line in_a below is_r is_ids spent =
-      let here : outbound_at a i ≡ r = get_or_default a i (outbound_before_logon 1) r (rw in_a below) ∙ sym is_r in
-      record { session = i; below = below; spent = spends_same stamp (outbound_at a i) content i ∙ rw (here, is_ids) spent }
+      let here : outbound_at a i ≡ record { next = r.next; comp_ids = Some ids } =
+      get_or_default a i (outbound_before_logon 1) r (rw in_a below) ∙ (sym is_r ∙ ap (λ (o : Option CompIds). record { next = r.next; comp_ids = o }) is_ids) in
+      record { session = i; below = below; spent = spends_same stamp (outbound_at a i) content i ∙ rw here spent }
 
 module _ {A : Type 0} (a : List OutboundSession) (x : List (Vec ℕ A)) (i : ℕ) (w : Vec ℕ A) where
   pub appended_line : (v : Vec ℕ A) → length x ≡ 16 → i < 16 → v.items ≡ (get_or x i w).items → OnlyAppended a a x (set x i v)
@@ -173,21 +193,21 @@ module _ {A : Type 0} (a : List OutboundSession) (x : List (Vec ℕ A)) (i : ℕ
 module _ {A : Type 0} (stamp : List ℕ) (a : List OutboundSession) (x : List (Vec ℕ A)) (i : ℕ) (first last : ℕ) (r : OutboundSession) (w : Vec ℕ A) (ids : CompIds) where
   -- a gap fill leaves the outbound state as it was
   pub gap_line : (v : Vec ℕ A) (t : List ℕ) → length a ≡ 16 → length x ≡ 16 → i < 16 → r ≡ get_or a i r → r.comp_ids ≡ Some ids
-      → v.items ≡ (get_or x i w).items ++ t → t ≡ message_bytes stamp (Some ids) r.next (gap_fill first last) → IsRow (as_message t) t
+      → v.items ≡ (get_or x i w).items ++ t → t ∷ [] ≡ step_texts stamp (Some ids) r.next (gap_fill first last) → IsRow (t ∷ []) (concat (t ∷ []))
       → Sent stamp a a x (set x i v) (one i (gap_fill first last))
   gap_line v t in_a in_x below is_r is_ids text is_t row =
       let kept : set a i (record { next = r.next; comp_ids = Some ids }) ≡ a =
       ap (λ (o : Option CompIds). set a i (record { next = r.next; comp_ids = o })) (sym is_ids) ∙ (ap (λ (l : OutboundSession). set a i l) is_r ∙ set-get_or a i r) in
       subst (λ (b : List OutboundSession). Sent stamp a b x (set x i v) (one i (gap_fill first last))) kept
-      (sent_line stamp a x i (gap_fill first last) r w ids v r.next in_a in_x below is_r is_ids (text ∙ ap (λ (u : List ℕ). (get_or x i w).items ++ u) is_t) refl refl (subst (λ (u : List ℕ). IsRow (as_message u) u) is_t row))
+      (sent_line stamp a x i (gap_fill first last) r w ids v t r.next in_a in_x below is_r is_ids text is_t refl refl row)
 
 pub gap_text : (stamp : List ℕ) (ids : CompIds) (next first last n m l : ℕ) (y : List ℕ) → n ≡ first → m ≡ new_seq_no next l → l ≡ last → y ≡ codes "Y" → nat_lt n next ≡ true
-    → message_text (head_of stamp ids 52 n true) (number_field 36 m ∷ text_field 123 y ∷ []) ≡ message_bytes stamp (Some ids) next (gap_fill first last)
+    → message_text (head_of stamp ids 52 n true) (number_field 36 m ∷ text_field 123 y ∷ []) ∷ [] ≡ step_texts stamp (Some ids) next (gap_fill first last)
 gap_text stamp ids next first last n m l y en em el ey lt =
     let there : nat_lt first next ≡ true = rw (sym en) lt in
-    ap (λ (k : ℕ). message_text (head_of stamp ids 52 k true) (number_field 36 m ∷ text_field 123 y ∷ [])) en
-    ∙ (ap (λ (k : ℕ). message_text (head_of stamp ids 52 first true) (number_field 36 k ∷ text_field 123 y ∷ [])) (em ∙ ap (λ (k : ℕ). new_seq_no next k) el)
-    ∙ (ap (λ (k : List ℕ). message_text (head_of stamp ids 52 first true) (number_field 36 (new_seq_no next last) ∷ text_field 123 k ∷ [])) ey
+    ap (λ (k : ℕ). message_text (head_of stamp ids 52 k true) (number_field 36 m ∷ text_field 123 y ∷ []) ∷ []) en
+    ∙ (ap (λ (k : ℕ). message_text (head_of stamp ids 52 first true) (number_field 36 k ∷ text_field 123 y ∷ []) ∷ []) (em ∙ ap (λ (k : ℕ). new_seq_no next k) el)
+    ∙ (ap (λ (k : List ℕ). message_text (head_of stamp ids 52 first true) (number_field 36 (new_seq_no next last) ∷ text_field 123 k ∷ []) ∷ []) ey
     ∙ rw there refl))
 
 -- the order that a cancel rules
@@ -198,18 +218,23 @@ pub named_place : (p : ℕ) → p ≢ 0 → place_field p ≡ number_field 37 p
 named_place p h = rw (ne_eqb p 0 h) refl
 
 -- messages that are the same
-pub result_same : {A T : Type 0} (stamp : List ℕ) (a b : List OutboundSession) (x y : List (Vec ℕ A)) (ms ns : List AddressedMessage) (r : Result T DeskFault) → ms ≡ ns → SendResult stamp a b x y ms r → SendResult stamp a b x y ns r
-result_same stamp a b x y ms ns r e w = subst (λ (l : List AddressedMessage). SendResult stamp a b x y l r) e w
+pub result_same : {A T : Type 0} (stamp : List ℕ) (a b : List OutboundSession) (x y : List (Vec ℕ A)) (ms ns : List AddressedStep) (r : Result T DeskFault) → ms ≡ ns → SendResult stamp a b x y ms r → SendResult stamp a b x y ns r
+result_same stamp a b x y ms ns r e w = subst (λ (l : List AddressedStep). SendResult stamp a b x y l r) e w
 
 module _ {A : Type 0} (stamp : List ℕ) (a : List OutboundSession) (x : List (Vec ℕ A)) (i : ℕ) (r : OutboundSession) (in_a : length a ≡ 16) (below : i < 16) (is_r : r ≡ get_or a i r) where
   -- before its Logon a session is sent nothing
-  pub sent_off : (content : MessageContent) → r.comp_ids ≡ None → Sent stamp a a x x (one i content)
-  sent_off content off =
-      let here : outbound_at a i ≡ r = get_or_default a i (outbound_before_logon 1) r (rw in_a below) ∙ sym is_r in
-      sent_quiet stamp a x i content (rw (here, off) refl) (rw (here, off) refl) (rw (here, off) refl)
+  abbrev off_line : OutboundSession
+  off_line = record { next = r.next; comp_ids = None }
+
+  pub sent_off : (content : OutgoingStep) → r.comp_ids ≡ None → step_texts stamp None r.next content ≡ [] → after_step off_line content ≡ off_line → is_above_limit off_line content ≡ false
+      → Sent stamp a a x x (one i content)
+  sent_off content off text same spent =
+      let here : outbound_at a i ≡ off_line = get_or_default a i (outbound_before_logon 1) r (rw in_a below) ∙ (sym is_r ∙ ap (λ (o : Option CompIds). record { next = r.next; comp_ids = o }) off) in
+      sent_quiet stamp a x i content (rw here text) (rw here same) (rw here spent)
 
   -- the numbers that are asked for were not sent yet
   pub gap_none : (first last : ℕ) (ids : CompIds) → r.comp_ids ≡ Some ids → nat_lt first r.next ≡ false → Sent stamp a a x x (one i (gap_fill first last))
   gap_none first last ids is_ids above =
-      let here : outbound_at a i ≡ r = get_or_default a i (outbound_before_logon 1) r (rw in_a below) ∙ sym is_r in
-      sent_quiet stamp a x i (gap_fill first last) (rw (here, is_ids, above) refl) (rw (here, is_ids) refl) (rw (here, is_ids) refl)
+      let here : outbound_at a i ≡ record { next = r.next; comp_ids = Some ids } =
+      get_or_default a i (outbound_before_logon 1) r (rw in_a below) ∙ (sym is_r ∙ ap (λ (o : Option CompIds). record { next = r.next; comp_ids = o }) is_ids) in
+      sent_quiet stamp a x i (gap_fill first last) (rw (here, above) refl) refl refl

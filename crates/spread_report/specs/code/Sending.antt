@@ -11,9 +11,9 @@ use Rattle.spread_report.specs.declared.fault.DeskFault.{DeskFault}
 use Rattle.spread_report.specs.declared.fault.DeskFault.TheVariants.{NoMemory, NumbersSpent}
 use Rattle.spread_report.specs.declared.desk.Desk.TheInside.{Inside}
 use Rattle.spread_report.specs.Desk.{DeskState}
-use Rattle.spread_report.specs.EntryMessages.{AddressedMessage}
-use Rattle.spread_report.specs.Messages.{IsRow, texts_to}
-use Rattle.spread_report.specs.Outgoing.{messages_bytes, outbound_after, spends}
+use Rattle.spread_report.specs.EntryMessages.{AddressedStep}
+use Rattle.spread_report.specs.Messages.{IsRow}
+use Rattle.spread_report.specs.code.PerSession.{messages_bytes, texts_to, outbound_after, spends}
 use Rattle.spread_report.specs.Sessions.{bytes_of, outbound_at}
 
 -- what callers see of a desk
@@ -32,14 +32,15 @@ pub record IsDesk (d : Inside) : Type 0 where
   pub spelled : AreSpelled d.stamp d.sessions d.parties
 
 -- to each session exactly what these messages send it was appended, a row of whole frames, and its
--- outbound state went on with them
+-- outbound state went on with them; its CompIDs stayed
 pub record Sent {A : Type 0} (stamp : List ℕ) (a b : List OutboundSession) (x y : List (Vec ℕ A))
-    (ms : List AddressedMessage) : Type 0 where
+    (ms : List AddressedStep) : Type 0 where
   pub sessions : length b ≡ length a
   pub lists : length y ≡ length x
   pub bytes : (s : ℕ) → s < SESSIONS
       → bytes_of y s ≡ bytes_of x s ++ messages_bytes stamp s (outbound_at a s) ms
   pub outbound : (s : ℕ) → s < SESSIONS → outbound_at b s ≡ outbound_after s (outbound_at a s) ms
+  pub comp_ids : (s : ℕ) → s < SESSIONS → (outbound_at b s).comp_ids ≡ (outbound_at a s).comp_ids
   pub unspent : (s : ℕ) → s < SESSIONS → spends s (outbound_at a s) ms ≡ false
   pub row : (s : ℕ) → s < SESSIONS
       → IsRow (texts_to stamp s (outbound_at a s) ms) (messages_bytes stamp s (outbound_at a s) ms)
@@ -53,20 +54,20 @@ pub record OnlyAppended {A : Type 0} (a b : List OutboundSession)
   pub begins : (s : ℕ) → s < SESSIONS → take (length (bytes_of x s)) (bytes_of y s) ≡ bytes_of x s
 
 -- one of the messages needs a number above the limit
-pub record NumbersRunOut (a : List OutboundSession) (ms : List AddressedMessage) : Type 0 where
+pub record NumbersRunOut (a : List OutboundSession) (ms : List AddressedStep) : Type 0 where
   pub session : ℕ
   pub below : session < SESSIONS
   pub spent : spends session (outbound_at a session) ms ≡ true
 
 -- what became of sending these messages
 abbrev pub SendResult : {A T : Type 0} → List ℕ → List OutboundSession → List OutboundSession
-    → List (Vec ℕ A) → List (Vec ℕ A) → List AddressedMessage → Result T DeskFault → Type 0
+    → List (Vec ℕ A) → List (Vec ℕ A) → List AddressedStep → Result T DeskFault → Type 0
 SendResult stamp a b x y ms (Ok r) = Sent stamp a b x y ms
 SendResult stamp a b x y ms (Err NoMemory) = OnlyAppended a b x y
 SendResult stamp a b x y ms (Err NumbersSpent) = OnlyAppended a b x y × NumbersRunOut a ms
 
 -- what became of a desk and of its lists as it sent these messages
 pub record Sends {A T : Type 0} (a b : DeskState) (x y : List (Vec ℕ A))
-    (ms : List AddressedMessage) (r : Result T DeskFault) : Type 0 where
+    (ms : List AddressedStep) (r : Result T DeskFault) : Type 0 where
   pub stamp : b.stamp ≡ a.stamp
   pub result : SendResult a.stamp a.sessions b.sessions x y ms r

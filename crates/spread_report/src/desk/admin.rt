@@ -1,11 +1,9 @@
 //! The session's own messages, one method for each kind.
 ghost use Rattle.std.specs.Prelude.{◌≡◌, ◌<◌, ◌≤◌, ◌∷◌, [], length};
 ghost use Rattle.spread_report.specs.code.Sending.{Sends};
-ghost use Rattle.fix_frames.specs.declared.msg_types.TheConstants.{HEARTBEAT, RESEND_REQUEST, REJECT, ORDER_CANCEL_REJECT, LOGON};
-ghost use Rattle.spread_report.specs.EntryMessages.{numbered_message, gap_fill};
-ghost use Rattle.spread_report.specs.EntryMessages.{logon_fields, heartbeat_fields, reject_fields};
-ghost use Rattle.spread_report.specs.EntryMessages.{resend_request_fields, close_messages};
-ghost use Rattle.spread_report.specs.EntryMessages.{cancel_reject_fields};
+ghost use Rattle.fix_frames.specs.declared.msg_types.TheConstants.{HEARTBEAT, RESEND_REQUEST, REJECT, LOGON};
+ghost use Rattle.spread_report.specs.code.Reports.{logon_fields, heartbeat_fields, reject_fields, resend_request_fields};
+ghost use Rattle.spread_report.specs.EntryMessages.{numbered_message, gap_fill, close_messages, order_cancel_reject};
 ghost use Rattle.spread_report.specs.Outgoing as outgoing;
 
 use super::Desk;
@@ -129,7 +127,7 @@ impl Desk {
         requires lists { length lists.old ≡ SESSIONS }
         requires session { session < SESSIONS }
         ensures { Sends self.old self.new lists.old lists.new
-            (record { to = session; content = gap_fill first last } ∷ []) result }
+            (record { to = session; step = gap_fill first last } ∷ []) result }
     {
         let at = session as usize;
         let outbound = self.sessions[at];
@@ -170,9 +168,8 @@ impl Desk {
         requires lists { length lists.old ≡ SESSIONS }
         requires session { request.now.session < SESSIONS }
         ensures { Sends self.old self.new lists.old lists.new
-            (numbered_message request.now.session ORDER_CANCEL_REJECT
-            (cancel_reject_fields refusal.response_to request.now.id.now request.now.original.now
-            refusal.reason refusal.place refusal.status) ∷ []) result }
+            (order_cancel_reject request.now.session refusal.response_to request.now.id.now
+            request.now.original.now refusal.reason refusal.place refusal.status ∷ []) result }
     {
         let named = if refusal.place == 0 {
             Value::Text(Id::of(b"NONE"))

@@ -3,9 +3,9 @@ ghost use Rattle.std.specs.Prelude.{◌≡◌, ℕ, ◌<◌, ◌+◌, length, If
 ghost use Rattle.spread_rules.specs.declared.fill.Fill.{Fill};
 ghost use Rattle.spread_rules.specs.Ranges.{FitsCancel, FitsNew, FitsReplace, FitsOutcome, FitFills};
 ghost use Rattle.spread_report.specs.code.Sending.{Sends};
-ghost use Rattle.spread_report.specs.EntryMessages.{event_messages, new_messages, cancel_messages, replace_messages};
-ghost use Rattle.spread_report.specs.EntryMessages.{accepted_messages, reports_of};
-ghost use Rattle.spread_report.specs.Outgoing.{outbound_at_entry};
+ghost use Rattle.spread_report.specs.code.PerSession.{noted_messages, outbound_at_entry};
+ghost use Rattle.spread_report.specs.code.Reports.{reports_of};
+ghost use Rattle.spread_report.specs.EntryMessages.{new_messages, accepted_messages, cancel_messages, replace_messages};
 ghost use Rattle.spread_report.specs.Sessions.{outbound_at};
 
 use super::Desk;
@@ -87,7 +87,7 @@ impl Desk {
             applied.now.outcome.now }
         requires fills { FitFills rules.now applied.now.fills.now }
         ensures { Sends self.old self.new lists.old lists.new
-            (event_messages rules.now applied.now.place applied.now.entry.now.session
+            (noted_messages rules.now applied.now.place applied.now.entry.now.session
             applied.now.entry.now.event applied.now.outcome.now applied.now.fills.now) result }
     {
         let place = applied.place;

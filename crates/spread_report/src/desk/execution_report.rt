@@ -6,7 +6,8 @@ ghost use Rattle.spread_rulebook.specs.Rulebook.{month_count};
 ghost use Rattle.spread_rules.specs.declared.fill.Fill.{Fill};
 ghost use Rattle.spread_rules.specs.Ranges.{FitFills, FitsFill};
 ghost use Rattle.spread_report.specs.code.Sending.{Sends};
-ghost use Rattle.spread_report.specs.EntryMessages.{report, new_report, rejected_report, ended_report, cancelled_report, replaced_report, fill_report, leg_reports, fill_reports, fills_reports, reports_of, fill_status, report_count};
+ghost use Rattle.spread_report.specs.code.Reports.{new_report, rejected_report, ended_report, cancelled_report, replaced_report, leg_reports, reports_of, fill_status, report_count};
+ghost use Rattle.spread_report.specs.EntryMessages.{report, fill_report, fill_reports, fills_reports};
 
 use super::Desk;
 use super::entry::{CancelRequest, NewOrder};
@@ -286,7 +287,8 @@ impl Desk {
         requires fits { FitsFill rules.now fill.now }
         requires index { exec_id.index < 18446744073709551613 }
         ensures { Sends self.old self.new lists.old lists.new
-            (fill_reports rules.now exec_id.place exec_id.index fill.now) result }
+            (fill_reports fill.now.instrument rules.now exec_id.place exec_id.index fill.now)
+            result }
     {
         let symbol = symbol_of(rules, fill.instrument);
         match fill.instrument {

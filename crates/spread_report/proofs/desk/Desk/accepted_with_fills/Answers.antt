@@ -1,5 +1,6 @@
 use Rattle.std.proofs.Common.{[], ◌∷◌}
-use Rattle.spread_report.specs.EntryMessages.{report, new_report, fills_reports}
+use Rattle.spread_report.specs.EntryMessages.{report, fills_reports}
+use Rattle.spread_report.specs.code.Reports.{new_report}
 use Rattle.spread_report.proofs.messages.MoreMessages.{sends_after}
 use Rattle.spread_report.proofs.desk.Desk.accepted_with_fills.Goals as goal
 

@@ -1,6 +1,6 @@
 use Rattle.std.proofs.Common.{ap, ℕ, arith}
 use Rattle.std.proofs.lemmas.Result.{err_from_is_err_and}
-use Rattle.spread_report.specs.EntryMessages.{report_count}
+use Rattle.spread_report.specs.code.Reports.{report_count}
 use Rattle.spread_rules.specs.declared.fill.Fill.{Fill}
 use Rattle.spread_report.proofs.messages.OneFillMore.{fills_more, fills_stop, reports_of_more}
 use Rattle.spread_report.proofs.desk.Desk.all_fills.Goals as goal

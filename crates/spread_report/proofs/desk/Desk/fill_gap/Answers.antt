@@ -52,5 +52,5 @@ returns-in-None g c =
     let is_r = ap (λ (d : OutboundSession). get_or i.sessions c.args.session d) c.index-self-at.is in
     rw (← c.self.view_is) (record {
       stamp = refl;
-      result = sent_off i.stamp i.sessions c.args.lists.now c.args.session r c.self.invariant.count c.requires.session is_r (gap_fill c.args.first c.args.last) c.in-None.is;
+      result = sent_off i.stamp i.sessions c.args.lists.now c.args.session r c.self.invariant.count c.requires.session is_r (gap_fill c.args.first c.args.last) c.in-None.is refl refl refl;
     })

@@ -1,8 +1,7 @@
 use Rattle.std.proofs.Common.{◌≡◌, ℕ, ◌<◌, List, sym, ap, subst, ◌∙◌}
 use Rattle.spread_report.specs.declared.outbound.OutboundSession.{OutboundSession}
 use Rattle.spread_report.specs.Desk.{DeskState}
-use Rattle.spread_report.specs.EntryMessages.{event_messages}
-use Rattle.spread_report.specs.Outgoing.{outbound_at_entry, applied_at}
+use Rattle.spread_report.specs.code.PerSession.{noted_messages, outbound_at_entry, applied_at}
 use Rattle.spread_report.specs.Sessions.{outbound_at, KeepsBytes}
 use Rattle.spread_report.specs.code.Sending.{OnlyAppended}
 use Rattle.spread_report.proofs.entries.EntrySent.{ok_refused, err_sent, sent_bytes, sent_outbound, sent_unspent, sent_whole, sent_spent}
@@ -22,7 +21,7 @@ returns-then-is_err-clause-desk_kept g c =
     let opened : (s : ℕ) → s < 16 → outbound_at noted.sessions s ≡ outbound_at_entry s (outbound_at i.sessions s) e.session e.event =
     λ s below. c.note_comp_ids.ensures.noted s below ∙ ap (λ (l : List OutboundSession). outbound_at_entry s (outbound_at l s) e.session e.event) before in
     after_refusal (desk_of c.self-2.inside.stamp c.restore.new.sessions ≡ c.args.self.now) noted.stamp noted.sessions w.new.self.sessions c.args.lists.now w.new.lists
-    (event_messages c.args.rules.now c.args.place e.session e.event c.args.outcome.now c.args.fills.now) w.result w.ensures.result
+    (noted_messages c.args.rules.now c.args.place e.session e.event c.args.outcome.now c.args.fills.now) w.result w.ensures.result
     (λ appended.
     let grown : OnlyAppended noted.sessions c.self-2.inside.sessions c.args.lists.now w.new.lists =
     subst (λ (l : List OutboundSession). OnlyAppended noted.sessions l c.args.lists.now w.new.lists) after appended in
@@ -78,7 +77,7 @@ returns-then-is_err-clause-lists_kept g c =
     let noted = c.note_comp_ids.new.self in
     let w = c.send_entry-result in
     after_refusal (KeepsBytes c.args.lists.now c.cut_back.new.lists) noted.stamp noted.sessions w.new.self.sessions c.args.lists.now w.new.lists
-    (event_messages c.args.rules.now c.args.place c.args.entry.now.session c.args.entry.now.event c.args.outcome.now c.args.fills.now) w.result w.ensures.result
+    (noted_messages c.args.rules.now c.args.place c.args.entry.now.session c.args.entry.now.event c.args.outcome.now c.args.fills.now) w.result w.ensures.result
     (λ grown. back_again noted.sessions w.new.self.sessions c.args.lists.now w.new.lists c.cut_back.new.lists c.lengths_of-lengths.result grown c.lengths_of-lengths.ensures c.cut_back.ensures.rows)
 
 pub returns-else-is_err-clause-desk_kept : goal.returns-else-is_err-clause-desk_kept

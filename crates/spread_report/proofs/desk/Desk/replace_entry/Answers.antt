@@ -1,7 +1,8 @@
 use Rattle.std.proofs.Common.{◌∷◌, [], ◌++◌, ℕ, Ok, Err}
 use Rattle.std.proofs.lemmas.Result.{err_from_is_err_and}
 use Rattle.spread_rulebook.specs.Rulebook.{symbol_of}
-use Rattle.spread_report.specs.EntryMessages.{report, replaced_report, fills_reports}
+use Rattle.spread_report.specs.EntryMessages.{report, fills_reports}
+use Rattle.spread_report.specs.code.Reports.{replaced_report}
 use Rattle.spread_report.proofs.messages.MoreMessages.{sends_after, sends_ok, sends_err}
 use Rattle.spread_report.proofs.desk.Desk.replace_entry.Goals as goal
 

@@ -2,6 +2,7 @@ use Rattle.std.proofs.Common.{◌≡◌, ◌+◌, ◌<◌, true, false, nat_lt, 
 use Rattle.std.proofs.Math.ListN.{set}
 use Rattle.std.proofs.lemmas.List.{get_or_default, length-set, set-get_or}
 use Rattle.std.proofs.lemmas.Result.{err_from_is_err_and}
+use Rattle.fix_wire.specs.Layout.{message_text}
 use Rattle.fix_wire.specs.declared.parties.SpelledParties.{SpelledParties}
 use Rattle.spread_report.specs.declared.outbound.OutboundSession.{OutboundSession}
 use Rattle.spread_report.specs.declared.outbound.CompIds.{CompIds}
@@ -82,7 +83,7 @@ returns-in-None g c =
     let off : r.comp_ids ≡ None = ap (λ (l : OutboundSession). l.comp_ids) (get_or_default i.sessions c.args.session (outbound_before_logon 1) _ there) ∙ c.in-None.is in
     rw (← c.self.view_is) (record {
       stamp = refl;
-      result = sent_off i.stamp i.sessions c.args.lists.now c.args.session r c.self.invariant.count c.requires.session is_r (numbered c.args.kind (g.B.Body.fields c.args.body.now)) off;
+      result = sent_off i.stamp i.sessions c.args.lists.now c.args.session r c.self.invariant.count c.requires.session is_r (numbered c.args.kind (g.B.Body.fields c.args.body.now)) off refl refl refl;
     })
 
 pub returns-in_ok-write_body-in-Some : goal.returns-in_ok-write_body-in-Some
@@ -106,7 +107,7 @@ returns-in_ok-write_body-in-Some g c =
       result =
           subst (λ (o : Option CompIds). Sent i.stamp i.sessions (set i.sessions c.args.session (record { next = r.next + 1; comp_ids = o })) c.args.lists.now (set c.args.lists.now c.args.session c.write_body.new.out) (one c.args.session message)) (sym kept)
           (sent_line i.stamp i.sessions c.args.lists.now c.args.session message r c.index-lists-at.result ids
-          c.write_body.new.out (r.next + 1) c.self.invariant.count c.requires.lists c.requires.session is_r is_ids
-          (c.in_ok-write_body-in-Some.ensures.ok head (record { kind = refl; number = refl; duplicate = refl; parties = spelled })) refl unspent
+          c.write_body.new.out (message_text head fields) (r.next + 1) c.self.invariant.count c.requires.lists c.requires.session is_r is_ids
+          (c.in_ok-write_body-in-Some.ensures.ok head (record { kind = refl; number = refl; duplicate = refl; parties = spelled })) refl refl unspent
           (written_row head fields c.requires.kind c.requires.tags c.requires.few (c.in_ok-write_body-in-Some.ensures.short head (record { kind = refl; number = refl; duplicate = refl; parties = spelled })) (c.in_ok-write_body-in-Some.ensures.lawful head (record { kind = refl; number = refl; duplicate = refl; parties = spelled }))));
     })

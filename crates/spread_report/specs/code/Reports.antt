@@ -1,0 +1,95 @@
+-- The reports and the session messages that the desk writes, one by one.
+-- Words of the code alone.
+use Rattle.std.specs.Prelude.{ℕ, ◌+◌, ◌-◌, ◌==◌, nat_le, ◌&&◌, Bool, if◌then◌else◌, List, [], ◌∷◌, codes, Some}
+use Rattle.fix_frames.specs.declared.tags.TheConstants as tags
+use Rattle.fix_wire.specs.declared.writer.Field.{Field}
+use Rattle.spread_rules.specs.declared.order.Order.{Order}
+use Rattle.spread_rulebook.specs.declared.instrument.Instrument.{Instrument}
+use Rattle.spread_rulebook.specs.declared.instrument.Instrument.TheVariants.{Outright, Spread}
+use Rattle.spread_rules.specs.declared.fill.Fill.{Fill}
+use Rattle.spread_rules.specs.declared.event.Ticket.{Ticket}
+use Rattle.spread_rulebook.specs.Rulebook.{Rules}
+use Rattle.spread_rules.specs.Legs.{other_side}
+use Rattle.report_bodies.specs.declared.codes.TheConstants.{ENCRYPT_METHOD_NONE}
+use Rattle.report_bodies.specs.declared.codes.MultiLegReportingType.TheVariants.{IndividualLeg}
+use Rattle.report_bodies.specs.declared.codes.OrdStatus.{OrdStatus}
+use Rattle.report_bodies.specs.declared.codes.OrdStatus.TheVariants as status
+use Rattle.report_bodies.specs.Fields.{text_field, number_field}
+use Rattle.spread_report.specs.EntryMessages.{AddressedStep, ExecutionReport, order_report, amended_report, part_report}
+
+-- 1 to 9 digits
+abbrev pub has_tag : Field → Bool
+has_tag f = nat_le 1 f.tag && nat_le f.tag 999999999
+
+-- ---- execution reports
+
+-- a new order is accepted
+abbrev pub new_report : ℕ → Ticket → ExecutionReport
+new_report place t = record (order_report place 1 t status.New) { leaves_qty = t.quantity }
+
+-- a new order is rejected
+abbrev pub rejected_report : ℕ → Ticket → ℕ → ExecutionReport
+rejected_report place t reason =
+    record (order_report place 1 t status.Rejected) { ord_rej_reason = Some reason }
+
+-- what is left of an immediate order is cancelled
+abbrev pub ended_report : ℕ → ℕ → Ticket → ℕ → ExecutionReport
+ended_report place index t left =
+    record (order_report place index t status.Canceled) { cum_qty = t.quantity - left }
+
+-- a resting order, with this symbol, is cancelled by a cancel request with this id
+abbrev pub cancelled_report : List ℕ → ℕ → List ℕ → List ℕ → Order → ExecutionReport
+cancelled_report symbol place id original o =
+    amended_report symbol place id original o status.Canceled 0
+
+-- a resting order, with this symbol, became this one by a replace request with this id
+abbrev pub replaced_report : List ℕ → ℕ → List ℕ → List ℕ → Order → ExecutionReport
+replaced_report symbol place id original o =
+    amended_report symbol place id original o status.Replaced o.leaves
+
+-- a fill leaves an order filled, or partially filled
+abbrev pub fill_status : ℕ → OrdStatus
+fill_status leaves = if leaves == 0 then status.Filled else status.PartiallyFilled
+
+-- the reports of a spread's legs: the near month on the order's side, the far month on the other
+abbrev pub leg_reports : ℕ → ℕ → Rules → ℕ → ℕ → Fill → List AddressedStep
+leg_reports i j rules place index f =
+    part_report rules place index f (Outright i) f.side f.near IndividualLeg
+    ∷ part_report rules place (index + 1) f (Outright j) (other_side f.side) f.far IndividualLeg
+    ∷ []
+
+-- how many reports a fill has
+abbrev pub report_count : Instrument → ℕ
+report_count (Outright m) = 1
+report_count (Spread i j) = 3
+
+-- how many reports fills have
+abbrev pub reports_of : List Fill → ℕ
+reports_of [] = 0
+reports_of (f ∷ fs) = report_count f.instrument + reports_of fs
+
+-- ---- other messages
+
+-- OrderID in an OrderCancelReject: the place of the order that was named, or `NONE`
+abbrev pub place_field : ℕ → Field
+place_field place =
+    if place == 0 then text_field tags.ORDER_ID (codes "NONE") else number_field tags.ORDER_ID place
+
+-- the answer to a Logon
+abbrev pub logon_fields : ℕ → List Field
+logon_fields beat =
+    number_field tags.ENCRYPT_METHOD ENCRYPT_METHOD_NONE ∷ number_field tags.HEART_BT_INT beat ∷ []
+
+-- the answer to a TestRequest
+abbrev pub heartbeat_fields : List ℕ → List Field
+heartbeat_fields answer = text_field tags.TEST_REQ_ID answer ∷ []
+
+-- an EndSeqNo of 0 asks for all that was sent from the first number on
+abbrev pub resend_request_fields : ℕ → List Field
+resend_request_fields first =
+    number_field tags.BEGIN_SEQ_NO first ∷ number_field tags.END_SEQ_NO 0 ∷ []
+
+-- a message that is refused, by its number, and why
+abbrev pub reject_fields : ℕ → ℕ → List Field
+reject_fields n reason =
+    number_field tags.REF_SEQ_NUM n ∷ number_field tags.SESSION_REJECT_REASON reason ∷ []
