@@ -3,9 +3,8 @@ use Rattle.std.specs.Prelude.{ℕ, ◌+◌, Bool, ◌&&◌, not, ◌==◌, nat_l
 use Rattle.std.specs.Char.{is_ascii_digit}
 use Rattle.std.specs.List.{list_all, position_or_len}
 use Rattle.host_base.specs.declared.bytes.TheConstants.{SOH}
-use Rattle.host_base.specs.Ascii.{digit_zero}
+use Rattle.host_base.specs.Ascii.{digit_zero, equals}
 use Rattle.fix_frames.specs.declared.frame.TheConstants.{MAX_TAG_DIGITS}
-use Rattle.fix_frames.specs.Texts.{is_equals}
 use Rattle.fix_values.specs.Digits.{number_of}
 
 -- one field
@@ -18,14 +17,11 @@ abbrev pub prepended : ℕ → List (List ℕ) → Option (List (List ℕ))
 prepended b [] = None
 prepended b (t ∷ ts) = Some ((b ∷ t) ∷ ts)
 
-abbrev pub with_first : List ℕ → List (List ℕ) → List (List ℕ)
-with_first t ts = t ∷ ts
-
 -- what stands before each SOH, where the last byte is SOH too
 abbrev pub field_texts : List ℕ → Option (List (List ℕ))
 field_texts [] = Some []
 field_texts (b ∷ bs) =
-    if b == SOH then option_map (with_first []) (field_texts bs)
+    if b == SOH then option_map (λ texts. [] ∷ texts) (field_texts bs)
     else option_and_then (prepended b) (field_texts bs)
 
 -- 1 to 9 digits, the first of them not 0
@@ -34,15 +30,13 @@ is_tag tag =
     nat_le 1 (length tag) && nat_le (length tag) MAX_TAG_DIGITS && list_all is_ascii_digit tag
     && not (slice_index tag 0 == digit_zero)
 
-abbrev pub field_with : ℕ → List ℕ → Option TagValue
-field_with digits text =
+-- a tag, then the first `=`, then the value, which may be empty
+abbrev pub field_of_text : List ℕ → Option TagValue
+field_of_text text =
+    let digits = position_or_len (λ b. b == equals) text in
     if nat_lt digits (length text) && is_tag (take digits text)
     then Some (record { tag = number_of (take digits text); value = drop (digits + 1) text })
     else None
-
--- a tag, then the first `=`, then the value, which may be empty
-abbrev pub field_of_text : List ℕ → Option TagValue
-field_of_text text = field_with (position_or_len is_equals text) text
 
 -- all of them, where each is a field
 abbrev pub fields_of_texts : List (List ℕ) → Option (List TagValue)
@@ -53,3 +47,15 @@ fields_of_texts (t ∷ ts) =
 -- the fields of a body, where it is a row of fields
 abbrev pub fields_of_body : List ℕ → Option (List TagValue)
 fields_of_body body = option_and_then fields_of_texts (field_texts body)
+
+-- ---- words of the code alone
+
+abbrev pub with_first : List ℕ → List (List ℕ) → List (List ℕ)
+with_first t ts = t ∷ ts
+
+-- field_of_text, where so many bytes stand before the first `=`
+abbrev pub field_with : ℕ → List ℕ → Option TagValue
+field_with digits text =
+    if nat_lt digits (length text) && is_tag (take digits text)
+    then Some (record { tag = number_of (take digits text); value = drop (digits + 1) text })
+    else None

@@ -1,14 +1,15 @@
 -- Lawful frames, what may still begin one, and the frames of an input (FIX 4.2: BeginString, BodyLength, body, CheckSum).
-use Rattle.std.specs.Prelude.{◌≡◌, ℕ, zero, suc, ◌+◌, ◌-◌, ◌/◌, ◌%◌, Bool, false, ◌&&◌, ◌||◌, nat_le, nat_lt, if◌then◌else◌, List, [], ◌∷◌, ◌++◌, Option, Some, None, option_and_then, is_some, length, take, drop, sum, codes}
+use Rattle.std.specs.Prelude.{◌≡◌, ℕ, zero, suc, ◌+◌, ◌-◌, ◌/◌, ◌%◌, Bool, false, ◌&&◌, ◌||◌, ◌==◌, nat_le, nat_lt, if◌then◌else◌, List, [], ◌∷◌, ◌++◌, Option, Some, None, option_and_then, is_some, length, take, drop, sum, codes}
 use Rattle.std.specs.Char.{is_ascii_digit}
 use Rattle.std.specs.List.{list_all, position_or_len, AllByRecursion, concat}
+use Rattle.std.specs.Option.{option_map_or}
 use Rattle.std.specs.Str.{bytes_eq}
 use Rattle.host_base.specs.declared.bytes.TheConstants.{SOH}
 use Rattle.host_base.specs.declared.limits.TheConstants.{MIN_BODY_LENGTH, MAX_BODY_LENGTH}
 use Rattle.host_base.specs.Ascii.{digit_zero}
 use Rattle.fix_frames.specs.declared.frame.FrameHeader.{FrameHeader}
 use Rattle.fix_frames.specs.declared.frame.TheConstants.{BEGIN_BYTES, CHECKSUM_BYTES, MAX_LENGTH_DIGITS}
-use Rattle.fix_frames.specs.Texts.{is_soh, strip_prefix, is_cut_short, with_soh}
+use Rattle.fix_frames.specs.Texts.{strip_prefix, is_cut_short, with_soh}
 use Rattle.fix_values.specs.Digits.{number_of, two_digits}
 use Rattle.fix_frames.specs.Fields.{fields_of_body}
 
@@ -25,18 +26,16 @@ is_body_length digits =
     && list_all is_ascii_digit digits
     && nat_le MIN_BODY_LENGTH (number_of digits) && nat_le (number_of digits) MAX_BODY_LENGTH
 
-abbrev pub header_with : ℕ → List ℕ → Option FrameHeader
-header_with digits rest =
+-- what follows the begin text: BodyLength, and SOH
+abbrev pub header_after : List ℕ → Option FrameHeader
+header_after rest =
+    let digits = position_or_len (λ b. b == SOH) rest in
     if nat_lt digits (length rest) && is_body_length (take digits rest)
     then Some (record {
       body_start = digits + (BEGIN_BYTES + 1);
       body_length = number_of (take digits rest);
     })
     else None
-
--- what follows the begin text: BodyLength, and SOH
-abbrev pub header_after : List ℕ → Option FrameHeader
-header_after rest = header_with (position_or_len is_soh rest) rest
 
 -- where a frame's body starts, and how long BodyLength says it is
 abbrev pub header : List ℕ → Option FrameHeader
@@ -70,12 +69,10 @@ is_intact text h =
     && bytes_eq (take CHECKSUM_BYTES (drop (summed_length h) text))
     (checksum_field (sum (take (summed_length h) text) % 256))
 
-abbrev pub intact_length : List ℕ → FrameHeader → Option ℕ
-intact_length text h = if is_intact text h then Some (frame_length h) else None
-
 -- the length of the lawful frame that stands at the front of a text
 abbrev pub frame_at : List ℕ → Option ℕ
-frame_at text = option_and_then (intact_length text) (header text)
+frame_at text =
+    option_and_then (λ h. if is_intact text h then Some (frame_length h) else None) (header text)
 
 -- the text is one lawful frame
 abbrev pub IsFrame : List ℕ → Type 0
@@ -89,21 +86,14 @@ pub record IsFrameRow (text : List ℕ) : Type 0 where
 
 -- ---- what may still begin one
 
--- digits of BodyLength, and nothing more, follow the begin text
-abbrev pub is_length_open : Option (List ℕ) → Bool
-is_length_open None = false
-is_length_open (Some rest) = nat_le (length rest) MAX_LENGTH_DIGITS && list_all is_ascii_digit rest
-
--- bytes of the frame that the header announces are still to come
-abbrev pub is_unfinished : List ℕ → Option FrameHeader → Bool
-is_unfinished text None = false
-is_unfinished text (Some h) = nat_lt (length text) (frame_length h)
-
--- the text may still begin a frame
+-- The text may still begin a frame: its front is cut short, or digits of BodyLength and nothing more follow the begin
+-- text, or bytes of the frame that the header announces are still to come.
 abbrev pub may_begin : List ℕ → Bool
 may_begin text =
-    is_cut_short begin_text text || is_length_open (strip_prefix begin_text text)
-    || is_unfinished text (header text)
+    is_cut_short begin_text text
+    || option_map_or (λ rest. nat_le (length rest) MAX_LENGTH_DIGITS && list_all is_ascii_digit rest)
+    (strip_prefix begin_text text) false
+    || option_map_or (λ h. nat_lt (length text) (frame_length h)) (header text) false
 
 -- ---- the frames of an input
 
@@ -120,3 +110,29 @@ frames_after zero (b ∷ bs) = elim (frame_at (b ∷ bs)) [
 -- the frames of an input
 abbrev pub frames : List ℕ → List (List ℕ)
 frames input = frames_after 0 input
+
+-- ---- words of the code alone
+
+-- header_after, where so many bytes stand before the first SOH
+abbrev pub header_with : ℕ → List ℕ → Option FrameHeader
+header_with digits rest =
+    if nat_lt digits (length rest) && is_body_length (take digits rest)
+    then Some (record {
+      body_start = digits + (BEGIN_BYTES + 1);
+      body_length = number_of (take digits rest);
+    })
+    else None
+
+abbrev pub intact_length : List ℕ → FrameHeader → Option ℕ
+intact_length text h = if is_intact text h then Some (frame_length h) else None
+
+-- digits of BodyLength, and nothing more, follow the begin text
+abbrev pub is_length_open : Option (List ℕ) → Bool
+is_length_open behind =
+    option_map_or (λ rest. nat_le (length rest) MAX_LENGTH_DIGITS && list_all is_ascii_digit rest)
+    behind false
+
+-- bytes of the frame that the header announces are still to come
+abbrev pub is_unfinished : List ℕ → Option FrameHeader → Bool
+is_unfinished text announced =
+    option_map_or (λ h. nat_lt (length text) (frame_length h)) announced false

@@ -3,21 +3,9 @@ use Rattle.std.specs.Prelude.{ℕ, Bool, true, false, ◌&&◌, ◌==◌, if◌t
 use Rattle.host_base.specs.declared.bytes.TheConstants.{SOH}
 use Rattle.host_base.specs.Ascii.{equals, vertical_bar}
 
--- SOH, which ends a field
-abbrev pub is_soh : ℕ → Bool
-is_soh b = b == SOH
-
--- `=`, which ends a tag
-abbrev pub is_equals : ℕ → Bool
-is_equals b = b == equals
-
--- SOH, which no character shows, is spelled `|`
-abbrev pub soh_for_bar : ℕ → ℕ
-soh_for_bar b = if b == vertical_bar then SOH else b
-
--- a text in which each `|` stands for SOH
+-- a text in which each `|` stands for SOH, which no character shows
 abbrev pub with_soh : List ℕ → List ℕ
-with_soh text = map soh_for_bar text
+with_soh text = map (λ b. if b == vertical_bar then SOH else b) text
 
 -- what follows a word that the text begins with
 abbrev pub strip_prefix : List ℕ → List ℕ → Option (List ℕ)
@@ -30,3 +18,17 @@ abbrev pub is_cut_short : List ℕ → List ℕ → Bool
 is_cut_short [] text = false
 is_cut_short (p ∷ ps) [] = true
 is_cut_short (p ∷ ps) (b ∷ bs) = (p == b) && is_cut_short ps bs
+
+-- ---- words of the code alone
+
+-- SOH, which ends a field
+abbrev pub is_soh : ℕ → Bool
+is_soh b = b == SOH
+
+-- `=`, which ends a tag
+abbrev pub is_equals : ℕ → Bool
+is_equals b = b == equals
+
+-- SOH is spelled `|`
+abbrev pub soh_for_bar : ℕ → ℕ
+soh_for_bar b = if b == vertical_bar then SOH else b

@@ -1,5 +1,5 @@
 -- What the text of a value means, and how a price is written.
-use Rattle.std.specs.Prelude.{ℕ, ℤ, pos, neg_ℤ, ◌+◌, ◌*◌, ◌/◌, ◌%◌, Bool, true, false, ◌&&◌, ◌==◌, nat_le, nat_lt, if◌then◌else◌, List, [], ◌∷◌, ◌++◌, Option, Some, None, Result, Ok, Err, length, take, drop, min, decimal, int_lt, unsigned_abs}
+use Rattle.std.specs.Prelude.{ℕ, ℤ, pos, neg_ℤ, ◌+◌, ◌*◌, ◌/◌, ◌%◌, Bool, true, false, ◌&&◌, not, ◌==◌, nat_le, nat_lt, if◌then◌else◌, List, [], ◌∷◌, ◌++◌, Option, Some, None, Result, Ok, Err, length, take, drop, min, decimal, int_lt, unsigned_abs, codes}
 use Rattle.std.specs.Char.{is_ascii_digit}
 use Rattle.std.specs.List.{list_all, before_first, after_first}
 use Rattle.host_base.specs.Ascii.{digit_zero, hyphen_minus, point}
@@ -7,7 +7,7 @@ use Rattle.host_base.specs.declared.limits.TheConstants.{MAX_NUMBER}
 use Rattle.fix_values.specs.declared.values.TheConstants.{MAX_HUNDREDTHS}
 use Rattle.fix_values.specs.declared.values.Unread.{Unread}
 use Rattle.fix_values.specs.declared.values.Unread.TheVariants.{Format, Range}
-use Rattle.fix_values.specs.Digits.{is_point, is_zero, number_of, two_digits}
+use Rattle.fix_values.specs.Digits.{number_of, two_digits}
 
 -- one or more digits
 abbrev pub is_number : List ℕ → Bool
@@ -24,27 +24,23 @@ number_in text = if is_number text then within MAX_NUMBER (number_of text) else 
 -- one or more digits, then nothing, or a point and any number of zeros
 abbrev pub quantity_in : List ℕ → Result ℕ Unread
 quantity_in text =
-    let whole = before_first is_point text in
-    if is_number whole && list_all is_zero (after_first is_point text)
+    let whole = before_first (λ b. b == point) text in
+    let part = after_first (λ b. b == point) text in
+    if is_number whole && list_all (λ b. b == digit_zero) part
     then within MAX_NUMBER (number_of whole)
     else Err Format
 
--- the hundredths that the digits after the point spell
-abbrev pub cents : List ℕ → ℕ
-cents part = number_of (take 2 (part ++ digit_zero ∷ digit_zero ∷ []))
-
--- what stands before and after the point: at least one digit, and no digit but 0 past the second place after the point
-abbrev pub hundredths : List ℕ → List ℕ → Result ℕ Unread
-hundredths whole part =
-    if is_number (whole ++ part) then
-    (if list_all is_zero (drop 2 part)
-    then within MAX_HUNDREDTHS (100 * number_of whole + cents part)
-    else Err Range)
-    else Err Format
-
--- hundredths without a sign: digits with at most one point among, before or after them
+-- hundredths without a sign: at least one digit, at most one point among, before or after the digits, and no digit but 0
+-- past the second place after the point
 abbrev pub hundredths_in : List ℕ → Result ℕ Unread
-hundredths_in text = hundredths (before_first is_point text) (after_first is_point text)
+hundredths_in text =
+    let whole = before_first (λ b. b == point) text in
+    let part = after_first (λ b. b == point) text in
+    let cents = number_of (take 2 (part ++ codes "00")) in
+    if not (is_number (whole ++ part)) then Err Format
+    else (if list_all (λ b. b == digit_zero) (drop 2 part)
+    then within MAX_HUNDREDTHS (100 * number_of whole + cents)
+    else Err Range)
 
 abbrev pub signed : Bool → Result ℕ Unread → Result ℤ Unread
 signed negative (Ok n) = Ok (if negative then neg_ℤ (pos n) else pos n)
@@ -56,13 +52,27 @@ price_in [] = Err Format
 price_in (b ∷ bs) =
     if b == hyphen_minus then signed true (hundredths_in bs) else signed false (hundredths_in (b ∷ bs))
 
--- the number that digits spell, or the greatest price where it is more
-abbrev pub limited_digits : List ℕ → Option ℕ
-limited_digits text =
-    if list_all is_ascii_digit text then Some (min (number_of text) MAX_HUNDREDTHS) else None
-
 -- a price: an optional `-`, the whole part, a point and two digits; 10000 is `100.00`, -5 is `-0.05`
 abbrev pub price_text : ℤ → List ℕ
 price_text z =
     (if int_lt z (pos 0) then hyphen_minus ∷ [] else [])
     ++ (decimal (unsigned_abs z / 100) ++ (point ∷ two_digits (unsigned_abs z % 100)))
+
+-- ---- words of the code alone
+
+-- the number that digits spell, or the greatest price where it is more
+abbrev pub limited_digits : List ℕ → Option ℕ
+limited_digits text =
+    if list_all is_ascii_digit text then Some (min (number_of text) MAX_HUNDREDTHS) else None
+
+-- the hundredths that the digits after the point spell
+abbrev pub cents : List ℕ → ℕ
+cents part = number_of (take 2 (part ++ codes "00"))
+
+-- hundredths_in, of what stands before and after the point
+abbrev pub hundredths : List ℕ → List ℕ → Result ℕ Unread
+hundredths whole part =
+    if not (is_number (whole ++ part)) then Err Format
+    else (if list_all (λ b. b == digit_zero) (drop 2 part)
+    then within MAX_HUNDREDTHS (100 * number_of whole + cents part)
+    else Err Range)

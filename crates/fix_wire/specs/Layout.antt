@@ -35,8 +35,7 @@ field tag value = record { tag = tag; value = value }
 
 -- the fields of a duplicate alone
 abbrev pub only_if : Bool → TagValue → List TagValue
-only_if true f = f ∷ []
-only_if false f = []
+only_if duplicate f = if duplicate then f ∷ [] else []
 
 -- what each message begins with: MsgType, MsgSeqNum, PossDupFlag in a duplicate, SenderCompID, SendingTime, TargetCompID, and
 -- OrigSendingTime in a duplicate
@@ -48,17 +47,10 @@ head_fields h =
     ∷ field tags.TARGET_COMP_ID h.target ∷ [])
     ++ only_if h.duplicate (field tags.ORIG_SENDING_TIME h.stamp)))
 
--- a field as it is written
-abbrev pub field_of_given : given.Field → TagValue
-field_of_given f = field f.tag (value_text f.value)
-
--- all fields of a message
-abbrev pub all_fields : Head → List given.Field → List TagValue
-all_fields h fs = head_fields h ++ map field_of_given fs
-
 -- the body: MsgType to the last field
 abbrev pub body_text : Head → List given.Field → List ℕ
-body_text h fs = flat_map field_text (all_fields h fs)
+body_text h fs =
+    flat_map field_text (head_fields h ++ map (λ f. field f.tag (value_text f.value)) fs)
 
 -- what CheckSum sums: BeginString, BodyLength without leading zeros, and the body
 abbrev pub summed_text : List ℕ → List ℕ
@@ -71,6 +63,16 @@ frame_text body = summed_text body ++ checksum_field (sum (summed_text body) % 2
 -- the one text of a message
 abbrev pub message_text : Head → List given.Field → List ℕ
 message_text h fs = frame_text (body_text h fs)
+
+-- ---- fields as they are given
+
+-- a field as it is written
+abbrev pub field_of_given : given.Field → TagValue
+field_of_given f = field f.tag (value_text f.value)
+
+-- all fields of a message
+abbrev pub all_fields : Head → List given.Field → List TagValue
+all_fields h fs = head_fields h ++ map field_of_given fs
 
 -- ---- a head that is spelled in part
 

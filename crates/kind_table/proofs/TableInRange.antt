@@ -1,6 +1,6 @@
 -- What the table gives is in range, and is neither a Logon nor a Close.
-use Rattle.std.proofs.Common.{◌≡◌, ℕ, ◌+◌, ◌*◌, ◌<◌, ◌≤◌, Bool, true, false, ◌&&◌, ◌||◌, List, [], ◌∷◌, ◌++◌, Option, Some, None, length, take, drop, refl, ap, ◌∙◌, arith, inl, inr, ◌⊎◌}
-use Rattle.std.specs.Prelude.{pos, neg_ℤ, nat_le, nat_lt, ◌==◌, if◌then◌else◌, Result, Ok, Err}
+use Rattle.std.proofs.Common.{◌≡◌, ℕ, ◌+◌, ◌*◌, ◌<◌, ◌≤◌, Bool, true, false, ◌&&◌, ◌||◌, not, List, [], ◌∷◌, ◌++◌, Option, Some, None, length, take, drop, refl, ap, ◌∙◌, arith, inl, inr, ◌⊎◌}
+use Rattle.std.specs.Prelude.{pos, neg_ℤ, nat_le, nat_lt, ◌==◌, if◌then◌else◌, Result, Ok, Err, ok_or}
 use Rattle.std.specs.List.{list_any, list_all, before_first, after_first}
 use Rattle.std.proofs.lemmas.Bool.{false≢true}
 use Rattle.std.proofs.lemmas.Bool.Decides.{nat_tests}
@@ -17,7 +17,7 @@ use Rattle.fix_values.specs.Values.{is_number, within, number_in, quantity_in, h
 use Rattle.fix_frames.specs.Messages.{get, kind}
 use Rattle.kind_table.specs.declared.table.Meaning.{Meaning}
 use Rattle.kind_table.specs.declared.table.Meaning.TheVariants.{Nothing, Gives, Fills}
-use Rattle.kind_table.specs.Table.{◌>>=◌, required_text, value_at, or_out_of_range, id_at, or_reason, number_at, quantity_at, price_at, one_of, choice_at, allowed_if, side_at, side_of, time_in_force_of, gap_fill_flag_of, passed_over, test_request, resend_request, sequence_reset, new_order, cancel_request, replace_request, meaning_of_kind, meaning_of_kind_text, meaning_of_message}
+use Rattle.kind_table.specs.Table.{◌>>=◌, required_text, value_at, id_at, or_reason, read_at, one_of, choice_at, allowed_if, side_at, time_in_force_of, gap_fill_flag_of, passed_over, test_request, resend_request, sequence_reset, new_order, cancel_request, replace_request, meaning_of_kind, meaning_of_kind_text, meaning_of_message}
 
 -- a result of that kind, or a reason to reject
 abbrev pub Holds : {A : Type 0} → (A → Type 0) → Result A ℕ → Type 0
@@ -58,15 +58,15 @@ value_holds tag m = required_text_holds (get tag m)
 abbrev IsId : List ℕ → Type 0
 IsId text = is_id text ≡ true
 
-id_of_holds : (text : List ℕ) → Holds IsId (or_out_of_range (id_of text))
+id_of_holds : (text : List ℕ) → Holds IsId (ok_or (id_of text) 5)
 id_of_holds text = by_test (is_id text) refl
   where
-    by_test : (v : Bool) → is_id text ≡ v → Holds IsId (or_out_of_range (if v then Some text else None))
+    by_test : (v : Bool) → is_id text ≡ v → Holds IsId (ok_or (if v then Some text else None) 5)
     by_test true e = e
     by_test false e = refl
 
 id_holds : (tag : ℕ) (m : List ℕ) → Holds IsId (id_at tag m)
-id_holds tag m = chained Any IsId (value_at tag m) (λ text. or_out_of_range (id_of text)) (value_holds tag m) (λ text h. id_of_holds text)
+id_holds tag m = chained Any IsId (value_at tag m) (λ text. ok_or (id_of text) 5) (value_holds tag m) (λ text h. id_of_holds text)
 
 within_holds : (most n : ℕ) → Holds (λ x. x ≤ most) (or_reason (within most n))
 within_holds most n = by_test (nat_le n most) refl
@@ -85,7 +85,7 @@ number_in_holds text = by_test (is_number text)
     by_test true = within_holds 999999999 (number_of text)
     by_test false = refl
 
-number_holds : (tag : ℕ) (m : List ℕ) → Holds IsShort (number_at tag m)
+number_holds : (tag : ℕ) (m : List ℕ) → Holds IsShort (read_at number_in tag m)
 number_holds tag m = chained Any IsShort (value_at tag m) (λ text. or_reason (number_in text)) (value_holds tag m) (λ text h. number_in_holds text)
 
 quantity_in_holds : (text : List ℕ) → Holds IsShort (or_reason (quantity_in text))
@@ -95,7 +95,7 @@ quantity_in_holds text = by_test (is_number (before_first is_point text) && list
     by_test true = within_holds 999999999 (number_of (before_first is_point text))
     by_test false = refl
 
-quantity_holds : (tag : ℕ) (m : List ℕ) → Holds IsShort (quantity_at tag m)
+quantity_holds : (tag : ℕ) (m : List ℕ) → Holds IsShort (read_at quantity_in tag m)
 quantity_holds tag m = chained Any IsShort (value_at tag m) (λ text. or_reason (quantity_in text)) (value_holds tag m) (λ text h. quantity_in_holds text)
 
 price_of : (negative : Bool) (n : ℕ) → n ≤ 1000000000 → IsOrderPrice (if negative then neg_ℤ (pos n) else pos n)
@@ -109,7 +109,7 @@ signed_holds negative (Err fault) h = h
 hundredths_in_form : (whole part : List ℕ) → Holds (λ x. x ≤ 1000000000) (or_reason (hundredths whole part))
 hundredths_in_form whole part = by_form (is_number (whole ++ part)) (list_all is_zero (drop 2 part))
   where
-    by_form : (v w : Bool) → Holds (λ x. x ≤ 1000000000) (or_reason (if v then (if w then within 1000000000 (100 * number_of whole + number_of (take 2 (part ++ 48 ∷ 48 ∷ []))) else Err Range) else Err Format))
+    by_form : (v w : Bool) → Holds (λ x. x ≤ 1000000000) (or_reason (if not v then Err Format else (if w then within 1000000000 (100 * number_of whole + number_of (take 2 (part ++ 48 ∷ 48 ∷ []))) else Err Range)))
     by_form true true = within_holds 1000000000 (100 * number_of whole + number_of (take 2 (part ++ 48 ∷ 48 ∷ [])))
     by_form true false = refl
     by_form false w = refl
@@ -125,7 +125,7 @@ price_in_holds (b ∷ bs) = by_sign (b == 45)
     by_sign true = signed_holds true (hundredths_in bs) (hundredths_holds bs)
     by_sign false = signed_holds false (hundredths_in (b ∷ bs)) (hundredths_holds (b ∷ bs))
 
-price_holds : (tag : ℕ) (m : List ℕ) → Holds IsOrderPrice (price_at tag m)
+price_holds : (tag : ℕ) (m : List ℕ) → Holds IsOrderPrice (read_at price_in tag m)
 price_holds tag m = chained Any IsOrderPrice (value_at tag m) (λ text. or_reason (price_in text)) (value_holds tag m) (λ text h. price_in_holds text)
 
 one_of_holds : (allowed text : List ℕ) → Holds Any (one_of allowed text)
@@ -141,7 +141,7 @@ allowed_holds true n = (refl, refl)
 allowed_holds false n = refl
 
 side_holds : (m : List ℕ) → Holds Any (side_at m)
-side_holds m = chained Any Any (choice_at (49 ∷ 50 ∷ []) 54 m) (λ b. Ok (side_of b)) (choice_holds (49 ∷ 50 ∷ []) 54 m) (λ b h. tt)
+side_holds m = chained Any Any (choice_at (49 ∷ 50 ∷ []) 54 m) _ (choice_holds (49 ∷ 50 ∷ []) 54 m) (λ b h. tt)
 
 time_in_force_holds : (o : Option (List ℕ)) → Holds Any (time_in_force_of o)
 time_in_force_holds None = tt
@@ -177,9 +177,9 @@ resend_request_holds : (m : List ℕ) (n : ℕ) → Holds (FitsMeaning n) (resen
 unfolding resend_request
 resend_request_holds m n =
     chained Any (FitsMeaning n) (value_at 52 m) _ (value_holds 52 m) (λ stamp h.
-    chained IsShort (FitsMeaning n) (number_at 7 m) _ (number_holds 7 m) (λ begin short.
+    chained IsShort (FitsMeaning n) (read_at number_in 7 m) _ (number_holds 7 m) (λ begin short.
     chained (λ x. (x ≡ begin) × (nat_le 1 begin ≡ true)) (FitsMeaning n) (allowed_if (nat_le 1 begin) begin) _ (allowed_holds (nat_le 1 begin) begin) (λ first begins.
-    chained IsShort (FitsMeaning n) (number_at 16 m) _ (number_holds 16 m) (λ end ends.
+    chained IsShort (FitsMeaning n) (read_at number_in 16 m) _ (number_holds 16 m) (λ end ends.
     chained (λ x. (x ≡ end) × (((end == 0) || nat_le first end) ≡ true)) (FitsMeaning n) (allowed_if ((end == 0) || nat_le first end) end) _ (allowed_holds ((end == 0) || nat_le first end) end) (λ last allowed.
     let from : 1 ≤ begin = grind (arith, nat_tests) in
     let is_number : IsNumber first = (omega (arith, from, begins.0), omega (arith, short, begins.0)) in
@@ -190,7 +190,7 @@ sequence_reset_holds : (m : List ℕ) (n : ℕ) → Holds (FitsMeaning n) (seque
 unfolding sequence_reset
 sequence_reset_holds m n =
     chained Any (FitsMeaning n) (value_at 52 m) _ (value_holds 52 m) (λ stamp h.
-    chained IsShort (FitsMeaning n) (number_at 36 m) _ (number_holds 36 m) (λ new short.
+    chained IsShort (FitsMeaning n) (read_at number_in 36 m) _ (number_holds 36 m) (λ new short.
     chained (λ x. (x ≡ new) × (nat_lt n new ≡ true)) (FitsMeaning n) (allowed_if (nat_lt n new) new) _ (allowed_holds (nat_lt n new) new) (λ next above.
     chained Any (FitsMeaning n) (gap_fill_flag_of (get 123 m)) _ (gap_fill_flag_holds (get 123 m)) (λ flag set.
     let over : n < new = grind (arith, nat_tests) in
@@ -205,9 +205,9 @@ new_order_holds m =
     chained IsId FitsTicket (id_at 55 m) _ (id_holds 55 m) (λ symbol is_symbol.
     chained Any FitsTicket (side_at m) _ (side_holds m) (λ side c.
     chained Any FitsTicket (value_at 60 m) _ (value_holds 60 m) (λ time d.
-    chained IsShort FitsTicket (quantity_at 38 m) _ (quantity_holds 38 m) (λ quantity short.
+    chained IsShort FitsTicket (read_at quantity_in 38 m) _ (quantity_holds 38 m) (λ quantity short.
     chained Any FitsTicket (choice_at (50 ∷ []) 40 m) _ (choice_holds (50 ∷ []) 40 m) (λ type e.
-    chained IsOrderPrice FitsTicket (price_at 44 m) _ (price_holds 44 m) (λ price is_price.
+    chained IsOrderPrice FitsTicket (read_at price_in 44 m) _ (price_holds 44 m) (λ price is_price.
     chained Any FitsTicket (time_in_force_of (get 59 m)) _ (time_in_force_holds (get 59 m)) (λ immediate f.
     record { id = is_id; symbol = is_symbol; quantity = short; price = is_price }))))))))))
 
@@ -237,14 +237,13 @@ new_holds m n = chained FitsTicket (FitsMeaning n) (new_order m) _ (new_order_ho
 
 kind_holds : (k : ℕ) (m : List ℕ) (n : ℕ) → Holds (FitsMeaning n) (meaning_of_kind k m n)
 kind_holds k m n =
-    either (FitsMeaning n) (k == 48) _ _ (passed_over_holds m n) (
+    either (FitsMeaning n) ((k == 48) || (k == 51)) _ _ (passed_over_holds m n) (
     either (FitsMeaning n) (k == 49) _ _ (test_request_holds m n) (
     either (FitsMeaning n) (k == 50) _ _ (resend_request_holds m n) (
-    either (FitsMeaning n) (k == 51) _ _ (passed_over_holds m n) (
     either (FitsMeaning n) (k == 52) _ _ (sequence_reset_holds m n) (
     either (FitsMeaning n) (k == 68) _ _ (new_holds m n) (
     either (FitsMeaning n) (k == 70) _ _ (cancel_request_holds m n) (
-    either (FitsMeaning n) (k == 71) _ _ (replace_request_holds m n) refl)))))))
+    either (FitsMeaning n) (k == 71) _ _ (replace_request_holds m n) refl))))))
 
 with_holds : (kind m : List ℕ) (n : ℕ) → Holds (FitsMeaning n) (meaning_of_kind_text kind m n)
 with_holds [] m n = refl

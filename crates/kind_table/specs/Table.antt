@@ -1,5 +1,5 @@
 -- What a message of each kind means: its tags in order, or the reason of the first that is at fault.
-use Rattle.std.specs.Prelude.{ℕ, ℤ, Bool, false, ◌||◌, ◌==◌, nat_le, nat_lt, length, List, [], ◌∷◌, Option, Some, None, Result, Ok, Err, if◌then◌else◌, codes}
+use Rattle.std.specs.Prelude.{ℕ, ℤ, Bool, false, ◌||◌, ◌==◌, nat_le, nat_lt, length, List, [], ◌∷◌, Option, Some, None, Result, Ok, Err, ok_or, if◌then◌else◌, codes}
 use Rattle.std.specs.List.{list_any}
 use Rattle.host_base.specs.Ids.{id_of}
 use Rattle.host_base.specs.declared.limits.TheConstants.{FIRST_MSG_SEQ_NUM}
@@ -33,13 +33,9 @@ required_text (Some text) = if nat_lt 0 (length text) then Ok text else Err reje
 abbrev pub value_at : ℕ → List ℕ → Result (List ℕ) ℕ
 value_at tag message = required_text (get tag message)
 
--- a value that is not allowed is out of range
-abbrev pub or_out_of_range : Option (List ℕ) → Result (List ℕ) ℕ
-or_out_of_range None = Err reject.VALUE_OUT_OF_RANGE
-or_out_of_range (Some id) = Ok id
-
 abbrev pub id_at : ℕ → List ℕ → Result (List ℕ) ℕ
-id_at tag message = value_at tag message >>= λ text. or_out_of_range (id_of text)
+id_at tag message =
+    value_at tag message >>= λ text. ok_or (id_of text) reject.VALUE_OUT_OF_RANGE
 
 -- why a value that can't be read is rejected
 abbrev pub reason_of : Unread → ℕ
@@ -50,35 +46,27 @@ abbrev pub or_reason : {A : Type 0} → Result A Unread → Result A ℕ
 or_reason (Ok x) = Ok x
 or_reason (Err fault) = Err (reason_of fault)
 
-abbrev pub number_at : ℕ → List ℕ → Result ℕ ℕ
-number_at tag message = value_at tag message >>= λ text. or_reason (number_in text)
-
-abbrev pub quantity_at : ℕ → List ℕ → Result ℕ ℕ
-quantity_at tag message = value_at tag message >>= λ text. or_reason (quantity_in text)
-
-abbrev pub price_at : ℕ → List ℕ → Result ℤ ℕ
-price_at tag message = value_at tag message >>= λ text. or_reason (price_in text)
-
--- one of the bytes that are allowed, and nothing else
-abbrev pub one_of : List ℕ → List ℕ → Result ℕ ℕ
-one_of allowed [] = Err reject.VALUE_OUT_OF_RANGE
-one_of allowed (b ∷ []) =
-    if list_any (λ a. a == b) allowed then Ok b else Err reject.VALUE_OUT_OF_RANGE
-one_of allowed (b ∷ c ∷ cs) = Err reject.VALUE_OUT_OF_RANGE
-
-abbrev pub choice_at : List ℕ → ℕ → List ℕ → Result ℕ ℕ
-choice_at allowed tag message = value_at tag message >>= λ text. one_of allowed text
+-- a number, a quantity or a price, by the reader of its text
+abbrev pub read_at : {A : Type 0} → (List ℕ → Result A Unread) → ℕ → List ℕ → Result A ℕ
+read_at reader tag message = value_at tag message >>= λ text. or_reason (reader text)
 
 -- a value that is allowed, where the test holds
 abbrev pub allowed_if : Bool → ℕ → Result ℕ ℕ
 allowed_if test n = if test then Ok n else Err reject.VALUE_OUT_OF_RANGE
 
--- Side
-abbrev pub side_of : ℕ → Side
-side_of b = if b == field_values.SIDE_BUY then Buy else Sell
+-- one of the bytes that are allowed, and nothing else
+abbrev pub one_of : List ℕ → List ℕ → Result ℕ ℕ
+one_of allowed (b ∷ []) = allowed_if (list_any (λ a. a == b) allowed) b
+one_of allowed _ = Err reject.VALUE_OUT_OF_RANGE
 
+abbrev pub choice_at : List ℕ → ℕ → List ℕ → Result ℕ ℕ
+choice_at allowed tag message = value_at tag message >>= λ text. one_of allowed text
+
+-- Side
 abbrev pub side_at : List ℕ → Result Side ℕ
-side_at message = choice_at (codes "12") tags.SIDE message >>= λ b. Ok (side_of b)
+side_at message =
+    choice_at (codes "12") tags.SIDE message >>= λ b.
+    Ok (if b == field_values.SIDE_BUY then Buy else Sell)
 
 -- TimeInForce: whether an order is immediate, a day order where the tag is missing
 abbrev pub time_in_force_of : Option (List ℕ) → Result Bool ℕ
@@ -107,9 +95,9 @@ test_request m = do
 unfoldable pub resend_request : List ℕ → Result Meaning ℕ
 resend_request m = do
   stamp ← value_at tags.SENDING_TIME m
-  begin ← number_at tags.BEGIN_SEQ_NO m
+  begin ← read_at number_in tags.BEGIN_SEQ_NO m
   first ← allowed_if (nat_le FIRST_MSG_SEQ_NUM begin) begin
-  end ← number_at tags.END_SEQ_NO m
+  end ← read_at number_in tags.END_SEQ_NO m
   -- 0 asks for all that follow
   last ← allowed_if ((end == 0) || nat_le first end) end
   Ok (Gives (events.Resend first last))
@@ -118,7 +106,7 @@ resend_request m = do
 unfoldable pub sequence_reset : List ℕ → ℕ → Result Meaning ℕ
 sequence_reset m n = do
   stamp ← value_at tags.SENDING_TIME m
-  new ← number_at tags.NEW_SEQ_NO m
+  new ← read_at number_in tags.NEW_SEQ_NO m
   next ← allowed_if (nat_lt n new) new
   flag ← gap_fill_flag_of (get tags.GAP_FILL_FLAG m)
   Ok (Fills next)
@@ -131,9 +119,9 @@ new_order m = do
   symbol ← id_at tags.SYMBOL m
   side ← side_at m
   time ← value_at tags.TRANSACT_TIME m
-  quantity ← quantity_at tags.ORDER_QTY m
+  quantity ← read_at quantity_in tags.ORDER_QTY m
   type ← choice_at (codes "2") tags.ORD_TYPE m
-  price ← price_at tags.PRICE m
+  price ← read_at price_in tags.PRICE m
   immediate ← time_in_force_of (get tags.TIME_IN_FORCE m)
   Ok (record {
     id = id;
@@ -167,16 +155,15 @@ replace_request m = do
 -- an accepted message of a kind of one byte
 abbrev pub meaning_of_kind : ℕ → List ℕ → ℕ → Result Meaning ℕ
 meaning_of_kind k m n =
-    if k == msg_types.HEARTBEAT then passed_over m
+    if (k == msg_types.HEARTBEAT) || (k == msg_types.REJECT) then passed_over m
     else (if k == msg_types.TEST_REQUEST then test_request m
     else (if k == msg_types.RESEND_REQUEST then resend_request m
-    else (if k == msg_types.REJECT then passed_over m
     else (if k == msg_types.SEQUENCE_RESET then sequence_reset m n
     else (if k == msg_types.NEW_ORDER_SINGLE
     then (new_order m >>= λ ticket. Ok (Gives (events.New ticket)))
     else (if k == msg_types.ORDER_CANCEL_REQUEST then cancel_request m
     else (if k == msg_types.ORDER_CANCEL_REPLACE_REQUEST then replace_request m
-    else Err reject.INVALID_MSG_TYPE)))))))
+    else Err reject.INVALID_MSG_TYPE))))))
 
 abbrev pub meaning_of_kind_text : List ℕ → List ℕ → ℕ → Result Meaning ℕ
 meaning_of_kind_text [] m n = Err reject.TAG_WITHOUT_VALUE

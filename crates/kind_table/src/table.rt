@@ -4,9 +4,10 @@
 ghost use Rattle.std.specs.Prelude.{◌≡◌, Result, ◌==◌, IfOk, true};
 ghost use Rattle.std.specs.List.{list_any};
 ghost use Rattle.host_base.specs.Ids.{is_id};
+ghost use Rattle.fix_values.specs.Values.{number_in, quantity_in, price_in};
 ghost use Rattle.fix_frames.specs.Messages.{get};
 ghost use Rattle.fix_frames.specs.declared.tags.TheConstants as tags;
-ghost use Rattle.kind_table.specs.Table.{value_at, id_at, number_at, quantity_at, price_at, choice_at, one_of, side_at, time_in_force_of, gap_fill_flag_of, passed_over, test_request, resend_request, sequence_reset, new_order, cancel_request, replace_request, meaning_of_kind, meaning_of_message, reason_of};
+ghost use Rattle.kind_table.specs.Table.{value_at, id_at, read_at, choice_at, one_of, side_at, time_in_force_of, gap_fill_flag_of, passed_over, test_request, resend_request, sequence_reset, new_order, cancel_request, replace_request, meaning_of_kind, meaning_of_message, reason_of};
 ghost use Rattle.kind_table.specs.code.Shown.{bytes_behind, ticket_of, ticket_behind};
 
 use fix_wire::{
@@ -63,7 +64,7 @@ fn reason_of(fault: Unread) -> u8
 }
 
 fn number_at(message: &Message, tag: u32) -> Result<u32, u8>
-    ensures { result ≡ number_at tag message.now.frame.now }
+    ensures { result ≡ read_at number_in tag message.now.frame.now }
 {
     match read_number(value_at(message, tag)?) {
         Ok(number) => Ok(number),
@@ -72,7 +73,7 @@ fn number_at(message: &Message, tag: u32) -> Result<u32, u8>
 }
 
 fn quantity_at(message: &Message, tag: u32) -> Result<u32, u8>
-    ensures { result ≡ quantity_at tag message.now.frame.now }
+    ensures { result ≡ read_at quantity_in tag message.now.frame.now }
 {
     match read_quantity(value_at(message, tag)?) {
         Ok(quantity) => Ok(quantity),
@@ -81,7 +82,7 @@ fn quantity_at(message: &Message, tag: u32) -> Result<u32, u8>
 }
 
 fn price_at(message: &Message, tag: u32) -> Result<i64, u8>
-    ensures { result ≡ price_at tag message.now.frame.now }
+    ensures { result ≡ read_at price_in tag message.now.frame.now }
 {
     match read_price(value_at(message, tag)?) {
         Ok(price) => Ok(price),

@@ -12,7 +12,7 @@ use Rattle.session_judging.specs.declared.session.Running.{Running}
 use Rattle.session_judging.specs.declared.session.State.{State}
 use Rattle.session_judging.specs.declared.session.State.TheVariants as states
 use Rattle.session_judging.specs.declared.session.Session.{Session}
-use Rattle.session_judging.specs.View.{MessageView, are_same, view, logon_event}
+use Rattle.session_judging.specs.View.{MessageView, is_between, view}
 
 abbrev pub new_session : Session
 new_session = record { state = states.Before }
@@ -29,6 +29,9 @@ verdict_of (Some e) = verdicts.Event e
 
 abbrev pub closes : ℕ → Verdict × Session
 closes reason = (verdicts.Event (events.Close reason), closed)
+
+abbrev pub logon_event : Logon → Event
+logon_event l = events.Logon l.client l.host l.beat
 
 -- the first message, where `next` is due after it
 abbrev pub opens : ℕ → Option Logon → Verdict × Session
@@ -59,7 +62,7 @@ step_due r m =
 -- a message after the Logon
 abbrev pub step_running : Running → MessageView → Verdict × Session
 step_running r m =
-    if not (are_same m.comp_ids r.client r.host) then closes close_reason.COMP_ID
+    if not (is_between m r.client r.host) then closes close_reason.COMP_ID
     else (if nat_lt m.number r.due then step_below r m.duplicate
     else (if nat_lt r.due m.number then step_above r
     else step_due r m))

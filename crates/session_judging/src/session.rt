@@ -1,8 +1,10 @@
 //! A session, message by message: which number is due, and what each message says.
-ghost use Rattle.std.specs.Prelude.{◌≡◌, ◌≤◌, ◌+◌, Option, Some, false};
-ghost use Rattle.fix_frames.specs.Messages.{kind, number};
+ghost use Rattle.std.specs.Prelude.{◌≡◌, ◌≤◌, ◌+◌, ◌&&◌, Option, Some, false, bytes_eq, codes, [], ◌∷◌};
+ghost use Rattle.fix_frames.specs.Messages.{get, kind, number, given_number};
+ghost use Rattle.fix_frames.specs.declared.msg_types.TheConstants as msg_types;
+ghost use Rattle.fix_frames.specs.declared.tags.TheConstants as tags;
 ghost use Rattle.kind_table.specs.Table.{meaning_of_message};
-ghost use Rattle.session_judging.specs.View.{given_id, given_number, is_opening, logon_of, is_duplicate, is_logout, comp_ids, are_same, view_with, event_of_accepted, due_after_accepted};
+ghost use Rattle.session_judging.specs.View.{is_same_text, given_id, is_opening, logon_of, view_with, event_of_accepted, due_after_accepted};
 ghost use Rattle.session_judging.specs.declared.session.Session.{Session};
 ghost use Rattle.session_judging.specs.declared.session.Running.{Running};
 ghost use Rattle.session_judging.specs.code.Changes.{changed, judgement_in, judgement_of};
@@ -235,7 +237,8 @@ fn opened(logon: Logon, verdict: &mut Verdict) -> Change
 /// Whether a message has the CompIDs of the Logon.
 fn has_comp_ids(running: &Running, message: &Message) -> bool
     ensures { result
-        ≡ are_same (comp_ids message.now.frame.now) running.now.client running.now.host }
+        ≡ (is_same_text (get tags.SENDER_COMP_ID message.now.frame.now) running.now.client
+        && is_same_text (get tags.TARGET_COMP_ID message.now.frame.now) running.now.host) }
 {
     match message.get(tags::SENDER_COMP_ID) {
         None => false,
@@ -248,7 +251,7 @@ fn has_comp_ids(running: &Running, message: &Message) -> bool
 
 /// PossDupFlag: whether the message may be a duplicate.
 fn is_duplicate(message: &Message) -> bool
-    ensures { result ≡ is_duplicate message.now.frame.now }
+    ensures { result ≡ is_same_text (get tags.POSS_DUP_FLAG message.now.frame.now) (codes "Y") }
 {
     match message.get(tags::POSS_DUP_FLAG) {
         Some(text) => text == b"Y".as_slice(),
@@ -257,7 +260,7 @@ fn is_duplicate(message: &Message) -> bool
 }
 
 fn is_logout(message: &Message) -> bool
-    ensures { result ≡ is_logout message.now.frame.now }
+    ensures { result ≡ bytes_eq (kind message.now.frame.now) (msg_types.LOGOUT ∷ []) }
 {
     matches!(message.kind(), [msg_types::LOGOUT])
 }
@@ -284,7 +287,7 @@ fn judge_running(running: &Running, message: &Message, number: u32, verdict: &mu
 /// A number below the due one: a duplicate is dropped.
 fn judge_below(message: &Message, verdict: &mut Verdict) -> Change
     ensures { (r : Running) → judgement_in r (verdict.new, result)
-        ≡ step_below r (is_duplicate message.now.frame.now) }
+        ≡ step_below r (is_same_text (get tags.POSS_DUP_FLAG message.now.frame.now) (codes "Y")) }
 {
     if is_duplicate(message) {
         *verdict = Verdict::Nothing;

@@ -11,7 +11,7 @@ use Rattle.session_judging.specs.declared.session.State.TheVariants as states
 use Rattle.session_judging.specs.declared.session.Session.{Session}
 use Rattle.session_judging.specs.declared.session.Verdict.{Verdict}
 use Rattle.session_judging.specs.declared.session.Verdict.TheVariants as verdicts
-use Rattle.session_judging.specs.View.{MessageView, are_same, view}
+use Rattle.session_judging.specs.View.{MessageView, is_between, view}
 use Rattle.session_judging.specs.Steps.{running, closed, verdict_of, closes, opens, step_below, step_above, step_due, step_running, step_at, step_or_stay, judge, ended, is_closed, is_closing}
 use Rattle.kind_table.proofs.TableInRange.{IsGiven}
 use Rattle.session_judging.proofs.events.InRangeAndOrder.{May, IsFair, view_fair}
@@ -47,7 +47,7 @@ due_honest r m fair = by_logout m.logout
     by_logout false = accepted_honest (record r { due = m.next; gap_asked = false }) m.event fair.event
 
 running_honest : (r : Running) (m : MessageView) → IsFair m → IsHonest (step_running r m)
-running_honest r m fair = by_number (are_same m.comp_ids r.client r.host) (nat_lt m.number r.due) (nat_lt r.due m.number)
+running_honest r m fair = by_number (is_between m r.client r.host) (nat_lt m.number r.due) (nat_lt r.due m.number)
   where
     by_number : (same below above : Bool) → IsHonest (if not same then closes 4 else (if below then step_below r m.duplicate else (if above then step_above r else step_due r m)))
     by_number false below above = refl

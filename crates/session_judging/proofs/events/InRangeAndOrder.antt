@@ -1,6 +1,7 @@
 -- What a session says is in range and in order.
 use Rattle.std.proofs.Common.{◌≡◌, ℕ, ◌<◌, ◌≤◌, Bool, true, false, ◌&&◌, not, List, [], ◌∷◌, ◌++◌, Option, Some, None, option_map, refl, sym, ap, ◌∙◌, subst, arith}
 use Rattle.std.specs.Prelude.{nat_le, nat_lt, if◌then◌else◌, Result, Ok, Err, option_and_then}
+use Rattle.std.specs.Result.{result_ok}
 use Rattle.std.specs.List.{All, cons_option}
 use Rattle.std.proofs.lemmas.Bool.Decides.{nat_tests}
 use Rattle.std.proofs.lemmas.List.Elements.{All-nil, All-cons, All-head, All-tail}
@@ -12,7 +13,7 @@ use Rattle.fix_values.specs.declared.values.Unread.{Unread}
 use Rattle.fix_values.specs.declared.values.Unread.TheVariants.{Range, Format}
 use Rattle.fix_values.specs.Digits.{number_of}
 use Rattle.fix_values.specs.Values.{is_number, within, number_in}
-use Rattle.fix_frames.specs.Messages.{get, number, at_least_one}
+use Rattle.fix_frames.specs.Messages.{get, number, given_number}
 use Rattle.kind_table.specs.declared.table.Meaning.{Meaning}
 use Rattle.kind_table.specs.declared.table.Meaning.TheVariants.{Nothing, Gives, Fills}
 use Rattle.session_judging.specs.declared.session.Logon.{Logon}
@@ -22,8 +23,8 @@ use Rattle.session_judging.specs.declared.session.State.TheVariants as states
 use Rattle.session_judging.specs.declared.session.Session.{Session}
 use Rattle.session_judging.specs.declared.session.Verdict.{Verdict}
 use Rattle.kind_table.specs.Table.{meaning_of_message}
-use Rattle.session_judging.specs.View.{◌>>=◌, MessageView, are_same, is_opening, given_id, read_ok, given_number, logon_of, logon_event, event_of_accepted, due_after_accepted, view_with, view}
-use Rattle.session_judging.specs.Steps.{new_session, running, closed, verdict_of, closes, opens, step_below, step_above, step_due, step_running, step_at, step_or_stay, judge, event_in, events_said, session_after, events_at_end}
+use Rattle.session_judging.specs.View.{◌>>=◌, MessageView, is_between, is_opening, given_id, logon_of, event_of_accepted, due_after_accepted, view_with, view}
+use Rattle.session_judging.specs.Steps.{new_session, running, closed, verdict_of, logon_event, closes, opens, step_below, step_above, step_due, step_running, step_at, step_or_stay, judge, event_in, events_said, session_after, events_at_end}
 use Rattle.kind_table.proofs.TableInRange.{Holds, IsGiven, FitsMeaning, meaning_holds}
 use Rattle.session_judging.proofs.events.StateOfPlaces.{cons_two}
 
@@ -61,17 +62,17 @@ any_text (Some t) = tt
 id_in_holds : (tag : ℕ) (m : List ℕ) → May (λ id. is_id id ≡ true) (given_id tag m)
 id_in_holds tag m = chained (λ t. Unit {0}) (λ id. is_id id ≡ true) (get tag m) id_of (any_text (get tag m)) (λ t h. id_holds t)
 
-within_holds : (n : ℕ) → May (λ x. x ≤ 999999999) (read_ok (within 999999999 n))
+within_holds : (n : ℕ) → May (λ x. x ≤ 999999999) (result_ok (within 999999999 n))
 within_holds n = by_test (nat_le n 999999999) refl
   where
-    by_test : (v : Bool) → nat_le n 999999999 ≡ v → May (λ x. x ≤ 999999999) (read_ok (if v then Ok n else Err Range))
+    by_test : (v : Bool) → nat_le n 999999999 ≡ v → May (λ x. x ≤ 999999999) (result_ok (if v then Ok n else Err Range))
     by_test true e = grind (arith, nat_tests)
     by_test false e = tt
 
-read_holds : (text : List ℕ) → May (λ x. x ≤ 999999999) (read_ok (number_in text))
+read_holds : (text : List ℕ) → May (λ x. x ≤ 999999999) (result_ok (number_in text))
 read_holds text = by_test (is_number text)
   where
-    by_test : (v : Bool) → May (λ x. x ≤ 999999999) (read_ok (if v then within 999999999 (number_of text) else Err Format))
+    by_test : (v : Bool) → May (λ x. x ≤ 999999999) (result_ok (if v then within 999999999 (number_of text) else Err Format))
     by_test true = within_holds (number_of text)
     by_test false = tt
 
@@ -109,17 +110,16 @@ view_with_fair m n num = record {
   logon = logon_holds m n;
 }
 
-at_least_one_holds : (r : Result ℕ Unread) → May (λ x. x ≤ 999999999) (read_ok r) → May IsNumber (at_least_one r)
-at_least_one_holds (Err e) h = tt
-at_least_one_holds (Ok n) h = by_test (nat_le 1 n) refl
+at_least_one_holds : (n : ℕ) → n ≤ 999999999 → May IsNumber (if nat_le 1 n then Some n else None)
+at_least_one_holds n h = by_test (nat_le 1 n) refl
   where
     by_test : (v : Bool) → nat_le 1 n ≡ v → May IsNumber (if v then Some n else None)
     by_test true e = (grind (arith, nat_tests), h)
     by_test false e = tt
 
-pub number_holds : (o : Option (List ℕ)) → May IsNumber (option_and_then (λ v. at_least_one (number_in v)) o)
+pub number_holds : (o : Option (List ℕ)) → May IsNumber (option_and_then (λ n. if nat_le 1 n then Some n else None) (option_and_then (λ text. result_ok (number_in text)) o))
 number_holds None = tt
-number_holds (Some text) = at_least_one_holds (number_in text) (read_holds text)
+number_holds (Some text) = chained (λ x. x ≤ 999999999) IsNumber (result_ok (number_in text)) _ (read_holds text) at_least_one_holds
 
 pub view_fair : (m : List ℕ) → May IsFair (view m)
 view_fair m = by_number (number m) (number_holds (get 34 m))
@@ -201,7 +201,7 @@ due_lawful rest ih r m fair = by_logout m.logout
 
 running_lawful : (rest : Session → List Event) → IsLawfulRest rest → (r : Running) (m : MessageView) → 1 ≤ r.due → IsFair m
     → IsLawfulFrom (states.Running r) (says_first rest (step_running r m))
-running_lawful rest ih r m low fair = by_number (are_same m.comp_ids r.client r.host) (nat_lt m.number r.due) (nat_lt r.due m.number) refl
+running_lawful rest ih r m low fair = by_number (is_between m r.client r.host) (nat_lt m.number r.due) (nat_lt r.due m.number) refl
   where
     by_number : (same below above : Bool) → nat_lt r.due m.number ≡ above → IsLawfulFrom (states.Running r) (says_first rest (if not same then closes 4 else (if below then step_below r m.duplicate else (if above then step_above r else step_due r m))))
     by_number false below above e = close_later r 4 (rest closed) (omega arith) (omega arith) (ih closed tt)

@@ -1,7 +1,9 @@
 -- A session's state is what the places before it make of it.
-use Rattle.std.proofs.Common.{◌≡◌, ℕ, zero, suc, ◌+◌, ◌<◌, ◌≤◌, Bool, true, false, cond, ◌&&◌, ◌||◌, not, eqb, ltb, List, [], ◌∷◌, ◌++◌, Option, Some, None, is_some, option_map, length, take, drop, refl, sym, ap, ◌∙◌, subst, arith, ◌⊎◌, inl, inr}
-use Rattle.std.specs.Prelude.{slice_get, filter_map}
-use Rattle.std.specs.List.{list_any, cons_option}
+use Rattle.std.proofs.Common.{◌≡◌, ℕ, zero, suc, ◌+◌, ◌<◌, ◌≤◌, Bool, true, false, cond, ◌&&◌, ◌||◌, not, eqb, ltb, List, [], ◌∷◌, ◌++◌, Option, Some, None, is_some, option_map, length, take, drop, refl, sym, ap, ◌∙◌, subst, arith, add-one, ◌⊎◌, inl, inr}
+use Rattle.std.specs.Prelude.{slice_get, filter_map, option_and_then}
+use Rattle.std.specs.Bool.{then_some}
+use Rattle.std.specs.Option.{option_map_or, option_or}
+use Rattle.std.specs.List.{list_any, cons_option, enumerate_from}
 use Rattle.std.proofs.lemmas.Bool.{false≢true, cases_lt, and_parts}
 use Rattle.std.proofs.Math.Bool.{or-false}
 use Rattle.std.proofs.lemmas.Bool.Decides.{nat_tests}
@@ -12,16 +14,44 @@ use Rattle.spread_rules.specs.declared.event.Event.{Event}
 use Rattle.spread_rules.specs.declared.event.Event.TheVariants as variant
 use Rattle.session_judging.specs.declared.session.Logon.{Logon}
 use Rattle.session_judging.specs.declared.session.Session.{Session}
-use Rattle.session_judging.specs.View.{CompIds, MessageView, are_same, view, logon_comp_ids}
-use Rattle.session_judging.specs.Places.{next_after, session_comp_ids, due_after, closing_later, is_next, closes_at, accepts_at, live, last_accepted_before, due, place_after, has_open_gap, closed_or, event, events_from, message_events, message_events_and_close}
+use Rattle.session_judging.specs.View.{MessageView, is_between, view}
+use Rattle.session_judging.specs.Places.{session_logon, due_after, closing, is_accepted, live, last_accepted_before, due, has_open_gap, event, message_events}
+use Rattle.session_judging.specs.Streams.{whole_of}
 use Rattle.session_judging.specs.Steps as steps
 use Rattle.session_judging.specs.Steps.{step, judge, event_in, events_said, session_after, events_at_end, new_session, closed}
 
+-- the place after it, or the first
+abbrev place_after : Option ℕ → ℕ
+place_after last = option_map_or suc last 0
+
+-- a live message after the first, by the session's Logon: it is accepted; why it closes the session
+abbrev is_next : Option Logon → ℕ → MessageView → Bool
+is_next o due m = option_map_or (λ l. is_between m l.client l.host) o false && eqb m.number due
+
+abbrev closing_later : Option Logon → ℕ → MessageView → Option ℕ
+closing_later o due m =
+    cond (not (option_map_or (λ l. is_between m l.client l.host) o false)) (Some 4)
+    (cond (ltb m.number due && not m.duplicate) (Some 2) (cond (eqb m.number due && m.logout) (Some 1) None))
+
+-- the message at a place: it closes the session, it is accepted
+abbrev closes_at : List MessageView → ℕ → ℕ → Option MessageView → Bool
+closes_at ms p due o = is_some (option_and_then (closing ms p due) o)
+
+abbrev accepts_at : List MessageView → ℕ → ℕ → Option MessageView → Bool
+accepts_at ms p due o = option_map_or (is_accepted ms p due) o false
+
+abbrev next_after : Option MessageView → ℕ
+next_after o = option_map_or (λ m. m.next) o 1
+
+-- the events of the places from p on
+abbrev events_from : List MessageView → ℕ → List MessageView → List Event
+events_from ms p later = filter_map (λ place. event ms place.0 place.1) (enumerate_from p later)
+
 -- a running session, by what it is between, the due number, and whether a gap was asked
-abbrev runs : CompIds → ℕ → Bool → Session
+abbrev runs : Logon → ℕ → Bool → Session
 runs ids d a = steps.running (record { client = ids.client; host = ids.host; due = d; gap_asked = a })
 
-abbrev runs_or : Option CompIds → ℕ → Bool → Session
+abbrev runs_or : Option Logon → ℕ → Bool → Session
 runs_or None d a = closed
 runs_or (Some ids) d a = runs ids d a
 
@@ -44,25 +74,25 @@ event_in_of (Some e) = refl
 -- the state that the places before p make
 abbrev state_at : List MessageView → ℕ → Session
 state_at ms zero = new_session
-state_at ms (suc p) = cond (live ms (suc p)) (runs_or (session_comp_ids ms) (due ms (suc p)) (has_open_gap ms (suc p))) closed
+state_at ms (suc p) = cond (live ms (suc p)) (runs_or (session_logon ms) (due ms (suc p)) (has_open_gap ms (suc p))) closed
 
 first_step : (m : MessageView) (ms : List MessageView) (o : Option Logon) → m.logon ≡ o → says new_session m ≡ (event (m ∷ ms) 0 m, state_at (m ∷ ms) 1)
 first_step m ms None e = rw e
 first_step m ms (Some o) e = rw e
 
 -- what the places say of a live message after the first
-abbrev placed : Option CompIds → ℕ → Bool → MessageView → Option (Event)
-placed parties d a m = closed_or (closing_later parties d m) (cond (is_next parties d m) (m.event) (cond (ltb d m.number && not a) (Some (variant.Gap d)) None))
+abbrev placed : Option Logon → ℕ → Bool → MessageView → Option (Event)
+placed parties d a m = option_or (option_map variant.Close (closing_later parties d m)) (cond (is_next parties d m) (m.event) (then_some (ltb d m.number && not a) (variant.Gap d)))
 
 -- one step of a running session, and what the places say
-step_is : (parties : CompIds) (d : ℕ) (a : Bool) (m : MessageView) (l : Bool) (d2 : ℕ) (a2 : Bool) →
+step_is : (parties : Logon) (d : ℕ) (a : Bool) (m : MessageView) (l : Bool) (d2 : ℕ) (a2 : Bool) →
     l ≡ not (is_some (closing_later (Some parties) d m)) →
     (is_next (Some parties) d m ≡ true → (d2 ≡ m.next) × (a2 ≡ false)) →
     (is_next (Some parties) d m ≡ false → (d2 ≡ d) × (a2 ≡ (a || ltb d m.number))) →
     says (runs parties d a) m ≡ (placed (Some parties) d a m, cond l (runs parties d2 a2) closed)
-step_is parties d a m l d2 a2 lives taken passed = by_same (are_same m.comp_ids parties.client parties.host) refl (number_case m.number d)
+step_is parties d a m l d2 a2 lives taken passed = by_same (is_between m parties.client parties.host) refl (number_case m.number d)
   where
-    by_below : (dup : Bool) → m.duplicate ≡ dup → are_same m.comp_ids parties.client parties.host ≡ true → (ltb m.number d ≡ true) × (ltb d m.number ≡ false) × (eqb m.number d ≡ false) → says (runs parties d a) m ≡ (placed (Some parties) d a m, cond l (runs parties d2 a2) closed)
+    by_below : (dup : Bool) → m.duplicate ≡ dup → is_between m parties.client parties.host ≡ true → (ltb m.number d ≡ true) × (ltb d m.number ≡ false) × (eqb m.number d ≡ false) → says (runs parties d a) m ≡ (placed (Some parties) d a m, cond l (runs parties d2 a2) closed)
     by_below true dup s (lt, gt, eq) =
         let other = passed (simp (s, eq)) in
         let same : a2 ≡ a = other.1 ∙ ap (λ x. a || x) gt ∙ or-false a in
@@ -72,7 +102,7 @@ step_is parties d a m l d2 a2 lives taken passed = by_same (are_same m.comp_ids 
         let dead : l ≡ false = simp (s, lt, eq, dup) at lives in
         simp (s, lt, gt, eq, dup, dead)
 
-    by_above : (asked : Bool) → a ≡ asked → are_same m.comp_ids parties.client parties.host ≡ true → (ltb m.number d ≡ false) × (ltb d m.number ≡ true) × (eqb m.number d ≡ false) → says (runs parties d a) m ≡ (placed (Some parties) d a m, cond l (runs parties d2 a2) closed)
+    by_above : (asked : Bool) → a ≡ asked → is_between m parties.client parties.host ≡ true → (ltb m.number d ≡ false) × (ltb d m.number ≡ true) × (eqb m.number d ≡ false) → says (runs parties d a) m ≡ (placed (Some parties) d a m, cond l (runs parties d2 a2) closed)
     by_above true e s (lt, gt, eq) =
         let other = passed (simp (s, eq)) in
         let same : a2 ≡ true = other.1 ∙ ap (λ x. x || ltb d m.number) e in
@@ -84,7 +114,7 @@ step_is parties d a m l d2 a2 lives taken passed = by_same (are_same m.comp_ids 
         let alive : l ≡ true = simp (s, lt, eq) at lives in
         simp (s, lt, gt, eq, alive, other.0, same, e)
 
-    by_due : (ends : Bool) → m.logout ≡ ends → are_same m.comp_ids parties.client parties.host ≡ true → (ltb m.number d ≡ false) × (ltb d m.number ≡ false) × (eqb m.number d ≡ true) → says (runs parties d a) m ≡ (placed (Some parties) d a m, cond l (runs parties d2 a2) closed)
+    by_due : (ends : Bool) → m.logout ≡ ends → is_between m parties.client parties.host ≡ true → (ltb m.number d ≡ false) × (ltb d m.number ≡ false) × (eqb m.number d ≡ true) → says (runs parties d a) m ≡ (placed (Some parties) d a m, cond l (runs parties d2 a2) closed)
     by_due true e s (lt, gt, eq) =
         let dead : l ≡ false = simp (s, lt, eq, e) at lives in
         simp (s, lt, gt, eq, dead, e)
@@ -93,18 +123,18 @@ step_is parties d a m l d2 a2 lives taken passed = by_same (are_same m.comp_ids 
         let alive : l ≡ true = simp (s, lt, eq, e) at lives in
         simp (s, lt, gt, eq, alive, next.0, next.1, e, event_in_of m.event)
 
-    by_same : (v : Bool) → are_same m.comp_ids parties.client parties.host ≡ v → ((ltb m.number d ≡ true) × (ltb d m.number ≡ false) × (eqb m.number d ≡ false)) ⊎ (((ltb m.number d ≡ false) × (ltb d m.number ≡ true) × (eqb m.number d ≡ false)) ⊎ ((ltb m.number d ≡ false) × (ltb d m.number ≡ false) × (eqb m.number d ≡ true))) → says (runs parties d a) m ≡ (placed (Some parties) d a m, cond l (runs parties d2 a2) closed)
+    by_same : (v : Bool) → is_between m parties.client parties.host ≡ v → ((ltb m.number d ≡ true) × (ltb d m.number ≡ false) × (eqb m.number d ≡ false)) ⊎ (((ltb m.number d ≡ false) × (ltb d m.number ≡ true) × (eqb m.number d ≡ false)) ⊎ ((ltb m.number d ≡ false) × (ltb d m.number ≡ false) × (eqb m.number d ≡ true))) → says (runs parties d a) m ≡ (placed (Some parties) d a m, cond l (runs parties d2 a2) closed)
     by_same false s n = let dead : l ≡ false = rw s at lives in rw (s, dead)
     by_same true s (inl n) = by_below m.duplicate refl s n
     by_same true s (inr (inl n)) = by_above a refl s n
     by_same true s (inr (inr n)) = by_due m.logout refl s n
 
 -- where a place after the first is live, the first message opened the session
-opened_some : (m : MessageView) (ms : List MessageView) (p : ℕ) → live (m ∷ ms) (suc p) ≡ true → (o : CompIds) × (session_comp_ids (m ∷ ms) ≡ Some o)
+opened_some : (m : MessageView) (ms : List MessageView) (p : ℕ) → live (m ∷ ms) (suc p) ≡ true → (o : Logon) × (session_logon (m ∷ ms) ≡ Some o)
 opened_some m ms zero e = by_opens m.logon refl
   where
-    by_opens : (o : Option Logon) → m.logon ≡ o → (q : CompIds) × (session_comp_ids (m ∷ ms) ≡ Some q)
-    by_opens (Some o) h = (logon_comp_ids o, ap (option_map logon_comp_ids) h)
+    by_opens : (o : Option Logon) → m.logon ≡ o → (q : Logon) × (session_logon (m ∷ ms) ≡ Some q)
+    by_opens (Some o) h = (o, h)
     by_opens None h = absurd (false≢true (simp h at e))
 opened_some m ms (suc p) e = opened_some m ms p (and_parts _ _ e).0
 
@@ -140,14 +170,14 @@ later_step x xs p m get = by_live (live (x ∷ xs) (suc p)) refl
         let q : ℕ = suc p in
         let o = opened_some x xs p e in
         let parties = o.0 in
-        let op : session_comp_ids ms ≡ Some parties = o.1 in
+        let op : session_logon ms ≡ Some parties = o.1 in
         let d : ℕ = due ms q in
         let a : Bool = has_open_gap ms q in
         let l : Bool = live ms (suc q) in
         let d2 : ℕ = due ms (suc q) in
         let a2 : Bool = has_open_gap ms (suc q) in
-        let state : state_at ms q ≡ runs parties d a = ap (λ v. cond v (runs_or (session_comp_ids ms) d a) closed) e ∙ ap (λ h. runs_or h d a) op in
-        let placed_is : event ms q m ≡ placed (Some parties) d a m = ap (λ v. cond v (placed (session_comp_ids ms) d a m) None) e ∙ ap (λ h. placed h d a m) op in
+        let state : state_at ms q ≡ runs parties d a = ap (λ v. cond v (runs_or (session_logon ms) d a) closed) e ∙ ap (λ h. runs_or h d a) op in
+        let placed_is : event ms q m ≡ placed (Some parties) d a m = ap (λ v. cond v (placed (session_logon ms) d a m) None) e ∙ ap (λ h. placed h d a m) op in
         let then : state_at ms (suc q) ≡ cond l (runs parties d2 a2) closed = ap (λ h. cond l (runs_or h d2 a2) closed) op in
         let lives : l ≡ not (is_some (closing_later (Some parties) d m)) =
         ap (λ v. v && not (closes_at ms q d (slice_get ms q))) e ∙ ap (λ g. not (closes_at ms q d g)) get ∙ ap (λ h. not (is_some (closing_later h d m))) op in
@@ -195,6 +225,7 @@ says_is ms (m ∷ later) p e =
     let front = get_front ms p m later e in
     let s = one_step ms p m front.0 in
     ap (λ r. cons_option r.0 (says_all r.1 later)) s ∙ ap (λ t. cons_option (event ms p m) t) (says_is ms later (suc p) front.1)
+    ∙ ap (λ k. cons_option (event ms p m) (events_from ms k later)) (sym (add-one p))
 
 after_is : (ms later : List MessageView) (p n : ℕ) → drop p ms ≡ later → p + length later ≡ n → after_all (state_at ms p) later ≡ state_at ms n
 after_is ms [] p n e l = let same : p ≡ n = omega (arith, l) in ap (λ k. state_at ms k) same
@@ -208,10 +239,10 @@ end_is [] = refl
 end_is (x ∷ xs) = by_live (live (x ∷ xs) (suc (length xs))) refl
   where
     by_live : (v : Bool) → live (x ∷ xs) (suc (length xs)) ≡ v → events_at_end (state_at (x ∷ xs) (suc (length xs))) ≡ cond (live (x ∷ xs) (suc (length xs))) (variant.Close 5 ∷ []) []
-    by_live false e = ap (λ v. events_at_end (cond v (runs_or (session_comp_ids (x ∷ xs)) (due (x ∷ xs) (suc (length xs))) (has_open_gap (x ∷ xs) (suc (length xs)))) closed)) e ∙ sym (ap (λ v. cond v (variant.Close 5 ∷ []) []) e)
+    by_live false e = ap (λ v. events_at_end (cond v (runs_or (session_logon (x ∷ xs)) (due (x ∷ xs) (suc (length xs))) (has_open_gap (x ∷ xs) (suc (length xs)))) closed)) e ∙ sym (ap (λ v. cond v (variant.Close 5 ∷ []) []) e)
     by_live true e =
         let o = opened_some x xs (length xs) e in
-        ap (λ v. events_at_end (cond v (runs_or (session_comp_ids (x ∷ xs)) (due (x ∷ xs) (suc (length xs))) (has_open_gap (x ∷ xs) (suc (length xs)))) closed)) e
+        ap (λ v. events_at_end (cond v (runs_or (session_logon (x ∷ xs)) (due (x ∷ xs) (suc (length xs))) (has_open_gap (x ∷ xs) (suc (length xs)))) closed)) e
         ∙ ap (λ h. events_at_end (runs_or h (due (x ∷ xs) (suc (length xs))) (has_open_gap (x ∷ xs) (suc (length xs))))) o.1
         ∙ sym (ap (λ v. cond v (variant.Close 5 ∷ []) []) e)
 
@@ -237,7 +268,7 @@ after_messages s (f ∷ fs) = by_view (view f) (λ t. after_messages t fs)
 pub events_law : (fs : List (List ℕ)) → events_said new_session fs ≡ message_events (filter_map view fs)
 events_law fs = events_said_messages new_session fs ∙ says_is (filter_map view fs) (filter_map view fs) 0 refl
 
-pub whole_law : (fs : List (List ℕ)) → events_said new_session fs ++ events_at_end (session_after new_session fs) ≡ message_events_and_close (filter_map view fs)
+pub whole_law : (fs : List (List ℕ)) → events_said new_session fs ++ events_at_end (session_after new_session fs) ≡ whole_of fs
 whole_law fs =
     let ms = filter_map view fs in
     ap (λ t. t ++ events_at_end (session_after new_session fs)) (events_law fs)
