@@ -1,6 +1,6 @@
 -- A rulebook: the tick, the months in order of expiry, and which pairs of them take part in implied trading. What it
 -- lists, and what names it.
-use Rattle.std.specs.Prelude.{◌≡◌, ℕ, zero, suc, ◌<◌, ◌≤◌, ◌+◌, ◌*◌, ℤ, pos, ◌≤ℤ◌, int_rem, Bool, true, unwrap_or, flat_map, ◌&&◌, ◌||◌, nat_le, List, [], ◌∷◌, ◌++◌, map, length, get_or, All, Option, Some, None}
+use Rattle.std.specs.Prelude.{◌≡◌, ℕ, ◌<◌, ◌≤◌, ◌+◌, ◌*◌, ℤ, pos, ◌≤ℤ◌, int_rem, Bool, true, unwrap_or, flat_map, ◌&&◌, ◌||◌, nat_le, List, [], ◌∷◌, ◌++◌, map, length, get_or, All, Option, None}
 use Rattle.std.specs.List.{find, list_all, range_with_len}
 use Rattle.std.specs.Str.{bytes_eq}
 use Rattle.host_base.specs.Ascii.{hyphen_minus}
