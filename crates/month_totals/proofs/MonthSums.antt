@@ -14,7 +14,8 @@ use Rattle.spread_rules.specs.declared.order.Side.TheVariants.{Buy, Sell}
 use Rattle.spread_rulebook.specs.declared.instrument.Instrument.{Instrument}
 use Rattle.spread_rulebook.specs.declared.instrument.Instrument.TheVariants.{Outright, Spread}
 use Rattle.spread_rules.specs.declared.fill.Fill.{Fill}
-use Rattle.spread_rules.specs.Legs.{Leg, is_side, legs_by, legs_in, legs, quantities, money, quantity_in, money_in, other_side}
+use Rattle.spread_rules.specs.code.Cases.{quantity_in, money_in}
+use Rattle.spread_rules.specs.Legs.{Leg, is_side, legs_by, legs_in, legs, quantities, money, other_side}
 use Rattle.month_totals.specs.declared.totals.MonthTotals.{MonthTotals}
 use Rattle.month_totals.specs.Totals.{AreTotals, IsSummable}
 use Rattle.month_totals.specs.code.Sums.{plus_leg, empty_month, with_leg, with_fill, empty_months, IsLegInRange, HasRoom}

@@ -1,7 +1,7 @@
 -- A rulebook: the tick, the months in order of expiry, and which pairs of them take part in implied trading. What it
 -- lists, and what names it.
-use Rattle.std.specs.Prelude.{◌≡◌, ℕ, zero, suc, ◌<◌, ◌≤◌, ◌+◌, ◌*◌, ℤ, pos, ◌≤ℤ◌, int_rem, Bool, true, ◌&&◌, ◌||◌, nat_le, List, [], ◌∷◌, ◌++◌, map, length, get_or, All, Option, Some, None}
-use Rattle.std.specs.List.{find, list_all}
+use Rattle.std.specs.Prelude.{◌≡◌, ℕ, ◌<◌, ◌≤◌, ◌+◌, ◌*◌, ℤ, pos, ◌≤ℤ◌, int_rem, Bool, true, unwrap_or, flat_map, ◌&&◌, ◌||◌, nat_le, List, [], ◌∷◌, ◌++◌, map, length, get_or, All, Option, None}
+use Rattle.std.specs.List.{find, list_all, range_with_len}
 use Rattle.std.specs.Str.{bytes_eq}
 use Rattle.host_base.specs.Ascii.{hyphen_minus}
 use Rattle.host_base.specs.declared.limits.TheConstants as limits
@@ -34,14 +34,9 @@ switch_number near far = near * limits.MAX_MONTHS + far
 abbrev pub switch_of : List (Option Bool) → ℕ → ℕ → Option Bool
 switch_of switches near far = get_or switches (switch_number near far) None
 
--- a pair that was not switched is on
-abbrev pub is_on : Option Bool → Bool
-is_on None = true
-is_on (Some on) = on
-
--- whether the pair of these months takes part in implied trading
+-- whether the pair of these months takes part in implied trading: one that was not switched does
 abbrev pub implied : Rules → ℕ → ℕ → Bool
-implied rules near far = is_on (switch_of rules.switches near far)
+implied rules near far = unwrap_or (switch_of rules.switches near far) true
 
 -- ---- what a rulebook may say
 
@@ -82,23 +77,15 @@ pub record IsRules (rules : Rules) : Type 0 where
 
 -- ---- instruments
 
--- the months below n
-abbrev pub outrights_below : ℕ → List Instrument
-outrights_below zero = []
-outrights_below (suc n) = outrights_below n ++ Outright n ∷ []
-
--- the spreads with this far month and a near one below n
-abbrev pub spreads_to : ℕ → ℕ → List Instrument
-spreads_to far zero = []
-spreads_to far (suc n) = spreads_to far n ++ Spread n far ∷ []
-
-abbrev pub spreads_below : ℕ → List Instrument
-spreads_below zero = []
-spreads_below (suc n) = spreads_below n ++ spreads_to n n
+-- the spreads with this far month: one for each nearer month
+abbrev pub spreads_to : ℕ → List Instrument
+spreads_to far = map (λ near. Spread near far) (range_with_len 0 far)
 
 -- every month, and every pair of months, the near one first
 abbrev pub instruments_of : Rules → List Instrument
-instruments_of rules = outrights_below (month_count rules) ++ spreads_below (month_count rules)
+instruments_of rules =
+    let months = range_with_len 0 (month_count rules) in
+    map Outright months ++ flat_map spreads_to months
 
 -- the same, of one instrument
 abbrev pub IsListed : Rules → Instrument → Type 0
@@ -108,12 +95,10 @@ IsListed rules (Spread i j) = (i < j) × (j < month_count rules)
 -- ---- symbols
 
 -- a month's name; of a spread both names with `-` between, the near one first
-abbrev pub symbol_with : List (List ℕ) → Instrument → List ℕ
-symbol_with names (Outright m) = get_or names m []
-symbol_with names (Spread i j) = get_or names i [] ++ hyphen_minus ∷ get_or names j []
-
 abbrev pub symbol_of : Rules → Instrument → List ℕ
-symbol_of rules i = symbol_with (names_of rules) i
+symbol_of rules (Outright m) = get_or (names_of rules) m []
+symbol_of rules (Spread i j) =
+    get_or (names_of rules) i [] ++ hyphen_minus ∷ get_or (names_of rules) j []
 
 -- the instrument with that symbol
 abbrev pub find_symbol : Rules → List ℕ → Option Instrument

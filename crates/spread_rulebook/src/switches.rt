@@ -1,6 +1,6 @@
 //! Which pairs of months were switched on or off for implied trading.
-ghost use Rattle.std.specs.Prelude.{◌≡◌, ◌<◌, length, set, Some};
-ghost use Rattle.spread_rulebook.specs.Rulebook.{switch_number, switch_of, is_on};
+ghost use Rattle.std.specs.Prelude.{◌≡◌, ◌<◌, length, set, Some, true, unwrap_or};
+ghost use Rattle.spread_rulebook.specs.Rulebook.{switch_number, switch_of};
 ghost use Rattle.spread_rulebook.specs.RulebookText.{no_switches};
 
 use host_base::limits;
@@ -46,7 +46,7 @@ impl Switches {
 
     /// Whether the pair takes part in implied trading: one that was not switched does.
     pub fn is_on(&self, near: u8, far: u8) -> bool
-        ensures { result ≡ is_on (switch_of self.now.rows near far) }
+        ensures { result ≡ unwrap_or (switch_of self.now.rows near far) true }
     {
         match self.said(near, far) {
             Some(on) => on,

@@ -11,9 +11,10 @@ abbrev pub with_quantity : List ℕ → ℕ → Order → Order
 with_quantity id quantity o =
     record o { id = id; quantity = quantity; leaves = quantity - done o }
 
-abbrev pub amended_at : ℕ → List ℕ → ℕ → Order → Order
-amended_at place id quantity o = if o.place == place then with_quantity id quantity o else o
+-- the order of that place is changed so
+abbrev pub with_changed : ℕ → (Order → Order) → List Order → List Order
+with_changed place change xs = map (λ o. if o.place == place then change o else o) xs
 
 -- the order of that place is amended
 abbrev pub amended : ℕ → List ℕ → ℕ → List Order → List Order
-amended place id quantity xs = map (amended_at place id quantity) xs
+amended place id quantity xs = with_changed place (with_quantity id quantity) xs

@@ -1,20 +1,20 @@
 -- A symbol names one instrument at most, and the search through the list of instruments finds it.
-use Rattle.std.proofs.Common.{◌≡◌, ◌≢◌, ℕ, zero, suc, ◌≤◌, ◌<◌, ◌⊎◌, inl, inr, Bool, true, false, cond, eqb, List, [], ◌∷◌, ◌++◌, get_or, Option, Some, None, pos, refl, sym, ap, ◌∙◌, subst, arith, Contains}
+use Rattle.std.proofs.Common.{◌≡◌, ◌≢◌, ℕ, ◌≤◌, ◌<◌, inl, inr, Bool, true, false, cond, List, [], ◌∷◌, ◌++◌, map, get_or, Option, Some, None, pos, refl, sym, ap, ◌∙◌, subst, arith, Contains}
 use Rattle.std.specs.Prelude.{IfSome, IfNone}
-use Rattle.std.specs.List.{find, list_all}
+use Rattle.std.specs.List.{find, list_all, flat_map, range_with_len}
 use Rattle.std.specs.Str.{bytes_eq}
-use Rattle.std.proofs.lemmas.Bool.{eqb-true, true≢false}
-use Rattle.std.proofs.lemmas.Bool.Decides.{nat_tests}
+use Rattle.std.proofs.lemmas.Bool.{true≢false}
 use Rattle.std.proofs.lemmas.List.{get_or-map}
-use Rattle.std.proofs.lemmas.List.Elements.{Contains-append_left, Contains-append_right, Contains-append_cases, Contains-push, Contains-push_cases, All-get_or}
+use Rattle.std.proofs.lemmas.List.FromFn.{length-range_with_len, get_or-range_with_len}
+use Rattle.std.proofs.lemmas.List.Elements.{Contains-append_left, Contains-append_right, Contains-append_cases, All-get_or}
 use Rattle.std.proofs.lemmas.Slice.Eq.{bytes_eq-Decides}
 use Rattle.host_base.specs.Cut.{Lacks}
 use Rattle.spread_rulebook.specs.declared.instrument.Instrument.{Instrument}
 use Rattle.spread_rulebook.specs.declared.instrument.Instrument.TheVariants.{Outright, Spread}
 use Rattle.spread_rulebook.specs.declared.rulebook.Month.{Month}
-use Rattle.spread_rulebook.specs.Rulebook.{Rules, IsRules, IsMonth, is_name_byte, month_count, names_of, outrights_below, spreads_to, spreads_below, instruments_of, IsListed, symbol_of, find_symbol}
+use Rattle.spread_rulebook.specs.Rulebook.{Rules, IsRules, IsMonth, is_name_byte, month_count, names_of, spreads_to, instruments_of, IsListed, symbol_of, find_symbol}
 use Rattle.spread_rulebook.proofs.rulebook_texts.NamesHaveNoSpace.{Lacks-name}
-use Rattle.spread_rulebook.proofs.lists.Membership.{not_in_nil, in_head, in_tail, in_cons_cases}
+use Rattle.spread_rulebook.proofs.lists.Membership.{not_in_nil, in_head, in_tail, in_cons_cases, in_map, from_map, in_flat_map, from_flat_map}
 use Rattle.host_base.proofs.Cuts.{cut_once, not_lacking}
 
 -- ---- search
@@ -41,70 +41,39 @@ not_missed {X} p (y ∷ ys) x c t e = by (p y) (λ d h. not_missed p ys x d t h)
 
 -- ---- the list of instruments
 
-below_or_last : (m n : ℕ) → m < suc n → (m < n) ⊎ (m ≡ n)
-below_or_last m n lt = by (eqb m n) refl
-  where
-    by : (b : Bool) → eqb m n ≡ b → (m < n) ⊎ (m ≡ n)
-    by true e = inr (eqb-true m n e)
-    by false e = inl (grind (arith, nat_tests))
+in_months : (n m : ℕ) → m < n → Contains (range_with_len 0 n) m
+in_months n m lt =
+    let len = length-range_with_len 0 n in
+    let at = get_or-range_with_len 0 n m m lt in
+    (m, omega (arith, lt, len), omega (arith, at))
 
-in_outrights : (n m : ℕ) → m < n → Contains (outrights_below n) (Outright m)
-in_outrights zero m lt = absurd (omega arith)
-in_outrights (suc n) m lt =
-    elim (below_or_last m n lt) [
-      | inl h ↦ Contains-append_left (outrights_below n) (Outright n ∷ []) (Outright m) (in_outrights n m h)
-      | inr e ↦ subst (λ k. Contains (outrights_below n ++ Outright n ∷ []) (Outright k)) (sym e) (Contains-push (outrights_below n) (Outright n))
-    ]
-
-in_spreads_to : (far n m : ℕ) → m < n → Contains (spreads_to far n) (Spread m far)
-in_spreads_to far zero m lt = absurd (omega arith)
-in_spreads_to far (suc n) m lt =
-    elim (below_or_last m n lt) [
-      | inl h ↦ Contains-append_left (spreads_to far n) (Spread n far ∷ []) (Spread m far) (in_spreads_to far n m h)
-      | inr e ↦ subst (λ k. Contains (spreads_to far n ++ Spread n far ∷ []) (Spread k far)) (sym e) (Contains-push (spreads_to far n) (Spread n far))
-    ]
-
-in_spreads : (n m far : ℕ) → m < far → far < n → Contains (spreads_below n) (Spread m far)
-in_spreads zero m far lt below = absurd (omega arith)
-in_spreads (suc n) m far lt below =
-    elim (below_or_last far n below) [
-      | inl h ↦ Contains-append_left (spreads_below n) (spreads_to n n) (Spread m far) (in_spreads n m far lt h)
-      | inr e ↦ subst (λ k. Contains (spreads_below n ++ spreads_to n n) (Spread m k)) (sym e) (Contains-append_right (spreads_below n) (spreads_to n n) (Spread m n) (in_spreads_to n n m (omega arith)))
-    ]
+from_months : (n m : ℕ) → Contains (range_with_len 0 n) m → m < n
+from_months n m c =
+    let len = length-range_with_len 0 n in
+    let lt : c.0 < n = omega (arith, c.1, len) in
+    let at = get_or-range_with_len 0 n c.0 m lt in
+    omega (arith, at, c.2, lt)
 
 pub in_instruments : (rules : Rules) (i : Instrument) → IsListed rules i → Contains (instruments_of rules) i
-in_instruments rules (Outright m) l = Contains-append_left (outrights_below (month_count rules)) (spreads_below (month_count rules)) (Outright m) (in_outrights (month_count rules) m l)
-in_instruments rules (Spread m far) l = Contains-append_right (outrights_below (month_count rules)) (spreads_below (month_count rules)) (Spread m far) (in_spreads (month_count rules) m far l.0 l.1)
-
-from_outrights : (n : ℕ) (i : Instrument) → Contains (outrights_below n) i → (m : ℕ) × (m < n) × (Outright m ≡ i)
-from_outrights zero i c = absurd (not_in_nil i c)
-from_outrights (suc n) i c =
-    elim (Contains-push_cases (outrights_below n) (Outright n) i c) [
-      | inl h ↦ let r = from_outrights n i h in let lt = r.1 in (r.0, omega (arith, lt), r.2)
-      | inr e ↦ (n, omega arith, e)
-    ]
-
-from_spreads_to : (far n : ℕ) (i : Instrument) → Contains (spreads_to far n) i → (m : ℕ) × (m < n) × (Spread m far ≡ i)
-from_spreads_to far zero i c = absurd (not_in_nil i c)
-from_spreads_to far (suc n) i c =
-    elim (Contains-push_cases (spreads_to far n) (Spread n far) i c) [
-      | inl h ↦ let r = from_spreads_to far n i h in let lt = r.1 in (r.0, omega (arith, lt), r.2)
-      | inr e ↦ (n, omega arith, e)
-    ]
-
-from_spreads : (n : ℕ) (i : Instrument) → Contains (spreads_below n) i → (m : ℕ) × (far : ℕ) × (m < far) × (far < n) × (Spread m far ≡ i)
-from_spreads zero i c = absurd (not_in_nil i c)
-from_spreads (suc n) i c =
-    elim (Contains-append_cases (spreads_below n) (spreads_to n n) i c) [
-      | inl h ↦ let r = from_spreads n i h in let lt = r.3 in (r.0, r.1, r.2, omega (arith, lt), r.4)
-      | inr h ↦ let r = from_spreads_to n n i h in (r.0, n, r.1, omega arith, r.2)
-    ]
+in_instruments rules (Outright m) l =
+    let months = range_with_len 0 (month_count rules) in
+    Contains-append_left (map Outright months) (flat_map spreads_to months) (Outright m) (in_map (λ (k : ℕ). Outright k) months m (in_months (month_count rules) m l))
+in_instruments rules (Spread m far) l =
+    let months = range_with_len 0 (month_count rules) in
+    Contains-append_right (map Outright months) (flat_map spreads_to months) (Spread m far)
+    (in_flat_map spreads_to months far (Spread m far) (in_months (month_count rules) far l.1) (in_map (λ (near : ℕ). Spread near far) (range_with_len 0 far) m (in_months far m l.0)))
 
 pub from_instruments : (rules : Rules) (i : Instrument) → Contains (instruments_of rules) i → IsListed rules i
 from_instruments rules i c =
-    elim (Contains-append_cases (outrights_below (month_count rules)) (spreads_below (month_count rules)) i c) [
-      | inl h ↦ let r = from_outrights (month_count rules) i h in subst (IsListed rules) r.2 r.1
-      | inr h ↦ let r = from_spreads (month_count rules) i h in subst (IsListed rules) r.4 (r.2, r.3)
+    let months = range_with_len 0 (month_count rules) in
+    elim (Contains-append_cases (map Outright months) (flat_map spreads_to months) i c) [
+      | inl h ↦
+          let r = from_map (λ (k : ℕ). Outright k) months i h in
+          subst (IsListed rules) r.2 (from_months (month_count rules) r.0 r.1)
+      | inr h ↦
+          let r = from_flat_map spreads_to months i h in
+          let s = from_map (λ (near : ℕ). Spread near r.0) (range_with_len 0 r.0) i r.2 in
+          subst (IsListed rules) s.2 (from_months r.0 s.0 s.1, from_months (month_count rules) r.0 r.1)
     ]
 
 -- ---- symbols

@@ -1,8 +1,8 @@
 -- What a text without lines for pairs meant, it means.
 use Rattle.std.proofs.Common.{◌≡◌, ◌≢◌, ℕ, zero, suc, inl, inr, Bool, true, List, ◌∷◌, ◌++◌, get_or, replicate, codes, Option, None, Result, Ok, Err, refl, sym, ap, ◌∙◌, arith}
-use Rattle.std.specs.Prelude.{◌⊎◌}
+use Rattle.std.specs.Prelude.{◌⊎◌, unwrap_or}
 use Rattle.std.proofs.lemmas.List.{append_assoc}
-use Rattle.spread_rulebook.specs.Rulebook.{implied, is_on, switch_number}
+use Rattle.spread_rulebook.specs.Rulebook.{implied, switch_number}
 use Rattle.spread_rulebook.specs.RulebookText.{SoFar, no_switches, LineGives, skipped, tick, no_tick, no_line, twice, month, EndGives, none, some, Reads, last, last_fault, more, fault, ReadsRulebook}
 use Rattle.spread_rulebook.specs.FirstRulebookText.{FirstRules, HasNoPairLine, with_all_on, answer_with_all_on, ReadsRulebook as first_ReadsRulebook, SoFar as FirstSoFar, LineGives as FirstGives, skipped as first_skipped, tick as first_tick, no_tick as first_no_tick, no_month as first_no_month, too_many as first_too_many, twice as first_twice, month as first_month, EndGives as FirstEnds, none as first_none, some as first_some, Reads as FirstReads, last as first_last, last_fault as first_last_fault, more as first_more, fault as first_fault}
 use Rattle.spread_rulebook.specs.declared.rule_fault.RuleFault.{RuleFault}
@@ -91,4 +91,4 @@ in_replicated (suc n) zero x = refl
 in_replicated (suc n) (suc k) x = in_replicated n k x
 
 pub all_are_on : (r : FirstRules) (near far : ℕ) → implied (with_all_on r) near far ≡ true
-all_are_on r near far = ap is_on (in_replicated 576 (switch_number near far) None)
+all_are_on r near far = ap (λ (o : Option Bool). unwrap_or o true) (in_replicated 576 (switch_number near far) None)

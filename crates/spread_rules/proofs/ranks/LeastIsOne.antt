@@ -69,7 +69,7 @@ module _ (on : Pairs) where
   cost_same Buy p q h = h
   cost_same Sell p q h = omega (arith, ints)
 
-  same_counterparty : (xs : List Order) (side : Side) (x y : ℤ) (p q : Counterparty) → PlacesDiffer xs → AllStandIn xs p → AllStandIn xs q → SameRank (rank_at side x p) (rank_at side y q) → (x ≡ y) × (p ≡ q)
+  same_counterparty : (xs : List Order) (side : Side) (x y : ℤ) (p q : Counterparty) → PlacesDiffer xs → AllStandIn xs p → AllStandIn xs q → SameRank (rank_at (cost side x) p) (rank_at (cost side y) q) → (x ≡ y) × (p ≡ q)
   same_counterparty xs side x y (Direct a) (Direct b) d ca cb r = (cost_same side x y r.cost, ap (λ (o : Order). Direct o) (d a b ca cb r.first))
   same_counterparty xs side x y (Direct a) (Implied b c) d ca cb r = let no : false ≡ true = r.implied in cc
   same_counterparty xs side x y (Implied a b) (Direct c) d ca cb r = let no : true ≡ false = r.implied in cc

@@ -4,7 +4,8 @@ use Rattle.spread_rules.specs.declared.order.Order.{Order}
 use Rattle.spread_rulebook.specs.declared.instrument.Instrument.{Instrument}
 use Rattle.spread_rulebook.specs.declared.instrument.Instrument.TheVariants.{Outright, Spread}
 use Rattle.spread_rules.specs.declared.candidate.Counterparty.TheVariants.{Direct, Implied}
-use Rattle.spread_rules.specs.Candidates.{step, Pairs, all_on, takes_part, offered_if, implied_price, price_of, candidate_at, candidate_of}
+use Rattle.spread_rules.specs.code.Cases.{step, offered_if}
+use Rattle.spread_rules.specs.Candidates.{Pairs, all_on, takes_part, implied_price, price_of, candidate_at, candidate_of}
 use Rattle.std.specs.Prelude.{ℤ, List, [], ◌∷◌, map, fold}
 use Rattle.spread_rules.specs.declared.candidate.Candidate.{Candidate}
 
