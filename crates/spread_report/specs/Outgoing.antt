@@ -53,10 +53,9 @@ after_step out (numbered kind fields) =
     if is_some out.comp_ids then record out { next = out.next + 1 } else out
 after_step out (gap_fill first last) = out
 
--- it sends a message that would bear a number above the greatest MsgSeqNum
+-- the message that it sends would bear a number above the greatest MsgSeqNum
 abbrev pub is_above_limit : OutboundSession → OutgoingStep → Bool
-is_above_limit out (numbered kind fields) =
-    is_some out.comp_ids && nat_lt MAX_MSG_SEQ_NUM out.next
+is_above_limit out (numbered kind fields) = is_some out.comp_ids && nat_lt MAX_MSG_SEQ_NUM out.next
 is_above_limit out _ = false
 
 -- ---- steps one after another
@@ -81,12 +80,12 @@ pub record AppliedEntry : Type 0 where
   pub outcome : Outcome
   pub fills : List Fill
 
--- its messages, to whichever session
+-- what it sends, to whichever session
 abbrev pub entry_messages : Rules → AppliedEntry → List AddressedStep
 entry_messages rules w =
     event_messages rules w.place w.entry.session w.entry.event w.outcome w.fills
 
--- those of session s
+-- those of these steps that are of session s
 abbrev pub steps_of : ℕ → List AddressedStep → List OutgoingStep
 steps_of s ms = map (λ (m : AddressedStep). m.step) (filter (λ (m : AddressedStep). m.to == s) ms)
 

@@ -1,5 +1,5 @@
 -- Every message of an entry in range is in range.
-use Rattle.std.proofs.Common.{◌≡◌, ◌≢◌, ℕ, ◌+◌, ◌*◌, ◌<◌, ◌≤◌, ◌^◌, ◌==◌, true, false, ◌&&◌, if◌then◌else◌, ◌||◌, List, [], ◌∷◌, ◌++◌, length, get_or, codes, refl, arith, length-append, Option, Some, None}
+use Rattle.std.proofs.Common.{◌≡◌, ◌≢◌, ℕ, ◌+◌, ◌*◌, ◌<◌, ◌≤◌, ◌^◌, ◌==◌, true, false, ◌&&◌, if◌then◌else◌, ◌||◌, List, [], ◌∷◌, ◌++◌, length, get_or, codes, refl, arith, Option, Some, None}
 use Rattle.std.specs.Prelude.{ℤ, unsigned_abs, nat_le, option_map, option_to_list}
 use Rattle.std.specs.List.{AllByRecursion, cons_option}
 use Rattle.std.proofs.lemmas.Bool.{leb-true, and_parts}
@@ -22,7 +22,7 @@ use Rattle.spread_rules.specs.declared.outcome.Outcome.{Outcome}
 use Rattle.spread_rules.specs.declared.outcome.Outcome.TheVariants.{Rested, Filled, Ended, Cancelled, Replaced, Refused, CancelRefused, Session}
 use Rattle.spread_report.specs.EntryMessages.{OutgoingStep, logged_on, numbered, gap_fill, AddressedStep, ReportedTrade, ExecutionReport, report_fields, numbered_message, report, fill_report, fill_reports, fills_reports, accepted_messages, new_messages, order_cancel_reject, cancel_messages, replace_messages, close_messages, event_messages}
 use Rattle.spread_report.specs.code.Reports.{new_report, rejected_report, ended_report, cancelled_report, replaced_report, report_count, reports_of, place_field}
-use Rattle.spread_report.proofs.messages.OneFillMore.{fills_reports-cons, reports_length, index_behind}
+use Rattle.spread_report.proofs.messages.OneFillMore.{fills_reports-cons, index_behind}
 use Rattle.report_bodies.specs.Fields.{text_field, number_field, price_field, pair_field}
 use Rattle.report_bodies.specs.Codes.{side_code, ord_status_code, multi_leg_code}
 use Rattle.report_bodies.specs.declared.codes.OrdStatus.{OrdStatus}

@@ -1,5 +1,5 @@
 -- Messages, and more messages after them.
-use Rattle.std.proofs.Common.{◌≡◌, ℕ, ◌≤◌, ◌==◌, Bool, true, false, List, [], ◌∷◌, ◌++◌, ◌||◌, length, take, subst, refl, sym, ap, ◌∙◌, arith, append_assoc, length-append, Ok, Err, Result}
+use Rattle.std.proofs.Common.{◌≡◌, ℕ, ◌≤◌, Bool, true, false, List, ◌++◌, ◌||◌, length, take, subst, refl, sym, ap, ◌∙◌, arith, append_assoc, length-append, Ok, Err, Result}
 use Rattle.std.proofs.lemmas.List.Folds.{concat-append}
 use Rattle.std.proofs.Math.Seq.{take-append_seam}
 use Rattle.std.proofs.lemmas.List.{take-take}

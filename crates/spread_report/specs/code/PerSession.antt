@@ -9,7 +9,6 @@ use Rattle.spread_rules.specs.declared.event.Event.{Event}
 use Rattle.spread_rules.specs.declared.event.Event.TheVariants.{Logon}
 use Rattle.spread_rules.specs.declared.outcome.Outcome.{Outcome}
 use Rattle.spread_rulebook.specs.Rulebook.{Rules}
-use Rattle.spread_report.specs.declared.outbound.CompIds.{CompIds}
 use Rattle.spread_report.specs.declared.outbound.OutboundSession.{OutboundSession}
 use Rattle.spread_report.specs.EntryMessages.{OutgoingStep, logged_on, AddressedStep, numbered_message, event_messages}
 use Rattle.spread_report.specs.Outgoing.{AppliedEntry, step_texts, steps_texts, after_step, pass_limit, steps_of, session_steps, entry_messages, outbound_before_logon}
