@@ -5,7 +5,8 @@
 ghost use Rattle.std.specs.Prelude.{◌≡◌, ◌<◌, option_map, IfSome};
 ghost use Rattle.host_base.specs.declared.limits.TheConstants.{SESSIONS};
 ghost use Rattle.fix_frames.specs.Texts.{soh_for_bar, with_soh};
-ghost use Rattle.day_lines.specs.LineText.{is_passed_over, session_line, day_line};
+ghost use Rattle.day_lines.specs.LineText.{is_passed_over, session_line};
+ghost use Rattle.day_lines.specs.code.OneByOne.{day_line};
 ghost use Rattle.day_lines.specs.declared.lines.LinesFault.TheVariants.{NoMemory};
 
 use host_base::bytes::SOH;
