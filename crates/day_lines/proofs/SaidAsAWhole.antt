@@ -4,8 +4,8 @@ use Rattle.std.specs.Prelude.{is_none, filter_map}
 use Rattle.std.specs.List.{list_any, position_or_len, cons_option}
 use Rattle.std.proofs.lemmas.Bool.Decides.{nat_tests}
 use Rattle.fix_frames.specs.Texts.{with_soh}
-use Rattle.day_lines.specs.LineText.{DayLine, is_passed_over, session_line, is_bad, lines_of, day_lines_of}
-use Rattle.day_lines.specs.code.OneByOne.{prepend, line_and_later, one_line, session_lines, lines_said}
+use Rattle.day_lines.specs.LineText.{DayLine, is_passed_over, session_line, is_bad, day_lines_of}
+use Rattle.day_lines.specs.code.OneByOne.{lines_of, prepend, line_and_later, one_line, session_lines, lines_said}
 
 -- the lines of a text, or the number of its first bad line
 abbrev answer : Bool → ℕ → List DayLine → Result (List DayLine) ℕ
