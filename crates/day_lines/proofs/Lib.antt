@@ -1,5 +1,6 @@
 pub mod LinesReadInTurn
 pub mod LineSays
+pub mod LineOfASession
 pub mod SaidAsAWhole
 pub mod StreamRead
 pub mod Closings
