@@ -1,6 +1,9 @@
 pub mod LinesReadInTurn
 pub mod LineSays
+pub mod LineOfASession
+pub mod SaidAsAWhole
 pub mod StreamRead
+pub mod Closings
 pub mod LineFed
 pub mod LanesOfLines
 pub mod PiecesReadInTurn

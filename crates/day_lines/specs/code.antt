@@ -1,2 +1,3 @@
+pub mod OneByOne
 pub mod Lanes
 pub mod PiecesRead

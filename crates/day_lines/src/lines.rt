@@ -5,7 +5,8 @@
 ghost use Rattle.std.specs.Prelude.{◌≡◌, ◌<◌, option_map, IfSome};
 ghost use Rattle.host_base.specs.declared.limits.TheConstants.{SESSIONS};
 ghost use Rattle.fix_frames.specs.Texts.{soh_for_bar, with_soh};
-ghost use Rattle.day_lines.specs.LineText.{is_passed_over, session_line, day_line};
+ghost use Rattle.day_lines.specs.LineText.{is_passed_over};
+ghost use Rattle.day_lines.specs.code.OneByOne.{day_line, line_by_bytes};
 ghost use Rattle.day_lines.specs.declared.lines.LinesFault.TheVariants.{NoMemory};
 
 use host_base::bytes::SOH;
@@ -47,7 +48,7 @@ pub fn is_skipped(line: &[u8]) -> bool
 
 /// The session and the bytes of a line.
 pub fn read_line(line: &[u8]) -> Option<Line<'_>>
-    ensures line { option_map (λ l. day_line l.session l.bytes.now) result ≡ session_line line.now }
+    ensures line { option_map (λ l. day_line l.session l.bytes.now) result ≡ line_by_bytes line.now }
     ensures session { IfSome result (λ l. l.session < SESSIONS) }
 {
     if line.len() < 2 {

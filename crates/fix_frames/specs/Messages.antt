@@ -1,5 +1,6 @@
 -- What a message says: a message is a lawful frame, and its fields are those of its body.
-use Rattle.std.specs.Prelude.{ℕ, ◌==◌, nat_le, if◌then◌else◌, List, [], Option, Some, None, option_map, option_and_then, unwrap_or, find, slice_get}
+use Rattle.std.specs.Prelude.{ℕ, ◌==◌, nat_le, List, [], Option, option_map, option_and_then, unwrap_or, find, slice_get}
+use Rattle.std.specs.Bool.{then_some}
 use Rattle.std.specs.Result.{result_ok}
 use Rattle.fix_frames.specs.declared.tags.TheConstants as tags
 use Rattle.fix_frames.specs.Fields.{TagValue, fields_of_body}
@@ -26,8 +27,7 @@ given_number tag message = option_and_then (λ text. result_ok (number_in text))
 -- MsgSeqNum, where it can be read and is at least 1
 abbrev pub number : List ℕ → Option ℕ
 number message =
-    option_and_then (λ n. if nat_le 1 n then Some n else None)
-    (given_number tags.MSG_SEQ_NUM message)
+    option_and_then (λ n. then_some (nat_le 1 n) n) (given_number tags.MSG_SEQ_NUM message)
 
 -- ---- words of the code alone
 

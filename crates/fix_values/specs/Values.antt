@@ -25,8 +25,7 @@ number_in text = if is_number text then within MAX_NUMBER (number_of text) else 
 abbrev pub quantity_in : List ℕ → Result ℕ Unread
 quantity_in text =
     let whole = before_first (λ b. b == point) text in
-    let part = after_first (λ b. b == point) text in
-    if is_number whole && list_all (λ b. b == digit_zero) part
+    if is_number whole && list_all (λ b. b == digit_zero) (after_first (λ b. b == point) text)
     then within MAX_NUMBER (number_of whole)
     else Err Format
 

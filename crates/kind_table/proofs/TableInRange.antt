@@ -1,6 +1,6 @@
 -- What the table gives is in range, and is neither a Logon nor a Close.
 use Rattle.std.proofs.Common.{◌≡◌, ℕ, ◌+◌, ◌*◌, ◌<◌, ◌≤◌, Bool, true, false, ◌&&◌, ◌||◌, not, List, [], ◌∷◌, ◌++◌, Option, Some, None, length, take, drop, refl, ap, ◌∙◌, arith, inl, inr, ◌⊎◌}
-use Rattle.std.specs.Prelude.{pos, neg_ℤ, nat_le, nat_lt, ◌==◌, if◌then◌else◌, Result, Ok, Err, ok_or}
+use Rattle.std.specs.Prelude.{pos, neg_ℤ, nat_le, nat_lt, ◌==◌, if◌then◌else◌, Result, Ok, Err, ok_or, is_none}
 use Rattle.std.specs.List.{list_any, list_all, before_first, after_first}
 use Rattle.std.proofs.lemmas.Bool.{false≢true}
 use Rattle.std.proofs.lemmas.Bool.Decides.{nat_tests}
@@ -17,7 +17,7 @@ use Rattle.fix_values.specs.Values.{is_number, within, number_in, quantity_in, h
 use Rattle.fix_frames.specs.Messages.{get, kind}
 use Rattle.kind_table.specs.declared.table.Meaning.{Meaning}
 use Rattle.kind_table.specs.declared.table.Meaning.TheVariants.{Nothing, Gives, Fills}
-use Rattle.kind_table.specs.Table.{◌>>=◌, required_text, value_at, id_at, or_reason, read_at, one_of, choice_at, allowed_if, side_at, time_in_force_of, gap_fill_flag_of, passed_over, test_request, resend_request, sequence_reset, new_order, cancel_request, replace_request, meaning_of_kind, meaning_of_kind_text, meaning_of_message}
+use Rattle.kind_table.specs.Table.{◌>>=◌, required_text, value_at, id_at, or_reason, read_at, one_of, choice_at, choice_or, allowed_if, side_at, test_request, resend_request, sequence_reset, new_order, cancel_request, replace_request, meaning_of_kind, meaning_of_kind_text, meaning_of_message}
 
 -- a result of that kind, or a reason to reject
 abbrev pub Holds : {A : Type 0} → (A → Type 0) → Result A ℕ → Type 0
@@ -143,19 +143,12 @@ allowed_holds false n = refl
 side_holds : (m : List ℕ) → Holds Any (side_at m)
 side_holds m = chained Any Any (choice_at (49 ∷ 50 ∷ []) 54 m) _ (choice_holds (49 ∷ 50 ∷ []) 54 m) (λ b h. tt)
 
-time_in_force_holds : (o : Option (List ℕ)) → Holds Any (time_in_force_of o)
-time_in_force_holds None = tt
-time_in_force_holds (Some text) =
-    chained Any Any (required_text (Some text)) _ (required_text_holds (Some text)) (λ t h.
-    chained Any Any (one_of (48 ∷ 51 ∷ []) t) _ (one_of_holds (48 ∷ 51 ∷ []) t) (λ b k. tt))
-
-gap_fill_flag_holds : (o : Option (List ℕ)) → Holds Any (gap_fill_flag_of o)
-gap_fill_flag_holds None = refl
-gap_fill_flag_holds (Some text) = chained Any Any (required_text (Some text)) _ (required_text_holds (Some text)) (λ t h. one_of_holds (89 ∷ []) t)
+choice_or_holds : (missing : Result ℕ ℕ) (allowed : List ℕ) (tag : ℕ) (m : List ℕ) → Holds Any missing → Holds Any (choice_or missing allowed tag m)
+choice_or_holds missing allowed tag m h = either Any (is_none (get tag m)) missing (choice_at allowed tag m) h (choice_holds allowed tag m)
 
 -- ---- one kind
 
-passed_over_holds : (m : List ℕ) (n : ℕ) → Holds (FitsMeaning n) (passed_over m)
+passed_over_holds : (m : List ℕ) (n : ℕ) → Holds (FitsMeaning n) (value_at 52 m >>= λ stamp. Ok Nothing)
 passed_over_holds m n = chained Any (FitsMeaning n) (value_at 52 m) _ (value_holds 52 m) (λ stamp h. tt)
 
 test_request_holds : (m : List ℕ) (n : ℕ) → Holds (FitsMeaning n) (test_request m)
@@ -192,7 +185,7 @@ sequence_reset_holds m n =
     chained Any (FitsMeaning n) (value_at 52 m) _ (value_holds 52 m) (λ stamp h.
     chained IsShort (FitsMeaning n) (read_at number_in 36 m) _ (number_holds 36 m) (λ new short.
     chained (λ x. (x ≡ new) × (nat_lt n new ≡ true)) (FitsMeaning n) (allowed_if (nat_lt n new) new) _ (allowed_holds (nat_lt n new) new) (λ next above.
-    chained Any (FitsMeaning n) (gap_fill_flag_of (get 123 m)) _ (gap_fill_flag_holds (get 123 m)) (λ flag set.
+    chained Any (FitsMeaning n) (choice_or (Err 5) (89 ∷ []) 123 m) _ (choice_or_holds (Err 5) (89 ∷ []) 123 m refl) (λ flag set.
     let over : n < new = grind (arith, nat_tests) in
     let result : n < next = omega (arith, over, above.0) in result))))
 
@@ -208,7 +201,7 @@ new_order_holds m =
     chained IsShort FitsTicket (read_at quantity_in 38 m) _ (quantity_holds 38 m) (λ quantity short.
     chained Any FitsTicket (choice_at (50 ∷ []) 40 m) _ (choice_holds (50 ∷ []) 40 m) (λ type e.
     chained IsOrderPrice FitsTicket (read_at price_in 44 m) _ (price_holds 44 m) (λ price is_price.
-    chained Any FitsTicket (time_in_force_of (get 59 m)) _ (time_in_force_holds (get 59 m)) (λ immediate f.
+    chained Any FitsTicket (choice_or (Ok 48) (48 ∷ 51 ∷ []) 59 m) _ (choice_or_holds (Ok 48) (48 ∷ 51 ∷ []) 59 m tt) (λ time_in_force f.
     record { id = is_id; symbol = is_symbol; quantity = short; price = is_price }))))))))))
 
 cancel_request_holds : (m : List ℕ) (n : ℕ) → Holds (FitsMeaning n) (cancel_request m)

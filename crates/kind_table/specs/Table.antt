@@ -1,5 +1,5 @@
 -- What a message of each kind means: its tags in order, or the reason of the first that is at fault.
-use Rattle.std.specs.Prelude.{ℕ, ℤ, Bool, false, ◌||◌, ◌==◌, nat_le, nat_lt, length, List, [], ◌∷◌, Option, Some, None, Result, Ok, Err, ok_or, if◌then◌else◌, codes}
+use Rattle.std.specs.Prelude.{ℕ, Bool, ◌||◌, ◌==◌, nat_le, nat_lt, length, List, [], ◌∷◌, Option, Some, None, is_none, Result, Ok, Err, ok_or, if◌then◌else◌, codes}
 use Rattle.std.specs.List.{list_any}
 use Rattle.host_base.specs.Ids.{id_of}
 use Rattle.host_base.specs.declared.limits.TheConstants.{FIRST_MSG_SEQ_NUM}
@@ -62,29 +62,18 @@ one_of allowed _ = Err reject.VALUE_OUT_OF_RANGE
 abbrev pub choice_at : List ℕ → ℕ → List ℕ → Result ℕ ℕ
 choice_at allowed tag message = value_at tag message >>= λ text. one_of allowed text
 
+-- the same, and another answer where the tag is missing
+abbrev pub choice_or : Result ℕ ℕ → List ℕ → ℕ → List ℕ → Result ℕ ℕ
+choice_or missing allowed tag message =
+    if is_none (get tag message) then missing else choice_at allowed tag message
+
 -- Side
 abbrev pub side_at : List ℕ → Result Side ℕ
 side_at message =
     choice_at (codes "12") tags.SIDE message >>= λ b.
     Ok (if b == field_values.SIDE_BUY then Buy else Sell)
 
--- TimeInForce: whether an order is immediate, a day order where the tag is missing
-abbrev pub time_in_force_of : Option (List ℕ) → Result Bool ℕ
-time_in_force_of None = Ok false
-time_in_force_of (Some text) =
-    required_text (Some text) >>= λ t. one_of (codes "03") t >>= λ b.
-    Ok (b == field_values.IMMEDIATE_OR_CANCEL)
-
--- GapFillFlag: a gap fill has to say so; a missing tag is a value that isn't allowed
-abbrev pub gap_fill_flag_of : Option (List ℕ) → Result ℕ ℕ
-gap_fill_flag_of None = Err reject.VALUE_OUT_OF_RANGE
-gap_fill_flag_of (Some text) = required_text (Some text) >>= λ t. one_of (codes "Y") t
-
 -- ---- one kind
-
--- a Heartbeat, and a Reject
-abbrev pub passed_over : List ℕ → Result Meaning ℕ
-passed_over m = value_at tags.SENDING_TIME m >>= λ stamp. Ok Nothing
 
 unfoldable pub test_request : List ℕ → Result Meaning ℕ
 test_request m = do
@@ -108,7 +97,8 @@ sequence_reset m n = do
   stamp ← value_at tags.SENDING_TIME m
   new ← read_at number_in tags.NEW_SEQ_NO m
   next ← allowed_if (nat_lt n new) new
-  flag ← gap_fill_flag_of (get tags.GAP_FILL_FLAG m)
+  -- a gap fill has to say so: without the tag it isn't one
+  flag ← choice_or (Err reject.VALUE_OUT_OF_RANGE) (codes "Y") tags.GAP_FILL_FLAG m
   Ok (Fills next)
 
 unfoldable pub new_order : List ℕ → Result Ticket ℕ
@@ -122,14 +112,15 @@ new_order m = do
   quantity ← read_at quantity_in tags.ORDER_QTY m
   type ← choice_at (codes "2") tags.ORD_TYPE m
   price ← read_at price_in tags.PRICE m
-  immediate ← time_in_force_of (get tags.TIME_IN_FORCE m)
+  -- a day order, where the tag is missing
+  time_in_force ← choice_or (Ok field_values.DAY) (codes "03") tags.TIME_IN_FORCE m
   Ok (record {
     id = id;
     symbol = symbol;
     side = side;
     quantity = quantity;
     price = price;
-    immediate = immediate;
+    immediate = time_in_force == field_values.IMMEDIATE_OR_CANCEL;
   })
 
 unfoldable pub cancel_request : List ℕ → Result Meaning ℕ
@@ -155,7 +146,8 @@ replace_request m = do
 -- an accepted message of a kind of one byte
 abbrev pub meaning_of_kind : ℕ → List ℕ → ℕ → Result Meaning ℕ
 meaning_of_kind k m n =
-    if (k == msg_types.HEARTBEAT) || (k == msg_types.REJECT) then passed_over m
+    if (k == msg_types.HEARTBEAT) || (k == msg_types.REJECT)
+    then (value_at tags.SENDING_TIME m >>= λ stamp. Ok Nothing)
     else (if k == msg_types.TEST_REQUEST then test_request m
     else (if k == msg_types.RESEND_REQUEST then resend_request m
     else (if k == msg_types.SEQUENCE_RESET then sequence_reset m n

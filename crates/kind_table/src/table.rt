@@ -1,14 +1,14 @@
 //! The kinds of messages with their tags, and what an accepted message of each kind means.
 //!
 //! The tags of a kind are read in their order. The first fault is the SessionRejectReason of the Reject.
-ghost use Rattle.std.specs.Prelude.{◌≡◌, Result, ◌==◌, IfOk, true};
+ghost use Rattle.std.specs.Prelude.{◌≡◌, Result, Err, ◌==◌, IfOk, true, codes};
 ghost use Rattle.std.specs.List.{list_any};
 ghost use Rattle.host_base.specs.Ids.{is_id};
 ghost use Rattle.fix_values.specs.Values.{number_in, quantity_in, price_in};
-ghost use Rattle.fix_frames.specs.Messages.{get};
 ghost use Rattle.fix_frames.specs.declared.tags.TheConstants as tags;
-ghost use Rattle.kind_table.specs.Table.{value_at, id_at, read_at, choice_at, one_of, side_at, time_in_force_of, gap_fill_flag_of, passed_over, test_request, resend_request, sequence_reset, new_order, cancel_request, replace_request, meaning_of_kind, meaning_of_message, reason_of};
-ghost use Rattle.kind_table.specs.code.Shown.{bytes_behind, ticket_of, ticket_behind};
+ghost use Rattle.spread_rules.specs.declared.codes.session_reject_reason.TheConstants as session_reject_reason;
+ghost use Rattle.kind_table.specs.Table.{value_at, id_at, read_at, choice_at, choice_or, one_of, side_at, test_request, resend_request, sequence_reset, new_order, cancel_request, replace_request, meaning_of_kind, meaning_of_message, reason_of};
+ghost use Rattle.kind_table.specs.code.Shown.{bytes_behind, ticket_of, ticket_behind, passed_over, is_immediate_at};
 
 use fix_wire::{
     Message, Unread, field_values, msg_types, read_number, read_price, read_quantity, tags,
@@ -129,7 +129,7 @@ fn side_at(message: &Message) -> Result<Side, u8>
 
 /// TimeInForce: whether an order is immediate. Without the tag it is a day order.
 fn is_immediate_at(message: &Message) -> Result<bool, u8>
-    ensures { result ≡ time_in_force_of (get tags.TIME_IN_FORCE message.now.frame.now) }
+    ensures { result ≡ is_immediate_at message.now.frame.now }
 {
     match message.get(tags::TIME_IN_FORCE) {
         None => Ok(false),
@@ -140,7 +140,8 @@ fn is_immediate_at(message: &Message) -> Result<bool, u8>
 
 /// GapFillFlag: a gap fill has to say that it is one.
 fn gap_fill_flag_at(message: &Message) -> Result<u8, u8>
-    ensures { result ≡ gap_fill_flag_of (get tags.GAP_FILL_FLAG message.now.frame.now) }
+    ensures { result ≡ choice_or (Err session_reject_reason.VALUE_OUT_OF_RANGE) (codes "Y")
+        tags.GAP_FILL_FLAG message.now.frame.now }
 {
     match message.get(tags::GAP_FILL_FLAG) {
         None => Err(session_reject_reason::VALUE_OUT_OF_RANGE),

@@ -1,9 +1,14 @@
--- The bytes behind references in a result.
+-- The bytes behind references in a result, and what functions of the code answer on the way.
 -- Words of the code alone.
-use Rattle.std.specs.Prelude.{ℕ, List, Result, Ok, Err}
+use Rattle.std.specs.Prelude.{ℕ, Bool, ◌==◌, List, Result, Ok, Err, codes}
 use Rattle.std.specs.Borrow.{Bor}
 use Rattle.spread_rules.specs.declared.event.Ticket.{Ticket}
+use Rattle.fix_frames.specs.declared.field_values.TheConstants as field_values
+use Rattle.fix_frames.specs.declared.tags.TheConstants as tags
+use Rattle.kind_table.specs.declared.table.Meaning.{Meaning}
+use Rattle.kind_table.specs.declared.table.Meaning.TheVariants.{Nothing}
 use Rattle.kind_table.specs.declared.table.OrderTexts.{OrderTexts}
+use Rattle.kind_table.specs.Table.{◌>>=◌, value_at, choice_or}
 
 abbrev pub bytes_behind : Result (Bor (List ℕ)) ℕ → Result (List ℕ) ℕ
 bytes_behind (Ok x) = Ok x.now
@@ -22,3 +27,13 @@ ticket_of o = record {
 abbrev pub ticket_behind : Result OrderTexts ℕ → Result Ticket ℕ
 ticket_behind (Ok o) = Ok (ticket_of o)
 ticket_behind (Err e) = Err e
+
+-- a Heartbeat, and a Reject
+abbrev pub passed_over : List ℕ → Result Meaning ℕ
+passed_over m = value_at tags.SENDING_TIME m >>= λ stamp. Ok Nothing
+
+-- whether an order is immediate
+abbrev pub is_immediate_at : List ℕ → Result Bool ℕ
+is_immediate_at m =
+    choice_or (Ok field_values.DAY) (codes "03") tags.TIME_IN_FORCE m >>= λ b.
+    Ok (b == field_values.IMMEDIATE_OR_CANCEL)

@@ -1,6 +1,7 @@
 -- What a session says is in range and in order.
 use Rattle.std.proofs.Common.{◌≡◌, ℕ, ◌<◌, ◌≤◌, Bool, true, false, ◌&&◌, not, List, [], ◌∷◌, ◌++◌, Option, Some, None, option_map, refl, sym, ap, ◌∙◌, subst, arith}
 use Rattle.std.specs.Prelude.{nat_le, nat_lt, if◌then◌else◌, Result, Ok, Err, option_and_then}
+use Rattle.std.specs.Bool.{then_some}
 use Rattle.std.specs.Result.{result_ok}
 use Rattle.std.specs.List.{All, cons_option}
 use Rattle.std.proofs.lemmas.Bool.Decides.{nat_tests}
@@ -110,14 +111,14 @@ view_with_fair m n num = record {
   logon = logon_holds m n;
 }
 
-at_least_one_holds : (n : ℕ) → n ≤ 999999999 → May IsNumber (if nat_le 1 n then Some n else None)
+at_least_one_holds : (n : ℕ) → n ≤ 999999999 → May IsNumber (then_some (nat_le 1 n) n)
 at_least_one_holds n h = by_test (nat_le 1 n) refl
   where
-    by_test : (v : Bool) → nat_le 1 n ≡ v → May IsNumber (if v then Some n else None)
+    by_test : (v : Bool) → nat_le 1 n ≡ v → May IsNumber (then_some v n)
     by_test true e = (grind (arith, nat_tests), h)
     by_test false e = tt
 
-pub number_holds : (o : Option (List ℕ)) → May IsNumber (option_and_then (λ n. if nat_le 1 n then Some n else None) (option_and_then (λ text. result_ok (number_in text)) o))
+pub number_holds : (o : Option (List ℕ)) → May IsNumber (option_and_then (λ n. then_some (nat_le 1 n) n) (option_and_then (λ text. result_ok (number_in text)) o))
 number_holds None = tt
 number_holds (Some text) = chained (λ x. x ≤ 999999999) IsNumber (result_ok (number_in text)) _ (read_holds text) at_least_one_holds
 
