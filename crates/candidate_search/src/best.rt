@@ -1,7 +1,8 @@
 //! The least candidate, over fronts alone.
 ghost use Rattle.std.specs.Prelude.{◌≡◌, ◌<◌, All, IfSome, None, true, false};
 ghost use Rattle.host_base.specs.declared.limits.TheConstants.{MAX_MONTHS};
-ghost use Rattle.spread_rules.specs.Candidates.{Pairs, all_on, takes_part, candidate_of, better_of, cost, HasOrderPrice, HasLegPrice, IsBest};
+ghost use Rattle.spread_rules.specs.code.Cases.{better_of};
+ghost use Rattle.spread_rules.specs.Candidates.{Pairs, all_on, takes_part, candidate_of, cost, HasOrderPrice, HasLegPrice, IsBest};
 ghost use Rattle.spread_rulebook.specs.Prices.{IsLegPrice};
 ghost use Rattle.spread_rulebook.specs.Rulebook.{implied, month_count};
 ghost use Rattle.spread_rules.specs.declared.candidate.Counterparty.TheVariants.{Implied};

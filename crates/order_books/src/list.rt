@@ -1,9 +1,10 @@
 //! A book over one list, in order of place.
 ghost use Rattle.std.specs.Prelude.{◌≡◌, ◌==◌, ◌<◌, [], List, All, fold, None, Some};
 ghost use Rattle.std.specs.List.{find};
-ghost use Rattle.spread_rules.specs.Clearing.{reduced, removed, with_less_left};
+ghost use Rattle.spread_rules.specs.code.Cases.{with_less_left, amended_at};
+ghost use Rattle.spread_rules.specs.Clearing.{reduced, removed};
 ghost use Rattle.spread_rules.specs.Meaning.{is_own};
-ghost use Rattle.spread_rules.specs.Amended.{amended, amended_at};
+ghost use Rattle.spread_rules.specs.Amended.{amended};
 ghost use Rattle.order_books.specs.Queues.{is_in, front_step};
 
 use crate::book::Book;

@@ -9,7 +9,8 @@ use Rattle.spread_rules.specs.declared.order.Order.{Order}
 use Rattle.spread_rules.specs.declared.candidate.Counterparty.{Counterparty}
 use Rattle.spread_rules.specs.declared.candidate.Counterparty.TheVariants.{Direct, Implied}
 use Rattle.spread_rules.specs.declared.candidate.Candidate.{Candidate}
-use Rattle.spread_rules.specs.Candidates.{implied_price, cost, is_within_limit, price_of, candidate_of, better_by, AllStandIn, rank_cmp, Pairs, all_on, takes_part, offered_if, IsEligible}
+use Rattle.spread_rules.specs.code.Cases.{offered_if}
+use Rattle.spread_rules.specs.Candidates.{implied_price, cost, is_within_limit, price_of, candidate_of, better_by, AllStandIn, rank_cmp, Pairs, all_on, takes_part, IsEligible}
 use Rattle.spread_rulebook.specs.Instruments.{month_of}
 use Rattle.spread_rules.specs.Quiet.{Rests}
 use Rattle.spread_rules.proofs.ranks.PlainIsLeast.{candidate_is}
@@ -117,7 +118,7 @@ module _ (on : Pairs) where
       IsFront xs of (other_side n.side) (Some f) → CoversOne on n xs of (other_side n.side) (candidate_of on n (Direct f))
   front_beats n xs of f hf o price ho h =
       let is : o.price ≡ price = so_is _ _ price h.meets in
-      let meets : price_of on n (Direct f) ≡ Some f.price = rw (hf.0.instrument_is, ← ho.instrument_is, hf.0.side_is, ← ho.side_is) (so_again _ o.price f.price price h.meets) in
+      let meets : price_of on n (Direct f) ≡ Some f.price = rw (hf.0.instrument_is ∙ sym ho.instrument_is, hf.0.side_is ∙ sym ho.side_is) (so_again _ o.price f.price price h.meets) in
       let b = rw (opposite_back n.side) at (front_best xs of (other_side n.side) f o hf ho) in
       let low : cost n.side f.price ≤ℤ cost n.side price = subst (λ (p : ℤ). cost n.side f.price ≤ℤ cost n.side p) is b.0 in
       rw (candidates n (Direct f) f.price meets (within_cost n.side n.price price f.price h.within low))

@@ -9,7 +9,8 @@ use Rattle.spread_rules.specs.declared.order.Order.{Order}
 use Rattle.spread_rules.specs.declared.candidate.Candidate.{Candidate}
 use Rattle.spread_rules.specs.declared.candidate.Counterparty.{Counterparty}
 use Rattle.spread_rules.specs.declared.candidate.Counterparty.TheVariants.{Direct, Implied}
-use Rattle.spread_rules.specs.Candidates.{Pairs, all_on, cost, price_if, price_of, same_instrument, are_opposite, candidate_at, candidate_of, is_within_limit, rank_at, rank_cmp, HasOrderPrice, HasLegPrice}
+use Rattle.spread_rules.specs.code.Cases.{price_if}
+use Rattle.spread_rules.specs.Candidates.{Pairs, all_on, cost, price_of, same_instrument, are_opposite, candidate_at, candidate_of, is_within_limit, rank_at, rank_cmp, HasOrderPrice, HasLegPrice}
 use Rattle.spread_rules.specs.Legs.{other_side}
 use Rattle.spread_rules.specs.declared.order.Side.{Side}
 use Rattle.spread_rules.specs.declared.order.Side.TheVariants.{Buy, Sell}
@@ -74,9 +75,9 @@ front_made n front xs side b opposite first small within =
 
 -- a pair that costs no less than one order does not rank before it
 behind_direct : (n o a b : Order) (price at : ℤ) (p : Counterparty) → p ≡ Direct o → cost n.side at ≤ℤ cost n.side price →
-    is_lt (rank_cmp (rank_at n.side price (Implied a b)) (rank_at n.side at p)) ≡ false
+    is_lt (rank_cmp (rank_at (cost n.side price) (Implied a b)) (rank_at (cost n.side at) p)) ≡ false
 behind_direct n o a b price at p is low =
-    subst (λ (q : Counterparty). is_lt (rank_cmp (rank_at n.side price (Implied a b)) (rank_at n.side at q)) ≡ false) (sym is)
+    subst (λ (q : Counterparty). is_lt (rank_cmp (rank_at (cost n.side price) (Implied a b)) (rank_at (cost n.side at) q)) ≡ false) (sym is)
     (after_cost (cost n.side price) (cost n.side at) (int_cmp (cost n.side price) (cost n.side at)) _ refl low (λ e. refl))
 
 module _ (on : Pairs) (n : Order) (xs : List Order) (m months : ℕ) (l : PairCost) (is : n.instrument ≡ Outright m) (near : All IsNearFirst xs) (cheapest : IsCheapest on xs n.side m months (Some l)) where

@@ -7,8 +7,9 @@ use Rattle.spread_rules.specs.declared.order.Level.{Level}
 use Rattle.spread_rules.specs.declared.candidate.Candidate.{Candidate}
 use Rattle.spread_rules.specs.declared.candidate.Counterparty.TheVariants.{Direct, Implied}
 use Rattle.spread_rules.specs.declared.candidate.Counterparty.{Counterparty}
+use Rattle.spread_rules.specs.code.Cases.{price_if, level_of}
 use Rattle.spread_rules.specs.Legs.{other_side}
-use Rattle.spread_rules.specs.Candidates.{Pairs, candidate_of, candidate_at, price_if, level_of, is_within_limit}
+use Rattle.spread_rules.specs.Candidates.{Pairs, candidate_of, candidate_at, is_within_limit}
 use Rattle.spread_rules.specs.Quiet.{Rests}
 use Rattle.order_books.specs.Queues.{IsFront, IsFrontLevel}
 use Rattle.candidate_search.specs.code.Best.{CoversOne, CoversTwo, IsBeyond}

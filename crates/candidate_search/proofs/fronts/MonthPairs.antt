@@ -16,7 +16,8 @@ use Rattle.spread_rulebook.specs.declared.instrument.Instrument.TheVariants.{Out
 use Rattle.spread_rules.specs.declared.order.Order.{Order}
 use Rattle.spread_rules.specs.declared.candidate.Counterparty.TheVariants.{Implied}
 use Rattle.spread_rules.specs.declared.candidate.Candidate.{Candidate}
-use Rattle.spread_rules.specs.Candidates.{price_if, implied_price, cost, is_within_limit, rank_cmp, price_of, is_before, IsEligible, takes_part, all_on, Pairs, HasOrderPrice}
+use Rattle.spread_rules.specs.code.Cases.{price_if}
+use Rattle.spread_rules.specs.Candidates.{implied_price, cost, is_within_limit, rank_cmp, price_of, is_before, IsEligible, takes_part, all_on, Pairs, HasOrderPrice}
 use Rattle.spread_rulebook.specs.Instruments.{month_of}
 use Rattle.spread_rulebook.specs.Prices.{IsOrderPrice, IsLegPrice}
 use Rattle.spread_rules.specs.Legs.{other_side}
@@ -72,7 +73,10 @@ month_pair Buy m k Sell (Spread i j) Sell (Outright l) x y p h near at = near_pa
 month_pair Sell m k Buy (Spread i j) Buy (Outright l) x y p h near at = near_pair Sell m k i j l (so_true _ _ p h) near at
 month_pair Buy m k Buy (Spread i j) Sell (Outright l) x y p h near at = far_pair Buy m k i j l (so_true _ _ p h) near at
 month_pair Sell m k Sell (Spread i j) Buy (Outright l) x y p h near at = far_pair Sell m k i j l (so_true _ _ p h) near at
-month_pair _ m k _ _ _ _ x y p h near at = cc
+month_pair _ m k _ (Outright g) _ (Outright l) x y p h near at = cc
+month_pair _ m k _ (Outright g) _ (Spread l n) x y p h near at = cc
+month_pair _ m k _ (Spread i j) _ (Outright l) x y p h near at = cc
+month_pair _ m k _ (Spread i j) _ (Spread l n) x y p h near at = cc
 
 itself : (m k : ℕ) (v : ℤ) → price_if (m == m && k == k) v ≡ Some v
 itself m k v =

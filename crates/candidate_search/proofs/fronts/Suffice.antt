@@ -48,7 +48,10 @@ module _ (on : Pairs) where
   pub spread_pair : (i j : ℕ) (s sa : Side) (A : Instrument) (sb : Side) (B : Instrument) (x y p : ℤ) → implied_price s (Spread i j) sa A sb B x y ≡ Some p → IsSpreadPair i j s sa A sb B
   spread_pair i j Buy Sell (Outright k) Buy (Outright l) x y p h = let t = so_true _ _ _ h in record { of = grind (arith, nat_tests); sided = refl; and = grind (arith, nat_tests); and_on = refl }
   spread_pair i j Sell Buy (Outright k) Sell (Outright l) x y p h = let t = so_true _ _ _ h in record { of = grind (arith, nat_tests); sided = refl; and = grind (arith, nat_tests); and_on = refl }
-  spread_pair _ _ _ _ _ _ _ x y p h = cc
+  spread_pair _ _ _ _ (Outright u) _ (Outright k) x y p h = cc
+  spread_pair _ _ _ _ (Outright u) _ (Spread k l) x y p h = cc
+  spread_pair _ _ _ _ (Spread u v) _ (Outright k) x y p h = cc
+  spread_pair _ _ _ _ (Spread u v) _ (Spread k l) x y p h = cc
 
   -- what beats each eligible candidate is the least
   best_at : (n : Order) (xs : List Order) (r : Option Candidate) → IsFair on n xs r → ((q : Candidate) → IsEligible on n xs q → Beats n r q) → IsBest on n xs r

@@ -1,4 +1,4 @@
-use Rattle.spread_rules.specs.Amended.{amended_at}
+use Rattle.spread_rules.specs.code.Cases.{amended_at}
 use Rattle.spread_rules.proofs.lists.InTurn.{next}
 use Rattle.order_books.proofs.list.amend_all.Goals as goal
 

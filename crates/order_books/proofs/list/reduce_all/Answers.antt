@@ -1,6 +1,6 @@
 use Rattle.std.proofs.Common.{◌≡◌, ◌<◌, subst, sym}
 use Rattle.spread_rules.specs.declared.order.Order.{Order}
-use Rattle.spread_rules.specs.Clearing.{with_less_left}
+use Rattle.spread_rules.specs.code.Cases.{with_less_left}
 use Rattle.spread_rules.proofs.lists.InTurn.{still, next}
 use Rattle.order_books.proofs.list.reduce_all.Goals as goal
 
