@@ -94,60 +94,49 @@ numbered_message to kind fields = record { to = to; step = numbered kind fields 
 abbrev pub report : ℕ → ExecutionReport → AddressedStep
 report to r = numbered_message to msg_types.EXECUTION_REPORT (report_fields r)
 
--- a report on the new order of that place: nothing of it is filled, and nothing is left
-abbrev pub order_report : ℕ → ℕ → Ticket → OrdStatus → ExecutionReport
-order_report place index t ord_status = record {
-  order_id = place;
-  cl_ord_id = t.id;
+-- A report on the order of that place, with its id, symbol, side and quantity; then the report's own place and index, and the order's
+-- status. Nothing of it is filled, and nothing is left.
+abbrev pub plain_report : ℕ → List ℕ → List ℕ → Side → ℕ → ℕ → ℕ → OrdStatus → ExecutionReport
+plain_report order_id cl_ord_id symbol side order_qty place index ord_status = record {
+  order_id = order_id;
+  cl_ord_id = cl_ord_id;
   orig_cl_ord_id = None;
   place = place;
   index = index;
   ord_status = ord_status;
   ord_rej_reason = None;
-  symbol = t.symbol;
-  side = t.side;
-  order_qty = t.quantity;
+  symbol = symbol;
+  side = side;
+  order_qty = order_qty;
   traded = None;
   leaves_qty = 0;
   cum_qty = 0;
 }
 
+-- a report on the new order of that place
+abbrev pub order_report : ℕ → ℕ → Ticket → OrdStatus → ExecutionReport
+order_report place index t ord_status =
+    plain_report place t.id t.symbol t.side t.quantity place index ord_status
+
 -- A resting order, with this symbol, is cancelled or replaced by a request with this id: its status, and what is left of it then.
 abbrev pub amended_report :
     List ℕ → ℕ → List ℕ → List ℕ → Order → OrdStatus → ℕ → ExecutionReport
-amended_report symbol place id original o ord_status leaves = record {
-  order_id = o.place;
-  cl_ord_id = id;
-  orig_cl_ord_id = Some original;
-  place = place;
-  index = 1;
-  ord_status = ord_status;
-  ord_rej_reason = None;
-  symbol = symbol;
-  side = o.side;
-  order_qty = o.quantity;
-  traded = None;
-  leaves_qty = leaves;
-  cum_qty = o.quantity - o.leaves;
-}
+amended_report symbol place id original o ord_status leaves =
+    record (plain_report o.place id symbol o.side o.quantity place 1 ord_status) {
+      orig_cl_ord_id = Some original;
+      leaves_qty = leaves;
+      cum_qty = o.quantity - o.leaves;
+    }
 
 -- one report of a fill, with the symbol, side and price of the part that it tells
 abbrev pub fill_report : ℕ → ℕ → Fill → List ℕ → Side → ℤ → MultiLegReportingType → ExecutionReport
-fill_report place index f symbol side price multi_leg = record {
-  order_id = f.order;
-  cl_ord_id = f.id;
-  orig_cl_ord_id = None;
-  place = place;
-  index = index;
-  ord_status = if f.leaves == 0 then status.Filled else status.PartiallyFilled;
-  ord_rej_reason = None;
-  symbol = symbol;
-  side = side;
-  order_qty = f.total;
-  traded = Some (record { last_shares = f.quantity; last_px = price; multi_leg = multi_leg });
-  leaves_qty = f.leaves;
-  cum_qty = f.total - f.leaves;
-}
+fill_report place index f symbol side price multi_leg =
+    let ord_status = if f.leaves == 0 then status.Filled else status.PartiallyFilled in
+    record (plain_report f.order f.id symbol side f.total place index ord_status) {
+      traded = Some (record { last_shares = f.quantity; last_px = price; multi_leg = multi_leg });
+      leaves_qty = f.leaves;
+      cum_qty = f.total - f.leaves;
+    }
 
 -- a report of a fill to the session of the filled order, of an instrument, a side and a price
 abbrev pub part_report : Rules → ℕ → ℕ → Fill → Instrument → Side → ℤ → MultiLegReportingType
