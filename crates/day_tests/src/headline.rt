@@ -21,6 +21,7 @@ ghost use Rattle.spread_host.specs.declared.fault.HostFault.{HostFault};
 use day_text::Day;
 use host_base::{Id, Sink, Source};
 use spread_host::{HostFault, replay};
+use spread_journal::laws::read_back;
 use spread_rules::Rulebook;
 use std::alloc::Allocator;
 
@@ -76,5 +77,7 @@ pub fn day_of_lines<S: Source, K: Sink, A: Allocator + Copy>(
     ensures nothing_written { IfErr result (λ f. f ≢ HostFault.Write → sink.new ≡ sink.old) }
     ensures fault { IfErr result (IsReplayFault rulebook.now (S.left source.old)) }
 {
+    // Cites that a journal's text is read back.
+    read_back();
     replay(alloc, rulebook, stamp, source, sink, journal_only)
 }

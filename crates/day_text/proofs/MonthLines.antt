@@ -4,7 +4,8 @@ use Rattle.std.proofs.lemmas.List.{append_assoc, append-nil}
 use Rattle.spread_rules.specs.declared.fill.Fill.{Fill}
 use Rattle.month_totals.specs.declared.totals.MonthTotals.{MonthTotals}
 use Rattle.month_totals.specs.Totals.{totals_of}
-use Rattle.day_text.specs.Months.{totals_line, month_line, month_lines_from}
+use Rattle.day_text.specs.Months.{month_line, month_lines_from}
+use Rattle.day_text.specs.code.LineParts.{totals_line}
 
 -- one more month's line
 pub months_next : (names : List (List ℕ)) (k i : ℕ) (fills : List Fill) → i < length names

@@ -6,7 +6,8 @@ use Rattle.std.proofs.lemmas.Fmt.{decimal_step, decimal_digit}
 use Rattle.std.proofs.lemmas.List.{map-append, take-append-le}
 use Rattle.std.specs.Io.KnownBytes.{Appends}
 use Rattle.host_base.specs.Ends.{AppendsPrefix}
-use Rattle.day_text.specs.Messages.{shown_byte, line_lead, outgoing_line}
+use Rattle.day_text.specs.Messages.{shown_byte, outgoing_line}
+use Rattle.day_text.specs.code.LineParts.{line_lead}
 use Rattle.day_text.specs.code.Pieces.{IsPut, Writes}
 
 -- of a call that failed, and of one whose result is handed on

@@ -14,22 +14,13 @@ abbrev pub legs_text : Instrument → ℤ → ℤ → List ℕ
 legs_text (Outright m) near far = []
 legs_text (Spread i j) near far = space ∷ signed_decimal near ++ space ∷ signed_decimal far
 
--- F, the entry's place, the order's place and its session
-abbrev pub places_text : Fill → List ℕ
-places_text f =
-    codes "F " ++ decimal f.at ++ space ∷ decimal f.order ++ space ∷ decimal f.session ++ space ∷ []
-
--- side, quantity and price
-abbrev pub trade_text : Fill → List ℕ
-trade_text f = space ∷ side_byte f.side ∷ space ∷ decimal f.quantity
-    ++ space ∷ signed_decimal f.price
-
 -- `F AT ORDER SESSION SYMBOL SIDE QUANTITY PRICE`, and for a spread ` NEAR FAR`
 abbrev pub fill_line : Rules → Fill → List ℕ
 fill_line rules f =
-    places_text f
+    (codes "F " ++ decimal f.at
+    ++ space ∷ decimal f.order ++ space ∷ decimal f.session ++ space ∷ [])
     ++ symbol_of rules f.instrument
-    ++ trade_text f
+    ++ (space ∷ side_byte f.side ∷ space ∷ decimal f.quantity ++ space ∷ signed_decimal f.price)
     ++ legs_text f.instrument f.near f.far
     ++ line_feed ∷ []
 

@@ -9,13 +9,10 @@ use Rattle.host_base.specs.declared.bytes.TheConstants.{SOH}
 abbrev pub shown_byte : ℕ → ℕ
 shown_byte b = if b == SOH then vertical_bar else b
 
--- `O S:`
-abbrev pub line_lead : ℕ → List ℕ
-line_lead session = codes "O " ++ decimal session ++ codes ":"
-
 -- `O S:MESSAGE`
 abbrev pub outgoing_line : ℕ → List ℕ → List ℕ
-outgoing_line session message = line_lead session ++ map shown_byte message ++ line_feed ∷ []
+outgoing_line session message =
+    (codes "O " ++ decimal session ++ codes ":") ++ map shown_byte message ++ line_feed ∷ []
 
 -- a session's outgoing messages
 abbrev pub outgoing_lines : ℕ → List ℕ → List ℕ

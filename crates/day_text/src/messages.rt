@@ -2,7 +2,8 @@
 ghost use Rattle.std.specs.Prelude.{◌≡◌, ◌<◌, ◌≤◌, ◌+◌, ◌++◌, ◌∷◌, [], All, map, length, min, OnOk, vec_len, vec_capacity, false};
 ghost use Rattle.fix_frames.specs.Frames.{IsFrameRow};
 ghost use Rattle.day_text.specs.DayText.{texts_of};
-ghost use Rattle.day_text.specs.Messages.{shown_byte, line_lead, outgoing_line, outgoing_lines, outgoing_lines_from};
+ghost use Rattle.day_text.specs.Messages.{shown_byte, outgoing_line, outgoing_lines, outgoing_lines_from};
+ghost use Rattle.day_text.specs.code.LineParts.{line_lead};
 ghost use Rattle.day_text.specs.code.Pieces.{Puts, Writes};
 
 use crate::pieces::{PIECE_BYTES, TakesPieces, append};

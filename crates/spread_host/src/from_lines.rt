@@ -1,10 +1,9 @@
 //! A recorded day in one thread: day lines in, the day's text out.
-ghost use Rattle.std.specs.Prelude.{◌≡◌, ◌<◌, ◌⊎◌, ◌+◌, ◌≢◌, IfOk, IfErr, IfSome, OnOk, IsErrOf, length, true, false, Ok};
+ghost use Rattle.std.specs.Prelude.{◌≡◌, ◌<◌, ◌⊎◌, ◌+◌, ◌≢◌, IfOk, IfErr, IfSome, OnOk, IsErrOf, length, true, false};
 ghost use Rattle.host_base.specs.declared.limits.TheConstants.{MAX_INPUT_BYTES};
 ghost use Rattle.host_base.specs.Ends.{TakesAtMost};
 ghost use Rattle.day_input.specs.declared.reading.TheConstants.{CHUNK_BYTES};
-ghost use Rattle.spread_journal.specs.JournalReading.{ReadsJournal};
-ghost use Rattle.journal_parts.specs.JournalText.{journal_text};
+ghost use Rattle.spread_journal.specs.Lawful.{HasText};
 ghost use Rattle.spread_host.specs.Headline.{IsJournalOfText, HasFills, HasOutgoing, BoughtIsSold, PaidIsReceived, IsAlwaysQuiet, IsDayOf};
 ghost use Rattle.spread_host.specs.Days.{IsReadWhole, IsWritten, IsReplayFault, IsPartOut, text_of_day};
 ghost use Rattle.spread_host.specs.declared.fault.HostFault.{HostFault};
@@ -14,7 +13,6 @@ use crate::fault::HostFault;
 use day_input::read_day_lines;
 use day_text::Day;
 use host_base::{Id, Sink, Source};
-use spread_journal::laws::read_back;
 use spread_rules::Rulebook;
 use std::alloc::Allocator;
 
@@ -50,8 +48,8 @@ pub fn replay<S: Source, K: Sink, A: Allocator + Copy>(
     // What else is true of the day.
     ensures day { IfOk result (λ day.
         IsDayOf rulebook.now stamp day.journal.items day.fills.items day.out.items) }
-    ensures read_again { IfOk result (λ day.
-        ReadsJournal (journal_text day.journal.items) (Ok day.journal.items)) }
+    // The journal has a text that is read again: law `read_back` of spread_journal.
+    ensures has_text { IfOk result (λ day. HasText day.journal.items) }
 
     // What was written, and nothing else.
     ensures written { IfOk result (λ day. IsWritten (K.written sink.old) (K.written sink.new)
@@ -68,8 +66,6 @@ pub fn replay<S: Source, K: Sink, A: Allocator + Copy>(
     ensures nothing_written { IfErr result (λ f. f ≢ HostFault.Write → sink.new ≡ sink.old) }
     ensures fault { IfErr result (IsReplayFault rulebook.now (S.left source.old)) }
 {
-    // Cites that a journal's text is read back.
-    read_back();
     let journal = read_day_lines(alloc, source)?;
     let day = day_of(alloc, rulebook, stamp, journal)?;
     write_day(alloc, rulebook, &day, journal_only, sink)?;
