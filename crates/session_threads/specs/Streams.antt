@@ -8,13 +8,9 @@ use Rattle.session_judging.specs.Streams.{whole}
 use Rattle.gate_link.specs.Counts.{sum_over}
 use Rattle.gate_link.specs.Rows.{row}
 
--- the events of a stream, its close included
-abbrev pub whole_stream : {A : Type 0} → Vec ℕ A → List Event
-whole_stream v = whole v.items
-
--- those of stream s, and none where there is no such stream
+-- the events of stream s, its close included, and none where there is no such stream
 abbrev pub whole_at : {A : Type 0} → List (Vec ℕ A) → ℕ → List Event
-whole_at streams s = row whole_stream streams s
+whole_at {A} streams s = row (λ (v : Vec ℕ A). whole v.items) streams s
 
 -- how many events all streams have together
 abbrev pub all_events : {A : Type 0} → List (Vec ℕ A) → ℕ
@@ -23,3 +19,9 @@ all_events streams = sum_over (λ s. length (whole_at streams s)) (length stream
 -- of each session, the journal has a beginning of the events of its stream
 abbrev pub IsBeginningOf : {A : Type 0} → List (Vec ℕ A) → List Entry → Type 0
 IsBeginningOf streams journal = (s : ℕ) → IsPrefix (restricted s journal) (whole_at streams s)
+
+-- ---- words of the code alone
+
+-- the events of a stream, its close included
+abbrev pub whole_stream : {A : Type 0} → Vec ℕ A → List Event
+whole_stream v = whole v.items
