@@ -1,12 +1,12 @@
 -- What a text says, line by line, is what it says as a whole.
-use Rattle.std.proofs.Common.{◌≡◌, ℕ, ◌+◌, Bool, true, false, cond, ◌&&◌, ◌||◌, not, eqb, List, [], ◌∷◌, ◌++◌, length, Option, Some, None, Result, Ok, Err, option_map, refl, sym, ap, ◌∙◌, arith}
+use Rattle.std.proofs.Common.{◌≡◌, ℕ, ◌+◌, Bool, true, false, cond, ◌&&◌, ◌||◌, not, eqb, List, [], ◌∷◌, ◌++◌, length, Option, Some, None, Result, Ok, Err, option_map, refl, ap, ◌∙◌, arith}
 use Rattle.std.specs.List.{list_any, flat_map, position_or_len}
 use Rattle.std.specs.Option.{option_to_list}
 use Rattle.std.proofs.lemmas.Bool.Decides.{nat_tests}
 use Rattle.fix_frames.specs.Texts.{with_soh}
 use Rattle.day_lines.specs.LineText.{DayLine, is_passed_over, session_line, is_bad, day_lines_of}
 use Rattle.day_lines.proofs.LineOfASession.{by_number}
-use Rattle.day_lines.specs.code.OneByOne.{line_by_bytes, lines_of, prepend, line_and_later, one_line, session_lines, lines_said}
+use Rattle.day_lines.specs.code.OneByOne.{line_by_bytes, lines_of, prepend, line_and_later, session_lines, lines_said}
 
 -- the lines of a text, or the number of its first bad line
 abbrev answer : Bool → ℕ → List DayLine → Result (List DayLine) ℕ

@@ -1,5 +1,5 @@
 -- What the messages of a finished list mean, place by place. A place is the index of a message in the list.
-use Rattle.std.specs.Prelude.{ℕ, zero, suc, Bool, true, false, ◌&&◌, not, ◌==◌, nat_lt, if◌then◌else◌, List, Option, Some, None, is_some, is_none, unwrap_or, option_map, option_and_then, take, drop, slice_get, filter_map}
+use Rattle.std.specs.Prelude.{ℕ, zero, suc, Bool, true, false, ◌&&◌, not, ◌==◌, nat_lt, if◌then◌else◌, List, Option, Some, None, is_some, is_none, option_map, option_and_then, take, drop, slice_get, filter_map}
 use Rattle.std.specs.Bool.{then_some}
 use Rattle.std.specs.List.{list_any, enumerate_from}
 use Rattle.std.specs.Option.{option_map_or, option_or}
@@ -41,16 +41,15 @@ abbrev mutual
   pub live : List MessageView → ℕ → Bool
   live ms zero = true
   live ms (suc p) =
-      live ms p
-      && is_none (option_and_then (closing ms p (due_after ms (last_accepted_before ms p)))
-      (slice_get ms p))
+      let due = due_after ms (last_accepted_before ms p) in
+      live ms p && is_none (option_and_then (closing ms p due) (slice_get ms p))
 
   -- the last accepted place before a place
   pub last_accepted_before : List MessageView → ℕ → Option ℕ
   last_accepted_before ms zero = None
   last_accepted_before ms (suc p) =
-      if live ms p && option_map_or (is_accepted ms p (due_after ms (last_accepted_before ms p)))
-      (slice_get ms p) false
+      let due = due_after ms (last_accepted_before ms p) in
+      if live ms p && option_map_or (is_accepted ms p due) (slice_get ms p) false
       then Some p
       else last_accepted_before ms p
 

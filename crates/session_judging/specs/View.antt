@@ -10,7 +10,7 @@ use Rattle.fix_frames.specs.declared.msg_types.TheConstants as msg_types
 use Rattle.fix_frames.specs.declared.tags.TheConstants as tags
 use Rattle.fix_frames.specs.Messages.{get, kind, number, given_number}
 use Rattle.kind_table.specs.declared.table.Meaning.{Meaning}
-use Rattle.kind_table.specs.declared.table.Meaning.TheVariants.{Nothing, Gives, Fills}
+use Rattle.kind_table.specs.declared.table.Meaning.TheVariants.{Gives, Fills}
 use Rattle.kind_table.specs.Table.{value_at, meaning_of_message}
 use Rattle.session_judging.specs.declared.session.Logon.{Logon}
 

@@ -10,7 +10,6 @@ use Rattle.host_base.specs.Ids.{is_id, id_of}
 use Rattle.spread_rules.specs.Journal.{IsNumber, FitsEvent, is_logon, is_close, is_end, is_running, is_in_order}
 use Rattle.spread_rules.specs.declared.event.Event.{Event}
 use Rattle.spread_rules.specs.declared.event.Event.TheVariants as events
-use Rattle.fix_values.specs.declared.values.Unread.{Unread}
 use Rattle.fix_values.specs.declared.values.Unread.TheVariants.{Range, Format}
 use Rattle.fix_values.specs.Digits.{number_of}
 use Rattle.fix_values.specs.Values.{is_number, within, number_in}
