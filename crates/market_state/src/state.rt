@@ -8,11 +8,12 @@ ghost use Rattle.spread_rules.specs.declared.order.Order.{Order};
 ghost use Rattle.spread_rules.specs.declared.outcome.OrderStatus.{OrderStatus};
 ghost use Rattle.spread_rules.specs.declared.event.Event.TheVariants.{New, Cancel, Replace};
 ghost use Rattle.spread_rules.specs.declared.outcome.Outcome.TheVariants.{Refused};
+ghost use Rattle.spread_rules.specs.code.Cases.{keeping_means};
 ghost use Rattle.spread_rules.specs.Amended.{done};
 ghost use Rattle.spread_rules.specs.Candidates.{PlacesDiffer};
 ghost use Rattle.spread_rules.specs.Clearing.{removed};
 ghost use Rattle.spread_rulebook.specs.Prices.{IsOrderPrice};
-ghost use Rattle.spread_rules.specs.Meaning.{has_id, is_own, is_refused, outcome_of, order_of, resting, resting_status, keeps_place, keeping_means, cancel_of_nothing_resting, unchanged_with};
+ghost use Rattle.spread_rules.specs.Meaning.{has_id, is_own, is_refused, outcome_of, order_of, resting, resting_status, keeps_place, cancel_of_nothing_resting, untraded};
 ghost use Rattle.spread_rulebook.specs.Rulebook.{month_count};
 ghost use Rattle.market_state.specs.State.{empty_state};
 ghost use Rattle.candidate_search.specs.Listed.{IsInMonths, IsNearBeforeFar};
@@ -370,7 +371,7 @@ impl<B: Book, A: Allocator + Copy> MarketState<B, A> {
         ensures outcome { IfOk result (λ outcome. outcome ≡ refusal) }
         ensures after { OnOk result ((original : List ℕ) → self.new
             ≡ state_with self.old place session (Replace original ticket.now)
-            (unchanged_with refusal self.old.orders)) }
+            (untraded refusal self.old.orders)) }
         ensures err { OnErr result (self.new ≡ self.old) }
     {
         self.statuses.add(OrderStatus {

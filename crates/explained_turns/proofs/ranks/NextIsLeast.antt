@@ -3,7 +3,8 @@ use Rattle.std.proofs.Common.{◌≡◌, Bool, true, false, cond, List, [], ◌�
 use Rattle.spread_rules.specs.declared.order.Order.{Order}
 use Rattle.spread_rules.specs.declared.candidate.Candidate.{Candidate}
 use Rattle.spread_rules.specs.declared.candidate.Counterparty.{Counterparty}
-use Rattle.spread_rules.specs.Candidates.{Pairs, AllStandIn, candidate_of, counterparties, is_before, least_candidate, step, better_of, price_of}
+use Rattle.spread_rules.specs.code.Cases.{step, better_of}
+use Rattle.spread_rules.specs.Candidates.{Pairs, AllStandIn, candidate_of, counterparties, is_before, least_candidate, price_of}
 use Rattle.spread_rules.proofs.ranks.FirstOfAFold.{IsFirst, fold_first}
 use Rattle.spread_rules.proofs.ranks.PlainIsLeast.{ranks, candidate_is, eligible_candidate, listed, of_list, IsOwn}
 use Rattle.explained_turns.specs.Explained.{is_behind, IsNextBest}

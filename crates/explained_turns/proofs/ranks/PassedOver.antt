@@ -8,7 +8,8 @@ use Rattle.spread_rules.specs.declared.order.Order.{Order}
 use Rattle.spread_rules.specs.declared.candidate.Candidate.{Candidate}
 use Rattle.spread_rules.specs.declared.candidate.Counterparty.{Counterparty}
 use Rattle.spread_rules.specs.declared.candidate.Counterparty.TheVariants.{Implied}
-use Rattle.spread_rules.specs.Candidates.{Pairs, all_on, implied_price, price_if, offered_if, takes_part, candidate_of, candidate_at, better_of}
+use Rattle.spread_rules.specs.code.Cases.{price_if, offered_if, better_of}
+use Rattle.spread_rules.specs.Candidates.{Pairs, all_on, implied_price, takes_part, candidate_of, candidate_at}
 use Rattle.spread_rules.proofs.ranks.PairsSwitched.{candidate_on, candidate_off}
 use Rattle.explained_turns.specs.code.Search.{may_be_first, next_step, only_behind}
 
@@ -52,12 +53,14 @@ not_first Sell (Outright m) Buy (Spread i j) Buy (Spread k l) s p h = refl
 not_first Sell (Outright m) Buy (Spread i j) Sell (Spread k l) s p h = refl
 not_first Sell (Outright m) Sell (Spread i j) Buy (Spread k l) s p h = refl
 not_first Sell (Outright m) Sell (Spread i j) Sell (Spread k l) s p h = refl
-not_first Buy (Spread i j) Buy (Outright k) bside b s p h = refl
+not_first Buy (Spread i j) Buy (Outright k) bside (Outright l) s p h = refl
+not_first Buy (Spread i j) Buy (Outright k) bside (Spread l m) s p h = refl
 not_first Buy (Spread i j) Sell (Outright k) Buy (Outright l) s p h = no_price (k == i) (l == j) (s -ℤ p) (first_no (k == i) h)
 not_first Buy (Spread i j) Sell (Outright k) Sell (Outright l) s p h = refl
 not_first Buy (Spread i j) Sell (Outright k) Buy (Spread l m) s p h = refl
 not_first Buy (Spread i j) Sell (Outright k) Sell (Spread l m) s p h = refl
-not_first Sell (Spread i j) Sell (Outright k) bside b s p h = refl
+not_first Sell (Spread i j) Sell (Outright k) bside (Outright l) s p h = refl
+not_first Sell (Spread i j) Sell (Outright k) bside (Spread l m) s p h = refl
 not_first Sell (Spread i j) Buy (Outright k) Buy (Outright l) s p h = refl
 not_first Sell (Spread i j) Buy (Outright k) Sell (Outright l) s p h = no_price (k == i) (l == j) (s -ℤ p) (first_no (k == i) h)
 not_first Sell (Spread i j) Buy (Outright k) Buy (Spread l m) s p h = refl
@@ -73,7 +76,8 @@ some_no (Some o) h = let no : true ≡ false = h in cc
 
 module _ (on : Pairs) where
   off_none : (t : Bool) (price : Option ℤ) → price ≡ None → offered_if t price ≡ None
-  off_none t price h = rw h refl
+  off_none true price h = h
+  off_none false price h = refl
 
   -- an order that may not be the first of two makes no pair
   pub no_pair : (n a b : Order) → may_be_first n.side n.instrument a.side a.instrument ≡ false → candidate_of on n (Implied a b) ≡ None

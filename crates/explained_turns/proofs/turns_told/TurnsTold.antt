@@ -6,8 +6,9 @@ use Rattle.std.proofs.lemmas.List.Elements.{All-filter, All-map, All-weaker}
 use Rattle.spread_rules.specs.declared.order.Order.{Order}
 use Rattle.spread_rules.specs.declared.candidate.Counterparty.{Counterparty}
 use Rattle.spread_rules.specs.declared.candidate.Counterparty.TheVariants.{Direct, Implied}
+use Rattle.spread_rules.specs.code.Cases.{with_less_left}
 use Rattle.spread_rules.specs.Candidates.{Pairs, HasOrderPrice}
-use Rattle.spread_rules.specs.Clearing.{Trading, after_fill, after_match, begin, clear, members, next_candidate, reduced, removed, turn, turns, with_less_left}
+use Rattle.spread_rules.specs.Clearing.{Trading, after_fill, after_match, begin, clear, members, next_candidate, reduced, removed, turn, turns}
 use Rattle.spread_rulebook.specs.Rulebook.{Rules, implied, references_of}
 use Rattle.spread_rules.proofs.clearings.TurnsEnd.{enough, one_end}
 use Rattle.explained_turns.specs.declared.turn.Turn.{Turn}

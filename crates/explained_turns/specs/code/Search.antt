@@ -1,6 +1,7 @@
 -- The search for the next candidate, as a fold over all counterparties.
 -- Words of the code alone.
 use Rattle.std.specs.Prelude.{◌==◌, Bool, true, false, ◌&&◌, ◌||◌, cond, List, Option, Some, None, fold}
+use Rattle.spread_rules.specs.code.Cases.{better_of}
 use Rattle.spread_rules.specs.Legs.{is_side}
 use Rattle.spread_rules.specs.declared.order.Side.{Side}
 use Rattle.spread_rulebook.specs.declared.instrument.Instrument.{Instrument}
@@ -9,7 +10,7 @@ use Rattle.spread_rules.specs.declared.order.Order.{Order}
 use Rattle.spread_rules.specs.declared.candidate.Candidate.{Candidate}
 use Rattle.spread_rules.specs.declared.candidate.Counterparty.{Counterparty}
 use Rattle.spread_rules.specs.declared.candidate.Counterparty.TheVariants.{Direct, Implied}
-use Rattle.spread_rules.specs.Candidates.{Pairs, candidate_of, takes_part, better_of, are_opposite}
+use Rattle.spread_rules.specs.Candidates.{Pairs, candidate_of, takes_part, are_opposite}
 use Rattle.explained_turns.specs.Explained.{is_behind}
 
 -- whether a counterparty takes part: a pair of orders does where the pair of months does

@@ -4,8 +4,9 @@ use Rattle.std.proofs.lemmas.Bool.Decides.{nat_tests}
 use Rattle.std.proofs.lemmas.List.Elements.{All-contains, Contains-get_or, Contains-push_cases, filter-append}
 use Rattle.spread_rules.specs.declared.order.Order.{Order}
 use Rattle.spread_rules.specs.declared.candidate.Candidate.{Candidate}
+use Rattle.spread_rules.specs.code.Cases.{with_less_left}
 use Rattle.spread_rules.specs.Candidates.{least_left, HasOrderPrice, Pairs, PlacesDiffer}
-use Rattle.spread_rules.specs.Clearing.{Trading, next_candidate, turn, turns, after_match, begin, clear, removed, reduced, with_less_left}
+use Rattle.spread_rules.specs.Clearing.{Trading, next_candidate, turn, turns, after_match, begin, clear, removed, reduced}
 use Rattle.spread_rulebook.proofs.lists.Membership.{in_head, in_tail}
 use Rattle.spread_rules.proofs.clearings.TurnsEnd.{keeps_turns}
 use Rattle.candidate_search.specs.Listed.{IsNearFirst, IsInMonths}

@@ -11,10 +11,11 @@ use Rattle.spread_rules.specs.declared.event.Event.TheVariants.{New, Replace}
 use Rattle.spread_rules.specs.declared.outcome.Outcome.{Outcome}
 use Rattle.spread_rules.specs.declared.outcome.Outcome.TheVariants.{Rested, Filled, Ended}
 use Rattle.spread_rules.specs.declared.outcome.OrderStatus.{OrderStatus}
+use Rattle.spread_rules.specs.code.Cases.{clearing_means, keeping_means, moving_means, replace_of_resting}
 use Rattle.spread_rules.specs.Amended.{done}
 use Rattle.spread_rules.specs.Candidates.{PlacesDiffer}
 use Rattle.spread_rules.specs.Clearing.{Trading, clear, removed}
-use Rattle.spread_rules.specs.Meaning.{clearing_means, has_id, instrument_or_refusal_of, is_own, is_refused, keeping_means, keeps_place, may_replace, moved_to, moving_means, order_of, outcome_of, place_left, replace_means, replace_of_resting, replace_refused, resting}
+use Rattle.spread_rules.specs.Meaning.{has_id, instrument_or_refusal_of, is_own, is_refused, keeps_place, may_replace, moved_to, order_of, outcome_of, place_left, replace_means, replace_refused, resting}
 use Rattle.spread_rulebook.specs.Prices.{IsOrderPrice}
 use Rattle.spread_rulebook.specs.Rulebook.{Rules, references_of, implied}
 use Rattle.order_books.specs.Queues.{CanAmend}

@@ -17,11 +17,12 @@ use Rattle.spread_rules.specs.declared.event.Ticket.{Ticket}
 use Rattle.spread_rules.specs.declared.event.Event.{Event}
 use Rattle.spread_rules.specs.declared.event.Event.TheVariants.{Logon, New, Cancel, Replace, TestReply, Gap, Resend, Reject, Close}
 use Rattle.spread_rules.specs.declared.outcome.OrderStatus.{OrderStatus}
-use Rattle.spread_rules.specs.Amended.{done, with_quantity, amended, amended_at}
+use Rattle.spread_rules.specs.code.Cases.{amended_at, keeping_means, moving_means, replace_of_resting}
+use Rattle.spread_rules.specs.Amended.{done, with_quantity, amended}
 use Rattle.spread_rules.specs.Candidates.{HasOrderPrice, same_instrument}
 use Rattle.spread_rules.specs.Clearing.{clear, removed}
 use Rattle.spread_rules.specs.Legs.{is_side}
-use Rattle.spread_rules.specs.Meaning.{EntryMeaning, JournalState, cancel_of_nothing_resting, has_id, is_own, is_refused, keeping_means, keeps_place, may_replace, meaning_of, moved_to, moving_means, new_order_means, refusal_or_instrument, replace_means, replace_of_resting, replace_refused, statuses_of, ticket_of}
+use Rattle.spread_rules.specs.Meaning.{EntryMeaning, JournalState, cancel_of_nothing_resting, has_id, is_own, is_refused, keeps_place, may_replace, meaning_of, moved_to, new_order_means, refusal_or_instrument, replace_means, replace_refused, statuses_of, ticket_of}
 use Rattle.spread_rules.proofs.clearings.BoughtIsSold.{same_instrument_is}
 use Rattle.spread_rulebook.specs.Rulebook.{Rules, find_symbol, references_of, implied}
 use Rattle.spread_rulebook.proofs.lists.Membership.{from_map}

@@ -7,6 +7,7 @@ use Rattle.spread_rules.specs.declared.codes.cxl_rej_reason.TheConstants as cxl_
 use Rattle.spread_rules.specs.declared.codes.ord_rej_reason.TheConstants as ord_rej_reason
 use Rattle.spread_rules.specs.declared.codes.ord_status.TheConstants as ord_status
 use Rattle.spread_rules.specs.declared.order.Order.{Order}
+use Rattle.spread_rules.specs.code.Cases.{moving_means, replace_of_resting, clearing_means}
 use Rattle.spread_rules.specs.Clearing.{clear, removed, reduced, Trading}
 use Rattle.spread_rules.specs.declared.outcome.OrderStatus.{OrderStatus}
 use Rattle.spread_rulebook.specs.declared.instrument.Instrument.{Instrument}
@@ -16,7 +17,7 @@ use Rattle.spread_rules.specs.declared.outcome.Outcome.{Outcome}
 use Rattle.spread_rules.specs.declared.outcome.Outcome.TheVariants.{Refused}
 use Rattle.order_clearing.specs.Tradable.{IsTradable}
 use Rattle.spread_rules.specs.Amended.{done}
-use Rattle.spread_rules.specs.Meaning.{EntryMeaning, has_id, instrument_or_refusal_of, is_own, is_refused, may_replace, meaning_with, moved_to, moving_means, order_of, original_of, place_left, replace_of_resting, ticket_of, unchanged_with, clearing_means, cancel_means}
+use Rattle.spread_rules.specs.Meaning.{EntryMeaning, has_id, instrument_or_refusal_of, is_own, is_refused, may_replace, meaning_with, moved_to, order_of, original_of, place_left, ticket_of, untraded, cancel_means}
 use Rattle.spread_rulebook.specs.Rulebook.{implied, Rules, references_of}
 use Rattle.market_state.specs.State.{MarketState}
 use Rattle.order_statuses.specs.code.Statuses.{status_after_replace, statuses_after}
@@ -44,14 +45,14 @@ meaning_in rules m place session event = meaning_with rules m.orders m.statuses 
 
 -- an id that was used is refused, whatever else the entry would come to
 abbrev pub refused_if_used : Option OrderStatus → List Order → EntryMeaning → EntryMeaning
-refused_if_used (Some earlier) xs e = unchanged_with (Refused ord_rej_reason.DUPLICATE_ORDER) xs
+refused_if_used (Some earlier) xs e = untraded (Refused ord_rej_reason.DUPLICATE_ORDER) xs
 refused_if_used None xs e = e
 
 -- what a ticket comes to that is refused for that reason
 abbrev pub refusal_in : MarketState → ℕ → Ticket → ℕ → EntryMeaning
 refusal_in m session t reason =
     refused_if_used (find (has_id session t.id) m.statuses) m.orders
-    (unchanged_with (Refused reason) m.orders)
+    (untraded (Refused reason) m.orders)
 
 -- what a ticket of that instrument comes to: it is traded
 abbrev pub matched_in : Rules → MarketState → ℕ → ℕ → Ticket → Instrument → EntryMeaning

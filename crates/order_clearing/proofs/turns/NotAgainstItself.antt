@@ -10,8 +10,9 @@ use Rattle.spread_rules.specs.declared.order.Order.{Order}
 use Rattle.spread_rules.specs.declared.candidate.Candidate.{Candidate}
 use Rattle.spread_rules.specs.declared.candidate.Counterparty.{Counterparty}
 use Rattle.spread_rules.specs.declared.candidate.Counterparty.TheVariants.{Direct, Implied}
+use Rattle.spread_rules.specs.code.Cases.{with_less_left}
 use Rattle.spread_rules.specs.Candidates.{implied_price, are_opposite, price_of, IsEligible, AllStandIn, PlacesDiffer, IsBest, Pairs}
-use Rattle.spread_rules.specs.Clearing.{removed, reduced, with_less_left}
+use Rattle.spread_rules.specs.Clearing.{removed, reduced}
 use Rattle.order_clearing.specs.code.Turns.{AreApart}
 use Rattle.spread_rules.proofs.clearings.BoughtIsSold.{on_price, so_true}
 use Rattle.order_clearing.proofs.turns.StaysAfterAFill.{other_place}

@@ -2,7 +2,8 @@
 use Rattle.std.proofs.Common.{◌≡◌, ◌≢◌, ℕ, ◌==◌, ◌-◌, Bool, true, false, not, cond, List, [], ◌∷◌, filter, Contains, ◌⊎◌, inl, inr, subst, sym, ap, ◌∙◌, arith}
 use Rattle.std.proofs.lemmas.Bool.Decides.{nat_tests}
 use Rattle.spread_rules.specs.declared.order.Order.{Order}
-use Rattle.spread_rules.specs.Clearing.{removed, reduced, with_less_left}
+use Rattle.spread_rules.specs.code.Cases.{with_less_left}
+use Rattle.spread_rules.specs.Clearing.{removed, reduced}
 use Rattle.spread_rulebook.proofs.lists.Membership.{not_in_nil, in_head, in_tail, in_cons_cases, in_map, from_map}
 use Rattle.spread_rules.specs.Candidates.{PlacesDiffer}
 use Rattle.spread_rules.proofs.clearings.TurnsEnd.{from_filter, less_place}

@@ -6,8 +6,9 @@ use Rattle.spread_rules.specs.declared.order.Order.{Order}
 use Rattle.spread_rules.specs.declared.candidate.Candidate.{Candidate}
 use Rattle.spread_rules.specs.declared.candidate.Counterparty.{Counterparty}
 use Rattle.spread_rules.specs.declared.candidate.Counterparty.TheVariants.{Direct, Implied}
+use Rattle.spread_rules.specs.code.Cases.{with_less_left}
 use Rattle.spread_rules.specs.Candidates.{price_of, AllStandIn, least_left, least_candidate, counterparties, HasOrderPrice, Pairs, PlacesDiffer, IsBest}
-use Rattle.spread_rules.specs.Clearing.{Trading, next_candidate, turn, turns, begin, clear, after_fill, removed, reduced, with_less_left, members}
+use Rattle.spread_rules.specs.Clearing.{Trading, next_candidate, turn, turns, begin, clear, after_fill, removed, reduced, members}
 use Rattle.spread_rules.proofs.ranks.LeastIsOne.{best_is_first}
 use Rattle.spread_rules.proofs.clearings.TurnsEnd.{enough, one_end, keeps_turns}
 use Rattle.candidate_search.specs.Listed.{IsNearFirst, IsInMonths}

@@ -6,6 +6,7 @@ use Rattle.std.specs.List.{find}
 use Rattle.spread_rules.specs.declared.order.Order.{Order}
 use Rattle.spread_rulebook.specs.declared.instrument.Instrument.{Instrument}
 use Rattle.spread_rules.specs.declared.fill.Fill.{Fill}
+use Rattle.spread_rules.specs.code.Cases.{keeping_means}
 use Rattle.spread_rules.specs.Candidates.{HasOrderPrice, Pairs}
 use Rattle.spread_rules.specs.Clearing.{Trading, begin, clear, removed}
 use Rattle.spread_rulebook.proofs.lists.Membership.{in_head, in_tail, not_in_nil}
@@ -27,7 +28,7 @@ use Rattle.spread_match.proofs.entries.FillsCounted.{IsRunning, running}
 use Rattle.market_state.proofs.entries.NamedInstrument.{listed_found, near_of, months_of}
 use Rattle.spread_rulebook.specs.Prices.{IsOrderPrice}
 use Rattle.market_state.proofs.entries.NewOrder.{tradable_more, turns_all, taken_is, below_new}
-use Rattle.spread_rules.specs.Meaning.{EntryMeaning, JournalState, PastTicket, cancel_means, filled, has_id, is_own, is_refused, keeping_means, meaning_of, meaning_with, moved_to, new_order_means, order_of, original_of, refusal_or_instrument, replace_means, resting, statuses_of, ticket_of, with_meaning}
+use Rattle.spread_rules.specs.Meaning.{EntryMeaning, JournalState, PastTicket, cancel_means, filled, has_id, is_own, is_refused, meaning_of, meaning_with, moved_to, new_order_means, order_of, original_of, refusal_or_instrument, replace_means, resting, statuses_of, ticket_of, with_meaning}
 use Rattle.spread_rules.specs.Amended.{amended, done, with_quantity}
 use Rattle.market_state.proofs.entries.FoundStands.{find_stands}
 use Rattle.market_state.proofs.entries.MayRest.{MayRest, moved_rests, removed_tradable}

@@ -14,7 +14,8 @@ use Rattle.spread_rules.specs.declared.event.Event.TheVariants.{Logon, New, Canc
 use Rattle.spread_rules.specs.declared.event.Ticket.{Ticket}
 use Rattle.spread_rules.specs.declared.outcome.Outcome.{Outcome}
 use Rattle.spread_rules.specs.declared.outcome.OrderStatus.{OrderStatus}
-use Rattle.spread_rules.specs.Meaning.{EntryMeaning, JournalState, PastTicket, has_id, is_filled, is_refused, is_replaced, names, original_of, past_tickets, place_left, status_at, status_of, statuses_of, ticket_of, with_meaning}
+use Rattle.spread_rules.specs.code.Cases.{status_at}
+use Rattle.spread_rules.specs.Meaning.{EntryMeaning, JournalState, PastTicket, has_id, is_filled, is_refused, is_replaced, names, original_of, past_tickets, place_left, status_of, statuses_of, ticket_of, with_meaning}
 use Rattle.spread_rulebook.proofs.lists.Membership.{in_head, in_tail, in_cons_cases, not_in_nil}
 use Rattle.market_state.specs.code.StateAfter.{first_status, statuses_after_replace}
 use Rattle.order_statuses.specs.code.Statuses.{is_open, status_after_fill, status_after_replace, statuses_after}

@@ -17,15 +17,16 @@ use Rattle.spread_rules.specs.declared.event.Event.{Event}
 use Rattle.spread_rules.specs.declared.event.Event.TheVariants.{Logon, New, Cancel, Replace, TestReply, Gap, Resend, Reject, Close}
 use Rattle.spread_rules.specs.declared.event.Ticket.{Ticket}
 use Rattle.spread_rules.specs.declared.outcome.OrderStatus.{OrderStatus}
+use Rattle.spread_rules.specs.code.Cases.{leg_prices_of_single, leg_prices_of_pair}
 use Rattle.spread_rules.specs.Candidates.{takes_part, implied_price, price_of, least_left, AllStandIn}
 use Rattle.spread_rulebook.specs.Instruments.{month_of}
 use Rattle.spread_rulebook.specs.Prices.{IsLegPrice, IsOrderPrice}
-use Rattle.spread_rules.specs.Clearing.{Trading, next_candidate, turn, turns, after_match, begin, clear, removed, fills_of, fill_of, leg_prices, leg_prices_of_fill, leg_prices_of_single, leg_prices_of_pair}
+use Rattle.spread_rules.specs.Clearing.{Trading, next_candidate, turn, turns, after_match, begin, clear, removed, fills_of, fill_of, leg_prices, leg_prices_of_fill}
 use Rattle.spread_rules.specs.Meaning.{EntryMeaning, JournalState, PastTicket, after_entries, after_entry, cancel_means, has_id, is_own, meaning_of, meaning_of_journal, moved_to, new_order_means, no_entries, order_of, refusal_or_instrument, replace_means, resting, statuses_of}
 use Rattle.spread_rulebook.specs.Rulebook.{Rules, IsRules, IsListed, month_count, references_of, find_symbol, implied}
 use Rattle.spread_rulebook.proofs.lists.Membership.{in_cons_cases, in_head, in_tail, not_in_nil}
 use Rattle.spread_rules.proofs.clearings.TurnsEnd.{members_rest, next_meets, from_filter}
-use Rattle.spread_rules.proofs.clearings.BoughtIsSold.{on_price, so_is}
+use Rattle.spread_rules.proofs.clearings.BoughtIsSold.{legs_of_pair, legs_of_single, on_price, so_is}
 use Rattle.spread_match.specs.Sound.{IsSound, IsCounted, IsFillWithinLimits}
 use Rattle.market_state.specs.Trade.{IsPriced, ArePriced}
 use Rattle.order_clearing.specs.Tradable.{IsTradable}
@@ -63,7 +64,14 @@ implied_fits Buy (Outright m) Buy (Spread i j) Sell (Outright k) x y p a b c d h
 implied_fits Sell (Outright m) Sell (Spread i j) Buy (Outright k) x y p a b c d h = less y x p c d a b (so_is _ _ p h)
 implied_fits Buy (Spread i j) Sell (Outright k) Buy (Outright l) x y p a b c d h = less x y p a b c d (so_is _ _ p h)
 implied_fits Sell (Spread i j) Buy (Outright k) Sell (Outright l) x y p a b c d h = less x y p a b c d (so_is _ _ p h)
-implied_fits _ _ _ _ _ _ x y p a b c d h = cc
+implied_fits _ (Outright m) _ (Outright n) _ (Outright k) x y p a b c d h = cc
+implied_fits _ (Outright m) _ (Outright n) _ (Spread k l) x y p a b c d h = cc
+implied_fits _ (Outright m) _ (Spread w z) _ (Outright k) x y p a b c d h = cc
+implied_fits _ (Outright m) _ (Spread w z) _ (Spread k l) x y p a b c d h = cc
+implied_fits _ (Spread i j) _ (Outright n) _ (Outright k) x y p a b c d h = cc
+implied_fits _ (Spread i j) _ (Outright n) _ (Spread k l) x y p a b c d h = cc
+implied_fits _ (Spread i j) _ (Spread w z) _ (Outright k) x y p a b c d h = cc
+implied_fits _ (Spread i j) _ (Spread w z) _ (Spread k l) x y p a b c d h = cc
 
 reference_small : (rs : List ℤ) (i : ℕ) → ((z : ℤ) → Contains rs z → IsOrderPrice z) → IsOrderPrice (get_or rs i (pos 0))
 reference_small [] i h = record { low = omega (arith, ints); high = omega (arith, ints) }
@@ -112,7 +120,7 @@ turn_fits rules n (Direct a) price lawful own less_own meets xs stands fits less
     let small : IsLegPrice price = subst IsLegPrice e s in
     let refs : (z : ℤ) → Contains (references_of rules) z → IsOrderPrice z = λ z d. All-contains IsOrderPrice (references_of rules) z (small_references rules lawful) d in
     let legs = leg_prices (references_of rules) n.instrument price (Direct a) in
-    let l : AreFit legs = subst (λ (z : ℤ). AreFit (leg_prices_of_single (references_of rules) n.instrument z)) e (one_fits (references_of rules) n.instrument a.price refs k.low k.high) in
+    let l : AreFit legs = subst AreFit (legs_of_single (references_of rules) n.instrument price a) (subst (λ (z : ℤ). AreFit (leg_prices_of_single (references_of rules) n.instrument z)) e (one_fits (references_of rules) n.instrument a.price refs k.low k.high)) in
     let q = least_left n (Direct a) in
     elim (in_cons_cases (fill_of n.place q legs n price) (fill_of n.place q legs a a.price ∷ []) f c) [
       | inl same ↦ subst (IsFillWithinLimits rules) same (fill_fits rules n.place q n price legs own (omega arith) less_own small l)
@@ -130,7 +138,7 @@ turn_fits rules n (Implied a b) price lawful own less_own meets xs stands fits l
     let sa = wider a.price k.low k.high in
     let sb = wider b.price j.low j.high in
     let legs = leg_prices (references_of rules) n.instrument price (Implied a b) in
-    let l : AreFit legs = two_fits n.instrument b.instrument price a.price b.price small sa sb in
+    let l : AreFit legs = subst AreFit (legs_of_pair (references_of rules) n.instrument price a b) (two_fits n.instrument b.instrument price a.price b.price small sa sb) in
     let q = least_left n (Implied a b) in
     elim (in_cons_cases (fill_of n.place q legs n price) (fill_of n.place q legs a a.price ∷ fill_of n.place q legs b b.price ∷ []) f c) [
       | inl same ↦ subst (IsFillWithinLimits rules) same (fill_fits rules n.place q n price legs own (omega arith) less_own small l)

@@ -1,4 +1,4 @@
-use Rattle.spread_rules.specs.Clearing.{with_less_left}
+use Rattle.spread_rules.specs.code.Cases.{with_less_left}
 use Rattle.spread_rules.proofs.lists.InTurn.{next}
 use Rattle.explained_turns.proofs.one_turn.reduce_all.Goals as goal
 

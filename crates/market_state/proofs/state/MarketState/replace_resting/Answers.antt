@@ -3,7 +3,7 @@ use Rattle.std.specs.List.{find}
 use Rattle.std.specs.Option.{is_some}
 use Rattle.std.proofs.lemmas.List.{append-nil}
 use Rattle.spread_rules.specs.declared.event.Event.TheVariants.{Replace}
-use Rattle.spread_rules.specs.Meaning.{EntryMeaning, has_id, instrument_or_refusal_of, unchanged_with}
+use Rattle.spread_rules.specs.Meaning.{EntryMeaning, has_id, instrument_or_refusal_of, untraded}
 use Rattle.spread_rules.specs.declared.outcome.Outcome.TheVariants.{CancelRefused}
 use Rattle.market_state.specs.State.{MarketState}
 use Rattle.market_state.specs.code.StateAfter.{state_with}
@@ -18,7 +18,7 @@ returns-in-Some-clause-after g c =
     let t = c.args.ticket.now in
     let used : c.is_some-used.result ≡ is_some (find (has_id r.session t.id) m.statuses) = c.is_some-used.ensures ∙ ap (λ o. is_some o) (c.find.ensures ∙ ap (λ (x : MarketState). find (has_id r.session t.id) x.statuses) c.self.view_is) in
     let is = refused_is c.args.rules.now m.orders c.args.place t (instrument_or_refusal_of c.args.rules.now m.statuses r.session t) r c.in-Some.reason (c.in-Some.ensures (find (has_id r.session t.id) m.statuses) used) in
-    on_ok c.refuse_replace.result _ _ (λ h. h r.id ∙ ap (state_with m c.args.place r.session (Replace r.id t)) (ap (λ (k : ℕ). unchanged_with (CancelRefused c.in-Some.reason r.place k) m.orders) c.resting_status.ensures ∙ is)) c.refuse_replace.ensures.after
+    on_ok c.refuse_replace.result _ _ (λ h. h r.id ∙ ap (state_with m c.args.place r.session (Replace r.id t)) (ap (λ (k : ℕ). untraded (CancelRefused c.in-Some.reason r.place k) m.orders) c.resting_status.ensures ∙ is)) c.refuse_replace.ensures.after
 
 pub returns-then-keeps_place-clause-fills : goal.returns-then-keeps_place-clause-fills
 returns-then-keeps_place-clause-fills g c =
