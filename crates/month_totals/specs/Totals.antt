@@ -3,19 +3,18 @@ use Rattle.std.specs.Prelude.{◌≡◌, ℕ, ◌<◌, ◌≤◌, List, get_or}
 use Rattle.host_base.specs.declared.limits.TheConstants.{MAX_MONTHS, MAX_ORDER_QTY}
 use Rattle.spread_rulebook.specs.declared.instrument.Instrument.{Instrument}
 use Rattle.spread_rulebook.specs.declared.instrument.Instrument.TheVariants.{Outright, Spread}
-use Rattle.spread_rules.specs.declared.order.Side.TheVariants.{Buy, Sell}
 use Rattle.spread_rules.specs.declared.fill.Fill.{Fill}
-use Rattle.spread_rules.specs.Legs.{legs, quantities, money}
+use Rattle.spread_rules.specs.Legs.{bought, sold, paid, received}
 use Rattle.spread_rulebook.specs.Prices.{IsLegPrice}
 use Rattle.month_totals.specs.declared.totals.MonthTotals.{MonthTotals}
 
 -- what these fills sum to in a month
 abbrev pub totals_of : ℕ → List Fill → MonthTotals
 totals_of month fills = record {
-  bought = quantities Buy month (legs fills);
-  sold = quantities Sell month (legs fills);
-  paid = money Buy month (legs fills);
-  received = money Sell month (legs fills);
+  bought = bought month fills;
+  sold = sold month fills;
+  paid = paid month fills;
+  received = received month fills;
 }
 
 -- each of these is its month's sums, the first month first
