@@ -4,10 +4,9 @@ use Rattle.std.specs.declared.vec.Vec.{Vec}
 use Rattle.host_base.specs.declared.limits.TheConstants.{SESSIONS}
 use Rattle.fix_frames.specs.Frames.{IsFrameRow}
 use Rattle.spread_rules.specs.declared.event.Entry.{Entry}
-use Rattle.spread_rules.specs.declared.order.Side.TheVariants.{Buy, Sell}
 use Rattle.spread_rules.specs.declared.fill.Fill.{Fill}
 use Rattle.spread_rules.specs.Journal.{IsLawful, restricted}
-use Rattle.spread_rules.specs.Legs.{legs, quantities, money}
+use Rattle.spread_rules.specs.Legs.{bought, sold, paid, received}
 use Rattle.spread_rules.specs.Meaning.{meaning_of_journal, filled}
 use Rattle.spread_rules.specs.Quiet.{IsQuiet}
 use Rattle.spread_rulebook.specs.Rulebook.{implied, Rules}
@@ -42,11 +41,11 @@ HasOutgoing rules stamp journal out =
 
 -- In every month as many lots are bought as are sold.
 abbrev pub BoughtIsSold : List Fill → Type 0
-BoughtIsSold fills = (month : ℕ) → quantities Buy month (legs fills) ≡ quantities Sell month (legs fills)
+BoughtIsSold fills = (month : ℕ) → bought month fills ≡ sold month fills
 
 -- In every month as much is paid as is received.
 abbrev pub PaidIsReceived : List Fill → Type 0
-PaidIsReceived fills = (month : ℕ) → money Buy month (legs fills) ≡ money Sell month (legs fills)
+PaidIsReceived fills = (month : ℕ) → paid month fills ≡ received month fills
 
 -- After each entry nothing direct or first-generation implied can trade.
 abbrev pub IsAlwaysQuiet : Rules → List Entry → Type 0
