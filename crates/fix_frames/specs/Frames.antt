@@ -91,7 +91,8 @@ pub record IsFrameRow (text : List ℕ) : Type 0 where
 abbrev pub may_begin : List ℕ → Bool
 may_begin text =
     is_cut_short begin_text text
-    || option_map_or (λ rest. nat_le (length rest) MAX_LENGTH_DIGITS && list_all is_ascii_digit rest)
+    || option_map_or
+    (λ rest. nat_le (length rest) MAX_LENGTH_DIGITS && list_all is_ascii_digit rest)
     (strip_prefix begin_text text) false
     || option_map_or (λ h. nat_lt (length text) (frame_length h)) (header text) false
 

@@ -74,7 +74,8 @@ event_of ms (suc p) m =
 -- the event of the message m at a place
 abbrev pub event : List MessageView → ℕ → MessageView → Option Event
 event ms p m =
-    if live ms p then option_or (option_map variant.Close (closing ms p (due ms p) m)) (event_of ms p m)
+    if live ms p
+    then option_or (option_map variant.Close (closing ms p (due ms p) m)) (event_of ms p m)
     else None
 
 -- the events of the places in order
