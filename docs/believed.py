@@ -32,8 +32,14 @@ def imports_of(text, start):
 
 def blocks_of(text):
     """The definitions of a file: each name with its lines."""
-    found, name = {}, None
+    found, name, is_mutual = {}, None, False
     for line in text.split("\n"):
+        # definitions that cite each other stand two columns in, below a line of their own
+        if re.match(r"(abbrev )?mutual$", line):
+            name, is_mutual = None, True
+            continue
+        is_mutual = is_mutual and (not line.strip() or line.startswith("  "))
+        line = line[2:] if is_mutual else line
         if not line.strip() or line.lstrip().startswith("--") or re.match(r"(pub )?use |infix|pub mod", line):
             name = name if line.startswith(" ") else None if not line.strip() else name
             continue
