@@ -7,24 +7,12 @@ use Rattle.spread_rules.specs.Meaning.{meaning_of_journal}
 use Rattle.spread_rulebook.specs.Rulebook.{Rules}
 use Rattle.spread_report.specs.Messages.{IsRow, messages_to}
 use Rattle.spread_report.specs.Sessions.{bytes_of}
-use Rattle.day_apply.specs.Applied.{SpendsAt, applied_entries, outgoing_bytes}
+use Rattle.day_apply.specs.Applied.{IsPlaceOf, IsSpentOf, applied_entries, outgoing_bytes}
 use Rattle.gate_link.specs.Opening.{IsRefusal}
 use Rattle.session_threads.specs.Streams.{IsBeginningOf, all_events, whole_at}
 use Rattle.day_threads.specs.declared.fault.ThreadsFault.{ThreadsFault}
 use Rattle.day_threads.specs.declared.fault.ThreadsFault.TheVariants.{Link, Spawn, JournalFull, NoMemory, NumbersSpent}
 use Rattle.day_threads.specs.declared.conclude.SessionsDay.{SessionsDay}
-
--- a place of a journal that begins that of these streams, or the one behind its last entry
-pub record IsLivePlace {A : Type 0} (streams : List (Vec ℕ A)) (place : ℕ) : Type 0 where
-  pub journal : List Entry
-  pub parts : IsBeginningOf streams journal
-  pub within : place ≤ length journal + 1
-
--- at that place of such a journal a message would bear a number above 999,999,999
-pub record IsSpentLive {A : Type 0} (rules : Rules) (streams : List (Vec ℕ A)) (place : ℕ) : Type 0 where
-  pub journal : List Entry
-  pub parts : IsBeginningOf streams journal
-  pub spends : SpendsAt rules journal place
 
 -- a session's thread, the matching thread behind the last session's, or behind that one a session's writer's
 abbrev pub IsThread : ℕ → ℕ → Type 0
@@ -36,8 +24,10 @@ abbrev pub IsThreadsFault : {A : Type 0} → Rules → List (Vec ℕ A) → ℕ 
 IsThreadsFault rules streams ring journal (Link fault) = IsRefusal fault (length streams) ring journal
 IsThreadsFault rules streams ring journal (Spawn k) = IsThread (length streams) k
 IsThreadsFault rules streams ring journal JournalFull = journal < all_events streams
-IsThreadsFault rules streams ring journal (NoMemory place) = (place ≡ 0) ⊎ IsLivePlace streams place
-IsThreadsFault rules streams ring journal (NumbersSpent place) = IsSpentLive rules streams place
+IsThreadsFault rules streams ring journal (NoMemory place) =
+    (place ≡ 0) ⊎ IsPlaceOf (IsBeginningOf streams) place
+IsThreadsFault rules streams ring journal (NumbersSpent place) =
+    IsSpentOf rules (IsBeginningOf streams) place
 
 -- The day of these streams: of each session the journal has exactly the events of its stream; the fills, and what each
 -- session is sent, are those of the journal.
