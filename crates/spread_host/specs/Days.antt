@@ -1,5 +1,6 @@
 -- A day: what a run hands out, and when.
-use Rattle.std.specs.Prelude.{◌≡◌, ℕ, zero, suc, Bool, false, ◌+◌, ◌≤◌, ◌⊎◌, List, [], ◌∷◌, ◌++◌, length, Option, IfSome, Err}
+use Rattle.std.specs.Prelude.{◌≡◌, ℕ, Bool, false, ◌⊎◌, List, map, Option, IfSome, Err}
+use Rattle.std.specs.List.{range_with_len}
 use Rattle.std.specs.Io.KnownBytes.{Appends, IsAtEnd}
 use Rattle.spread_rules.specs.declared.event.Entry.{Entry}
 use Rattle.spread_rules.specs.Meaning.{meaning_of_journal}
@@ -8,7 +9,7 @@ use Rattle.host_base.specs.declared.limits.TheConstants.{SESSIONS}
 use Rattle.host_base.specs.Ends.{AppendsPrefix}
 use Rattle.day_lines.specs.LineText.{day_lines_of}
 use Rattle.day_lines.specs.Reading.{IsJournalOf, IsTooLong}
-use Rattle.day_apply.specs.Applied.{outgoing_bytes, SpendsAt}
+use Rattle.day_apply.specs.Applied.{outgoing_bytes, IsPlaceOf, IsSpentOf}
 use Rattle.day_text.specs.DayText.{day_text}
 use Rattle.spread_host.specs.declared.fault.HostFault.{HostFault}
 use Rattle.spread_host.specs.declared.fault.HostFault.TheVariants as faults
@@ -25,9 +26,7 @@ pub record IsWritten (old new : Option (List ℕ)) (failed : Bool) (text : List 
 
 -- what each of the sessions below n is sent over a journal
 abbrev pub texts_below : ℕ → Rules → List ℕ → List Entry → List (List ℕ)
-texts_below zero rules stamp journal = []
-texts_below (suc n) rules stamp journal =
-    texts_below n rules stamp journal ++ outgoing_bytes rules stamp journal n ∷ []
+texts_below n rules stamp journal = map (outgoing_bytes rules stamp journal) (range_with_len 0 n)
 
 -- the text of a journal's day
 abbrev pub text_of_day : Bool → Rules → List ℕ → List Entry → List ℕ
@@ -41,23 +40,14 @@ pub record IsPartOut (journal_only : Bool) (rules : Rules) (stamp input : List �
   pub is_of : IsJournalOf input journal
   pub part : AppendsPrefix old new (text_of_day journal_only rules stamp journal)
 
--- the input's journal, whose entries would need a number above 999,999,999 at that place
-pub record IsSpent (rules : Rules) (input : List ℕ) (place : ℕ) : Type 0 where
-  pub journal : List Entry
-  pub is_of : IsJournalOf input journal
-  pub spends : SpendsAt rules journal place
-
--- want of memory: before the first entry, at an entry of the input's journal, or after the last
-abbrev pub IsPlace : List ℕ → ℕ → Type 0
-IsPlace input place =
-    (place ≡ 0) ⊎ ((journal : List Entry) × IsJournalOf input journal × (place ≤ length journal + 1))
-
--- why an input that is read whole has no day
+-- why an input that is read whole has no day; memory may be short before the first entry, at an entry or after the last
 abbrev pub IsReplayFault : Rules → Option (List ℕ) → HostFault → Type 0
 IsReplayFault rules input (faults.DayLine n) = IfSome input (λ i. day_lines_of i ≡ Err n)
 IsReplayFault rules input faults.JournalFull = IfSome input IsTooLong
-IsReplayFault rules input (faults.NoMemory place) = IfSome input (λ i. IsPlace i place)
-IsReplayFault rules input (faults.NumbersSpent place) = IfSome input (λ i. IsSpent rules i place)
+IsReplayFault rules input (faults.NoMemory place) =
+    IfSome input (λ i. (place ≡ 0) ⊎ IsPlaceOf (IsJournalOf i) place)
+IsReplayFault rules input (faults.NumbersSpent place) =
+    IfSome input (λ i. IsSpentOf rules (IsJournalOf i) place)
 IsReplayFault rules input faults.Read = Unit {0}
 IsReplayFault rules input faults.Write = Unit {0}
 IsReplayFault rules input _ = ⊥
