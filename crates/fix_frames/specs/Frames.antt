@@ -1,4 +1,5 @@
--- Lawful frames, what may still begin one, and the frames of an input (FIX 4.2: BeginString, BodyLength, body, CheckSum).
+-- Lawful frames, what may still begin one, and the frames of an input (FIX 4.2: BeginString, BodyLength, body,
+-- CheckSum).
 use Rattle.std.specs.Prelude.{◌≡◌, ℕ, zero, suc, ◌+◌, ◌-◌, ◌/◌, ◌%◌, Bool, false, ◌&&◌, ◌||◌, ◌==◌, nat_le, nat_lt, if◌then◌else◌, List, [], ◌∷◌, ◌++◌, Option, Some, None, option_and_then, is_some, length, take, drop, sum, codes}
 use Rattle.std.specs.Char.{is_ascii_digit}
 use Rattle.std.specs.List.{list_all, position_or_len, AllByRecursion, concat}
@@ -98,8 +99,8 @@ may_begin text =
 
 -- ---- the frames of an input
 
--- The frames of an input from its place `skip` on. Where a frame stands, that one and then those after it; else, where the
--- rest may still begin one, none; else those from the next place.
+-- The frames of an input from its place `skip` on. Where a frame stands, that one and then those after it; else,
+-- where the rest may still begin one, none; else those from the next place.
 abbrev pub frames_after : ℕ → List ℕ → List (List ℕ)
 frames_after skip [] = []
 frames_after (suc skip) (b ∷ bs) = frames_after skip bs

@@ -29,8 +29,8 @@ quantity_in text =
     then within MAX_NUMBER (number_of whole)
     else Err Format
 
--- hundredths without a sign: at least one digit, at most one point among, before or after the digits, and no digit but 0
--- past the second place after the point
+-- hundredths without a sign: at least one digit, at most one point among, before or after the digits, and no digit
+-- but 0 past the second place after the point
 abbrev pub hundredths_in : List ℕ → Result ℕ Unread
 hundredths_in text =
     let whole = before_first (λ b. b == point) text in

@@ -37,8 +37,8 @@ field tag value = record { tag = tag; value = value }
 abbrev pub only_if : Bool → TagValue → List TagValue
 only_if duplicate f = if duplicate then f ∷ [] else []
 
--- what each message begins with: MsgType, MsgSeqNum, PossDupFlag in a duplicate, SenderCompID, SendingTime, TargetCompID, and
--- OrigSendingTime in a duplicate
+-- what each message begins with: MsgType, MsgSeqNum, PossDupFlag in a duplicate, SenderCompID, SendingTime,
+-- TargetCompID, and OrigSendingTime in a duplicate
 abbrev pub head_fields : Head → List TagValue
 head_fields h =
     (field tags.MSG_TYPE (h.kind ∷ []) ∷ field tags.MSG_SEQ_NUM (decimal h.number) ∷ [])
@@ -141,7 +141,8 @@ FitsBody h fs = length (body_text h fs) ≤ MAX_BODY_LENGTH
 abbrev pub FitsMessage : Head → List given.Field → Type 0
 FitsMessage h fs = FitsHead h × AllByRecursion FitsField fs × FitsBody h fs
 
--- The message is a lawful frame with exactly these fields, and before any further bytes it is read first, alone and whole.
+-- The message is a lawful frame with exactly these fields, and before any further bytes it is read first, alone and
+-- whole.
 pub record IsReadBack (h : Head) (fs : List given.Field) : Type 0 where
   pub lawful : IsFrame (message_text h fs)
   pub same : fields (message_text h fs) ≡ all_fields h fs

@@ -58,8 +58,9 @@ due_after_accepted n _ = n + 1
 
 -- ---- the view
 
--- What a session sees of a message: its number, its CompIDs, what it says as a lawful Logon, whether it may be a duplicate,
--- whether it is a Logout, the number that is due after it, and its event as an accepted message after the Logon.
+-- What a session sees of a message: its number, its CompIDs, what it says as a lawful Logon, whether it may be a
+-- duplicate, whether it is a Logout, the number that is due after it, and its event as an accepted message after the
+-- Logon.
 pub record MessageView : Type 0 where
   pub number : ℕ
   pub sender : Option (List ℕ)

@@ -9,8 +9,8 @@ use Rattle.day_threads.specs.Streams.{IsThread}
 use Rattle.spread_host.specs.declared.fault.HostFault.{HostFault}
 use Rattle.spread_host.specs.declared.fault.HostFault.TheVariants.{Link, Spawn, JournalFull, NoMemory, NumbersSpent}
 
--- why these streams gave no day, over rings and with a journal of these sizes: the places are of a journal that has a beginning of
--- each stream's events
+-- why these streams gave no day, over rings and with a journal of these sizes: the places are of a journal that has a
+-- beginning of each stream's events
 abbrev pub IsRunDayFault : {A : Type 0} → Rules → List (Vec ℕ A) → ℕ → ℕ → HostFault → Type 0
 IsRunDayFault rules streams ring journal (Link fault) = IsRefusal fault (length streams) ring journal
 IsRunDayFault rules streams ring journal (Spawn k) = IsThread (length streams) k

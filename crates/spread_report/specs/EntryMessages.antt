@@ -1,4 +1,5 @@
--- Which messages an entry of the journal sends, field by field: execution reports, OrderCancelRejects and session messages.
+-- Which messages an entry of the journal sends, field by field: execution reports, OrderCancelRejects and session
+-- messages.
 use Rattle.std.specs.Prelude.{ℕ, ◌+◌, ◌-◌, ◌==◌, ℤ, if◌then◌else◌, List, [], ◌∷◌, ◌++◌, length, codes, Option, Some, None, option_map, option_to_list}
 use Rattle.std.specs.List.{cons_option}
 use Rattle.fix_frames.specs.declared.msg_types.TheConstants as msg_types
@@ -26,8 +27,8 @@ use Rattle.report_bodies.specs.declared.codes.OrdStatus.TheVariants as status
 use Rattle.report_bodies.specs.Codes.{side_code, ord_status_code, multi_leg_code}
 use Rattle.report_bodies.specs.Fields.{text_field, number_field, price_field, pair_field}
 
--- A step of what a session is sent: its Logon gives it the CompIDs that its messages bear from there on; a message bears
--- the session's next number and uses it; a gap fill uses none.
+-- A step of what a session is sent: its Logon gives it the CompIDs that its messages bear from there on; a message
+-- bears the session's next number and uses it; a gap fill uses none.
 pub data OutgoingStep : Type 0 where
   logged_on : CompIds → OutgoingStep
   numbered : (kind : ℕ) (fields : List Field) → OutgoingStep
@@ -62,8 +63,8 @@ pub record ExecutionReport : Type 0 where
   pub leaves_qty : ℕ
   pub cum_qty : ℕ
 
--- The fields of an ExecutionReport, in order: OrigClOrdID in a report on a cancel or a replace alone, OrdRejReason in a rejected
--- order's alone, and LastShares, LastPx and MultiLegReportingType in a fill's alone.
+-- The fields of an ExecutionReport, in order: OrigClOrdID in a report on a cancel or a replace alone, OrdRejReason in
+-- a rejected order's alone, and LastShares, LastPx and MultiLegReportingType in a fill's alone.
 abbrev pub report_fields : ExecutionReport → List Field
 report_fields r =
     number_field tags.ORDER_ID r.order_id
@@ -94,8 +95,8 @@ numbered_message to kind fields = record { to = to; step = numbered kind fields 
 abbrev pub report : ℕ → ExecutionReport → AddressedStep
 report to r = numbered_message to msg_types.EXECUTION_REPORT (report_fields r)
 
--- A report on the order of that place, with its id, symbol, side and quantity; then the report's own place and index, and the order's
--- status. Nothing of it is filled, and nothing is left.
+-- A report on the order of that place, with its id, symbol, side and quantity; then the report's own place and index,
+-- and the order's status. Nothing of it is filled, and nothing is left.
 abbrev pub plain_report : ℕ → List ℕ → List ℕ → Side → ℕ → ℕ → ℕ → OrdStatus → ExecutionReport
 plain_report order_id cl_ord_id symbol side order_qty place index ord_status = record {
   order_id = order_id;
@@ -118,7 +119,8 @@ abbrev pub order_report : ℕ → ℕ → Ticket → OrdStatus → ExecutionRepo
 order_report place index t ord_status =
     plain_report place t.id t.symbol t.side t.quantity place index ord_status
 
--- A resting order, with this symbol, is cancelled or replaced by a request with this id: its status, and what is left of it then.
+-- A resting order, with this symbol, is cancelled or replaced by a request with this id: its status, and what is left
+-- of it then.
 abbrev pub amended_report :
     List ℕ → ℕ → List ℕ → List ℕ → Order → OrdStatus → ℕ → ExecutionReport
 amended_report symbol place id original o ord_status leaves =
@@ -144,8 +146,8 @@ abbrev pub part_report : Rules → ℕ → ℕ → Fill → Instrument → Side 
 part_report rules place index f instrument side price multi_leg =
     report f.session (fill_report place index f (symbol_of rules instrument) side price multi_leg)
 
--- The reports of a fill of this instrument, the first with this index: one of an outright; of a spread the spread, then its near
--- month on the order's side and its far month on the other.
+-- The reports of a fill of this instrument, the first with this index: one of an outright; of a spread the spread,
+-- then its near month on the order's side and its far month on the other.
 abbrev pub fill_reports : Instrument → Rules → ℕ → ℕ → Fill → List AddressedStep
 fill_reports (Outright m) rules place index f =
     part_report rules place index f f.instrument f.side f.price SingleSecurity ∷ []
@@ -170,7 +172,8 @@ accepted_messages rules place session t fills =
     report session (record (order_report place 1 t status.New) { leaves_qty = t.quantity })
     ∷ fills_reports rules place 2 fills
 
--- a new order is rejected, or it is accepted and its fills are reported, and what is left of an immediate one is cancelled
+-- a new order is rejected, or it is accepted and its fills are reported, and what is left of an immediate one is
+-- cancelled
 abbrev pub new_messages : Rules → ℕ → ℕ → Ticket → Outcome → List Fill → List AddressedStep
 new_messages rules place session t (outcomes.Refused reason) fills =
     report session
@@ -186,8 +189,8 @@ new_messages rules place session t (outcomes.Ended left) fills =
     }) ∷ []
 new_messages rules place session t _ fills = []
 
--- An OrderCancelReject that answers such a request. The order that was named has that place and that status; where there is none, the
--- place is 0 and OrderID is `NONE`.
+-- An OrderCancelReject that answers such a request. The order that was named has that place and that status; where
+-- there is none, the place is 0 and OrderID is `NONE`.
 abbrev pub order_cancel_reject : ℕ → ℕ → List ℕ → List ℕ → ℕ → ℕ → ℕ → AddressedStep
 order_cancel_reject session response_to id original reason place ord_status =
     numbered_message session msg_types.ORDER_CANCEL_REJECT
@@ -236,8 +239,8 @@ close_messages session reason =
     then logout session (text_field tags.TEXT (codes "CompID") ∷ [])
     else []
 
--- What an event at its place sends its session, with its outcome and its fills. An EndSeqNo of 0 asks for all that was sent from
--- the first number on.
+-- What an event at its place sends its session, with its outcome and its fills. An EndSeqNo of 0 asks for all that
+-- was sent from the first number on.
 abbrev pub event_messages : Rules → ℕ → ℕ → Event → Outcome → List Fill → List AddressedStep
 event_messages rules place session (Logon client host beat) outcome fills =
     record { to = session; step = logged_on (record { client = client; host = host }) }

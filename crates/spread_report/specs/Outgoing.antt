@@ -33,8 +33,8 @@ head_of stamp ids kind n duplicate = record {
 abbrev pub new_seq_no : ℕ → ℕ → ℕ
 new_seq_no next last = if last == 0 || nat_lt next (last + 2) then next else last + 1
 
--- The message that it sends, or none, where the session's next number is this. Before its Logon a session is sent nothing.
--- A gap fill is sent only where its first number was sent before.
+-- The message that it sends, or none, where the session's next number is this. Before its Logon a session is sent
+-- nothing. A gap fill is sent only where its first number was sent before.
 abbrev pub step_texts : List ℕ → Option CompIds → ℕ → OutgoingStep → List (List ℕ)
 step_texts stamp (Some ids) next (numbered kind fields) =
     message_text (head_of stamp ids kind next false) fields ∷ []

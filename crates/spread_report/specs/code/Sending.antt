@@ -1,5 +1,5 @@
--- What sending some messages does to the sessions, `a` before and `b` after, and to their lists, `x` before and `y` after.
--- Words of the code alone.
+-- What sending some messages does to the sessions, `a` before and `b` after, and to their lists, `x` before and `y`
+-- after. Words of the code alone.
 use Rattle.std.specs.Prelude.{◌≡◌, ℕ, ◌<◌, true, false, List, ◌++◌, length, take, slice_index_or, Some, Result, Ok, Err}
 use Rattle.std.specs.declared.vec.Vec.{Vec}
 use Rattle.host_base.specs.declared.limits.TheConstants.{SESSIONS}
