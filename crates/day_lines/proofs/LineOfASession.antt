@@ -126,21 +126,7 @@ digit (suc (suc (suc (suc (suc (suc (suc (suc (suc zero))))))))) b rest h = one_
 digit (suc (suc (suc (suc (suc (suc (suc (suc (suc (suc k)))))))))) b rest h = absurd (omega (arith, h))
 
 no_digit : (a b : ℕ) (rest : List ℕ) → (a < 48) ⊎ (57 < a) → IsSame (a ∷ b ∷ rest)
-no_digit a b rest (inl far) =
-    let d : is_ascii_digit a ≡ false = grind (arith, nat_tests) in
-    let n : eqb a 49 ≡ false = grind (arith, nat_tests) in
-    let a48 : eqb 48 a ≡ false = grind (arith, nat_tests) in
-    let a49 : eqb 49 a ≡ false = grind (arith, nat_tests) in
-    let a50 : eqb 50 a ≡ false = grind (arith, nat_tests) in
-    let a51 : eqb 51 a ≡ false = grind (arith, nat_tests) in
-    let a52 : eqb 52 a ≡ false = grind (arith, nat_tests) in
-    let a53 : eqb 53 a ≡ false = grind (arith, nat_tests) in
-    let a54 : eqb 54 a ≡ false = grind (arith, nat_tests) in
-    let a55 : eqb 55 a ≡ false = grind (arith, nat_tests) in
-    let a56 : eqb 56 a ≡ false = grind (arith, nat_tests) in
-    let a57 : eqb 57 a ≡ false = grind (arith, nat_tests) in
-    simp (d, n, a48, a49, a50, a51, a52, a53, a54, a55, a56, a57)
-no_digit a b rest (inr far) =
+no_digit a b rest far =
     let d : is_ascii_digit a ≡ false = grind (arith, nat_tests) in
     let n : eqb a 49 ≡ false = grind (arith, nat_tests) in
     let a48 : eqb 48 a ≡ false = grind (arith, nat_tests) in
