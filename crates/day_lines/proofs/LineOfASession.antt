@@ -2,7 +2,7 @@
 use Rattle.std.proofs.Common.{◌≡◌, ◌≢◌, ℕ, zero, suc, ◌+◌, ◌-◌, ◌/◌, ◌%◌, ◌<◌, ◌≤◌, Bool, true, false, cond, eqb, ltb, leb, List, [], ◌∷◌, ◌++◌, Option, Some, None, option_map, refl, sym, ap, ◌∙◌, subst, arith, ◌⊎◌, inl, inr}
 use Rattle.std.proofs.lemmas.Fmt.{decimal_digit, decimal_step}
 use Rattle.std.specs.Char.{is_ascii_digit}
-use Rattle.std.specs.Prelude.{decimal, filter_map}
+use Rattle.std.specs.Prelude.{◌&&◌, decimal, filter_map}
 use Rattle.std.specs.List.{cons_option, range_with_len}
 use Rattle.std.specs.Option.{option_to_list}
 use Rattle.std.proofs.lemmas.Bool.{cases_lt}
@@ -64,10 +64,10 @@ one_digit s b rest = by_test (eqb b 58) (eqb 58 b) same
 
 -- a byte behind a 1 that is neither a colon nor a digit up to 5
 no_session : (b : ℕ) (rest : List ℕ) → b ≢ 58 → (b < 48) ⊎ (53 < b) → IsSame (49 ∷ b ∷ rest)
-no_session b rest other (inl low) =
+no_session b rest other far =
     let c : eqb b 58 ≡ false = grind (arith, nat_tests) in
     let d : eqb 58 b ≡ false = grind (arith, nat_tests) in
-    let r : leb 48 b ≡ false = grind (arith, nat_tests) in
+    let r : (leb 48 b && leb b 53) ≡ false = grind (arith, nat_tests) in
     let b48 : eqb 48 b ≡ false = grind (arith, nat_tests) in
     let b49 : eqb 49 b ≡ false = grind (arith, nat_tests) in
     let b50 : eqb 50 b ≡ false = grind (arith, nat_tests) in
@@ -75,18 +75,6 @@ no_session b rest other (inl low) =
     let b52 : eqb 52 b ≡ false = grind (arith, nat_tests) in
     let b53 : eqb 53 b ≡ false = grind (arith, nat_tests) in
     simp (c, d, r, b48, b49, b50, b51, b52, b53)
-no_session b rest other (inr high) =
-    let c : eqb b 58 ≡ false = grind (arith, nat_tests) in
-    let d : eqb 58 b ≡ false = grind (arith, nat_tests) in
-    let l : leb 48 b ≡ true = grind (arith, nat_tests) in
-    let r : leb b 53 ≡ false = grind (arith, nat_tests) in
-    let b48 : eqb 48 b ≡ false = grind (arith, nat_tests) in
-    let b49 : eqb 49 b ≡ false = grind (arith, nat_tests) in
-    let b50 : eqb 50 b ≡ false = grind (arith, nat_tests) in
-    let b51 : eqb 51 b ≡ false = grind (arith, nat_tests) in
-    let b52 : eqb 52 b ≡ false = grind (arith, nat_tests) in
-    let b53 : eqb 53 b ≡ false = grind (arith, nat_tests) in
-    simp (c, d, l, r, b48, b49, b50, b51, b52, b53)
 
 -- the digits up to 5
 teen : (k : ℕ) (rest : List ℕ) → k < 6 → IsSame (49 ∷ (48 + k) ∷ rest)

@@ -1,7 +1,6 @@
 -- The day of streams in threads, and why it has none.
 use Rattle.std.specs.Prelude.{◌≡◌, ℕ, ◌+◌, ◌<◌, ◌≤◌, ◌⊎◌, List, length, Vec}
 use Rattle.host_base.specs.declared.limits.TheConstants.{SESSIONS}
-use Rattle.spread_rules.specs.declared.event.Entry.{Entry}
 use Rattle.spread_rules.specs.Journal.{restricted}
 use Rattle.spread_rules.specs.Meaning.{meaning_of_journal}
 use Rattle.spread_rulebook.specs.Rulebook.{Rules}
