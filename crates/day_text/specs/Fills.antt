@@ -6,23 +6,23 @@ use Rattle.spread_rulebook.specs.declared.instrument.Instrument.{Instrument}
 use Rattle.spread_rulebook.specs.declared.instrument.Instrument.TheVariants.{Outright, Spread}
 use Rattle.spread_rules.specs.declared.fill.Fill.{Fill}
 use Rattle.spread_rulebook.specs.Rulebook.{Rules, symbol_of}
-use Rattle.host_base.specs.Ascii.{line_feed, space}
+use Rattle.host_base.specs.declared.bytes.TheConstants.{LINE_FEED, SPACE}
 use Rattle.journal_parts.specs.JournalText.{side_byte}
 
 -- the near and the far price of a spread's fill
 abbrev pub legs_text : Instrument → ℤ → ℤ → List ℕ
 legs_text (Outright m) near far = []
-legs_text (Spread i j) near far = space ∷ signed_decimal near ++ space ∷ signed_decimal far
+legs_text (Spread i j) near far = SPACE ∷ signed_decimal near ++ SPACE ∷ signed_decimal far
 
 -- `F AT ORDER SESSION SYMBOL SIDE QUANTITY PRICE`, and for a spread ` NEAR FAR`
 abbrev pub fill_line : Rules → Fill → List ℕ
 fill_line rules f =
     (codes "F " ++ decimal f.at
-    ++ space ∷ decimal f.order ++ space ∷ decimal f.session ++ space ∷ [])
+    ++ SPACE ∷ decimal f.order ++ SPACE ∷ decimal f.session ++ SPACE ∷ [])
     ++ symbol_of rules f.instrument
-    ++ (space ∷ side_byte f.side ∷ space ∷ decimal f.quantity ++ space ∷ signed_decimal f.price)
+    ++ (SPACE ∷ side_byte f.side ∷ SPACE ∷ decimal f.quantity ++ SPACE ∷ signed_decimal f.price)
     ++ legs_text f.instrument f.near f.far
-    ++ line_feed ∷ []
+    ++ LINE_FEED ∷ []
 
 -- a line for each fill, in order
 abbrev pub fill_lines : Rules → List Fill → List ℕ

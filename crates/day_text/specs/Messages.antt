@@ -2,17 +2,16 @@
 use Rattle.std.specs.Prelude.{ℕ, suc, ◌==◌, if◌then◌else◌, List, [], ◌∷◌, ◌++◌, map, codes, decimal}
 use Rattle.std.specs.List.{flat_map}
 use Rattle.fix_frames.specs.Frames.{frames}
-use Rattle.host_base.specs.Ascii.{line_feed, vertical_bar}
-use Rattle.host_base.specs.declared.bytes.TheConstants.{SOH}
+use Rattle.host_base.specs.declared.bytes.TheConstants.{LINE_FEED, SOH, VERTICAL_BAR}
 
 -- SOH is shown as `|`
 abbrev pub shown_byte : ℕ → ℕ
-shown_byte b = if b == SOH then vertical_bar else b
+shown_byte b = if b == SOH then VERTICAL_BAR else b
 
 -- `O S:MESSAGE`
 abbrev pub outgoing_line : ℕ → List ℕ → List ℕ
 outgoing_line session message =
-    (codes "O " ++ decimal session ++ codes ":") ++ map shown_byte message ++ line_feed ∷ []
+    (codes "O " ++ decimal session ++ codes ":") ++ map shown_byte message ++ LINE_FEED ∷ []
 
 -- a session's outgoing messages
 abbrev pub outgoing_lines : ℕ → List ℕ → List ℕ

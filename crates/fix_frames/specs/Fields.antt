@@ -2,8 +2,7 @@
 use Rattle.std.specs.Prelude.{ℕ, ◌+◌, Bool, ◌&&◌, not, ◌==◌, nat_le, nat_lt, if◌then◌else◌, List, [], ◌∷◌, Option, Some, None, option_map, option_and_then, length, take, drop, slice_index}
 use Rattle.std.specs.Char.{is_ascii_digit}
 use Rattle.std.specs.List.{list_all, position_or_len}
-use Rattle.host_base.specs.declared.bytes.TheConstants.{SOH}
-use Rattle.host_base.specs.Ascii.{digit_zero, equals}
+use Rattle.host_base.specs.declared.bytes.TheConstants.{DIGIT_ZERO, EQUALS, SOH}
 use Rattle.fix_frames.specs.declared.frame.TheConstants.{MAX_TAG_DIGITS}
 use Rattle.fix_values.specs.Digits.{number_of}
 
@@ -28,12 +27,12 @@ field_texts (b ∷ bs) =
 abbrev pub is_tag : List ℕ → Bool
 is_tag tag =
     nat_le 1 (length tag) && nat_le (length tag) MAX_TAG_DIGITS && list_all is_ascii_digit tag
-    && not (slice_index tag 0 == digit_zero)
+    && not (slice_index tag 0 == DIGIT_ZERO)
 
 -- a tag, then the first `=`, then the value, which may be empty
 abbrev pub field_of_text : List ℕ → Option TagValue
 field_of_text text =
-    let digits = position_or_len (λ b. b == equals) text in
+    let digits = position_or_len (λ b. b == EQUALS) text in
     if nat_lt digits (length text) && is_tag (take digits text)
     then Some (record { tag = number_of (take digits text); value = drop (digits + 1) text })
     else None

@@ -5,9 +5,8 @@ use Rattle.std.specs.Char.{is_ascii_digit}
 use Rattle.std.specs.List.{list_all, position_or_len, AllByRecursion, concat}
 use Rattle.std.specs.Option.{option_map_or}
 use Rattle.std.specs.Str.{bytes_eq}
-use Rattle.host_base.specs.declared.bytes.TheConstants.{SOH}
+use Rattle.host_base.specs.declared.bytes.TheConstants.{DIGIT_ZERO, SOH}
 use Rattle.host_base.specs.declared.limits.TheConstants.{MIN_BODY_LENGTH, MAX_BODY_LENGTH}
-use Rattle.host_base.specs.Ascii.{digit_zero}
 use Rattle.fix_frames.specs.declared.frame.FrameHeader.{FrameHeader}
 use Rattle.fix_frames.specs.declared.frame.TheConstants.{BEGIN_BYTES, CHECKSUM_BYTES, MAX_LENGTH_DIGITS}
 use Rattle.fix_frames.specs.Texts.{strip_prefix, is_cut_short, with_soh}
@@ -58,7 +57,7 @@ is_body body = is_some (strip_prefix (codes "35=") body) && is_some (fields_of_b
 
 -- CheckSum: its tag, a number in three digits, and SOH
 abbrev pub checksum_field : ℕ → List ℕ
-checksum_field n = codes "10=" ++ ((digit_zero + n / 100) ∷ two_digits n ++ (SOH ∷ []))
+checksum_field n = codes "10=" ++ ((DIGIT_ZERO + n / 100) ∷ two_digits n ++ (SOH ∷ []))
 
 abbrev pub body_at : List ℕ → FrameHeader → List ℕ
 body_at text h = take h.body_length (drop h.body_start text)

@@ -1,11 +1,10 @@
 -- Bytes of FIX, and texts that begin alike.
 use Rattle.std.specs.Prelude.{ℕ, Bool, true, false, ◌&&◌, ◌==◌, if◌then◌else◌, List, [], ◌∷◌, map, Option, Some, None}
-use Rattle.host_base.specs.declared.bytes.TheConstants.{SOH}
-use Rattle.host_base.specs.Ascii.{equals, vertical_bar}
+use Rattle.host_base.specs.declared.bytes.TheConstants.{EQUALS, SOH, VERTICAL_BAR}
 
 -- a text in which each `|` stands for SOH, which no character shows
 abbrev pub with_soh : List ℕ → List ℕ
-with_soh text = map (λ b. if b == vertical_bar then SOH else b) text
+with_soh text = map (λ b. if b == VERTICAL_BAR then SOH else b) text
 
 -- what follows a word that the text begins with
 abbrev pub strip_prefix : List ℕ → List ℕ → Option (List ℕ)
@@ -27,8 +26,8 @@ is_soh b = b == SOH
 
 -- `=`, which ends a tag
 abbrev pub is_equals : ℕ → Bool
-is_equals b = b == equals
+is_equals b = b == EQUALS
 
 -- SOH is spelled `|`
 abbrev pub soh_for_bar : ℕ → ℕ
-soh_for_bar b = if b == vertical_bar then SOH else b
+soh_for_bar b = if b == VERTICAL_BAR then SOH else b

@@ -2,7 +2,7 @@
 use Rattle.std.specs.Prelude.{ℕ, ℤ, pos, neg_ℤ, ◌+◌, ◌*◌, ◌/◌, ◌%◌, Bool, true, false, ◌&&◌, not, ◌==◌, nat_le, nat_lt, if◌then◌else◌, List, [], ◌∷◌, ◌++◌, Option, Some, None, Result, Ok, Err, length, take, drop, min, decimal, int_lt, unsigned_abs, codes}
 use Rattle.std.specs.Char.{is_ascii_digit}
 use Rattle.std.specs.List.{list_all, before_first, after_first}
-use Rattle.host_base.specs.Ascii.{digit_zero, hyphen_minus, point}
+use Rattle.host_base.specs.declared.bytes.TheConstants.{DIGIT_ZERO, HYPHEN_MINUS, POINT}
 use Rattle.host_base.specs.declared.limits.TheConstants.{MAX_NUMBER}
 use Rattle.fix_values.specs.declared.values.TheConstants.{MAX_HUNDREDTHS}
 use Rattle.fix_values.specs.declared.values.Unread.{Unread}
@@ -24,8 +24,8 @@ number_in text = if is_number text then within MAX_NUMBER (number_of text) else 
 -- one or more digits, then nothing, or a point and any number of zeros
 abbrev pub quantity_in : List ℕ → Result ℕ Unread
 quantity_in text =
-    let whole = before_first (λ b. b == point) text in
-    if is_number whole && list_all (λ b. b == digit_zero) (after_first (λ b. b == point) text)
+    let whole = before_first (λ b. b == POINT) text in
+    if is_number whole && list_all (λ b. b == DIGIT_ZERO) (after_first (λ b. b == POINT) text)
     then within MAX_NUMBER (number_of whole)
     else Err Format
 
@@ -33,11 +33,11 @@ quantity_in text =
 -- but 0 past the second place after the point
 abbrev pub hundredths_in : List ℕ → Result ℕ Unread
 hundredths_in text =
-    let whole = before_first (λ b. b == point) text in
-    let part = after_first (λ b. b == point) text in
+    let whole = before_first (λ b. b == POINT) text in
+    let part = after_first (λ b. b == POINT) text in
     let cents = number_of (take 2 (part ++ codes "00")) in
     if not (is_number (whole ++ part)) then Err Format
-    else (if list_all (λ b. b == digit_zero) (drop 2 part)
+    else (if list_all (λ b. b == DIGIT_ZERO) (drop 2 part)
     then within MAX_HUNDREDTHS (100 * number_of whole + cents)
     else Err Range)
 
@@ -49,13 +49,13 @@ signed negative (Err e) = Err e
 abbrev pub price_in : List ℕ → Result ℤ Unread
 price_in [] = Err Format
 price_in (b ∷ bs) =
-    if b == hyphen_minus then signed true (hundredths_in bs) else signed false (hundredths_in (b ∷ bs))
+    if b == HYPHEN_MINUS then signed true (hundredths_in bs) else signed false (hundredths_in (b ∷ bs))
 
 -- a price: an optional `-`, the whole part, a point and two digits; 10000 is `100.00`, -5 is `-0.05`
 abbrev pub price_text : ℤ → List ℕ
 price_text z =
-    (if int_lt z (pos 0) then hyphen_minus ∷ [] else [])
-    ++ (decimal (unsigned_abs z / 100) ++ (point ∷ two_digits (unsigned_abs z % 100)))
+    (if int_lt z (pos 0) then HYPHEN_MINUS ∷ [] else [])
+    ++ (decimal (unsigned_abs z / 100) ++ (POINT ∷ two_digits (unsigned_abs z % 100)))
 
 -- ---- words of the code alone
 
@@ -72,6 +72,6 @@ cents part = number_of (take 2 (part ++ codes "00"))
 abbrev pub hundredths : List ℕ → List ℕ → Result ℕ Unread
 hundredths whole part =
     if not (is_number (whole ++ part)) then Err Format
-    else (if list_all (λ b. b == digit_zero) (drop 2 part)
+    else (if list_all (λ b. b == DIGIT_ZERO) (drop 2 part)
     then within MAX_HUNDREDTHS (100 * number_of whole + cents part)
     else Err Range)

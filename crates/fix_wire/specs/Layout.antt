@@ -1,9 +1,8 @@
 -- How a message is written, and that it is read back.
 use Rattle.std.specs.Prelude.{◌≡◌, ◌≢◌, ℕ, ◌%◌, ◌<◌, ◌≤◌, ◌^◌, Bool, true, if◌then◌else◌, Option, Some, None, option_map, take, List, [], ◌∷◌, ◌++◌, map, length, sum, decimal, unsigned_abs, codes}
 use Rattle.std.specs.List.{flat_map, AllByRecursion}
-use Rattle.host_base.specs.declared.bytes.TheConstants.{SOH}
+use Rattle.host_base.specs.declared.bytes.TheConstants.{EQUALS, HYPHEN_MINUS, SOH}
 use Rattle.host_base.specs.declared.limits.TheConstants.{MAX_BODY_LENGTH}
-use Rattle.host_base.specs.Ascii.{equals, hyphen_minus}
 use Rattle.host_base.specs.Ids.{is_plain}
 use Rattle.fix_frames.specs.declared.frame.TheConstants.{MAX_TAG_DIGITS}
 use Rattle.fix_frames.specs.declared.tags.TheConstants as tags
@@ -24,11 +23,11 @@ abbrev pub value_text : Value → List ℕ
 value_text (Text id) = id
 value_text (Number n) = decimal n
 value_text (Price z) = price_text z
-value_text (Pair a b) = decimal a ++ (hyphen_minus ∷ decimal b)
+value_text (Pair a b) = decimal a ++ (HYPHEN_MINUS ∷ decimal b)
 
 -- a tag, `=`, a value and SOH
 abbrev pub field_text : TagValue → List ℕ
-field_text f = (decimal f.tag ++ (equals ∷ f.value)) ++ (SOH ∷ [])
+field_text f = (decimal f.tag ++ (EQUALS ∷ f.value)) ++ (SOH ∷ [])
 
 abbrev pub field : ℕ → List ℕ → TagValue
 field tag value = record { tag = tag; value = value }

@@ -4,7 +4,7 @@ ghost use Rattle.std.specs.Prelude.{◌≡◌, ◌++◌, ◌∷◌, [], ◌<◌,
 ghost use Rattle.std.specs.List.{flat_map, AllByRecursion};
 ghost use Rattle.host_base.specs.declared.limits.TheConstants.{MAX_ID_LENGTH};
 ghost use Rattle.fix_frames.specs.Frames.{begin_text, checksum_field};
-ghost use Rattle.host_base.specs.Ascii.{digit_zero, equals};
+ghost use Rattle.host_base.specs.declared.bytes.TheConstants.{DIGIT_ZERO, EQUALS};
 ghost use Rattle.fix_wire.specs.declared.writer.Value.TheVariants.{Text};
 ghost use Rattle.host_base.specs.Ids.{is_plain};
 ghost use Rattle.fix_wire.specs.Layout.{value_text, field_text, field_of_given, orig_time, summed_text, FitsValueOf, FitsValue};
@@ -57,7 +57,7 @@ fn put_value(room: &mut [u8], at: usize, value: &Value) -> usize
 #[inline(always)]
 fn put_tag(room: &mut [u8], at: usize, tag: u32) -> usize
     requires within { at + 21 ≤ length room.old }
-    ensures text { take result room.new ≡ take at room.old ++ (decimal tag ++ equals ∷ []) }
+    ensures text { take result room.new ≡ take at room.old ++ (decimal tag ++ EQUALS ∷ []) }
     ensures most { result ≤ at + 21 }
     ensures size { length room.new ≡ length room.old }
 {
@@ -207,8 +207,8 @@ fn set_three(room: &mut [u8], at: usize, number: usize)
     requires three { number < 1000 }
     requires within { at + 3 ≤ length room.old }
     ensures { room.new ≡
-        set (set (set room.old at (digit_zero + number / 100)) (at + 1) (digit_zero + number / 10 % 10))
-        (at + 2) (digit_zero + number % 10) }
+        set (set (set room.old at (DIGIT_ZERO + number / 100)) (at + 1) (DIGIT_ZERO + number / 10 % 10))
+        (at + 2) (DIGIT_ZERO + number % 10) }
 {
     room[at] = b'0' + (number / 100) as u8;
     room[at + 1] = b'0' + (number / 10 % 10) as u8;

@@ -1,5 +1,4 @@
 pub mod code
-pub mod Ascii
 pub mod Ids
 pub mod IdKeys
 pub mod Cut

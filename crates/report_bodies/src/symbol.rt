@@ -1,6 +1,6 @@
 //! Symbols and other short texts.
 ghost use Rattle.std.specs.Prelude.{◌≡◌, ◌≤◌, ◌<◌, ◌+◌, ◌++◌, ◌∷◌, length, take};
-ghost use Rattle.host_base.specs.Ascii.{hyphen_minus};
+ghost use Rattle.host_base.specs.declared.bytes.TheConstants.{HYPHEN_MINUS};
 ghost use Rattle.spread_rulebook.specs.Rulebook.{IsListed, symbol_of};
 
 use host_base::Id;
@@ -10,7 +10,7 @@ use spread_rules::{Instrument, Rulebook};
 /// Writes two names with a dash between to the front of the text, and tells how many bytes they are.
 fn write_joined(text: &mut [u8], first: &[u8], second: &[u8]) -> usize
     requires room { length first.now + length second.now < length text.old }
-    ensures written { take result text.new ≡ first.now ++ hyphen_minus ∷ second.now }
+    ensures written { take result text.new ≡ first.now ++ HYPHEN_MINUS ∷ second.now }
     ensures within { result ≤ length text.old }
 {
     let dash = first.len();
@@ -24,7 +24,7 @@ fn write_joined(text: &mut [u8], first: &[u8], second: &[u8]) -> usize
 /// Two names with a dash between.
 fn joined(near: &Id, far: &Id) -> Id
     requires { length near.now + length far.now < MAX_ID_LENGTH }
-    ensures { result ≡ near.now ++ hyphen_minus ∷ far.now }
+    ensures { result ≡ near.now ++ HYPHEN_MINUS ∷ far.now }
 {
     let mut text = [0; MAX_ID_LENGTH];
     let end = write_joined(&mut text, near.bytes(), far.bytes());

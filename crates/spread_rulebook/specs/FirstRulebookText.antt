@@ -1,7 +1,7 @@
 -- What a rulebook's text meant before pairs of months could be switched, when a rulebook had at most twelve months: what
 -- changed since, as it stood. Only a law speaks of it.
 use Rattle.std.specs.Prelude.{◌≡◌, ◌≢◌, ℕ, ◌+◌, ◌<◌, ◌≤◌, ℤ, List, [], ◌∷◌, ◌++◌, map, length, codes, Option, Some, None, Result, Ok, Err, Contains}
-use Rattle.host_base.specs.Ascii.{line_feed}
+use Rattle.host_base.specs.declared.bytes.TheConstants.{LINE_FEED}
 use Rattle.host_base.specs.Cut.{Lacks}
 use Rattle.spread_rulebook.specs.Rulebook.{Rules, IsMonth, IsTick}
 use Rattle.spread_rulebook.specs.RulebookText.{IsSkipped, tick_line, month_line, no_switches}
@@ -67,21 +67,21 @@ pub data EndGives (b : SoFar) : Result FirstRules RuleFault → Type 0 where
 pub data Reads : ℕ → SoFar → List ℕ → Result FirstRules RuleFault → Type 0 where
   last :
       {n : ℕ} {b : SoFar} {rest : List ℕ} {answer : Result FirstRules RuleFault} (next : SoFar)
-      → Lacks line_feed rest → LineGives n b rest (Ok next) → EndGives next answer
+      → Lacks LINE_FEED rest → LineGives n b rest (Ok next) → EndGives next answer
       → Reads n b rest answer
   last_fault :
       {n : ℕ} {b : SoFar} {rest : List ℕ} (f : RuleFault)
-      → Lacks line_feed rest → LineGives n b rest (Err f)
+      → Lacks LINE_FEED rest → LineGives n b rest (Err f)
       → Reads n b rest (Err f)
   more :
       {n : ℕ} {b : SoFar} {rest : List ℕ} {answer : Result FirstRules RuleFault}
       (line after : List ℕ) (next : SoFar)
-      → rest ≡ line ++ line_feed ∷ after → Lacks line_feed line → LineGives n b line (Ok next)
+      → rest ≡ line ++ LINE_FEED ∷ after → Lacks LINE_FEED line → LineGives n b line (Ok next)
       → Reads (n + 1) next after answer
       → Reads n b rest answer
   fault :
       {n : ℕ} {b : SoFar} {rest : List ℕ} (line after : List ℕ) (f : RuleFault)
-      → rest ≡ line ++ line_feed ∷ after → Lacks line_feed line → LineGives n b line (Err f)
+      → rest ≡ line ++ LINE_FEED ∷ after → Lacks LINE_FEED line → LineGives n b line (Err f)
       → Reads n b rest (Err f)
 
 -- what reading answers for a whole text
@@ -93,7 +93,7 @@ ReadsRulebook text answer = Reads 1 no_lines text answer
 -- no line of the text begins as one for a pair does
 pub record HasNoPairLine (text : List ℕ) : Type 0 where
   pub first : (rest : List ℕ) → text ≢ codes "pair " ++ rest
-  pub later : (before rest : List ℕ) → text ≢ before ++ line_feed ∷ (codes "pair " ++ rest)
+  pub later : (before rest : List ℕ) → text ≢ before ++ LINE_FEED ∷ (codes "pair " ++ rest)
 
 -- the rulebook in which no pair is switched
 abbrev pub with_all_on : FirstRules → Rules

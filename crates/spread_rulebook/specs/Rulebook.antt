@@ -3,7 +3,7 @@
 use Rattle.std.specs.Prelude.{◌≡◌, ℕ, ◌<◌, ◌≤◌, ◌+◌, ◌*◌, ℤ, pos, ◌≤ℤ◌, int_rem, Bool, true, unwrap_or, flat_map, ◌&&◌, ◌||◌, nat_le, List, [], ◌∷◌, ◌++◌, map, length, get_or, All, Option, None}
 use Rattle.std.specs.List.{find, list_all, range_with_len}
 use Rattle.std.specs.Str.{bytes_eq}
-use Rattle.host_base.specs.Ascii.{hyphen_minus}
+use Rattle.host_base.specs.declared.bytes.TheConstants.{HYPHEN_MINUS}
 use Rattle.host_base.specs.declared.limits.TheConstants as limits
 use Rattle.spread_rulebook.specs.declared.instrument.Instrument.{Instrument}
 use Rattle.spread_rulebook.specs.declared.instrument.Instrument.TheVariants.{Outright, Spread}
@@ -98,7 +98,7 @@ IsListed rules (Spread i j) = (i < j) × (j < month_count rules)
 abbrev pub symbol_of : Rules → Instrument → List ℕ
 symbol_of rules (Outright m) = get_or (names_of rules) m []
 symbol_of rules (Spread i j) =
-    get_or (names_of rules) i [] ++ hyphen_minus ∷ get_or (names_of rules) j []
+    get_or (names_of rules) i [] ++ HYPHEN_MINUS ∷ get_or (names_of rules) j []
 
 -- the instrument with that symbol
 abbrev pub find_symbol : Rules → List ℕ → Option Instrument

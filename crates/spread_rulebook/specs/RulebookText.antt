@@ -1,7 +1,7 @@
 -- A rulebook's text, judged line by line from the top.
 use Rattle.std.specs.Prelude.{◌≡◌, ◌≢◌, ℕ, ◌+◌, ◌*◌, ◌<◌, ◌≤◌, ℤ, Bool, true, false, List, [], ◌∷◌, ◌++◌, map, length, get_or, set, replicate, codes, Option, Some, None, Result, Ok, Err, Contains}
 use Rattle.std.specs.Fmt.{signed_decimal}
-use Rattle.host_base.specs.Ascii.{line_feed, space, number_sign}
+use Rattle.host_base.specs.declared.bytes.TheConstants.{LINE_FEED, NUMBER_SIGN, SPACE}
 use Rattle.host_base.specs.Cut.{Lacks}
 use Rattle.host_base.specs.declared.limits.TheConstants as limits
 use Rattle.spread_rulebook.specs.Rulebook.{Rules, IsMonth, IsTick, switch_number, switch_of}
@@ -21,13 +21,13 @@ fault_number NoMemory = 5
 -- an empty line, or a comment, which begins with `#`
 abbrev pub IsSkipped : List ℕ → Type 0
 IsSkipped [] = Unit {0}
-IsSkipped (b ∷ bytes) = b ≡ number_sign
+IsSkipped (b ∷ bytes) = b ≡ NUMBER_SIGN
 
 abbrev pub tick_line : ℤ → List ℕ
 tick_line tick = codes "tick " ++ signed_decimal tick
 
 abbrev pub month_line : Month → List ℕ
-month_line m = codes "month " ++ m.name ++ space ∷ signed_decimal m.reference
+month_line m = codes "month " ++ m.name ++ SPACE ∷ signed_decimal m.reference
 
 abbrev pub switch_text : Bool → List ℕ
 switch_text true = codes "on"
@@ -35,7 +35,7 @@ switch_text false = codes "off"
 
 -- the names of the near and the far month, and whether the pair is on
 abbrev pub pair_line : List ℕ → List ℕ → Bool → List ℕ
-pair_line near far on = codes "pair " ++ near ++ space ∷ (far ++ space ∷ switch_text on)
+pair_line near far on = codes "pair " ++ near ++ SPACE ∷ (far ++ SPACE ∷ switch_text on)
 
 -- ---- reading
 
@@ -126,21 +126,21 @@ pub data EndGives (b : SoFar) : Result Rules RuleFault → Type 0 where
 pub data Reads : ℕ → SoFar → List ℕ → Result Rules RuleFault → Type 0 where
   last :
       {n : ℕ} {b : SoFar} {rest : List ℕ} {answer : Result Rules RuleFault} (next : SoFar)
-      → Lacks line_feed rest → LineGives n b rest (Ok next) → EndGives next answer
+      → Lacks LINE_FEED rest → LineGives n b rest (Ok next) → EndGives next answer
       → Reads n b rest answer
   last_fault :
       {n : ℕ} {b : SoFar} {rest : List ℕ} (f : RuleFault)
-      → Lacks line_feed rest → LineGives n b rest (Err f)
+      → Lacks LINE_FEED rest → LineGives n b rest (Err f)
       → Reads n b rest (Err f)
   more :
       {n : ℕ} {b : SoFar} {rest : List ℕ} {answer : Result Rules RuleFault}
       (line after : List ℕ) (next : SoFar)
-      → rest ≡ line ++ line_feed ∷ after → Lacks line_feed line → LineGives n b line (Ok next)
+      → rest ≡ line ++ LINE_FEED ∷ after → Lacks LINE_FEED line → LineGives n b line (Ok next)
       → Reads (n + 1) next after answer
       → Reads n b rest answer
   fault :
       {n : ℕ} {b : SoFar} {rest : List ℕ} (line after : List ℕ) (f : RuleFault)
-      → rest ≡ line ++ line_feed ∷ after → Lacks line_feed line → LineGives n b line (Err f)
+      → rest ≡ line ++ LINE_FEED ∷ after → Lacks LINE_FEED line → LineGives n b line (Err f)
       → Reads n b rest (Err f)
 
 -- what reading answers for a whole text

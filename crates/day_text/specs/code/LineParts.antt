@@ -2,7 +2,7 @@
 -- Words of the code alone.
 use Rattle.std.specs.Prelude.{ℕ, List, [], ◌∷◌, ◌++◌, codes, decimal}
 use Rattle.std.specs.Fmt.{signed_decimal}
-use Rattle.host_base.specs.Ascii.{line_feed, space}
+use Rattle.host_base.specs.declared.bytes.TheConstants.{LINE_FEED, SPACE}
 use Rattle.journal_parts.specs.JournalText.{side_byte}
 use Rattle.month_totals.specs.declared.totals.MonthTotals.{MonthTotals}
 use Rattle.spread_rules.specs.declared.fill.Fill.{Fill}
@@ -10,12 +10,12 @@ use Rattle.spread_rules.specs.declared.fill.Fill.{Fill}
 -- `F`, the entry's place, the order's place and its session
 abbrev pub places_text : Fill → List ℕ
 places_text f =
-    codes "F " ++ decimal f.at ++ space ∷ decimal f.order ++ space ∷ decimal f.session ++ space ∷ []
+    codes "F " ++ decimal f.at ++ SPACE ∷ decimal f.order ++ SPACE ∷ decimal f.session ++ SPACE ∷ []
 
 -- side, quantity and price
 abbrev pub trade_text : Fill → List ℕ
-trade_text f = space ∷ side_byte f.side ∷ space ∷ decimal f.quantity
-    ++ space ∷ signed_decimal f.price
+trade_text f = SPACE ∷ side_byte f.side ∷ SPACE ∷ decimal f.quantity
+    ++ SPACE ∷ signed_decimal f.price
 
 -- `O S:`
 abbrev pub line_lead : ℕ → List ℕ
@@ -23,12 +23,12 @@ line_lead session = codes "O " ++ decimal session ++ codes ":"
 
 -- bought and sold
 abbrev pub lots_text : MonthTotals → List ℕ
-lots_text t = space ∷ decimal t.bought ++ space ∷ decimal t.sold
+lots_text t = SPACE ∷ decimal t.bought ++ SPACE ∷ decimal t.sold
 
 -- paid and received
 abbrev pub money_text : MonthTotals → List ℕ
-money_text t = space ∷ signed_decimal t.paid ++ space ∷ signed_decimal t.received
+money_text t = SPACE ∷ signed_decimal t.paid ++ SPACE ∷ signed_decimal t.received
 
 -- the line of a month with this name and these totals
 abbrev pub totals_line : List ℕ → MonthTotals → List ℕ
-totals_line name t = codes "M " ++ name ++ lots_text t ++ money_text t ++ line_feed ∷ []
+totals_line name t = codes "M " ++ name ++ lots_text t ++ money_text t ++ LINE_FEED ∷ []
