@@ -16,10 +16,10 @@ months_next (name ∷ names) k zero fills h =
     append-nil (month_line name k fills) ∙ ap (λ (m : ℕ). month_line name m fills) e
 months_next (name ∷ names) k (suc i) fills h =
     let e : suc i + 1 ≡ suc (i + 1) = omega arith in
-    let f : suc k + i ≡ k + suc i = omega arith in
+    let f : k + 1 + i ≡ k + suc i = omega arith in
     ap (λ (n : ℕ). month_lines_from k (take n (name ∷ names)) fills) e
-    ∙ (ap (λ (t : List ℕ). month_line name k fills ++ t) (months_next names (suc k) i fills (omega arith))
-    ∙ (sym (append_assoc (month_line name k fills) (month_lines_from (suc k) (take i names) fills) (month_line (get_or names i []) (suc k + i) fills))
+    ∙ (ap (λ (t : List ℕ). month_line name k fills ++ t) (months_next names (k + 1) i fills (omega arith))
+    ∙ (sym (append_assoc (month_line name k fills) (month_lines_from (k + 1) (take i names) fills) (month_line (get_or names i []) (k + 1 + i) fills))
     ∙ ap (λ (m : ℕ). month_lines_from k (take (suc i) (name ∷ names)) fills ++ month_line (get_or names i []) m fills) f))
 
 -- the line of month i stands behind those of the months before

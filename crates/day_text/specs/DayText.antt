@@ -6,7 +6,7 @@ use Rattle.spread_rules.specs.declared.event.Entry.{Entry}
 use Rattle.spread_rules.specs.declared.fill.Fill.{Fill}
 use Rattle.spread_rulebook.specs.Rulebook.{Rules, IsListed}
 use Rattle.day_text.specs.Fills.{fill_lines}
-use Rattle.day_text.specs.Messages.{outgoing_lines_from}
+use Rattle.day_text.specs.Messages.{outgoing_lines}
 use Rattle.day_text.specs.Months.{month_lines}
 use Rattle.month_totals.specs.Totals.{IsSummable}
 
@@ -29,5 +29,5 @@ day_text true rules journal fills texts = journal_text journal
 day_text false rules journal fills texts =
     journal_text journal
     ++ fill_lines rules fills
-    ++ outgoing_lines_from 0 texts
+    ++ outgoing_lines texts
     ++ month_lines rules fills

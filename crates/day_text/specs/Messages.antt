@@ -1,24 +1,30 @@
 -- The lines of outgoing messages: each session's frames, SOH shown as `|`.
-use Rattle.std.specs.Prelude.{ℕ, suc, ◌==◌, if◌then◌else◌, List, [], ◌∷◌, ◌++◌, map, codes, decimal}
-use Rattle.std.specs.List.{flat_map}
+use Rattle.std.specs.Prelude.{ℕ, ◌==◌, if◌then◌else◌, List, [], ◌∷◌, ◌++◌, map, codes, decimal}
+use Rattle.std.specs.List.{flat_map, enumerate_from}
 use Rattle.fix_frames.specs.Frames.{frames}
 use Rattle.host_base.specs.declared.bytes.TheConstants.{LINE_FEED, SOH, VERTICAL_BAR}
 
--- SOH is shown as `|`
+-- `O S:MESSAGE`, each SOH shown as `|`
+abbrev pub outgoing_line : ℕ → List ℕ → List ℕ
+outgoing_line session message =
+    (codes "O " ++ decimal session ++ codes ":")
+    ++ map (λ b. if b == SOH then VERTICAL_BAR else b) message ++ LINE_FEED ∷ []
+
+-- a line for each message, session by session
+abbrev pub outgoing_lines : List (List ℕ) → List ℕ
+outgoing_lines texts =
+    flat_map (λ s. flat_map (outgoing_line s.0) (frames s.1)) (enumerate_from 0 texts)
+
+-- ---- words of the code alone
+
 abbrev pub shown_byte : ℕ → ℕ
 shown_byte b = if b == SOH then VERTICAL_BAR else b
 
--- `O S:MESSAGE`
-abbrev pub outgoing_line : ℕ → List ℕ → List ℕ
-outgoing_line session message =
-    (codes "O " ++ decimal session ++ codes ":") ++ map shown_byte message ++ LINE_FEED ∷ []
+-- one session's lines
+abbrev pub session_lines : ℕ → List ℕ → List ℕ
+session_lines session bytes = flat_map (outgoing_line session) (frames bytes)
 
--- a session's outgoing messages
-abbrev pub outgoing_lines : ℕ → List ℕ → List ℕ
-outgoing_lines session bytes = flat_map (outgoing_line session) (frames bytes)
-
--- those of these sessions, of which the first has this number
+-- the lines of these sessions, of which the first has this number
 abbrev pub outgoing_lines_from : ℕ → List (List ℕ) → List ℕ
-outgoing_lines_from session [] = []
-outgoing_lines_from session (bytes ∷ others) =
-    outgoing_lines session bytes ++ outgoing_lines_from (suc session) others
+outgoing_lines_from session texts =
+    flat_map (λ s. session_lines s.0 s.1) (enumerate_from session texts)

@@ -1,5 +1,6 @@
 -- The lines of months: what was bought, sold, paid and received in each.
-use Rattle.std.specs.Prelude.{ℕ, suc, List, [], ◌∷◌, ◌++◌, codes, decimal}
+use Rattle.std.specs.Prelude.{ℕ, List, [], ◌∷◌, ◌++◌, codes, decimal}
+use Rattle.std.specs.List.{flat_map, enumerate_from}
 use Rattle.std.specs.Fmt.{signed_decimal}
 use Rattle.spread_rules.specs.declared.fill.Fill.{Fill}
 use Rattle.spread_rules.specs.Legs.{bought, sold, paid, received}
@@ -14,12 +15,14 @@ month_line name month fills =
     ++ (SPACE ∷ signed_decimal (paid month fills) ++ SPACE ∷ signed_decimal (received month fills))
     ++ LINE_FEED ∷ []
 
+-- a line for each month of the rulebook, in order
+abbrev pub month_lines : Rules → List Fill → List ℕ
+month_lines rules fills =
+    flat_map (λ m. month_line m.1 m.0 fills) (enumerate_from 0 (names_of rules))
+
+-- ---- words of the code alone
+
 -- the lines of these months, of which the first has this number
 abbrev pub month_lines_from : ℕ → List (List ℕ) → List Fill → List ℕ
-month_lines_from month [] fills = []
-month_lines_from month (name ∷ names) fills =
-    month_line name month fills ++ month_lines_from (suc month) names fills
-
--- a line for each month of the rulebook
-abbrev pub month_lines : Rules → List Fill → List ℕ
-month_lines rules fills = month_lines_from 0 (names_of rules) fills
+month_lines_from month names fills =
+    flat_map (λ m. month_line m.1 m.0 fills) (enumerate_from month names)

@@ -2,7 +2,7 @@
 ghost use Rattle.std.specs.Prelude.{◌≡◌, ◌<◌, ◌≤◌, ◌+◌, ◌++◌, ◌∷◌, [], All, map, length, min, OnOk, vec_len, vec_capacity, false};
 ghost use Rattle.fix_frames.specs.Frames.{IsFrameRow};
 ghost use Rattle.day_text.specs.DayText.{texts_of};
-ghost use Rattle.day_text.specs.Messages.{shown_byte, outgoing_line, outgoing_lines, outgoing_lines_from};
+ghost use Rattle.day_text.specs.Messages.{shown_byte, outgoing_line, session_lines, outgoing_lines_from};
 ghost use Rattle.day_text.specs.code.LineParts.{line_lead};
 ghost use Rattle.day_text.specs.code.Pieces.{Puts, Writes};
 
@@ -182,7 +182,7 @@ fn put_outgoing<K: TakesPieces<A>, A: Allocator>(
     requires row { IsFrameRow bytes.now }
     ensures puts { Puts result (K.written sink.old) (K.written sink.new) (K.has_failed sink.new)
         (map shown_byte piece.new.items)
-        (map shown_byte piece.old.items ++ outgoing_lines session bytes.now) }
+        (map shown_byte piece.old.items ++ session_lines session bytes.now) }
     ensures some { OnOk result (0 < vec_capacity piece.new) }
 {
     let mut rest = bytes;

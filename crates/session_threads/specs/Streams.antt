@@ -1,16 +1,15 @@
 -- The streams of a day in threads, and the events that they have.
-use Rattle.std.specs.Prelude.{ℕ, List, length, Vec}
+use Rattle.std.specs.Prelude.{ℕ, List, [], map, length, slice_index_or, Vec}
 use mathlib.Core.List.{IsPrefix}
 use Rattle.spread_rules.specs.declared.event.Event.{Event}
 use Rattle.spread_rules.specs.declared.event.Entry.{Entry}
 use Rattle.spread_rules.specs.Journal.{restricted}
 use Rattle.session_judging.specs.Streams.{whole}
 use Rattle.gate_link.specs.Counts.{sum_over}
-use Rattle.gate_link.specs.Rows.{row}
 
 -- the events of stream s, its close included, and none where there is no such stream
 abbrev pub whole_at : {A : Type 0} → List (Vec ℕ A) → ℕ → List Event
-whole_at {A} streams s = row (λ (v : Vec ℕ A). whole v.items) streams s
+whole_at {A} streams s = slice_index_or (map (λ (v : Vec ℕ A). whole v.items) streams) s []
 
 -- how many events all streams have together
 abbrev pub all_events : {A : Type 0} → List (Vec ℕ A) → ℕ

@@ -1,11 +1,10 @@
 -- Why a day in threads was not handed out.
-use Rattle.std.specs.Prelude.{◌≡◌, ℕ, ◌<◌, ◌⊎◌, List, length}
+use Rattle.std.specs.Prelude.{◌≡◌, ℕ, ◌+◌, ◌<◌, ◌≤◌, ◌⊎◌, List, length}
 use Rattle.std.specs.declared.vec.Vec.{Vec}
 use Rattle.spread_rulebook.specs.Rulebook.{Rules}
 use Rattle.gate_link.specs.Opening.{IsRefusal}
 use Rattle.session_threads.specs.Streams.{all_events, IsBeginningOf}
 use Rattle.day_apply.specs.Applied.{IsPlaceOf, IsSpentOf}
-use Rattle.day_threads.specs.Streams.{IsThread}
 use Rattle.spread_host.specs.declared.fault.HostFault.{HostFault}
 use Rattle.spread_host.specs.declared.fault.HostFault.TheVariants.{Link, Spawn, JournalFull, NoMemory, NumbersSpent}
 
@@ -13,7 +12,7 @@ use Rattle.spread_host.specs.declared.fault.HostFault.TheVariants.{Link, Spawn, 
 -- beginning of each stream's events
 abbrev pub IsRunDayFault : {A : Type 0} → Rules → List (Vec ℕ A) → ℕ → ℕ → HostFault → Type 0
 IsRunDayFault rules streams ring journal (Link fault) = IsRefusal fault (length streams) ring journal
-IsRunDayFault rules streams ring journal (Spawn k) = IsThread (length streams) k
+IsRunDayFault rules streams ring journal (Spawn k) = k ≤ length streams + length streams
 IsRunDayFault rules streams ring journal JournalFull = journal < all_events streams
 IsRunDayFault rules streams ring journal (NoMemory place) =
     (place ≡ 0) ⊎ IsPlaceOf (IsBeginningOf streams) place

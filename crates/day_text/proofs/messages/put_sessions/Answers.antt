@@ -2,7 +2,7 @@ use Rattle.std.proofs.Common.{rules, ◌≡◌, ◌+◌, ◌<◌, ◌++◌, ℕ,
 use Rattle.std.proofs.lemmas.List.{length-map, get_or-map}
 use Rattle.std.proofs.lemmas.List.Elements.{All-get_or}
 use Rattle.fix_frames.specs.Frames.{IsFrameRow}
-use Rattle.day_text.specs.Messages.{shown_byte, outgoing_lines, outgoing_lines_from}
+use Rattle.day_text.specs.Messages.{shown_byte, session_lines, outgoing_lines_from}
 use Rattle.day_text.specs.code.Pieces.{IsPut}
 use Rattle.day_text.proofs.SessionLines.{sessions_next_of, sessions_rest}
 use Rattle.day_text.proofs.PiecesInTurn.{put_after, put_fails, on_err_any}
@@ -25,7 +25,7 @@ returns-in_err-put_outgoing g c =
     let bytes : c.deref.result.now ≡ get_or texts s [] =
     c.deref.ensures.value ∙ (ap (λ (v : Vec ℕ g.row.B.Denot). v.items) c.index-lists-session.is
     ∙ sym (get_or-map (λ (v : Vec ℕ g.row.B.Denot). v.items) c.args.lists.now s c.index-lists-session.result [] c.loop-session-test.true)) in
-    let line = outgoing_lines s c.deref.result.now in
+    let line = session_lines s c.deref.result.now in
     let before = outgoing_lines_from 0 (take s texts) in
     let rest = sessions_rest texts 0 (s + 1) in
     record {
@@ -48,7 +48,7 @@ loop-session-preserved g c =
     let bytes : c.deref.result.now ≡ get_or texts s [] =
     c.deref.ensures.value ∙ (ap (λ (v : Vec ℕ g.row.B.Denot). v.items) c.index-lists-session.is
     ∙ sym (get_or-map (λ (v : Vec ℕ g.row.B.Denot). v.items) c.args.lists.now s c.index-lists-session.result [] c.loop-session-test.true)) in
-    let line = outgoing_lines s c.deref.result.now in
+    let line = session_lines s c.deref.result.now in
     let before = outgoing_lines_from 0 (take s texts) in (
       subst (λ (t : List ℕ). IsPut (told c.args.sink.now) (told c.put_outgoing.new.sink) (map shown_byte c.put_outgoing.new.piece.items) ((map shown_byte c.args.piece.now.items) ++ t)) (sym (sessions_next_of texts s c.deref.result.now bytes within))
           (put_after (told c.args.sink.now) (told c.loop-session.sink) (told c.put_outgoing.new.sink) (map shown_byte c.args.piece.now.items) (map shown_byte c.loop-session.piece.items) (map shown_byte c.put_outgoing.new.piece.items) before line c.loop-session.invariant.0 c.in_ok-put_outgoing.ensures.puts.put),
