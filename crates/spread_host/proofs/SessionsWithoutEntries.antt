@@ -1,5 +1,5 @@
 -- A session with no entry is sent nothing.
-use Rattle.std.proofs.Common.{◌≡◌, ℕ, ◌+◌, ◌==◌, Bool, true, false, cond, eqb, List, [], ◌∷◌, ◌++◌, map, refl, sym, ap, subst, ◌∙◌, inl, inr}
+use Rattle.std.proofs.Common.{◌≡◌, ℕ, ◌+◌, ◌==◌, false, eqb, List, [], ◌∷◌, ◌++◌, map, refl, sym, ap, ◌∙◌, inl, inr}
 use Rattle.std.specs.Prelude.{filter}
 use Rattle.std.specs.List.{AllByRecursion, concat, enumerate_from}
 use Rattle.std.proofs.lemmas.Bool.{cases_eq, eq-eqb, ne_eqb}
@@ -7,7 +7,7 @@ use Rattle.spread_rules.specs.declared.event.Entry.{Entry}
 use Rattle.spread_rules.specs.Journal.{restricted}
 use Rattle.spread_rules.specs.Meaning.{JournalState, meaning_of, after_entry, no_entries}
 use Rattle.spread_rulebook.specs.Rulebook.{Rules}
-use Rattle.spread_report.specs.EntryMessages.{ExecutionReport, report_fields, entry_reports, OutgoingStep, logged_on, numbered, gap_fill}
+use Rattle.spread_report.specs.EntryMessages.{ExecutionReport, report_step, entry_reports, OutgoingStep, logged_on, numbered, gap_fill}
 use Rattle.spread_report.specs.Outgoing.{AppliedEntry, steps_texts, entry_steps, session_steps, outbound_before_logon}
 use Rattle.day_apply.specs.Applied.{applied_entries_from, outgoing_bytes}
 
@@ -20,7 +20,7 @@ IsMessage (gap_fill first last) = Unit {0}
 
 -- ---- the steps of a session that no entry is of
 
-reports_are : (place : ℕ) (rs : List (ℕ × ExecutionReport)) → AllByRecursion IsMessage (map (λ (r : ℕ × ExecutionReport). numbered 56 (report_fields place r.0 r.1)) rs)
+reports_are : (place : ℕ) (rs : List (ℕ × ExecutionReport)) → AllByRecursion IsMessage (map (report_step place) rs)
 reports_are place [] = tt
 reports_are place (r ∷ rs) = (tt, reports_are place rs)
 

@@ -27,6 +27,13 @@ use Rattle.report_bodies.specs.declared.codes.MultiLegReportingType.TheVariants.
 use Rattle.report_bodies.specs.Codes.{side_code, multi_leg_code}
 use Rattle.report_bodies.specs.Fields.{field, optional_field}
 
+-- A step of what a session is sent: its Logon gives it the CompIDs that its messages bear from there on; a message
+-- bears the session's next number and uses it; a gap fill uses none.
+pub data OutgoingStep : Type 0 where
+  logged_on : CompIds → OutgoingStep
+  numbered : (kind : ℕ) (fields : List Field) → OutgoingStep
+  gap_fill : (first last : ℕ) → OutgoingStep
+
 -- ---- execution reports
 
 -- What a fill's report tells of the trade.
@@ -50,12 +57,13 @@ pub record ExecutionReport : Type 0 where
   pub leaves_qty : ℕ
   pub cum_qty : ℕ
 
--- Its fields, in order. ExecID is the place of the entry and the report's number among the entry's reports.
--- OrigClOrdID stands in a report on a cancel or a replace alone, OrdRejReason in a rejected order's alone, and
--- LastShares, LastPx and MultiLegReportingType in a fill's alone.
-abbrev pub report_fields : ℕ → ℕ → ExecutionReport → List Field
-report_fields place number r =
-    field tags.ORDER_ID (Number r.order_id)
+-- The message that it is, with its number among the reports of the entry of that place: both are its ExecID. OrigClOrdID
+-- stands in a report on a cancel or a replace alone, OrdRejReason in a rejected order's alone, and LastShares, LastPx and
+-- MultiLegReportingType in a fill's alone.
+abbrev pub report_step : ℕ → ℕ × ExecutionReport → OutgoingStep
+report_step place (number, r) =
+    numbered msg_types.EXECUTION_REPORT
+    (field tags.ORDER_ID (Number r.order_id)
     ∷ field tags.CL_ORD_ID (Text r.cl_ord_id)
     ∷ optional_field tags.ORIG_CL_ORD_ID Text r.orig_cl_ord_id
     ++ field tags.EXEC_ID (Pair place number)
@@ -72,7 +80,7 @@ report_fields place number r =
     ∷ field tags.CUM_QTY (Number r.cum_qty)
     ∷ field tags.AVG_PX (Number 0)
     ∷ optional_field tags.MULTI_LEG_REPORTING_TYPE
-    (λ (t : ReportedTrade). Number (multi_leg_code t.multi_leg)) r.traded
+    (λ (t : ReportedTrade). Number (multi_leg_code t.multi_leg)) r.traded)
 
 -- A report to that session on the order of that place, with its id, symbol, side, quantity and status. Nothing of it is
 -- filled, and nothing is left.
@@ -158,13 +166,6 @@ entry_reports rules place session _ _ fills = []
 
 -- ---- what the session of an entry is sent besides
 
--- A step of what a session is sent: its Logon gives it the CompIDs that its messages bear from there on; a message
--- bears the session's next number and uses it; a gap fill uses none.
-pub data OutgoingStep : Type 0 where
-  logged_on : CompIds → OutgoingStep
-  numbered : (kind : ℕ) (fields : List Field) → OutgoingStep
-  gap_fill : (first last : ℕ) → OutgoingStep
-
 -- An OrderCancelReject that answers such a request. The order that was named has that place and that status; where
 -- there is none, the place is 0 and OrderID is `NONE`.
 abbrev pub order_cancel_reject : ℕ → List ℕ → List ℕ → ℕ → ℕ → ℕ → OutgoingStep
@@ -207,9 +208,8 @@ event_steps (Gap first) outcome =
     numbered msg_types.RESEND_REQUEST
     (field tags.BEGIN_SEQ_NO (Number first) ∷ field tags.END_SEQ_NO (Number 0) ∷ []) ∷ []
 event_steps (Resend first last) outcome = gap_fill first last ∷ []
-event_steps (Reject number reason) outcome =
+event_steps (Reject n reason) outcome =
     numbered msg_types.REJECT
-    (field tags.REF_SEQ_NUM (Number number)
-    ∷ field tags.SESSION_REJECT_REASON (Number reason) ∷ []) ∷ []
+    (field tags.REF_SEQ_NUM (Number n) ∷ field tags.SESSION_REJECT_REASON (Number reason) ∷ []) ∷ []
 event_steps (Close reason) outcome = close_steps reason
 event_steps _ _ = []

@@ -14,7 +14,7 @@ use Rattle.spread_rules.specs.declared.outcome.Outcome.{Outcome}
 use Rattle.spread_rulebook.specs.Rulebook.{Rules}
 use Rattle.spread_report.specs.declared.outbound.OutboundSession.{OutboundSession}
 use Rattle.spread_report.specs.declared.outbound.CompIds.{CompIds}
-use Rattle.spread_report.specs.EntryMessages.{OutgoingStep, logged_on, numbered, gap_fill, ExecutionReport, report_fields, entry_reports, event_steps}
+use Rattle.spread_report.specs.EntryMessages.{OutgoingStep, logged_on, numbered, gap_fill, ExecutionReport, report_step, entry_reports, event_steps}
 use Rattle.report_bodies.specs.Fields.{field}
 
 -- ---- one step of a session
@@ -74,9 +74,7 @@ entry_steps rules s w =
     let e = w.entry in
     let reports = entry_reports rules w.place e.session e.event w.outcome w.fills in
     (if e.session == s then event_steps e.event w.outcome else [])
-    ++ map
-    (λ (r : ℕ × ExecutionReport).
-    numbered msg_types.EXECUTION_REPORT (report_fields w.place r.0 r.1))
+    ++ map (report_step w.place)
     (filter (λ (r : ℕ × ExecutionReport). r.1.to == s) (enumerate_from 1 reports))
 
 -- the steps of session s over a journal

@@ -20,7 +20,7 @@ use Rattle.spread_rules.specs.declared.event.Event.{Event}
 use Rattle.spread_rules.specs.declared.event.Event.TheVariants.{Logon, New, Cancel, Replace, TestReply, Gap, Resend, Reject, Close}
 use Rattle.spread_rules.specs.declared.outcome.Outcome.{Outcome}
 use Rattle.spread_rules.specs.declared.outcome.Outcome.TheVariants.{Rested, Filled, Ended, Cancelled, Replaced, Refused, CancelRefused, Session}
-use Rattle.spread_report.specs.EntryMessages.{OutgoingStep, logged_on, numbered, gap_fill, ReportedTrade, ExecutionReport, report_fields, new_report, fill_report, fill_reports, fills_reports, entry_reports, order_cancel_reject, close_steps, event_steps}
+use Rattle.spread_report.specs.EntryMessages.{OutgoingStep, logged_on, numbered, gap_fill, ReportedTrade, ExecutionReport, new_report, fill_report, fill_reports, fills_reports, entry_reports, order_cancel_reject, close_steps, event_steps}
 use Rattle.spread_report.specs.code.Addressed.{AddressedStep, report, reports_from, steps_to, entry_messages}
 use Rattle.spread_report.specs.code.Reports.{rejected_report, ended_report, cancelled_report, replaced_report, report_count, reports_of, place_field}
 use Rattle.spread_report.proofs.messages.OneFillMore.{reports_length}
@@ -166,7 +166,10 @@ module _ (place index : ℕ) (r : ExecutionReport) where
   abbrev left_part : List Field
   left_part = number_field 151 r.leaves_qty ∷ number_field 14 r.cum_qty ∷ number_field 6 0 ∷ option_to_list (legs_of r.traded)
 
-  report_fit : place < 2 ^ 64 → index < 2 ^ 64 → ReportFits r → AllByRecursion FitsReport (report_fields place index r)
+  abbrev all_parts : List Field
+  all_parts = id_part ++ status_part ++ order_part ++ px_part ++ left_part
+
+  report_fit : place < 2 ^ 64 → index < 2 ^ 64 → ReportFits r → AllByRecursion FitsReport all_parts
   report_fit p i h =
       let id_fits : AllByRecursion FitsReport id_part = (number_fits 37 r.order_id (omega arith) (omega arith) h.order, (text_fits 11 r.cl_ord_id (omega arith) (omega arith) h.id, option_fits (option_map (text_field 41) r.orig_cl_ord_id) (original_fits r.orig_cl_ord_id h.original))) in
       let status_fits : AllByRecursion FitsReport status_part = (
@@ -194,7 +197,7 @@ module _ (place index : ℕ) (r : ExecutionReport) where
       (fields_both (id_part ++ status_part ++ order_part) px_part (fields_both (id_part ++ status_part) order_part (fields_both id_part status_part id_fits status_fits) order_fits) (option_fits (px_of r.traded) (px_fits r.traded h.traded)))
       left_fits
 
-  report_length : length (report_fields place index r) ≤ 18
+  report_length : length all_parts ≤ 18
   report_length =
       let a = option_length (option_map (text_field 41) r.orig_cl_ord_id) in
       let b = option_length (option_map (number_field 103) r.ord_rej_reason) in
@@ -204,7 +207,7 @@ module _ (place index : ℕ) (r : ExecutionReport) where
       let one = length-append id_part status_part in
       let two = length-append (id_part ++ status_part) order_part in
       let three = length-append (id_part ++ status_part ++ order_part) px_part in
-      let all : length (report_fields place index r) ≡ length (id_part ++ status_part ++ order_part ++ px_part) + length left_part = length-append (id_part ++ status_part ++ order_part ++ px_part) left_part in
+      let all : length all_parts ≡ length (id_part ++ status_part ++ order_part ++ px_part) + length left_part = length-append (id_part ++ status_part ++ order_part ++ px_part) left_part in
       omega (arith, a, b, d, e, f, one, two, three, all)
 
   report_in_range : place < 2 ^ 64 → index < 2 ^ 64 → ReportFits r → FitsAddressed (report place index r)

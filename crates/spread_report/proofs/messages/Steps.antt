@@ -8,7 +8,7 @@ use Rattle.std.proofs.lemmas.List.Folds.{concat-append}
 use Rattle.std.proofs.lemmas.List.Sums.{fold-append}
 use Rattle.spread_rulebook.specs.Rulebook.{Rules}
 use Rattle.spread_report.specs.declared.outbound.OutboundSession.{OutboundSession}
-use Rattle.spread_report.specs.EntryMessages.{OutgoingStep, numbered, ExecutionReport, report_fields, entry_reports, event_steps}
+use Rattle.spread_report.specs.EntryMessages.{OutgoingStep, ExecutionReport, report_step, entry_reports, event_steps}
 use Rattle.spread_report.specs.Outgoing.{AppliedEntry, step_texts, steps_texts, after_step, entry_steps, session_steps}
 use Rattle.spread_report.specs.code.Addressed.{AddressedStep, reports_from, steps_to, entry_messages, steps_of}
 use Rattle.spread_report.specs.code.PerSession.{is_above_limit, pass_limit, texts_to, messages_bytes, outbound_after, spends}
@@ -61,10 +61,10 @@ own_steps session s steps = ap (λ (l : List AddressedStep). map step_of l) (kep
 
 -- those of reports
 report_steps : (s place n : ℕ) (rs : List ExecutionReport)
-    → map (λ (r : ℕ × ExecutionReport). numbered 56 (report_fields place r.0 r.1)) (filter (λ (r : ℕ × ExecutionReport). r.1.to == s) (enumerate_from n rs)) ≡ steps_of s (reports_from place n rs)
+    → map (report_step place) (filter (λ (r : ℕ × ExecutionReport). r.1.to == s) (enumerate_from n rs)) ≡ steps_of s (reports_from place n rs)
 report_steps s place n [] = refl
 report_steps s place n (r ∷ rs) =
-    let told : ℕ × ExecutionReport → OutgoingStep = λ r. numbered 56 (report_fields place r.0 r.1) in
+    let told = report_step place in
     let is_to : ℕ × ExecutionReport → Bool = λ r. r.1.to == s in
     let test : AddressedStep → Bool = λ m. m.to == s in
     elim (r.to == s) as (λ b. map told (cond b ((n, r) ∷ filter is_to (enumerate_from (n + 1) rs)) (filter is_to (enumerate_from (n + 1) rs)))

@@ -2,13 +2,12 @@
 -- Words of the code alone.
 use Rattle.std.specs.Prelude.{ℕ, ◌==◌, List, ◌++◌, map, filter}
 use Rattle.std.specs.List.{enumerate_from}
-use Rattle.fix_frames.specs.declared.msg_types.TheConstants as msg_types
 use Rattle.fix_wire.specs.declared.writer.Field.{Field}
 use Rattle.spread_rules.specs.declared.fill.Fill.{Fill}
 use Rattle.spread_rules.specs.declared.event.Event.{Event}
 use Rattle.spread_rules.specs.declared.outcome.Outcome.{Outcome}
 use Rattle.spread_rulebook.specs.Rulebook.{Rules}
-use Rattle.spread_report.specs.EntryMessages.{ExecutionReport, report_fields, entry_reports, OutgoingStep, numbered, event_steps}
+use Rattle.spread_report.specs.EntryMessages.{ExecutionReport, report_step, entry_reports, OutgoingStep, numbered, event_steps}
 use Rattle.spread_report.specs.Outgoing.{AppliedEntry}
 
 -- A step, and the session that it is of.
@@ -22,7 +21,7 @@ numbered_message to kind fields = record { to = to; step = numbered kind fields 
 
 -- a report of the entry of that place, with its number among the entry's reports
 abbrev pub report : ℕ → ℕ → ExecutionReport → AddressedStep
-report place number r = numbered_message r.to msg_types.EXECUTION_REPORT (report_fields place number r)
+report place number r = record { to = r.to; step = report_step place (number, r) }
 
 -- such reports in order, the first with this number
 abbrev pub reports_from : ℕ → ℕ → List ExecutionReport → List AddressedStep
