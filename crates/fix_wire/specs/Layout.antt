@@ -32,36 +32,28 @@ field_text f = (decimal f.tag ++ (EQUALS ∷ f.value)) ++ (SOH ∷ [])
 abbrev pub field : ℕ → List ℕ → TagValue
 field tag value = record { tag = tag; value = value }
 
--- the fields of a duplicate alone
-abbrev pub only_if : Bool → TagValue → List TagValue
-only_if duplicate f = if duplicate then f ∷ [] else []
-
 -- what each message begins with: MsgType, MsgSeqNum, PossDupFlag in a duplicate, SenderCompID, SendingTime,
 -- TargetCompID, and OrigSendingTime in a duplicate
 abbrev pub head_fields : Head → List TagValue
 head_fields h =
     (field tags.MSG_TYPE (h.kind ∷ []) ∷ field tags.MSG_SEQ_NUM (decimal h.number) ∷ [])
-    ++ (only_if h.duplicate (field tags.POSS_DUP_FLAG (codes "Y"))
+    ++ ((if h.duplicate then field tags.POSS_DUP_FLAG (codes "Y") ∷ [] else [])
     ++ ((field tags.SENDER_COMP_ID h.sender ∷ field tags.SENDING_TIME h.stamp
     ∷ field tags.TARGET_COMP_ID h.target ∷ [])
-    ++ only_if h.duplicate (field tags.ORIG_SENDING_TIME h.stamp)))
+    ++ (if h.duplicate then field tags.ORIG_SENDING_TIME h.stamp ∷ [] else [])))
 
 -- the body: MsgType to the last field
 abbrev pub body_text : Head → List given.Field → List ℕ
 body_text h fs =
     flat_map field_text (head_fields h ++ map (λ f. field f.tag (value_text f.value)) fs)
 
--- what CheckSum sums: BeginString, BodyLength without leading zeros, and the body
-abbrev pub summed_text : List ℕ → List ℕ
-summed_text body = begin_text ++ (decimal (length body) ++ (SOH ∷ body))
-
--- a body within its frame
-abbrev pub frame_text : List ℕ → List ℕ
-frame_text body = summed_text body ++ checksum_field (sum (summed_text body) % 256)
-
--- the one text of a message
+-- The one text of a message: BeginString, BodyLength without leading zeros, the body, and CheckSum, which sums all bytes
+-- before it.
 abbrev pub message_text : Head → List given.Field → List ℕ
-message_text h fs = frame_text (body_text h fs)
+message_text h fs =
+    let body = body_text h fs in
+    let summed = begin_text ++ (decimal (length body) ++ (SOH ∷ body)) in
+    summed ++ checksum_field (sum summed % 256)
 
 -- ---- fields as they are given
 
@@ -146,3 +138,17 @@ pub record IsReadBack (h : Head) (fs : List given.Field) : Type 0 where
   pub lawful : IsFrame (message_text h fs)
   pub same : fields (message_text h fs) ≡ all_fields h fs
   pub first : (more : List ℕ) → frames (message_text h fs ++ more) ≡ message_text h fs ∷ frames more
+
+-- ---- words of the code alone
+
+-- the fields of a duplicate alone
+abbrev pub only_if : Bool → TagValue → List TagValue
+only_if duplicate f = if duplicate then f ∷ [] else []
+
+-- what CheckSum sums
+abbrev pub summed_text : List ℕ → List ℕ
+summed_text body = begin_text ++ (decimal (length body) ++ (SOH ∷ body))
+
+-- a body within its frame
+abbrev pub frame_text : List ℕ → List ℕ
+frame_text body = summed_text body ++ checksum_field (sum (summed_text body) % 256)

@@ -13,6 +13,14 @@ abbrev pub side_code : Side → ℕ
 side_code Buy = 1
 side_code Sell = 2
 
+-- MultiLegReportingType, tag 442
+abbrev pub multi_leg_code : MultiLegReportingType → ℕ
+multi_leg_code SingleSecurity = 1
+multi_leg_code IndividualLeg = 2
+multi_leg_code MultiLegSecurity = 3
+
+-- ---- words of the code alone
+
 -- OrdStatus, tag 39, and ExecType, tag 150
 abbrev pub ord_status_code : OrdStatus → ℕ
 ord_status_code New = ord_status.NEW
@@ -21,9 +29,3 @@ ord_status_code Filled = ord_status.FILLED
 ord_status_code Canceled = ord_status.CANCELED
 ord_status_code Replaced = ord_status.REPLACED
 ord_status_code Rejected = ord_status.REJECTED
-
--- MultiLegReportingType, tag 442
-abbrev pub multi_leg_code : MultiLegReportingType → ℕ
-multi_leg_code SingleSecurity = 1
-multi_leg_code IndividualLeg = 2
-multi_leg_code MultiLegSecurity = 3

@@ -1,7 +1,18 @@
 -- A field of a message, by its tag and its value.
-use Rattle.std.specs.Prelude.{ℕ, ℤ, List}
+use Rattle.std.specs.Prelude.{ℕ, ℤ, List, Option, option_map}
+use Rattle.std.specs.Option.{option_to_list}
+use Rattle.fix_wire.specs.declared.writer.Value.{Value}
 use Rattle.fix_wire.specs.declared.writer.Value.TheVariants.{Text, Number, Price, Pair}
 use Rattle.fix_wire.specs.declared.writer.Field.{Field}
+
+abbrev pub field : ℕ → Value → Field
+field tag value = record { tag = tag; value = value }
+
+-- the field with such a value, or none
+abbrev pub optional_field : {A : Type 0} → ℕ → (A → Value) → Option A → List Field
+optional_field tag value o = option_to_list (option_map (λ a. field tag (value a)) o)
+
+-- ---- words of the code alone
 
 -- a field with a text, a number, a price in hundredths, or two numbers
 abbrev pub text_field : ℕ → List ℕ → Field

@@ -3,3 +3,4 @@ pub mod MoreMessages
 pub mod OneMessage
 pub mod OneFillMore
 pub mod InRange
+pub mod NumbersSpent

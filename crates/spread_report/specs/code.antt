@@ -1,4 +1,5 @@
 -- Words of the code alone: no public promise needs them to be read.
+pub mod Addressed
 pub mod Reports
 pub mod PerSession
 pub mod Sending

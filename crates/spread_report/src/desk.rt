@@ -6,7 +6,7 @@ ghost use Rattle.spread_report.specs.Desk.{desk_starting, desk_at};
 ghost use Rattle.spread_report.specs.code.Sending.{Sends};
 ghost use Rattle.spread_report.specs.code.PerSession.{entry_bytes, entry_texts, entry_outbound, entry_spends, applied_at};
 ghost use Rattle.spread_report.specs.code.Reports.{has_tag};
-ghost use Rattle.spread_report.specs.EntryMessages.{numbered_message};
+ghost use Rattle.spread_report.specs.code.Addressed.{numbered_message};
 ghost use Rattle.spread_report.specs.Messages.{IsRow};
 ghost use Rattle.spread_report.specs.Sessions.{bytes_of, outbound_at, KeepsBytes, RunsOut};
 ghost use Rattle.spread_report.specs.declared.fault.DeskFault.TheVariants.{NumbersSpent};

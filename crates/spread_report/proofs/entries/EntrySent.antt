@@ -12,10 +12,11 @@ use Rattle.spread_rulebook.specs.Rulebook.{Rules}
 use Rattle.spread_report.specs.declared.fault.DeskFault.{DeskFault}
 use Rattle.spread_report.specs.declared.fault.DeskFault.TheVariants.{NoMemory, NumbersSpent}
 use Rattle.spread_report.specs.declared.outbound.OutboundSession.{OutboundSession}
-use Rattle.spread_report.specs.EntryMessages.{AddressedStep, logged_on, event_messages}
+use Rattle.spread_report.specs.EntryMessages.{logged_on}
 use Rattle.spread_report.specs.declared.outbound.CompIds.{CompIds}
 use Rattle.spread_report.specs.Messages.{IsRow}
-use Rattle.spread_report.specs.Outgoing.{AppliedEntry, step_texts, entry_messages}
+use Rattle.spread_report.specs.Outgoing.{AppliedEntry, step_texts}
+use Rattle.spread_report.specs.code.Addressed.{AddressedStep, event_messages, entry_messages}
 use Rattle.spread_report.specs.code.PerSession.{texts_to, messages_bytes, outbound_after, spends, entry_texts, entry_bytes, entry_outbound, entry_spends, opening, noted_messages, outbound_at_entry}
 use Rattle.spread_report.proofs.messages.Steps.{outbound_after-append, texts_to-append, spends-append}
 use Rattle.spread_report.specs.Sessions.{bytes_of, outbound_at, RunsOut}

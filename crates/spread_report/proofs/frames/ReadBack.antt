@@ -1,6 +1,6 @@
 -- What a session is sent is a row of whole frames, read as the messages that were written.
 use Rattle.std.proofs.Common.{◌≡◌, ◌≢◌, ℕ, ◌+◌, ◌<◌, ◌≤◌, ◌^◌, ◌==◌, nat_lt, Bool, true, false, ◌||◌, if◌then◌else◌, List, [], ◌∷◌, ◌++◌, map, cond, codes, length, refl, sym, subst, arith, Option, Some, None}
-use Rattle.std.specs.List.{AllByRecursion, concat, flat_map}
+use Rattle.std.specs.List.{AllByRecursion, concat}
 use Rattle.std.specs.Prelude.{filter}
 use Rattle.std.proofs.lemmas.List.Folds.{concat-append}
 use Rattle.report_bodies.specs.Fields.{text_field, number_field}
@@ -13,14 +13,17 @@ use Rattle.host_base.specs.Ids.{is_id}
 use Rattle.spread_rulebook.specs.Rulebook.{Rules}
 use Rattle.spread_report.specs.declared.outbound.OutboundSession.{OutboundSession}
 use Rattle.spread_report.specs.declared.outbound.CompIds.{CompIds}
-use Rattle.spread_report.specs.EntryMessages.{OutgoingStep, logged_on, numbered, gap_fill, AddressedStep}
-use Rattle.spread_report.specs.Outgoing.{AppliedEntry, new_seq_no, head_of, step_texts, steps_texts, after_step, is_above_limit, pass_limit, steps_of, session_steps, entry_messages}
-use Rattle.spread_report.specs.code.PerSession.{texts_from, journal_bytes, spends_from}
+use Rattle.spread_report.specs.EntryMessages.{OutgoingStep, logged_on, numbered, gap_fill}
+use Rattle.spread_report.specs.Outgoing.{AppliedEntry, head_of, step_texts, steps_texts, after_step, entry_steps, session_steps}
+use Rattle.spread_report.specs.code.Addressed.{AddressedStep, entry_messages, steps_of}
+use Rattle.spread_report.specs.code.PerSession.{is_above_limit, pass_limit, texts_from, journal_bytes, spends_from}
+use Rattle.spread_report.specs.code.Reports.{new_seq_no}
+use Rattle.spread_report.proofs.messages.Steps.{entry_steps_are}
 use Rattle.spread_report.proofs.frames.FrameRows.{no_row, rows_both, message_row}
 use Rattle.spread_report.specs.Messages.{IsRow}
 use Rattle.spread_report.specs.Ranges.{AreNames, EntryInRange}
 use Rattle.spread_report.proofs.frames.BodyLengths.{FitsReport, IsShortHead, fields_fit, body_short}
-use Rattle.spread_report.proofs.messages.InRange.{FitsStep, FitsAddressed, all_append, id_plain, id_short, entry_fits}
+use Rattle.spread_report.proofs.messages.InRange.{FitsStep, FitsAddressed, id_plain, id_short, entry_fits}
 
 -- ---- outbound states
 
@@ -115,10 +118,16 @@ steps_fit s (m ∷ ms) fit =
       | false ↦ steps_fit s ms fit.1
     ]
 
+more_fit : (xs ys : List OutgoingStep) → AllByRecursion FitsStep xs → AllByRecursion FitsStep ys → AllByRecursion FitsStep (xs ++ ys)
+more_fit [] ys a b = b
+more_fit (x ∷ xs) ys a b = (a.0, more_fit xs ys a.1 b)
+
 module _ (stamp : List ℕ) (stamp_id : is_id stamp ≡ true) (rules : Rules) (names : AreNames rules) (s : ℕ) where
-  entries_messages_fit : (ws : List AppliedEntry) → AllByRecursion (EntryInRange rules) ws → AllByRecursion FitsAddressed (flat_map (entry_messages rules) ws)
-  entries_messages_fit [] fit = tt
-  entries_messages_fit (w ∷ ws) fit = all_append (entry_messages rules w) (flat_map (entry_messages rules) ws) (entry_fits rules names w fit.0) (entries_messages_fit ws fit.1)
+  session_fit : (ws : List AppliedEntry) → AllByRecursion (EntryInRange rules) ws → AllByRecursion FitsStep (session_steps rules ws s)
+  session_fit [] fit = tt
+  session_fit (w ∷ ws) fit =
+      let here : AllByRecursion FitsStep (steps_of s (entry_messages rules w)) = steps_fit s (entry_messages rules w) (entry_fits rules names w fit.0) in
+      more_fit (entry_steps rules s w) (session_steps rules ws s) (subst (λ (cs : List OutgoingStep). AllByRecursion FitsStep cs) (sym (entry_steps_are rules s w)) here) (session_fit ws fit.1)
 
   pub from_is : (out : OutboundSession) (ws : List AppliedEntry) → OutboundFits out → AllByRecursion (EntryInRange rules) ws → spends_from rules s out ws ≡ false → IsRow (texts_from stamp rules s out ws) (journal_bytes stamp rules s out ws)
-  from_is out ws h fit spent = steps_are stamp stamp_id out (session_steps rules ws s) h (steps_fit s (flat_map (entry_messages rules) ws) (entries_messages_fit ws fit)) spent
+  from_is out ws h fit spent = steps_are stamp stamp_id out (session_steps rules ws s) h (session_fit ws fit) spent

@@ -1,7 +1,7 @@
 -- Every message of an entry in range is in range.
-use Rattle.std.proofs.Common.{◌≡◌, ◌≢◌, ℕ, ◌+◌, ◌*◌, ◌<◌, ◌≤◌, ◌^◌, ◌==◌, true, false, ◌&&◌, if◌then◌else◌, ◌||◌, List, [], ◌∷◌, ◌++◌, length, get_or, codes, refl, arith, Option, Some, None}
+use Rattle.std.proofs.Common.{◌≡◌, ◌≢◌, ℕ, ◌+◌, ◌*◌, ◌<◌, ◌≤◌, ◌^◌, ◌==◌, Bool, true, false, ◌&&◌, if◌then◌else◌, ◌||◌, List, [], ◌∷◌, ◌++◌, length, get_or, codes, refl, arith, Option, Some, None, length-append}
 use Rattle.std.specs.Prelude.{ℤ, unsigned_abs, nat_le, option_map, option_to_list}
-use Rattle.std.specs.List.{AllByRecursion, cons_option}
+use Rattle.std.specs.List.{AllByRecursion}
 use Rattle.std.proofs.lemmas.Bool.{leb-true, and_parts}
 use Rattle.std.proofs.lemmas.Bool.Decides.{nat_tests}
 use Rattle.fix_wire.specs.declared.writer.Field.{Field}
@@ -20,16 +20,16 @@ use Rattle.spread_rules.specs.declared.event.Event.{Event}
 use Rattle.spread_rules.specs.declared.event.Event.TheVariants.{Logon, New, Cancel, Replace, TestReply, Gap, Resend, Reject, Close}
 use Rattle.spread_rules.specs.declared.outcome.Outcome.{Outcome}
 use Rattle.spread_rules.specs.declared.outcome.Outcome.TheVariants.{Rested, Filled, Ended, Cancelled, Replaced, Refused, CancelRefused, Session}
-use Rattle.spread_report.specs.EntryMessages.{OutgoingStep, logged_on, numbered, gap_fill, AddressedStep, ReportedTrade, ExecutionReport, report_fields, numbered_message, report, fill_report, fill_reports, fills_reports, accepted_messages, new_messages, order_cancel_reject, cancel_messages, replace_messages, close_messages, event_messages}
-use Rattle.spread_report.specs.code.Reports.{new_report, rejected_report, ended_report, cancelled_report, replaced_report, report_count, reports_of, place_field}
-use Rattle.spread_report.proofs.messages.OneFillMore.{fills_reports-cons, index_behind}
-use Rattle.report_bodies.specs.Fields.{text_field, number_field, price_field, pair_field}
-use Rattle.report_bodies.specs.Codes.{side_code, ord_status_code, multi_leg_code}
-use Rattle.report_bodies.specs.declared.codes.OrdStatus.{OrdStatus}
-use Rattle.report_bodies.specs.declared.codes.OrdStatus.TheVariants as status
+use Rattle.spread_report.specs.EntryMessages.{OutgoingStep, logged_on, numbered, gap_fill, ReportedTrade, ExecutionReport, new_report, fill_report, fill_reports, fills_reports, entry_reports, order_cancel_reject, close_steps, event_steps}
+use Rattle.spread_report.specs.code.Addressed.{AddressedStep, report, reports_from, steps_to, entry_messages}
+use Rattle.spread_report.specs.code.Reports.{rejected_report, ended_report, cancelled_report, replaced_report, report_count, reports_of, place_field}
+use Rattle.spread_report.proofs.messages.OneFillMore.{reports_length}
+use Rattle.report_bodies.specs.Fields.{field, text_field, number_field, price_field, pair_field}
+use Rattle.fix_wire.specs.declared.writer.Value.TheVariants.{Text, Number}
+use Rattle.report_bodies.specs.Codes.{side_code, multi_leg_code}
 use Rattle.report_bodies.specs.declared.codes.MultiLegReportingType.{MultiLegReportingType}
 use Rattle.report_bodies.specs.declared.codes.MultiLegReportingType.TheVariants.{SingleSecurity, IndividualLeg, MultiLegSecurity}
-use Rattle.spread_report.specs.Outgoing.{AppliedEntry, entry_messages}
+use Rattle.spread_report.specs.Outgoing.{AppliedEntry}
 use Rattle.spread_report.specs.Ranges.{AreNames, FillInRange, OutcomeInRange, EntryInRange}
 use Rattle.spread_report.proofs.frames.BodyLengths.{FitsReport}
 use Rattle.report_bodies.proofs.SymbolIds.{joined_id}
@@ -87,22 +87,13 @@ record ReportFits (r : ExecutionReport) : Type 0 where
   order : r.order_id < 2 ^ 64
   id : is_id r.cl_ord_id ≡ true
   original : OptionalId r.orig_cl_ord_id
-  place : r.place < 2 ^ 64
-  index : r.index < 2 ^ 64
+  status : r.ord_status < 2 ^ 64
   reason : OptionalNumber r.ord_rej_reason
   symbol : is_id r.symbol ≡ true
   quantity : r.order_qty < 2 ^ 64
   traded : TradedFits r.traded
   leaves : r.leaves_qty < 2 ^ 64
   filled : r.cum_qty < 2 ^ 64
-
-status_small : (s : OrdStatus) → ord_status_code s < 2 ^ 64
-status_small status.New = omega arith
-status_small status.PartiallyFilled = omega arith
-status_small status.Filled = omega arith
-status_small status.Canceled = omega arith
-status_small status.Replaced = omega arith
-status_small status.Rejected = omega arith
 
 legs_small : (l : MultiLegReportingType) → multi_leg_code l < 2 ^ 64
 legs_small SingleSecurity = omega arith
@@ -114,13 +105,17 @@ abbrev OptionFits : Option Field → Type 0
 OptionFits None = Unit {0}
 OptionFits (Some f) = FitsReport f
 
-cons_fits : (o : Option Field) (fs : List Field) → OptionFits o → AllByRecursion FitsReport fs → AllByRecursion FitsReport (cons_option o fs)
-cons_fits None fs h a = a
-cons_fits (Some f) fs h a = (h, a)
+option_fits : (o : Option Field) → OptionFits o → AllByRecursion FitsReport (option_to_list o)
+option_fits None h = tt
+option_fits (Some f) h = (h, tt)
 
-cons_length : (o : Option Field) (fs : List Field) → length (cons_option o fs) ≤ length fs + 1
-cons_length None fs = omega arith
-cons_length (Some f) fs = omega arith
+option_length : (o : Option Field) → length (option_to_list o) ≤ 1
+option_length None = omega arith
+option_length (Some f) = omega arith
+
+fields_both : (fs gs : List Field) → AllByRecursion FitsReport fs → AllByRecursion FitsReport gs → AllByRecursion FitsReport (fs ++ gs)
+fields_both [] gs a b = b
+fields_both (f ∷ fs) gs a b = (a.0, fields_both fs gs a.1 b)
 
 original_fits : (o : Option (List ℕ)) → OptionalId o → OptionFits (option_map (text_field 41) o)
 original_fits None h = tt
@@ -147,66 +142,85 @@ px_fits : (o : Option ReportedTrade) → TradedFits o → OptionFits (px_of o)
 px_fits None h = tt
 px_fits (Some t) h = price_fits 31 t.last_px (omega arith) (omega arith) h.1
 
-legs_fit : (o : Option ReportedTrade) → AllByRecursion FitsReport (option_to_list (legs_of o))
+legs_fit : (o : Option ReportedTrade) → OptionFits (legs_of o)
 legs_fit None = tt
-legs_fit (Some t) = (number_fits 442 (multi_leg_code t.multi_leg) (omega arith) (omega arith) (legs_small t.multi_leg), tt)
-
-legs_length : (o : Option ReportedTrade) → length (option_to_list (legs_of o)) ≤ 1
-legs_length None = omega arith
-legs_length (Some t) = omega arith
+legs_fit (Some t) = number_fits 442 (multi_leg_code t.multi_leg) (omega arith) (omega arith) (legs_small t.multi_leg)
 
 side_small : (s : Side) → side_code s < 2 ^ 64
 side_small Buy = omega arith
 side_small Sell = omega arith
 
-module _ (r : ExecutionReport) where
+module _ (place index : ℕ) (r : ExecutionReport) where
+  abbrev id_part : List Field
+  id_part = number_field 37 r.order_id ∷ text_field 11 r.cl_ord_id ∷ option_to_list (option_map (text_field 41) r.orig_cl_ord_id)
+
+  abbrev status_part : List Field
+  status_part = pair_field 17 place index ∷ number_field 20 0 ∷ number_field 150 r.ord_status ∷ number_field 39 r.ord_status ∷ option_to_list (option_map (number_field 103) r.ord_rej_reason)
+
+  abbrev order_part : List Field
+  order_part = text_field 55 r.symbol ∷ number_field 54 (side_code r.side) ∷ number_field 38 r.order_qty ∷ option_to_list (shares_of r.traded)
+
+  abbrev px_part : List Field
+  px_part = option_to_list (px_of r.traded)
+
   abbrev left_part : List Field
   left_part = number_field 151 r.leaves_qty ∷ number_field 14 r.cum_qty ∷ number_field 6 0 ∷ option_to_list (legs_of r.traded)
 
-  abbrev order_part : List Field
-  order_part = text_field 55 r.symbol ∷ number_field 54 (side_code r.side) ∷ number_field 38 r.order_qty ∷ cons_option (shares_of r.traded) (cons_option (px_of r.traded) left_part)
+  abbrev all_parts : List Field
+  all_parts = id_part ++ status_part ++ order_part ++ px_part ++ left_part
 
-  abbrev status_part : List Field
-  status_part = pair_field 17 r.place r.index ∷ number_field 20 0 ∷ number_field 150 (ord_status_code r.ord_status) ∷ number_field 39 (ord_status_code r.ord_status) ∷ cons_option (option_map (number_field 103) r.ord_rej_reason) order_part
-
-  report_fit : ReportFits r → AllByRecursion FitsReport (report_fields r)
-  report_fit h =
-      let left_fits : AllByRecursion FitsReport left_part = (number_fits 151 r.leaves_qty (omega arith) (omega arith) h.leaves, (number_fits 14 r.cum_qty (omega arith) (omega arith) h.filled, (number_fits 6 0 (omega arith) (omega arith) (omega arith), legs_fit r.traded))) in
+  report_fit : place < 2 ^ 64 → index < 2 ^ 64 → ReportFits r → AllByRecursion FitsReport all_parts
+  report_fit p i h =
+      let id_fits : AllByRecursion FitsReport id_part = (number_fits 37 r.order_id (omega arith) (omega arith) h.order, (text_fits 11 r.cl_ord_id (omega arith) (omega arith) h.id, option_fits (option_map (text_field 41) r.orig_cl_ord_id) (original_fits r.orig_cl_ord_id h.original))) in
+      let status_fits : AllByRecursion FitsReport status_part = (
+        pair_fits 17 place index (omega arith) (omega arith) p i,
+        (
+          number_fits 20 0 (omega arith) (omega arith) (omega arith),
+          (
+            number_fits 150 r.ord_status (omega arith) (omega arith) h.status,
+            (number_fits 39 r.ord_status (omega arith) (omega arith) h.status, option_fits (option_map (number_field 103) r.ord_rej_reason) (reason_fits r.ord_rej_reason h.reason)),
+          ),
+        ),
+      ) in
       let order_fits : AllByRecursion FitsReport order_part = (
         text_fits 55 r.symbol (omega arith) (omega arith) h.symbol,
         (
           number_fits 54 (side_code r.side) (omega arith) (omega arith) (side_small r.side),
-          (
-            number_fits 38 r.order_qty (omega arith) (omega arith) h.quantity,
-            cons_fits (shares_of r.traded) (cons_option (px_of r.traded) left_part) (shares_fit r.traded h.traded) (cons_fits (px_of r.traded) left_part (px_fits r.traded h.traded) left_fits),
-          ),
+          (number_fits 38 r.order_qty (omega arith) (omega arith) h.quantity, option_fits (shares_of r.traded) (shares_fit r.traded h.traded)),
         ),
       ) in
-      let status_fits : AllByRecursion FitsReport status_part = (
-        pair_fits 17 r.place r.index (omega arith) (omega arith) h.place h.index,
-        (
-          number_fits 20 0 (omega arith) (omega arith) (omega arith),
-          (
-            number_fits 150 (ord_status_code r.ord_status) (omega arith) (omega arith) (status_small r.ord_status),
-            (
-              number_fits 39 (ord_status_code r.ord_status) (omega arith) (omega arith) (status_small r.ord_status),
-              cons_fits (option_map (number_field 103) r.ord_rej_reason) order_part (reason_fits r.ord_rej_reason h.reason) order_fits,
-            ),
-          ),
-        ),
+      let left_fits : AllByRecursion FitsReport left_part = (
+        number_fits 151 r.leaves_qty (omega arith) (omega arith) h.leaves,
+        (number_fits 14 r.cum_qty (omega arith) (omega arith) h.filled, (number_fits 6 0 (omega arith) (omega arith) (omega arith), option_fits (legs_of r.traded) (legs_fit r.traded))),
       ) in
-      (number_fits 37 r.order_id (omega arith) (omega arith) h.order, (text_fits 11 r.cl_ord_id (omega arith) (omega arith) h.id, cons_fits (option_map (text_field 41) r.orig_cl_ord_id) status_part (original_fits r.orig_cl_ord_id h.original) status_fits))
+      fields_both (id_part ++ status_part ++ order_part ++ px_part) left_part
+      (fields_both (id_part ++ status_part ++ order_part) px_part (fields_both (id_part ++ status_part) order_part (fields_both id_part status_part id_fits status_fits) order_fits) (option_fits (px_of r.traded) (px_fits r.traded h.traded)))
+      left_fits
 
-  report_length : length (report_fields r) ≤ 18
+  report_length : length all_parts ≤ 18
   report_length =
-      let a = cons_length (option_map (text_field 41) r.orig_cl_ord_id) status_part in
-      let b = cons_length (option_map (number_field 103) r.ord_rej_reason) order_part in
-      let d = cons_length (shares_of r.traded) (cons_option (px_of r.traded) left_part) in
-      let e = cons_length (px_of r.traded) left_part in
-      omega (arith, a, b, d, e, legs_length r.traded)
+      let a = option_length (option_map (text_field 41) r.orig_cl_ord_id) in
+      let b = option_length (option_map (number_field 103) r.ord_rej_reason) in
+      let d = option_length (shares_of r.traded) in
+      let e = option_length (px_of r.traded) in
+      let f = option_length (legs_of r.traded) in
+      let one = length-append id_part status_part in
+      let two = length-append (id_part ++ status_part) order_part in
+      let three = length-append (id_part ++ status_part ++ order_part) px_part in
+      let all : length all_parts ≡ length (id_part ++ status_part ++ order_part ++ px_part) + length left_part = length-append (id_part ++ status_part ++ order_part ++ px_part) left_part in
+      omega (arith, a, b, d, e, f, one, two, three, all)
 
-  report_in_range : (to : ℕ) → ReportFits r → FitsAddressed (report to r)
-  report_in_range to h = (omega arith, report_fit h, report_length)
+  report_in_range : place < 2 ^ 64 → index < 2 ^ 64 → ReportFits r → FitsAddressed (report place index r)
+  report_in_range p i h = (omega arith, report_fit p i h, report_length)
+
+-- reports in order
+reports_in_range : (place i : ℕ) (rs : List ExecutionReport) → place < 2 ^ 64 → i + length rs < 2 ^ 64 → AllByRecursion ReportFits rs → AllByRecursion FitsAddressed (reports_from place i rs)
+reports_in_range place i [] p few fit = tt
+reports_in_range place i (r ∷ rs) p few fit = (report_in_range place i r p (omega (arith, few)) fit.0, reports_in_range place (i + 1) rs p (omega (arith, few)) fit.1)
+
+more_reports : (rs qs : List ExecutionReport) → AllByRecursion ReportFits rs → AllByRecursion ReportFits qs → AllByRecursion ReportFits (rs ++ qs)
+more_reports [] qs a b = b
+more_reports (r ∷ rs) qs a b = (a.0, more_reports rs qs a.1 b)
 
 -- ---- symbols
 
@@ -223,182 +237,230 @@ module _ (rules : Rules) (names : AreNames rules) where
 
   -- ---- fills
 
-  fill_fits : (place index : ℕ) (f : Fill) (symbol : List ℕ) (side : Side) (z : ℤ) (legs : MultiLegReportingType) → FillInRange rules f → place < 2 ^ 64 → index < 2 ^ 64 → is_id symbol ≡ true → unsigned_abs z < 2 ^ 64
-      → FitsAddressed (report f.session (fill_report place index f symbol side z legs))
-  fill_fits place index f symbol side z legs h p i s hz = report_in_range (fill_report place index f symbol side z legs) f.session (record {
+  status_small : (b : Bool) → (if b then 2 else 1) < 2 ^ 64
+  status_small true = omega arith
+  status_small false = omega arith
+
+  fill_fits : (f : Fill) (symbol : List ℕ) (side : Side) (z : ℤ) (legs : MultiLegReportingType) → FillInRange rules f → is_id symbol ≡ true → unsigned_abs z < 2 ^ 64
+      → ReportFits (fill_report f symbol side z legs)
+  fill_fits f symbol side z legs h s hz = record {
     order = h.order;
     id = h.id;
     original = tt;
-    place = p;
-    index = i;
+    status = status_small (f.leaves == 0);
     reason = tt;
     symbol = s;
     quantity = h.total;
     traded = (h.quantity, hz);
     leaves = h.leaves;
     filled = omega (arith, h.total);
-  })
+  }
 
-  reports_fit : (k : Instrument) (place index : ℕ) (f : Fill) → IsListed rules k → FillInRange rules f → place < 2 ^ 64 → index + 3 < 2 ^ 64 → AllByRecursion FitsAddressed (fill_reports k rules place index f)
-  reports_fit (Outright m) place index f listed h p i = (fill_fits place index f (symbol_of rules f.instrument) f.side f.price SingleSecurity h p (omega (arith, i)) (symbol_fits f.instrument h.listed) h.price, tt)
-  reports_fit (Spread a b) place index f listed h p i = (
-    fill_fits place index f (symbol_of rules f.instrument) f.side f.price MultiLegSecurity h p (omega (arith, i)) (symbol_fits f.instrument h.listed) h.price,
+  reports_fit : (k : Instrument) (f : Fill) → IsListed rules k → FillInRange rules f → AllByRecursion ReportFits (fill_reports rules f k)
+  reports_fit (Outright m) f listed h = (fill_fits f (symbol_of rules f.instrument) f.side f.price SingleSecurity h (symbol_fits f.instrument h.listed) h.price, tt)
+  reports_fit (Spread a b) f listed h = (
+    fill_fits f (symbol_of rules f.instrument) f.side f.price MultiLegSecurity h (symbol_fits f.instrument h.listed) h.price,
     (
-      fill_fits place (index + 1) f (symbol_of rules (Outright a)) f.side f.near IndividualLeg h p (omega (arith, i)) (symbol_fits (Outright a) (near_listed a b listed)) h.near,
-      (fill_fits place (index + 1 + 1) f (symbol_of rules (Outright b)) (other_side f.side) f.far IndividualLeg h p (omega (arith, i)) (symbol_fits (Outright b) listed.1) h.far, tt),
+      fill_fits f (symbol_of rules (Outright a)) f.side f.near IndividualLeg h (symbol_fits (Outright a) (near_listed a b listed)) h.near,
+      (fill_fits f (symbol_of rules (Outright b)) (other_side f.side) f.far IndividualLeg h (symbol_fits (Outright b) listed.1) h.far, tt),
     ),
   )
+
+  fills_fit : (fs : List Fill) → AllByRecursion (FillInRange rules) fs → AllByRecursion ReportFits (fills_reports rules fs)
+  fills_fit [] h = tt
+  fills_fit (f ∷ fs) h = more_reports (fill_reports rules f f.instrument) (fills_reports rules fs) (reports_fit f.instrument f h.0.listed h.0) (fills_fit fs h.1)
 
   count_small : (k : Instrument) → report_count k ≤ 3
   count_small (Outright m) = omega arith
   count_small (Spread i j) = omega arith
 
-  fills_fit : (place index : ℕ) (fs : List Fill) → AllByRecursion (FillInRange rules) fs → place < 2 ^ 64 → index + 3 * length fs < 2 ^ 64 → AllByRecursion FitsAddressed (fills_reports rules place index fs)
-  fills_fit place index [] h p i = tt
-  fills_fit place index (f ∷ fs) h p i =
-      rw (fills_reports-cons rules place index f fs)
-      (all_append (fill_reports f.instrument rules place index f) (fills_reports rules place (index + report_count f.instrument) fs)
-      (reports_fit f.instrument place index f h.0.listed h.0 p (omega (arith, i)))
-      (fills_fit place (index + report_count f.instrument) fs h.1 p (omega (arith, i, count_small f.instrument))))
-
   reports_small : (fs : List Fill) → reports_of fs ≤ 3 * length fs
   reports_small [] = omega arith
   reports_small (f ∷ fs) = omega (arith, count_small f.instrument, reports_small fs)
 
+  fills_few : (fs : List Fill) → length (fills_reports rules fs) ≤ 3 * length fs
+  fills_few fs = omega (arith, reports_length rules fs, reports_small fs)
+
   -- ---- entries
 
-  new_fits : (place session : ℕ) (t : Ticket) → place < 2 ^ 64 → FitsTicket t → FitsAddressed (report session (new_report place t))
-  new_fits place session t p h = report_in_range (new_report place t) session (record {
+  new_fits : (session place : ℕ) (t : Ticket) → place < 2 ^ 64 → FitsTicket t → ReportFits (new_report session place t)
+  new_fits session place t p h = record {
     order = p;
     id = h.id;
     original = tt;
-    place = p;
-    index = omega arith;
+    status = omega arith;
     reason = tt;
     symbol = h.symbol;
     quantity = omega (arith, h.quantity);
     traded = tt;
     leaves = omega (arith, h.quantity);
     filled = omega arith;
-  })
+  }
 
-  rejected_fits : (place session : ℕ) (t : Ticket) (reason : ℕ) → place < 2 ^ 64 → FitsTicket t → reason < 2 ^ 64 → FitsAddressed (report session (rejected_report place t reason))
-  rejected_fits place session t reason p h n = report_in_range (rejected_report place t reason) session (record {
+  rejected_fits : (session place : ℕ) (t : Ticket) (reason : ℕ) → place < 2 ^ 64 → FitsTicket t → reason < 2 ^ 64 → ReportFits (rejected_report session place t reason)
+  rejected_fits session place t reason p h n = record {
     order = p;
     id = h.id;
     original = tt;
-    place = p;
-    index = omega arith;
+    status = omega arith;
     reason = n;
     symbol = h.symbol;
     quantity = omega (arith, h.quantity);
     traded = tt;
     leaves = omega arith;
     filled = omega arith;
-  })
+  }
 
-  ended_fits : (place index session : ℕ) (t : Ticket) (left : ℕ) → place < 2 ^ 64 → index < 2 ^ 64 → FitsTicket t → FitsAddressed (report session (ended_report place index t left))
-  ended_fits place index session t left p i h = report_in_range (ended_report place index t left) session (record {
+  ended_fits : (session place : ℕ) (t : Ticket) (left : ℕ) → place < 2 ^ 64 → FitsTicket t → ReportFits (ended_report session place t left)
+  ended_fits session place t left p h = record {
     order = p;
     id = h.id;
     original = tt;
-    place = p;
-    index = i;
+    status = omega arith;
     reason = tt;
     symbol = h.symbol;
     quantity = omega (arith, h.quantity);
     traded = tt;
     leaves = omega arith;
     filled = omega (arith, h.quantity);
-  })
+  }
 
-  cancelled_fits : (place session : ℕ) (id original : List ℕ) (o : Order) → place < 2 ^ 64 → is_id id ≡ true → is_id original ≡ true → IsListed rules o.instrument → o.place < 2 ^ 64 → o.quantity < 2 ^ 64
-      → FitsAddressed (report session (cancelled_report (symbol_of rules o.instrument) place id original o))
-  cancelled_fits place session id original o p e d listed op oq = report_in_range (cancelled_report (symbol_of rules o.instrument) place id original o) session (record {
+  cancelled_fits : (session : ℕ) (id original : List ℕ) (o : Order) → is_id id ≡ true → is_id original ≡ true → IsListed rules o.instrument → o.place < 2 ^ 64 → o.quantity < 2 ^ 64
+      → ReportFits (cancelled_report (symbol_of rules o.instrument) session id original o)
+  cancelled_fits session id original o e d listed op oq = record {
     order = op;
     id = e;
     original = d;
-    place = p;
-    index = omega arith;
+    status = omega arith;
     reason = tt;
     symbol = symbol_fits o.instrument listed;
     quantity = oq;
     traded = tt;
     leaves = omega arith;
     filled = omega (arith, oq);
-  })
+  }
 
-  replaced_fits : (place session : ℕ) (id original : List ℕ) (o : Order) → place < 2 ^ 64 → is_id id ≡ true → is_id original ≡ true → IsListed rules o.instrument → o.place < 2 ^ 64 → o.quantity < 2 ^ 64 → o.leaves < 2 ^ 64
-      → FitsAddressed (report session (replaced_report (symbol_of rules o.instrument) place id original o))
-  replaced_fits place session id original o p e d listed op oq ol = report_in_range (replaced_report (symbol_of rules o.instrument) place id original o) session (record {
+  replaced_fits : (session : ℕ) (id original : List ℕ) (o : Order) → is_id id ≡ true → is_id original ≡ true → IsListed rules o.instrument → o.place < 2 ^ 64 → o.quantity < 2 ^ 64 → o.leaves < 2 ^ 64
+      → ReportFits (replaced_report (symbol_of rules o.instrument) session id original o)
+  replaced_fits session id original o e d listed op oq ol = record {
     order = op;
     id = e;
     original = d;
-    place = p;
-    index = omega arith;
+    status = omega arith;
     reason = tt;
     symbol = symbol_fits o.instrument listed;
     quantity = oq;
     traded = tt;
     leaves = ol;
     filled = omega (arith, oq);
-  })
+  }
 
-  traded_fits : (place session : ℕ) (t : Ticket) (fs : List Fill) → place < 2 ^ 64 → FitsTicket t → length fs ≤ 1000000000 → AllByRecursion (FillInRange rules) fs
-      → AllByRecursion FitsAddressed (report session (new_report place t) ∷ fills_reports rules place 2 fs)
-  traded_fits place session t fs p h few fits = (new_fits place session t p h, fills_fit place 2 fs fits p (omega (arith, few)))
+  -- reports in range, at most two beside those of fills
+  record AreFew (fs : List Fill) (rs : List ExecutionReport) : Type 0 where
+    all : AllByRecursion ReportFits rs
+    few : length rs ≤ 2 + 3 * length fs
 
-  news_fit : (place session : ℕ) (t : Ticket) (outcome : Outcome) (fs : List Fill) → place < 2 ^ 64 → FitsTicket t → OutcomeInRange rules outcome → length fs ≤ 1000000000 → AllByRecursion (FillInRange rules) fs
-      → AllByRecursion FitsAddressed (new_messages rules place session t outcome fs)
-  news_fit place session t (Refused reason) fs p h o few fits = (rejected_fits place session t reason p h o, tt)
-  news_fit place session t Rested fs p h o few fits = traded_fits place session t fs p h few fits
-  news_fit place session t Filled fs p h o few fits = traded_fits place session t fs p h few fits
-  news_fit place session t (Ended left) fs p h o few fits =
-      all_append (report session (new_report place t) ∷ fills_reports rules place 2 fs) (report session (ended_report place (1 + length (accepted_messages rules place session t fs)) t left) ∷ [])
-      (traded_fits place session t fs p h few fits)
-      (ended_fits place (1 + length (accepted_messages rules place session t fs)) session t left p (omega (arith, few, reports_small fs, index_behind rules place session t fs)) h, tt)
-  news_fit place session t (Cancelled x) fs p h o few fits = tt
-  news_fit place session t (Replaced x) fs p h o few fits = tt
-  news_fit place session t (CancelRefused reason of status) fs p h o few fits = tt
-  news_fit place session t Session fs p h o few fits = tt
+  none_few : (fs : List Fill) → AreFew fs []
+  none_few fs = record { all = tt; few = omega arith }
+
+  one_few : (fs : List Fill) (r : ExecutionReport) → ReportFits r → AreFew fs (r ∷ [])
+  one_few fs r h = record { all = (h, tt); few = omega arith }
+
+  with_fills : (fs : List Fill) (r : ExecutionReport) → ReportFits r → AllByRecursion (FillInRange rules) fs → AreFew fs (r ∷ fills_reports rules fs)
+  with_fills fs r h fits = record { all = (h, fills_fit fs fits); few = omega (arith, fills_few fs) }
+
+  with_end : (fs : List Fill) (r q : ExecutionReport) → ReportFits r → ReportFits q → AllByRecursion (FillInRange rules) fs → AreFew fs (r ∷ (fills_reports rules fs ++ q ∷ []))
+  with_end fs r q h k fits = record {
+    all = (h, more_reports (fills_reports rules fs) (q ∷ []) (fills_fit fs fits) (k, tt));
+    few = omega (arith, fills_few fs, length-append (fills_reports rules fs) (q ∷ []));
+  }
+
+  news_fit : (place session : ℕ) (t : Ticket) (outcome : Outcome) (fs : List Fill) → place < 2 ^ 64 → FitsTicket t → OutcomeInRange rules outcome → AllByRecursion (FillInRange rules) fs
+      → AreFew fs (entry_reports rules place session (New t) outcome fs)
+  news_fit place session t (Refused reason) fs p h o fits = one_few fs (rejected_report session place t reason) (rejected_fits session place t reason p h o)
+  news_fit place session t Rested fs p h o fits = with_fills fs (new_report session place t) (new_fits session place t p h) fits
+  news_fit place session t Filled fs p h o fits = with_fills fs (new_report session place t) (new_fits session place t p h) fits
+  news_fit place session t (Ended left) fs p h o fits =
+      with_end fs (new_report session place t) (ended_report session place t left) (new_fits session place t p h) (ended_fits session place t left p h) fits
+  news_fit place session t (Cancelled x) fs p h o fits = none_few fs
+  news_fit place session t (Replaced x) fs p h o fits = none_few fs
+  news_fit place session t (CancelRefused reason of status) fs p h o fits = none_few fs
+  news_fit place session t Session fs p h o fits = none_few fs
+
+  cancels_fit : (place session : ℕ) (id original : List ℕ) (outcome : Outcome) (fs : List Fill) → is_id id ≡ true → is_id original ≡ true → OutcomeInRange rules outcome
+      → AreFew fs (entry_reports rules place session (Cancel id original) outcome fs)
+  cancels_fit place session id original (Cancelled x) fs e d o = one_few fs (cancelled_report (symbol_of rules x.instrument) session id original x) (cancelled_fits session id original x e d o.0 o.1 o.2)
+  cancels_fit place session id original (CancelRefused reason of status) fs e d o = none_few fs
+  cancels_fit place session id original (Replaced x) fs e d o = none_few fs
+  cancels_fit place session id original Rested fs e d o = none_few fs
+  cancels_fit place session id original Filled fs e d o = none_few fs
+  cancels_fit place session id original (Ended left) fs e d o = none_few fs
+  cancels_fit place session id original (Refused reason) fs e d o = none_few fs
+  cancels_fit place session id original Session fs e d o = none_few fs
+
+  replaces_fit : (place session : ℕ) (original : List ℕ) (t : Ticket) (outcome : Outcome) (fs : List Fill) → is_id original ≡ true → FitsTicket t → OutcomeInRange rules outcome → AllByRecursion (FillInRange rules) fs
+      → AreFew fs (entry_reports rules place session (Replace original t) outcome fs)
+  replaces_fit place session original t (Replaced x) fs d h o fits =
+      with_fills fs (replaced_report (symbol_of rules x.instrument) session t.id original x) (replaced_fits session t.id original x h.id d o.0 o.1 o.2 o.3) fits
+  replaces_fit place session original t (CancelRefused reason of status) fs d h o fits = none_few fs
+  replaces_fit place session original t Rested fs d h o fits = none_few fs
+  replaces_fit place session original t Filled fs d h o fits = none_few fs
+  replaces_fit place session original t (Ended left) fs d h o fits = none_few fs
+  replaces_fit place session original t (Cancelled x) fs d h o fits = none_few fs
+  replaces_fit place session original t (Refused reason) fs d h o fits = none_few fs
+  replaces_fit place session original t Session fs d h o fits = none_few fs
+
+  entry_reports_fit : (place session : ℕ) (v : Event) (outcome : Outcome) (fs : List Fill) → place < 2 ^ 64 → FitsEvent v → OutcomeInRange rules outcome → AllByRecursion (FillInRange rules) fs
+      → AreFew fs (entry_reports rules place session v outcome fs)
+  entry_reports_fit place session (New t) outcome fs p h o fits = news_fit place session t outcome fs p h o fits
+  entry_reports_fit place session (Cancel id original) outcome fs p h o fits = cancels_fit place session id original outcome fs h.0 h.1 o
+  entry_reports_fit place session (Replace original t) outcome fs p h o fits = replaces_fit place session original t outcome fs h.0 h.1 o fits
+  entry_reports_fit place session (Logon client host beat) outcome fs p h o fits = none_few fs
+  entry_reports_fit place session (TestReply answer) outcome fs p h o fits = none_few fs
+  entry_reports_fit place session (Gap first) outcome fs p h o fits = none_few fs
+  entry_reports_fit place session (Resend first last) outcome fs p h o fits = none_few fs
+  entry_reports_fit place session (Reject n reason) outcome fs p h o fits = none_few fs
+  entry_reports_fit place session (Close reason) outcome fs p h o fits = none_few fs
+
+  -- ---- other steps
 
   place_fits : (of : ℕ) → of < 2 ^ 64 → FitsReport (place_field of)
-  place_fits of h = elim (of == 0) as (λ b. FitsReport (if b then text_field 37 (codes "NONE") else number_field 37 of)) [ true ↦ text_fits 37 (codes "NONE") (omega arith) (omega arith) refl | false ↦ number_fits 37 of (omega arith) (omega arith) h ]
+  place_fits of h = elim (of == 0) as (λ b. FitsReport (field 37 (if b then Text (codes "NONE") else Number of))) [ true ↦ text_fits 37 (codes "NONE") (omega arith) (omega arith) refl | false ↦ number_fits 37 of (omega arith) (omega arith) h ]
 
-  cancel_reject_fits : (session request : ℕ) (id original : List ℕ) (reason of status : ℕ) → request < 2 ^ 64 → is_id id ≡ true → is_id original ≡ true → reason < 2 ^ 64 → of < 2 ^ 64 → status < 2 ^ 64
-      → FitsAddressed (order_cancel_reject session request id original reason of status)
-  cancel_reject_fits session request id original reason of status q e d r n s =
-      (omega arith, (place_fits of n, (text_fits 11 id (omega arith) (omega arith) e, (text_fits 41 original (omega arith) (omega arith) d, (number_fits 39 status (omega arith) (omega arith) s, (number_fits 434 request (omega arith) (omega arith) q, (number_fits 102 reason (omega arith) (omega arith) r, tt)))))), omega arith)
+  cancel_reject_fits : (request : ℕ) (id original : List ℕ) (reason of status : ℕ) → request < 2 ^ 64 → is_id id ≡ true → is_id original ≡ true → reason < 2 ^ 64 → of < 2 ^ 64 → status < 2 ^ 64
+      → AllByRecursion FitsStep (order_cancel_reject request id original reason of status ∷ [])
+  cancel_reject_fits request id original reason of status q e d r n s =
+      ((omega arith, (place_fits of n, (text_fits 11 id (omega arith) (omega arith) e, (text_fits 41 original (omega arith) (omega arith) d, (number_fits 39 status (omega arith) (omega arith) s, (number_fits 434 request (omega arith) (omega arith) q, (number_fits 102 reason (omega arith) (omega arith) r, tt)))))), omega arith), tt)
 
-  cancels_fit : (place session : ℕ) (id original : List ℕ) (outcome : Outcome) → place < 2 ^ 64 → is_id id ≡ true → is_id original ≡ true → OutcomeInRange rules outcome
-      → AllByRecursion FitsAddressed (cancel_messages rules place session id original outcome)
-  cancels_fit place session id original (Cancelled x) p e d o = (cancelled_fits place session id original x p e d o.0 o.1 o.2, tt)
-  cancels_fit place session id original (CancelRefused reason of status) p e d o = (cancel_reject_fits session 1 id original reason of status (omega arith) e d o.0 o.1 o.2, tt)
-  cancels_fit place session id original (Replaced x) p e d o = tt
-  cancels_fit place session id original Rested p e d o = tt
-  cancels_fit place session id original Filled p e d o = tt
-  cancels_fit place session id original (Ended left) p e d o = tt
-  cancels_fit place session id original (Refused reason) p e d o = tt
-  cancels_fit place session id original Session p e d o = tt
+  cancel_steps_fit : (id original : List ℕ) (outcome : Outcome) → is_id id ≡ true → is_id original ≡ true → OutcomeInRange rules outcome
+      → AllByRecursion FitsStep (event_steps (Cancel id original) outcome)
+  cancel_steps_fit id original (CancelRefused reason of status) e d o = cancel_reject_fits 1 id original reason of status (omega arith) e d o.0 o.1 o.2
+  cancel_steps_fit id original (Cancelled x) e d o = tt
+  cancel_steps_fit id original (Replaced x) e d o = tt
+  cancel_steps_fit id original Rested e d o = tt
+  cancel_steps_fit id original Filled e d o = tt
+  cancel_steps_fit id original (Ended left) e d o = tt
+  cancel_steps_fit id original (Refused reason) e d o = tt
+  cancel_steps_fit id original Session e d o = tt
 
-  replaces_fit : (place session : ℕ) (original : List ℕ) (t : Ticket) (outcome : Outcome) (fs : List Fill) → place < 2 ^ 64 → is_id original ≡ true → FitsTicket t → OutcomeInRange rules outcome → length fs ≤ 1000000000 → AllByRecursion (FillInRange rules) fs
-      → AllByRecursion FitsAddressed (replace_messages rules place session original t outcome fs)
-  replaces_fit place session original t (Replaced x) fs p d h o few fits = (replaced_fits place session t.id original x p h.id d o.0 o.1 o.2 o.3, fills_fit place 2 fs fits p (omega (arith, few)))
-  replaces_fit place session original t (CancelRefused reason of status) fs p d h o few fits = (cancel_reject_fits session 2 t.id original reason of status (omega arith) h.id d o.0 o.1 o.2, tt)
-  replaces_fit place session original t Rested fs p d h o few fits = tt
-  replaces_fit place session original t Filled fs p d h o few fits = tt
-  replaces_fit place session original t (Ended left) fs p d h o few fits = tt
-  replaces_fit place session original t (Cancelled x) fs p d h o few fits = tt
-  replaces_fit place session original t (Refused reason) fs p d h o few fits = tt
-  replaces_fit place session original t Session fs p d h o few fits = tt
+  replace_steps_fit : (original : List ℕ) (t : Ticket) (outcome : Outcome) → is_id original ≡ true → FitsTicket t → OutcomeInRange rules outcome
+      → AllByRecursion FitsStep (event_steps (Replace original t) outcome)
+  replace_steps_fit original t (CancelRefused reason of status) d h o = cancel_reject_fits 2 t.id original reason of status (omega arith) h.id d o.0 o.1 o.2
+  replace_steps_fit original t (Replaced x) d h o = tt
+  replace_steps_fit original t (Cancelled x) d h o = tt
+  replace_steps_fit original t Rested d h o = tt
+  replace_steps_fit original t Filled d h o = tt
+  replace_steps_fit original t (Ended left) d h o = tt
+  replace_steps_fit original t (Refused reason) d h o = tt
+  replace_steps_fit original t Session d h o = tt
 
-  close_fits : (session reason : ℕ) → AllByRecursion FitsAddressed (close_messages session reason)
-  close_fits session reason =
-      elim (reason == 1) as (λ a. AllByRecursion FitsAddressed (if a then numbered_message session 53 [] ∷ [] else if reason == 2 then numbered_message session 53 (text_field 58 (codes "MsgSeqNum too low") ∷ []) ∷ [] else if reason == 4 then numbered_message session 53 (text_field 58 (codes "CompID") ∷ []) ∷ [] else [])) [
+  close_fits : (reason : ℕ) → AllByRecursion FitsStep (close_steps reason)
+  close_fits reason =
+      elim (reason == 1) as (λ a. AllByRecursion FitsStep (if a then numbered 53 [] ∷ [] else if reason == 2 then numbered 53 (text_field 58 (codes "MsgSeqNum too low") ∷ []) ∷ [] else if reason == 4 then numbered 53 (text_field 58 (codes "CompID") ∷ []) ∷ [] else [])) [
         | true ↦ ((omega arith, tt, omega arith), tt)
-        | false ↦ elim (reason == 2) as (λ b. AllByRecursion FitsAddressed (if b then numbered_message session 53 (text_field 58 (codes "MsgSeqNum too low") ∷ []) ∷ [] else if reason == 4 then numbered_message session 53 (text_field 58 (codes "CompID") ∷ []) ∷ [] else [])) [
+        | false ↦ elim (reason == 2) as (λ b. AllByRecursion FitsStep (if b then numbered 53 (text_field 58 (codes "MsgSeqNum too low") ∷ []) ∷ [] else if reason == 4 then numbered 53 (text_field 58 (codes "CompID") ∷ []) ∷ [] else [])) [
           | true ↦ ((omega arith, (text_fits 58 (codes "MsgSeqNum too low") (omega arith) (omega arith) refl, tt), omega arith), tt)
-          | false ↦ elim (reason == 4) as (λ d. AllByRecursion FitsAddressed (if d then numbered_message session 53 (text_field 58 (codes "CompID") ∷ []) ∷ [] else [])) [
+          | false ↦ elim (reason == 4) as (λ d. AllByRecursion FitsStep (if d then numbered 53 (text_field 58 (codes "CompID") ∷ []) ∷ [] else [])) [
             | true ↦ ((omega arith, (text_fits 58 (codes "CompID") (omega arith) (omega arith) refl, tt), omega arith), tt)
             | false ↦ tt
           ]
@@ -408,17 +470,25 @@ module _ (rules : Rules) (names : AreNames rules) where
   small_reason : (r : ℕ) → (r == 1 || r == 4 || r == 5 || r == 6 || r == 11) ≡ true → r < 2 ^ 64
   small_reason r e = grind (arith, nat_tests)
 
-  event_fits : (place session : ℕ) (v : Event) (outcome : Outcome) (fs : List Fill) → place < 2 ^ 64 → FitsEvent v → OutcomeInRange rules outcome → length fs ≤ 1000000000 → AllByRecursion (FillInRange rules) fs
-      → AllByRecursion FitsAddressed (event_messages rules place session v outcome fs)
-  event_fits place session (Logon client host beat) outcome fs p h o few fits = ((h.0, h.1), ((omega arith, (number_fits 98 0 (omega arith) (omega arith) (omega arith), (number_fits 108 beat (omega arith) (omega arith) (omega (arith, h.2)), tt)), omega arith), tt))
-  event_fits place session (New t) outcome fs p h o few fits = news_fit place session t outcome fs p h o few fits
-  event_fits place session (Cancel id original) outcome fs p h o few fits = cancels_fit place session id original outcome p h.0 h.1 o
-  event_fits place session (Replace original t) outcome fs p h o few fits = replaces_fit place session original t outcome fs p h.0 h.1 o few fits
-  event_fits place session (TestReply answer) outcome fs p h o few fits = ((omega arith, (text_fits 112 answer (omega arith) (omega arith) h, tt), omega arith), tt)
-  event_fits place session (Gap first) outcome fs p h o few fits = ((omega arith, (number_fits 7 first (omega arith) (omega arith) (omega (arith, h.1)), (number_fits 16 0 (omega arith) (omega arith) (omega arith), tt)), omega arith), tt)
-  event_fits place session (Resend first last) outcome fs p h o few fits = (tt, tt)
-  event_fits place session (Reject n reason) outcome fs p h o few fits = ((omega arith, (number_fits 45 n (omega arith) (omega arith) (omega (arith, h.0.1)), (number_fits 373 reason (omega arith) (omega arith) (small_reason reason h.1), tt)), omega arith), tt)
-  event_fits place session (Close reason) outcome fs p h o few fits = close_fits session reason
+  steps_fit : (v : Event) (outcome : Outcome) → FitsEvent v → OutcomeInRange rules outcome → AllByRecursion FitsStep (event_steps v outcome)
+  steps_fit (Logon client host beat) outcome h o = ((h.0, h.1), ((omega arith, (number_fits 98 0 (omega arith) (omega arith) (omega arith), (number_fits 108 beat (omega arith) (omega arith) (omega (arith, h.2)), tt)), omega arith), tt))
+  steps_fit (New t) outcome h o = tt
+  steps_fit (Cancel id original) outcome h o = cancel_steps_fit id original outcome h.0 h.1 o
+  steps_fit (Replace original t) outcome h o = replace_steps_fit original t outcome h.0 h.1 o
+  steps_fit (TestReply answer) outcome h o = ((omega arith, (text_fits 112 answer (omega arith) (omega arith) h, tt), omega arith), tt)
+  steps_fit (Gap first) outcome h o = ((omega arith, (number_fits 7 first (omega arith) (omega arith) (omega (arith, h.1)), (number_fits 16 0 (omega arith) (omega arith) (omega arith), tt)), omega arith), tt)
+  steps_fit (Resend first last) outcome h o = (tt, tt)
+  steps_fit (Reject n reason) outcome h o = ((omega arith, (number_fits 45 n (omega arith) (omega arith) (omega (arith, h.0.1)), (number_fits 373 reason (omega arith) (omega arith) (small_reason reason h.1), tt)), omega arith), tt)
+  steps_fit (Close reason) outcome h o = close_fits reason
+
+  addressed_fit : (session : ℕ) (cs : List OutgoingStep) → AllByRecursion FitsStep cs → AllByRecursion FitsAddressed (steps_to session cs)
+  addressed_fit session [] fit = tt
+  addressed_fit session (c ∷ cs) fit = (fit.0, addressed_fit session cs fit.1)
 
   pub entry_fits : (w : AppliedEntry) → EntryInRange rules w → AllByRecursion FitsAddressed (entry_messages rules w)
-  entry_fits w h = event_fits w.place w.entry.session w.entry.event w.outcome w.fills h.place h.event h.outcome h.few h.fills
+  entry_fits w h =
+      let e = w.entry in
+      let few : AreFew w.fills (entry_reports rules w.place e.session e.event w.outcome w.fills) = entry_reports_fit w.place e.session e.event w.outcome w.fills h.place h.event h.outcome h.fills in
+      all_append (steps_to e.session (event_steps e.event w.outcome)) (reports_from w.place 1 (entry_reports rules w.place e.session e.event w.outcome w.fills))
+      (addressed_fit e.session (event_steps e.event w.outcome) (steps_fit e.event w.outcome h.event h.outcome))
+      (reports_in_range w.place 1 (entry_reports rules w.place e.session e.event w.outcome w.fills) h.place (omega (arith, few.few, h.few)) few.all)

@@ -7,7 +7,7 @@ use Rattle.std.specs.declared.vec.Vec.{Vec}
 use Rattle.spread_report.specs.declared.outbound.OutboundSession.{OutboundSession}
 use Rattle.spread_report.specs.declared.fault.DeskFault.{DeskFault}
 use Rattle.spread_report.specs.declared.fault.DeskFault.TheVariants.{NoMemory, NumbersSpent}
-use Rattle.spread_report.specs.EntryMessages.{AddressedStep}
+use Rattle.spread_report.specs.code.Addressed.{AddressedStep}
 use Rattle.spread_report.specs.Messages.{IsRow}
 use Rattle.spread_report.specs.code.PerSession.{messages_bytes, texts_to, outbound_after, spends}
 use Rattle.spread_report.proofs.messages.Steps.{outbound_after-append, messages_bytes-append, texts_to-append, spends-append}

@@ -8,11 +8,12 @@ use Rattle.std.specs.declared.vec.Vec.{Vec}
 use Rattle.spread_report.specs.declared.outbound.OutboundSession.{OutboundSession}
 use Rattle.spread_report.specs.declared.outbound.CompIds.{CompIds}
 use Rattle.spread_report.specs.declared.fault.DeskFault.{DeskFault}
-use Rattle.spread_report.specs.EntryMessages.{AddressedStep, OutgoingStep, gap_fill}
+use Rattle.spread_report.specs.EntryMessages.{OutgoingStep, gap_fill}
 use Rattle.report_bodies.specs.Fields.{text_field, number_field}
-use Rattle.spread_report.specs.Outgoing.{step_texts, after_step, is_above_limit, outbound_before_logon, new_seq_no, head_of}
-use Rattle.spread_report.specs.code.PerSession.{message_bytes, messages_bytes, texts_to, outbound_after, spends}
-use Rattle.spread_report.specs.code.Reports.{place_field}
+use Rattle.spread_report.specs.Outgoing.{step_texts, after_step, outbound_before_logon, head_of}
+use Rattle.spread_report.specs.code.Addressed.{AddressedStep}
+use Rattle.spread_report.specs.code.PerSession.{message_bytes, is_above_limit, messages_bytes, texts_to, outbound_after, spends}
+use Rattle.spread_report.specs.code.Reports.{place_field, new_seq_no}
 use Rattle.std.specs.List.{concat}
 use Rattle.fix_wire.specs.Layout.{message_text}
 use Rattle.spread_report.specs.Messages.{IsRow}

@@ -1,21 +1,23 @@
 -- The reports and the session messages that the desk writes, one by one.
 -- Words of the code alone.
-use Rattle.std.specs.Prelude.{ℕ, ◌+◌, ◌-◌, ◌==◌, nat_le, ◌&&◌, Bool, if◌then◌else◌, List, [], ◌∷◌, codes, Some}
+use Rattle.std.specs.Prelude.{ℕ, ◌+◌, ◌-◌, ◌==◌, nat_le, nat_lt, ◌&&◌, ◌||◌, Bool, if◌then◌else◌, List, [], ◌∷◌, codes, Some}
 use Rattle.fix_frames.specs.declared.tags.TheConstants as tags
 use Rattle.fix_wire.specs.declared.writer.Field.{Field}
+use Rattle.fix_wire.specs.declared.writer.Value.TheVariants.{Text, Number}
+use Rattle.spread_rules.specs.declared.codes.ord_status.TheConstants as code
 use Rattle.spread_rules.specs.declared.order.Order.{Order}
 use Rattle.spread_rulebook.specs.declared.instrument.Instrument.{Instrument}
 use Rattle.spread_rulebook.specs.declared.instrument.Instrument.TheVariants.{Outright, Spread}
 use Rattle.spread_rules.specs.declared.fill.Fill.{Fill}
 use Rattle.spread_rules.specs.declared.event.Ticket.{Ticket}
-use Rattle.spread_rulebook.specs.Rulebook.{Rules}
+use Rattle.spread_rulebook.specs.Rulebook.{Rules, symbol_of}
 use Rattle.spread_rules.specs.Legs.{other_side}
 use Rattle.report_bodies.specs.declared.codes.TheConstants.{ENCRYPT_METHOD_NONE}
 use Rattle.report_bodies.specs.declared.codes.MultiLegReportingType.TheVariants.{IndividualLeg}
 use Rattle.report_bodies.specs.declared.codes.OrdStatus.{OrdStatus}
 use Rattle.report_bodies.specs.declared.codes.OrdStatus.TheVariants as status
-use Rattle.report_bodies.specs.Fields.{text_field, number_field}
-use Rattle.spread_report.specs.EntryMessages.{AddressedStep, ExecutionReport, order_report, amended_report, part_report}
+use Rattle.report_bodies.specs.Fields.{field, text_field, number_field}
+use Rattle.spread_report.specs.EntryMessages.{ExecutionReport, plain_report, order_report, fill_report}
 
 -- 1 to 9 digits
 abbrev pub has_tag : Field → Bool
@@ -23,39 +25,42 @@ has_tag f = nat_le 1 f.tag && nat_le f.tag 999999999
 
 -- ---- execution reports
 
--- a new order is accepted
-abbrev pub new_report : ℕ → Ticket → ExecutionReport
-new_report place t = record (order_report place 1 t status.New) { leaves_qty = t.quantity }
-
 -- a new order is rejected
-abbrev pub rejected_report : ℕ → Ticket → ℕ → ExecutionReport
-rejected_report place t reason =
-    record (order_report place 1 t status.Rejected) { ord_rej_reason = Some reason }
+abbrev pub rejected_report : ℕ → ℕ → Ticket → ℕ → ExecutionReport
+rejected_report session place t reason =
+    record (order_report session place t code.REJECTED) { ord_rej_reason = Some reason }
 
 -- what is left of an immediate order is cancelled
 abbrev pub ended_report : ℕ → ℕ → Ticket → ℕ → ExecutionReport
-ended_report place index t left =
-    record (order_report place index t status.Canceled) { cum_qty = t.quantity - left }
+ended_report session place t left =
+    record (order_report session place t code.CANCELED) { cum_qty = t.quantity - left }
 
 -- a resting order, with this symbol, is cancelled by a cancel request with this id
 abbrev pub cancelled_report : List ℕ → ℕ → List ℕ → List ℕ → Order → ExecutionReport
-cancelled_report symbol place id original o =
-    amended_report symbol place id original o status.Canceled 0
+cancelled_report symbol session id original o =
+    record (plain_report session o.place id symbol o.side o.quantity code.CANCELED) {
+      orig_cl_ord_id = Some original;
+      cum_qty = o.quantity - o.leaves;
+    }
 
 -- a resting order, with this symbol, became this one by a replace request with this id
 abbrev pub replaced_report : List ℕ → ℕ → List ℕ → List ℕ → Order → ExecutionReport
-replaced_report symbol place id original o =
-    amended_report symbol place id original o status.Replaced o.leaves
+replaced_report symbol session id original o =
+    record (plain_report session o.place id symbol o.side o.quantity code.REPLACED) {
+      orig_cl_ord_id = Some original;
+      leaves_qty = o.leaves;
+      cum_qty = o.quantity - o.leaves;
+    }
 
 -- a fill leaves an order filled, or partially filled
 abbrev pub fill_status : ℕ → OrdStatus
 fill_status leaves = if leaves == 0 then status.Filled else status.PartiallyFilled
 
 -- the reports of a spread's legs: the near month on the order's side, the far month on the other
-abbrev pub leg_reports : ℕ → ℕ → Rules → ℕ → ℕ → Fill → List AddressedStep
-leg_reports i j rules place index f =
-    part_report rules place index f (Outright i) f.side f.near IndividualLeg
-    ∷ part_report rules place (index + 1) f (Outright j) (other_side f.side) f.far IndividualLeg
+abbrev pub leg_reports : ℕ → ℕ → Rules → Fill → List ExecutionReport
+leg_reports i j rules f =
+    fill_report f (symbol_of rules (Outright i)) f.side f.near IndividualLeg
+    ∷ fill_report f (symbol_of rules (Outright j)) (other_side f.side) f.far IndividualLeg
     ∷ []
 
 -- how many reports a fill has
@@ -73,7 +78,7 @@ reports_of (f ∷ fs) = report_count f.instrument + reports_of fs
 -- OrderID in an OrderCancelReject: the place of the order that was named, or `NONE`
 abbrev pub place_field : ℕ → Field
 place_field place =
-    if place == 0 then text_field tags.ORDER_ID (codes "NONE") else number_field tags.ORDER_ID place
+    field tags.ORDER_ID (if place == 0 then Text (codes "NONE") else Number place)
 
 -- the answer to a Logon
 abbrev pub logon_fields : ℕ → List Field
@@ -93,3 +98,7 @@ resend_request_fields first =
 abbrev pub reject_fields : ℕ → ℕ → List Field
 reject_fields n reason =
     number_field tags.REF_SEQ_NUM n ∷ number_field tags.SESSION_REJECT_REASON reason ∷ []
+
+-- NewSeqNo of a gap fill, where the next number is this and the last one asked for is that; 0 is no end
+abbrev pub new_seq_no : ℕ → ℕ → ℕ
+new_seq_no next last = if last == 0 || nat_lt next (last + 2) then next else last + 1

@@ -11,7 +11,7 @@ use Rattle.spread_report.specs.declared.fault.DeskFault.{DeskFault}
 use Rattle.spread_report.specs.declared.fault.DeskFault.TheVariants.{NoMemory, NumbersSpent}
 use Rattle.spread_report.specs.declared.desk.Desk.TheInside.{Inside}
 use Rattle.spread_report.specs.Desk.{DeskState}
-use Rattle.spread_report.specs.EntryMessages.{AddressedStep}
+use Rattle.spread_report.specs.code.Addressed.{AddressedStep}
 use Rattle.spread_report.specs.Messages.{IsRow}
 use Rattle.spread_report.specs.code.PerSession.{messages_bytes, texts_to, outbound_after, spends}
 use Rattle.spread_report.specs.Sessions.{bytes_of, outbound_at}

@@ -2,9 +2,10 @@
 ghost use Rattle.std.specs.Prelude.{◌≡◌, ◌<◌, ◌≤◌, ◌∷◌, [], length};
 ghost use Rattle.spread_report.specs.code.Sending.{Sends};
 ghost use Rattle.fix_frames.specs.declared.msg_types.TheConstants.{HEARTBEAT, RESEND_REQUEST, REJECT, LOGON};
+ghost use Rattle.spread_report.specs.code.Addressed.{numbered_message, steps_to};
 ghost use Rattle.spread_report.specs.code.Reports.{logon_fields, heartbeat_fields, reject_fields, resend_request_fields};
-ghost use Rattle.spread_report.specs.EntryMessages.{numbered_message, gap_fill, close_messages, order_cancel_reject};
-ghost use Rattle.spread_report.specs.Outgoing as outgoing;
+ghost use Rattle.spread_report.specs.code.Reports as reports;
+ghost use Rattle.spread_report.specs.EntryMessages.{gap_fill, close_steps, order_cancel_reject};
 
 use super::Desk;
 use super::entry::{CancelRefusal, CancelRequest};
@@ -101,7 +102,7 @@ impl Desk {
         requires lists { length lists.old ≡ SESSIONS }
         requires session { session < SESSIONS }
         ensures { Sends self.old self.new lists.old lists.new
-            (close_messages session reason) result }
+            (steps_to session (close_steps reason)) result }
     {
         if reason == close_reason::LOGOUT {
             self.send(lists, session, msg_types::LOGOUT, &[])
@@ -168,8 +169,9 @@ impl Desk {
         requires lists { length lists.old ≡ SESSIONS }
         requires session { request.now.session < SESSIONS }
         ensures { Sends self.old self.new lists.old lists.new
-            (order_cancel_reject request.now.session refusal.response_to request.now.id.now
-            request.now.original.now refusal.reason refusal.place refusal.status ∷ []) result }
+            (steps_to request.now.session (order_cancel_reject refusal.response_to
+            request.now.id.now request.now.original.now refusal.reason refusal.place refusal.status
+            ∷ [])) result }
     {
         let named = if refusal.place == 0 {
             Value::Text(Id::of(b"NONE"))
@@ -199,7 +201,7 @@ impl Desk {
 /// NewSeqNo (tag 36): the number at which a gap fill lets numbering go on.
 fn new_seq_no(next: u64, last: u64) -> u64
     requires { last ≤ 4294967295 }
-    ensures { result ≡ outgoing.new_seq_no next last }
+    ensures { result ≡ reports.new_seq_no next last }
 {
     if last == 0 || next < last + 2 {
         next

@@ -1,11 +1,13 @@
 //! What an entry sends, by its event and by what came of it.
-ghost use Rattle.std.specs.Prelude.{◌≡◌, ℕ, ◌<◌, ◌+◌, length, IfOk};
+ghost use Rattle.std.specs.Prelude.{◌≡◌, ℕ, ◌<◌, ◌+◌, List, ◌∷◌, length, IfOk};
+ghost use Rattle.spread_rules.specs.declared.event.Event.TheVariants.{New, Cancel, Replace};
 ghost use Rattle.spread_rules.specs.declared.fill.Fill.{Fill};
 ghost use Rattle.spread_rules.specs.Ranges.{FitsCancel, FitsNew, FitsReplace, FitsOutcome, FitFills};
 ghost use Rattle.spread_report.specs.code.Sending.{Sends};
 ghost use Rattle.spread_report.specs.code.PerSession.{noted_messages, outbound_at_entry};
 ghost use Rattle.spread_report.specs.code.Reports.{reports_of};
-ghost use Rattle.spread_report.specs.EntryMessages.{new_messages, accepted_messages, cancel_messages, replace_messages};
+ghost use Rattle.spread_report.specs.code.Addressed.{reports_from, event_messages};
+ghost use Rattle.spread_report.specs.EntryMessages.{new_report, fills_reports};
 ghost use Rattle.spread_report.specs.Sessions.{outbound_at};
 
 use super::Desk;
@@ -136,7 +138,7 @@ impl Desk {
         requires outcome { FitsNew order.now.ticket.now.quantity outcome.now }
         requires fills { FitFills rules.now fills.now }
         ensures { Sends self.old self.new lists.old lists.new
-            (new_messages rules.now order.now.place order.now.session order.now.ticket.now
+            (event_messages rules.now order.now.place order.now.session (New order.now.ticket.now)
             outcome.now fills.now) result }
     {
         match *outcome {
@@ -165,8 +167,9 @@ impl Desk {
         requires session { order.now.session < SESSIONS }
         requires fills { FitFills rules.now fills.now }
         ensures sent { Sends self.old self.new lists.old lists.new
-            (accepted_messages rules.now order.now.place order.now.session
-            order.now.ticket.now fills.now) result }
+            (reports_from order.now.place 1
+            (new_report order.now.session order.now.place order.now.ticket.now
+            ∷ fills_reports rules.now fills.now)) result }
         ensures index { IfOk result (λ i. i ≡ 2 + reports_of fills.now) }
     {
         self.accepted(lists, order)?;
@@ -184,9 +187,9 @@ impl Desk {
         requires lists { length lists.old ≡ SESSIONS }
         requires session { request.now.session < SESSIONS }
         requires outcome { FitsCancel rules.now outcome.now }
-        ensures { Sends self.old self.new lists.old lists.new
-            (cancel_messages rules.now request.now.place request.now.session
-            request.now.id.now request.now.original.now outcome.now) result }
+        ensures { (fills : List Fill) → Sends self.old self.new lists.old lists.new
+            (event_messages rules.now request.now.place request.now.session
+            (Cancel request.now.id.now request.now.original.now) outcome.now fills) result }
     {
         match *outcome {
             Outcome::Cancelled(order) => {
@@ -225,8 +228,8 @@ impl Desk {
         requires outcome { FitsReplace rules.now applied.now.outcome.now }
         requires fills { FitFills rules.now applied.now.fills.now }
         ensures { Sends self.old self.new lists.old lists.new
-            (replace_messages rules.now applied.now.place applied.now.entry.now.session
-            original.now ticket.now applied.now.outcome.now applied.now.fills.now) result }
+            (event_messages rules.now applied.now.place applied.now.entry.now.session
+            (Replace original.now ticket.now) applied.now.outcome.now applied.now.fills.now) result }
     {
         let request = CancelRequest {
             place: applied.place,

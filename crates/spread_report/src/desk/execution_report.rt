@@ -6,8 +6,9 @@ ghost use Rattle.spread_rulebook.specs.Rulebook.{month_count};
 ghost use Rattle.spread_rules.specs.declared.fill.Fill.{Fill};
 ghost use Rattle.spread_rules.specs.Ranges.{FitFills, FitsFill};
 ghost use Rattle.spread_report.specs.code.Sending.{Sends};
-ghost use Rattle.spread_report.specs.code.Reports.{new_report, rejected_report, ended_report, cancelled_report, replaced_report, leg_reports, reports_of, fill_status, report_count};
-ghost use Rattle.spread_report.specs.EntryMessages.{report, fill_report, fill_reports, fills_reports};
+ghost use Rattle.spread_report.specs.code.Addressed.{report, reports_from};
+ghost use Rattle.spread_report.specs.code.Reports.{rejected_report, ended_report, cancelled_report, replaced_report, leg_reports, reports_of, fill_status, report_count};
+ghost use Rattle.spread_report.specs.EntryMessages.{new_report, fill_report, fill_reports, fills_reports};
 
 use super::Desk;
 use super::entry::{CancelRequest, NewOrder};
@@ -42,7 +43,8 @@ impl Desk {
         requires lists { length lists.old ≡ SESSIONS }
         requires session { order.now.session < SESSIONS }
         ensures { Sends self.old self.new lists.old lists.new
-            (report order.now.session (new_report order.now.place order.now.ticket.now) ∷ []) result }
+            (report order.now.place 1
+            (new_report order.now.session order.now.place order.now.ticket.now) ∷ []) result }
     {
         let ticket = order.ticket;
         let report = OrderReport {
@@ -72,8 +74,8 @@ impl Desk {
         requires lists { length lists.old ≡ SESSIONS }
         requires session { order.now.session < SESSIONS }
         ensures { Sends self.old self.new lists.old lists.new
-            (report order.now.session (rejected_report order.now.place order.now.ticket.now reason)
-            ∷ []) result }
+            (report order.now.place 1 (rejected_report order.now.session order.now.place
+            order.now.ticket.now reason) ∷ []) result }
     {
         let ticket = order.ticket;
         let report = RejectReport {
@@ -108,8 +110,8 @@ impl Desk {
         requires session { order.now.session < SESSIONS }
         requires left { left ≤ order.now.ticket.now.quantity }
         ensures { Sends self.old self.new lists.old lists.new
-            (report order.now.session (ended_report order.now.place index order.now.ticket.now left)
-            ∷ []) result }
+            (report order.now.place index (ended_report order.now.session order.now.place
+            order.now.ticket.now left) ∷ []) result }
     {
         let ticket = order.ticket;
         let filled = ticket.quantity - left;
@@ -142,7 +144,7 @@ impl Desk {
         requires session { request.now.session < SESSIONS }
         requires left { order.now.leaves ≤ order.now.quantity }
         ensures { Sends self.old self.new lists.old lists.new
-            (report request.now.session (cancelled_report symbol.now request.now.place
+            (report request.now.place 1 (cancelled_report symbol.now request.now.session
             request.now.id.now request.now.original.now order.now) ∷ []) result }
     {
         let filled = order.quantity - order.leaves;
@@ -179,7 +181,7 @@ impl Desk {
         requires session { request.now.session < SESSIONS }
         requires left { order.now.leaves ≤ order.now.quantity }
         ensures { Sends self.old self.new lists.old lists.new
-            (report request.now.session (replaced_report symbol.now request.now.place
+            (report request.now.place 1 (replaced_report symbol.now request.now.session
             request.now.id.now request.now.original.now order.now) ∷ []) result }
     {
         let filled = order.quantity - order.leaves;
@@ -216,8 +218,8 @@ impl Desk {
         requires left { fill.now.leaves ≤ fill.now.total }
         requires price { FitsSigned w64 part.now.price }
         ensures { Sends self.old self.new lists.old lists.new
-            (report fill.now.session (fill_report exec_id.place exec_id.index fill.now
-            part.now.symbol.now part.now.side part.now.price part.now.multi_leg) ∷ []) result }
+            (report exec_id.place exec_id.index (fill_report fill.now part.now.symbol.now
+            part.now.side part.now.price part.now.multi_leg) ∷ []) result }
     {
         let filled = fill.total - fill.leaves;
         let report = FillReport {
@@ -254,8 +256,8 @@ impl Desk {
         requires fits { FitsFill rules.now fill.now }
         requires index { exec_id.index < 18446744073709551614 }
         ensures { Sends self.old self.new lists.old lists.new
-            (leg_reports months.0 months.1 rules.now exec_id.place exec_id.index fill.now)
-            result }
+            (reports_from exec_id.place exec_id.index
+            (leg_reports months.0 months.1 rules.now fill.now)) result }
     {
         let near_month = rules.name_id(months.0);
         let far_month = rules.name_id(months.1);
@@ -287,8 +289,8 @@ impl Desk {
         requires fits { FitsFill rules.now fill.now }
         requires index { exec_id.index < 18446744073709551613 }
         ensures { Sends self.old self.new lists.old lists.new
-            (fill_reports fill.now.instrument rules.now exec_id.place exec_id.index fill.now)
-            result }
+            (reports_from exec_id.place exec_id.index
+            (fill_reports rules.now fill.now fill.now.instrument)) result }
     {
         let symbol = symbol_of(rules, fill.instrument);
         match fill.instrument {
@@ -325,7 +327,7 @@ impl Desk {
         requires lists { length lists.old ≡ SESSIONS }
         requires fills { FitFills rules.now fills.now }
         ensures sent { Sends self.old self.new lists.old lists.new
-            (fills_reports rules.now place 2 fills.now) result }
+            (reports_from place 2 (fills_reports rules.now fills.now)) result }
         ensures index { IfOk result (λ i. i ≡ 2 + reports_of fills.now) }
     {
         let mut index = 2;

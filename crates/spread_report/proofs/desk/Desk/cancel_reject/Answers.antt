@@ -1,7 +1,7 @@
 use Rattle.std.proofs.Common.{◌≡◌, List, ℕ, [], ◌∷◌, ap, sym, ◌∙◌}
 use Rattle.fix_wire.specs.declared.writer.Field.{Field}
 use Rattle.fix_wire.specs.declared.writer.Value.{Value}
-use Rattle.spread_report.specs.EntryMessages.{numbered_message}
+use Rattle.spread_report.specs.code.Addressed.{numbered_message}
 use Rattle.spread_report.specs.code.Reports.{place_field}
 use Rattle.report_bodies.specs.Fields.{text_field, number_field}
 use Rattle.spread_report.proofs.messages.MoreMessages.{sends_same}

@@ -3,7 +3,8 @@ use Rattle.std.specs.Int.{w64}
 use Rattle.std.proofs.lemmas.Int.{to_z-of_z}
 use Rattle.spread_rulebook.specs.declared.instrument.Instrument.{Instrument}
 use Rattle.spread_rulebook.specs.declared.instrument.Instrument.TheVariants.{Outright, Spread}
-use Rattle.spread_report.specs.EntryMessages.{report, fill_report, fill_reports}
+use Rattle.spread_report.specs.EntryMessages.{fill_report, fill_reports}
+use Rattle.spread_report.specs.code.Addressed.{report, reports_from}
 use Rattle.spread_report.specs.code.Reports.{leg_reports}
 use Rattle.report_bodies.specs.declared.codes.MultiLegReportingType.TheVariants.{MultiLegSecurity}
 use Rattle.spread_rulebook.specs.Rulebook.{symbol_of}
@@ -13,7 +14,7 @@ use Rattle.spread_report.proofs.desk.Desk.fill.Goals as goal
 pub returns-in-Outright : goal.returns-in-Outright
 returns-in-Outright g c =
     let f = c.args.fill.now in
-    let reports = λ (k : Instrument). fill_reports k c.args.rules.now c.args.exec_id.place c.args.exec_id.index f in
+    let reports = λ (k : Instrument). reports_from c.args.exec_id.place c.args.exec_id.index (fill_reports c.args.rules.now f k) in
     let w = rw (c.symbol_of-symbol.ensures, c.price_of.ensures.value, to_z-of_z w64 f.price c.price_of.ensures.fits) at c.fill_part.ensures in
     sends_same c.args.self.now c.fill_part.new.self c.args.lists.now c.fill_part.new.lists
     (reports (Outright c.in-Outright.field-0)) (reports f.instrument) c.fill_part.result (ap reports (sym c.in-Outright.is)) w
@@ -22,11 +23,11 @@ pub returns-in_ok-fill_part-in-Spread : goal.returns-in_ok-fill_part-in-Spread
 returns-in_ok-fill_part-in-Spread g c =
     let f = c.args.fill.now in
     let id = c.args.exec_id in
-    let reports = λ (k : Instrument). fill_reports k c.args.rules.now id.place id.index f in
+    let reports = λ (k : Instrument). reports_from id.place id.index (fill_reports c.args.rules.now f k) in
     let one = rw (c.symbol_of-symbol.ensures, c.price_of-in-Spread.ensures.value, to_z-of_z w64 f.price c.price_of-in-Spread.ensures.fits) at c.in_ok-fill_part-in-Spread.ensures in
     let two = rw c.next.ensures at c.fill_legs.ensures in
     let all = sends_after c.args.self.now c.fill_part-in-Spread.new.self c.fill_legs.new.self c.args.lists.now c.fill_part-in-Spread.new.lists c.fill_legs.new.lists
-    (report f.session (fill_report id.place id.index f (symbol_of c.args.rules.now f.instrument) f.side f.price MultiLegSecurity) ∷ [])
-    (leg_reports c.in-Spread.near c.in-Spread.far c.args.rules.now id.place (id.index + 1) f) tt c.fill_legs.result one two in
+    (report id.place id.index (fill_report f (symbol_of c.args.rules.now f.instrument) f.side f.price MultiLegSecurity) ∷ [])
+    (reports_from id.place (id.index + 1) (leg_reports c.in-Spread.near c.in-Spread.far c.args.rules.now f)) tt c.fill_legs.result one two in
     sends_same c.args.self.now c.fill_legs.new.self c.args.lists.now c.fill_legs.new.lists
     (reports (Spread c.in-Spread.near c.in-Spread.far)) (reports f.instrument) c.fill_legs.result (ap reports (sym c.in-Spread.is)) all

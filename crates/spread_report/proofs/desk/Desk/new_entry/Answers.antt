@@ -1,8 +1,10 @@
-use Rattle.std.proofs.Common.{◌≡◌, List, length, [], ◌∷◌, ◌+◌, ℕ, ap, sym, Err}
+use Rattle.std.proofs.Common.{◌≡◌, List, [], ◌∷◌, ◌++◌, ◌+◌, ℕ, ap, sym, ◌∙◌, Err}
 use Rattle.std.proofs.lemmas.Result.{err_from_is_err_and}
-use Rattle.spread_report.specs.EntryMessages.{AddressedStep, report, accepted_messages, new_messages}
-use Rattle.spread_report.specs.code.Reports.{ended_report}
-use Rattle.spread_report.proofs.messages.OneFillMore.{index_behind}
+use Rattle.spread_report.specs.EntryMessages.{ExecutionReport, new_report, fills_reports}
+use Rattle.spread_report.specs.code.Addressed.{AddressedStep, report, reports_from, event_messages}
+use Rattle.spread_report.specs.code.Reports.{ended_report, reports_of}
+use Rattle.spread_report.proofs.messages.OneFillMore.{report_behind}
+use Rattle.spread_rules.specs.declared.event.Event.TheVariants.{New}
 use Rattle.spread_rules.specs.declared.outcome.Outcome.{Outcome}
 use Rattle.spread_rules.specs.declared.outcome.Outcome.TheVariants.{Ended}
 use Rattle.spread_report.proofs.messages.MoreMessages.{sends_after, sends_no_more, sends_same}
@@ -11,25 +13,34 @@ use Rattle.spread_report.proofs.desk.Desk.new_entry.Goals as goal
 pub returns-in_ok-index-in-Ended : goal.returns-in_ok-index-in-Ended
 returns-in_ok-index-in-Ended g c =
     let o = c.args.order.now in
-    let sent : List AddressedStep = accepted_messages c.args.rules.now o.place o.session o.ticket.now c.args.fills.now in
-    let e = rw (c.in_ok-index-in-Ended.ensures.index, ← index_behind c.args.rules.now o.place o.session o.ticket.now c.args.fills.now) at c.ended.ensures in
+    let first : ExecutionReport = new_report o.session o.place o.ticket.now in
+    let last : ExecutionReport = ended_report o.session o.place o.ticket.now c.in-Ended.left in
+    let sent : List AddressedStep = reports_from o.place 1 (first ∷ fills_reports c.args.rules.now c.args.fills.now) in
+    let e = rw c.in_ok-index-in-Ended.ensures.index at c.ended.ensures in
     let all = sends_after c.args.self.now c.accepted_with_fills-in-Ended.new.self c.ended.new.self c.args.lists.now c.accepted_with_fills-in-Ended.new.lists c.ended.new.lists
     sent
-    (report o.session (ended_report o.place (1 + length sent) o.ticket.now c.in-Ended.left) ∷ []) c.in_ok-index-in-Ended.index c.ended.result c.in_ok-index-in-Ended.ensures.sent e in
-    rw (c.in-Ended.is, ← c.in-Ended.left-is) all
+    (report o.place (2 + reports_of c.args.fills.now) last ∷ []) c.in_ok-index-in-Ended.index c.ended.result c.in_ok-index-in-Ended.ensures.sent e in
+    rw (c.in-Ended.is, ← c.in-Ended.left-is)
+    (sends_same c.args.self.now c.ended.new.self c.args.lists.now c.ended.new.lists
+    (sent ++ report o.place (2 + reports_of c.args.fills.now) last ∷ [])
+    (event_messages c.args.rules.now o.place o.session (New o.ticket.now) (Ended c.in-Ended.left) c.args.fills.now) c.ended.result
+    (report_behind c.args.rules.now o.place first last c.args.fills.now) all)
 
 pub returns-in_err-index-in-Ended : goal.returns-in_err-index-in-Ended
 returns-in_err-index-in-Ended g c =
     let o = c.args.order.now in
     let p = err_from_is_err_and c.from_residual-in_err-index-in-Ended.result c.from_residual-in_err-index-in-Ended.ensures.1 in
     let fault = c.in_err-index-in-Ended.field-0.0 in
-    let sent : List AddressedStep = accepted_messages c.args.rules.now o.place o.session o.ticket.now c.args.fills.now in
+    let first : ExecutionReport = new_report o.session o.place o.ticket.now in
+    let last : ExecutionReport = ended_report o.session o.place o.ticket.now c.in-Ended.left in
+    let sent : List AddressedStep = reports_from o.place 1 (first ∷ fills_reports c.args.rules.now c.args.fills.now) in
+    let behind : List AddressedStep = report o.place (2 + reports_of c.args.fills.now) last ∷ [] in
     let all = sends_no_more c.args.self.now c.accepted_with_fills-in-Ended.new.self c.args.lists.now c.accepted_with_fills-in-Ended.new.lists
-    sent
-    (report o.session (ended_report o.place (1 + length sent) o.ticket.now c.in-Ended.left) ∷ []) ℕ (Unit {0}) fault c.in_err-index-in-Ended.ensures.sent in
+    sent behind ℕ (Unit {0}) fault c.in_err-index-in-Ended.ensures.sent in
     let ended : c.args.outcome.now ≡ Ended c.in-Ended.left = rw c.in-Ended.left-is c.in-Ended.is in
     rw (p.1, p.2)
     (sends_same c.args.self.now c.accepted_with_fills-in-Ended.new.self c.args.lists.now c.accepted_with_fills-in-Ended.new.lists
-    (new_messages c.args.rules.now o.place o.session o.ticket.now (Ended c.in-Ended.left) c.args.fills.now)
-    (new_messages c.args.rules.now o.place o.session o.ticket.now c.args.outcome.now c.args.fills.now) {T = Unit {0}} (Err fault)
-    (ap (λ (out : Outcome). new_messages c.args.rules.now o.place o.session o.ticket.now out c.args.fills.now) (sym ended)) all)
+    (sent ++ behind)
+    (event_messages c.args.rules.now o.place o.session (New o.ticket.now) c.args.outcome.now c.args.fills.now) {T = Unit {0}} (Err fault)
+    (report_behind c.args.rules.now o.place first last c.args.fills.now
+    ∙ ap (λ (out : Outcome). event_messages c.args.rules.now o.place o.session (New o.ticket.now) out c.args.fills.now) (sym ended)) all)

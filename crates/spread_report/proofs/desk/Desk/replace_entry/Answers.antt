@@ -1,7 +1,8 @@
 use Rattle.std.proofs.Common.{◌∷◌, [], ◌++◌, ℕ, Ok, Err}
 use Rattle.std.proofs.lemmas.Result.{err_from_is_err_and}
 use Rattle.spread_rulebook.specs.Rulebook.{symbol_of}
-use Rattle.spread_report.specs.EntryMessages.{report, fills_reports}
+use Rattle.spread_report.specs.EntryMessages.{fills_reports}
+use Rattle.spread_report.specs.code.Addressed.{report, reports_from}
 use Rattle.spread_report.specs.code.Reports.{replaced_report}
 use Rattle.spread_report.proofs.messages.MoreMessages.{sends_after, sends_ok, sends_err}
 use Rattle.spread_report.proofs.desk.Desk.replace_entry.Goals as goal
@@ -10,8 +11,8 @@ pub returns-in_ok-all_fills-in-Replaced : goal.returns-in_ok-all_fills-in-Replac
 returns-in_ok-all_fills-in-Replaced g c =
     let a = c.args.applied.now in
     let o = c.in-Replaced.order in
-    let first = report a.entry.now.session (replaced_report (symbol_of c.args.rules.now o.instrument) a.place c.args.ticket.now.id c.args.original.now o) ∷ [] in
-    let rest = fills_reports c.args.rules.now a.place 2 a.fills.now in
+    let first = report a.place 1 (replaced_report (symbol_of c.args.rules.now o.instrument) a.entry.now.session c.args.ticket.now.id c.args.original.now o) ∷ [] in
+    let rest = reports_from a.place 2 (fills_reports c.args.rules.now a.fills.now) in
     let sent = rw (c.symbol_of-symbol.ensures, c.in-Replaced.order-is) at c.in_ok-replaced-in-Replaced.ensures in
     let all = sends_after c.args.self.now c.replaced.new.self c.all_fills.new.self c.args.lists.now c.replaced.new.lists c.all_fills.new.lists
     first rest tt (Ok c.in_ok-all_fills-in-Replaced.field-0) sent c.in_ok-all_fills-in-Replaced.ensures.sent in
@@ -23,8 +24,8 @@ returns-in_err-all_fills-in-Replaced g c =
     let o = c.in-Replaced.order in
     let p = err_from_is_err_and c.from_residual-in_err-all_fills-in-Replaced.result c.from_residual-in_err-all_fills-in-Replaced.ensures.1 in
     let fault = c.in_err-all_fills-in-Replaced.field-0.0 in
-    let first = report a.entry.now.session (replaced_report (symbol_of c.args.rules.now o.instrument) a.place c.args.ticket.now.id c.args.original.now o) ∷ [] in
-    let rest = fills_reports c.args.rules.now a.place 2 a.fills.now in
+    let first = report a.place 1 (replaced_report (symbol_of c.args.rules.now o.instrument) a.entry.now.session c.args.ticket.now.id c.args.original.now o) ∷ [] in
+    let rest = reports_from a.place 2 (fills_reports c.args.rules.now a.fills.now) in
     let sent = rw (c.symbol_of-symbol.ensures, c.in-Replaced.order-is) at c.in_ok-replaced-in-Replaced.ensures in
     let all = sends_after c.args.self.now c.replaced.new.self c.all_fills.new.self c.args.lists.now c.replaced.new.lists c.all_fills.new.lists
     first rest {T = ℕ} tt (Err fault) sent c.in_err-all_fills-in-Replaced.ensures.sent in
