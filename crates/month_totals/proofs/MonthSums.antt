@@ -16,6 +16,7 @@ use Rattle.spread_rulebook.specs.declared.instrument.Instrument.TheVariants.{Out
 use Rattle.spread_rules.specs.declared.fill.Fill.{Fill}
 use Rattle.spread_rules.specs.code.Cases.{quantity_in, money_in}
 use Rattle.spread_rules.specs.Legs.{Leg, is_side, legs_by, legs_in, legs, quantities, money, other_side}
+use Rattle.spread_rules.proofs.clearings.SumsOverLegs.{bought_is, sold_is, paid_is, received_is}
 use Rattle.month_totals.specs.declared.totals.MonthTotals.{MonthTotals}
 use Rattle.month_totals.specs.Totals.{AreTotals, IsSummable}
 use Rattle.month_totals.specs.code.Sums.{plus_leg, empty_month, with_leg, with_fill, empty_months, IsLegInRange, HasRoom}
@@ -266,7 +267,9 @@ sums_are fs = λ m d lt.
     ap (λ (xs : List MonthTotals). get_or xs m d) (fold_fills fs empty_months)
     ∙ (fold_is (legs fs) empty_months m d less
     ∙ (ap (λ (t : MonthTotals). after_legs t m (legs fs)) (none_summed m d less)
-    ∙ same_totals _ _ _ _ _ _ _ _ (from_no_lots (quantities Buy m (legs fs))) (from_no_lots (quantities Sell m (legs fs))) (from_no_money (money Buy m (legs fs))) (from_no_money (money Sell m (legs fs)))))
+    ∙ same_totals _ _ _ _ _ _ _ _
+    (from_no_lots (quantities Buy m (legs fs)) ∙ sym (bought_is m fs)) (from_no_lots (quantities Sell m (legs fs)) ∙ sym (sold_is m fs))
+    (from_no_money (money Buy m (legs fs)) ∙ sym (paid_is m fs)) (from_no_money (money Sell m (legs fs)) ∙ sym (received_is m fs))))
 
 -- room for the far leg of a spread
 pub room_far : (ts us : List MonthTotals) (month : ℕ) (s : Side) (f : Fill) → us ≡ with_leg ts (record { month = month; side = s; quantity = f.quantity; price = to_z w64 (of_z w64 f.near) }) → IsSummable f → All (HasRoom (2 ^ 66)) ts → All (HasRoom (2 ^ 67)) us

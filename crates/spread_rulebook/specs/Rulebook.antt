@@ -24,19 +24,11 @@ names_of rules = map (λ m. m.name) rules.months
 abbrev pub references_of : Rules → List ℤ
 references_of rules = map (λ m. m.reference) rules.months
 
--- ---- switches
-
--- which switch is that of a pair, the near month first
-abbrev pub switch_number : ℕ → ℕ → ℕ
-switch_number near far = near * limits.MAX_MONTHS + far
-
--- how a pair was switched, none where it was not
-abbrev pub switch_of : List (Option Bool) → ℕ → ℕ → Option Bool
-switch_of switches near far = get_or switches (switch_number near far) None
-
--- whether the pair of these months takes part in implied trading: one that was not switched does
+-- whether the pair of these months takes part in implied trading: one that was not switched does; the switches are in a
+-- row, those of each near month in order of the far one
 abbrev pub implied : Rules → ℕ → ℕ → Bool
-implied rules near far = unwrap_or (switch_of rules.switches near far) true
+implied rules near far =
+    unwrap_or (get_or rules.switches (near * limits.MAX_MONTHS + far) None) true
 
 -- ---- what a rulebook may say
 
@@ -77,15 +69,12 @@ pub record IsRules (rules : Rules) : Type 0 where
 
 -- ---- instruments
 
--- the spreads with this far month: one for each nearer month
-abbrev pub spreads_to : ℕ → List Instrument
-spreads_to far = map (λ near. Spread near far) (range_with_len 0 far)
-
 -- every month, and every pair of months, the near one first
 abbrev pub instruments_of : Rules → List Instrument
 instruments_of rules =
     let months = range_with_len 0 (month_count rules) in
-    map Outright months ++ flat_map spreads_to months
+    map Outright months
+    ++ flat_map (λ far. map (λ near. Spread near far) (range_with_len 0 far)) months
 
 -- the same, of one instrument
 abbrev pub IsListed : Rules → Instrument → Type 0
@@ -103,3 +92,17 @@ symbol_of rules (Spread i j) =
 -- the instrument with that symbol
 abbrev pub find_symbol : Rules → List ℕ → Option Instrument
 find_symbol rules symbol = find (λ i. bytes_eq (symbol_of rules i) symbol) (instruments_of rules)
+
+-- ---- words of the code alone
+
+-- which switch is that of a pair, the near month first
+abbrev pub switch_number : ℕ → ℕ → ℕ
+switch_number near far = near * limits.MAX_MONTHS + far
+
+-- how a pair was switched, none where it was not
+abbrev pub switch_of : List (Option Bool) → ℕ → ℕ → Option Bool
+switch_of switches near far = get_or switches (switch_number near far) None
+
+-- the spreads with this far month: one for each nearer month
+abbrev pub spreads_to : ℕ → List Instrument
+spreads_to far = map (λ near. Spread near far) (range_with_len 0 far)

@@ -1,4 +1,5 @@
 pub mod BoughtIsSold
+pub mod SumsOverLegs
 pub mod TurnsEnd
 pub mod StaysQuiet
 pub mod WorkedExamples

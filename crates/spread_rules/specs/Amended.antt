@@ -15,6 +15,8 @@ with_quantity id quantity o =
 abbrev pub with_changed : ℕ → (Order → Order) → List Order → List Order
 with_changed place change xs = map (λ o. if o.place == place then change o else o) xs
 
+-- ---- words of the code alone
+
 -- the order of that place is amended
 abbrev pub amended : ℕ → List ℕ → ℕ → List Order → List Order
 amended place id quantity xs = with_changed place (with_quantity id quantity) xs

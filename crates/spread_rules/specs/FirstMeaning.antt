@@ -13,7 +13,7 @@ use Rattle.spread_rules.specs.declared.outcome.OrderStatus.{OrderStatus}
 use Rattle.spread_rules.specs.declared.outcome.Outcome.{Outcome}
 use Rattle.spread_rules.specs.declared.outcome.Outcome.TheVariants.{Refused, Session}
 use Rattle.spread_rulebook.specs.Rulebook.{Rules}
-use Rattle.spread_rules.specs.Meaning.{EntryMeaning, filled, is_own, has_id, instrument_or_refusal_of, new_order_means, cancel_means, untraded}
+use Rattle.spread_rules.specs.Meaning.{EntryMeaning, filled, is_own, has_id, instrument_or_refusal_of, new_means, cancel_means, untraded}
 
 -- an earlier New entry: its place, whose it was, what it asked for, and what came of it
 pub record PastNew : Type 0 where
@@ -57,7 +57,7 @@ statuses_of past = map (status_of past.fills) past.entered
 -- what an event means, with these orders resting and these New entries before it
 abbrev pub meaning_with : Rules → List Order → List OrderStatus → ℕ → ℕ → Event → EntryMeaning
 meaning_with rules xs earlier place session (New t) =
-    new_order_means rules xs place session t (instrument_or_refusal_of rules earlier session t)
+    new_means rules xs place session t (instrument_or_refusal_of rules earlier session t)
 meaning_with rules xs earlier place session (Cancel id original) =
     cancel_means xs (find (has_id session original) earlier) (find (is_own session original) xs)
 meaning_with rules xs earlier place session _ = untraded Session xs

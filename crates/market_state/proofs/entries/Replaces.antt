@@ -22,7 +22,7 @@ use Rattle.spread_rules.specs.Amended.{done, with_quantity, amended}
 use Rattle.spread_rules.specs.Candidates.{HasOrderPrice, same_instrument}
 use Rattle.spread_rules.specs.Clearing.{clear, removed}
 use Rattle.spread_rules.specs.Legs.{is_side}
-use Rattle.spread_rules.specs.Meaning.{EntryMeaning, JournalState, cancel_of_nothing_resting, has_id, is_own, is_refused, keeps_place, may_replace, meaning_of, moved_to, new_order_means, refusal_or_instrument, replace_means, replace_refused, statuses_of, ticket_of}
+use Rattle.spread_rules.specs.Meaning.{EntryMeaning, JournalState, cancel_of_nothing_resting, has_id, is_own, is_refused, keeps_place, may_replace, meaning_of, moved_to, new_means, refusal_or_instrument, replace_means, replace_refused, statuses_of, ticket_of}
 use Rattle.spread_rules.proofs.clearings.BoughtIsSold.{same_instrument_is}
 use Rattle.spread_rulebook.specs.Rulebook.{Rules, find_symbol, references_of, implied}
 use Rattle.spread_rulebook.proofs.lists.Membership.{from_map}
@@ -109,7 +109,7 @@ none_refused (Some s) = refl
 -- ---- what is not refused has an id that was not used
 
 new_unused : (rules : Rules) (xs : List Order) (place session : ℕ) (t : Ticket) (named : Option Instrument) (earlier : Option OrderStatus) →
-    is_refused (new_order_means rules xs place session t (refusal_or_instrument rules t earlier named)).outcome ≡ false → earlier ≡ None
+    is_refused (new_means rules xs place session t (refusal_or_instrument rules t earlier named)).outcome ≡ false → earlier ≡ None
 new_unused rules xs place session t named None a = refl
 new_unused rules xs place session t named (Some s) a = cc
 

@@ -14,7 +14,7 @@ use Rattle.spread_rules.specs.declared.outcome.Outcome.TheVariants.{Filled, Ende
 use Rattle.spread_rules.specs.Candidates.{HasOrderPrice, PlacesDiffer, Pairs}
 use Rattle.spread_rules.specs.Clearing.{Trading, next_candidate, turn, turns, after_match, begin, clear, removed}
 use Rattle.spread_rulebook.specs.Prices.{IsOrderPrice}
-use Rattle.spread_rules.specs.Meaning.{EntryMeaning, cancel_means, has_id, is_own, is_refused, moved_to, new_order_means, order_of, original_of, outcome_of, place_left, refusal_or_instrument, replace_means, resting, ticket_of}
+use Rattle.spread_rules.specs.Meaning.{EntryMeaning, cancel_means, has_id, is_own, is_refused, moved_to, new_means, order_of, original_of, outcome_of, place_left, refusal_or_instrument, replace_means, resting, ticket_of}
 use Rattle.spread_rulebook.specs.Rulebook.{Rules, month_count, references_of, find_symbol, implied}
 use Rattle.spread_rules.proofs.clearings.TurnsEnd.{keeps_turns, members_rest, next_meets}
 use Rattle.market_state.specs.State.{MarketState}
@@ -70,7 +70,7 @@ later_ready : (months : ℕ) (xs : List Order) (last place : ℕ) → last < pla
 later_ready months xs last place l r = record { tradable = r.tradable; below = later_all xs last place l r.below }
 
 entered_ready : (rules : Rules) (xs : List Order) (last place session : ℕ) (t : Ticket) (earlier : Option OrderStatus) (r : Result Instrument ℕ) → refusal_or_instrument rules t earlier (find_symbol rules t.symbol) ≡ r → last < place → AreReady (month_count rules) xs last → IsOrderPrice t.price →
-    AreReady (month_count rules) (new_order_means rules xs place session t r).orders place
+    AreReady (month_count rules) (new_means rules xs place session t r).orders place
 entered_ready rules xs last place session t earlier (Err reason) e l h k = later_ready (month_count rules) xs last place l h
 entered_ready rules xs last place session t earlier (Ok i) e l h k =
     let listed = listed_found rules t.symbol i (taken_is rules t earlier i e).names in
@@ -189,7 +189,7 @@ own_place place left immediate = by_tests (left == 0) immediate
     by_tests false false = refl
 
 new_come : (rules : Rules) (xs : List Order) (place session : ℕ) (t : Ticket) (used : Option OrderStatus) (r : Result Instrument ℕ) → refusal_or_instrument rules t used (find_symbol rules t.symbol) ≡ r → (P : ℕ → List ℕ → ℕ → Type 0) →
-    All (λ o. P o.session o.id o.place) xs → (used ≡ None → P session t.id (place_left place (new_order_means rules xs place session t r).outcome)) → All (λ o. P o.session o.id o.place) (new_order_means rules xs place session t r).orders
+    All (λ o. P o.session o.id o.place) xs → (used ≡ None → P session t.id (place_left place (new_means rules xs place session t r).outcome)) → All (λ o. P o.session o.id o.place) (new_means rules xs place session t r).orders
 new_come rules xs place session t used (Err reason) e P h own = h
 new_come rules xs place session t used (Ok i) e P h own =
     let n = order_of place session t i in

@@ -28,7 +28,7 @@ use Rattle.spread_match.proofs.entries.FillsCounted.{IsRunning, running}
 use Rattle.market_state.proofs.entries.NamedInstrument.{listed_found, near_of, months_of}
 use Rattle.spread_rulebook.specs.Prices.{IsOrderPrice}
 use Rattle.market_state.proofs.entries.NewOrder.{tradable_more, turns_all, taken_is, below_new}
-use Rattle.spread_rules.specs.Meaning.{EntryMeaning, JournalState, PastTicket, cancel_means, filled, has_id, is_own, is_refused, meaning_of, meaning_with, moved_to, new_order_means, order_of, original_of, refusal_or_instrument, replace_means, resting, statuses_of, ticket_of, with_meaning}
+use Rattle.spread_rules.specs.Meaning.{EntryMeaning, JournalState, PastTicket, cancel_means, filled, has_id, is_own, is_refused, meaning_of, meaning_with, moved_to, new_means, order_of, original_of, refusal_or_instrument, replace_means, resting, statuses_of, ticket_of, with_meaning}
 use Rattle.spread_rules.specs.Amended.{amended, done, with_quantity}
 use Rattle.market_state.proofs.entries.FoundStands.{find_stands}
 use Rattle.market_state.proofs.entries.MayRest.{MayRest, moved_rests, removed_tradable}
@@ -222,7 +222,7 @@ new_rests months place session t i small listed within = record { small = record
 
 new_sound : (rules : Rules) (past : JournalState) (last place session : ℕ) (t : Ticket) (earlier : Option OrderStatus) (r : Result Instrument ℕ) → refusal_or_instrument rules t earlier (find_symbol rules t.symbol) ≡ r → last < place →
     IsSound (month_count rules) past last → IsOrderPrice t.price →
-    IsSound (month_count rules) (with_meaning past place (record { session = session; event = New t }) (new_order_means rules past.orders place session t r)) place
+    IsSound (month_count rules) (with_meaning past place (record { session = session; event = New t }) (new_means rules past.orders place session t r)) place
 new_sound rules past last place session t earlier (Err reason) e l s k =
     refused_sound (month_count rules) past last place (record { place = place; session = session; original = None; ticket = t; outcome = Refused reason }) l refl refl s
 new_sound rules past last place session t earlier (Ok i) e l s k =

@@ -15,7 +15,7 @@ use Rattle.spread_rules.specs.declared.event.Ticket.{Ticket}
 use Rattle.spread_rules.specs.declared.outcome.Outcome.{Outcome}
 use Rattle.spread_rules.specs.declared.outcome.OrderStatus.{OrderStatus}
 use Rattle.spread_rules.specs.code.Cases.{status_at}
-use Rattle.spread_rules.specs.Meaning.{EntryMeaning, JournalState, PastTicket, has_id, is_filled, is_refused, is_replaced, names, original_of, past_tickets, place_left, status_of, statuses_of, ticket_of, with_meaning}
+use Rattle.spread_rules.specs.Meaning.{EntryMeaning, JournalState, PastTicket, has_id, is_filled, is_refused, is_replaced, names, asked_by, original_of, past_tickets, place_left, status_of, statuses_of, ticket_of, with_meaning}
 use Rattle.spread_rulebook.proofs.lists.Membership.{in_head, in_tail, in_cons_cases, not_in_nil}
 use Rattle.market_state.specs.code.StateAfter.{first_status, statuses_after_replace}
 use Rattle.order_statuses.specs.code.Statuses.{is_open, status_after_fill, status_after_replace, statuses_after}
@@ -242,6 +242,18 @@ tickets_after past place session outcome made original (Some t) n u =
     (map-append (status_with past.fills past.entered) past.entered (q ∷ [])
     ∙ ap (λ (ss : List OrderStatus). map (status_with past.fills past.entered) past.entered ++ ss) (first_is past q (is_refused outcome) refl (λ e. u t refl e))))
 
+-- what is kept of an entry, by what its event asks for
+pub asked_is : (place session : ℕ) (outcome : Outcome) (event : Event) → asked_by place session outcome event ≡ past_tickets place session outcome (original_of event) (ticket_of event)
+asked_is place session outcome (New t) = refl
+asked_is place session outcome (Replace original t) = refl
+asked_is place session outcome (Cancel id original) = refl
+asked_is place session outcome (Logon client host beat) = refl
+asked_is place session outcome (TestReply text) = refl
+asked_is place session outcome (Gap first) = refl
+asked_is place session outcome (Resend first until) = refl
+asked_is place session outcome (Reject number reason) = refl
+asked_is place session outcome (Close reason) = refl
+
 -- an event that asks for nothing replaces nothing
 no_original : (event : Event) → ticket_of event ≡ None → original_of event ≡ None
 no_original (New t) h = cc
@@ -256,7 +268,9 @@ no_original (Close reason) h = refl
 
 pub statuses_more : (past : JournalState) (place : ℕ) (e : Entry) (m : EntryMeaning) → ((t : Ticket) → ticket_of e.event ≡ Some t → is_refused m.outcome ≡ false → IsUnused past e.session t.id) →
     statuses_of (with_meaning past place e m) ≡ statuses_after m.fills (statuses_after_replace e.session m.outcome (original_of e.event) (statuses_of past ++ first_status place e.session m.outcome (ticket_of e.event)))
-statuses_more past place e m u = tickets_after past place e.session m.outcome m.fills (original_of e.event) (ticket_of e.event) (no_original e.event) u
+statuses_more past place e m u =
+    ap (λ (ps : List PastTicket). map (status_with (past.fills ++ m.fills) (past.entered ++ ps)) (past.entered ++ ps)) (asked_is place e.session m.outcome e.event)
+    ∙ tickets_after past place e.session m.outcome m.fills (original_of e.event) (ticket_of e.event) (no_original e.event) u
 
 -- ---- which ids are unused
 

@@ -14,7 +14,7 @@ use Rattle.spread_rules.specs.declared.outcome.Outcome.{Outcome}
 use Rattle.spread_rules.specs.declared.outcome.Outcome.TheVariants.{Rested, Filled, Ended, Refused}
 use Rattle.spread_rules.specs.declared.outcome.OrderStatus.{OrderStatus}
 use Rattle.spread_rules.specs.Clearing.{begin, clear, removed}
-use Rattle.spread_rules.specs.Meaning.{JournalState, PastTicket, after_entry, cancel_means, filled, has_id, is_own, is_refused, meaning_of, new_order_means, no_entries, order_of, outcome_of, place_left, refusal_or_instrument, resting, statuses_of, with_meaning}
+use Rattle.spread_rules.specs.Meaning.{JournalState, PastTicket, after_entry, cancel_means, filled, has_id, is_own, is_refused, meaning_of, new_means, no_entries, order_of, outcome_of, place_left, refusal_or_instrument, resting, statuses_of, with_meaning}
 use Rattle.spread_rules.specs.FirstMeaning.{is_replace, is_refused as was_refused}
 use Rattle.spread_rulebook.specs.Rulebook.{Rules, find_symbol, month_count, references_of, implied}
 use Rattle.spread_rulebook.proofs.lists.Membership.{not_in_nil}
@@ -151,7 +151,7 @@ traded_first on references months past last place session t i l some none s x =
     }
 
 entered_first : (rules : Rules) (past : JournalState) (last place session : ℕ) (t : Ticket) (r : Result Instrument ℕ) → refusal_or_instrument rules t (find (has_id session t.id) (statuses_of past)) (find_symbol rules t.symbol) ≡ r → last < place →
-    IsSound (month_count rules) past last → IsFirst past → IsFirst (with_meaning past place (record { session = session; event = New t }) (new_order_means rules past.orders place session t r))
+    IsSound (month_count rules) past last → IsFirst past → IsFirst (with_meaning past place (record { session = session; event = New t }) (new_means rules past.orders place session t r))
 entered_first rules past last place session t (Err reason) e l s x =
     refused_first past (record { place = place; session = session; original = None; ticket = t; outcome = Refused reason }) refl (record { original = refl; place = refl; refused = refl }) x
 entered_first rules past last place session t (Ok i) e l s x =

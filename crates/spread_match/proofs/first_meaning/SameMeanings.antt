@@ -9,7 +9,7 @@ use Rattle.spread_rules.specs.declared.event.Event.TheVariants.{Logon, New, Canc
 use Rattle.spread_rules.specs.declared.outcome.Outcome.{Outcome}
 use Rattle.spread_rules.specs.declared.outcome.OrderStatus.{OrderStatus}
 use Rattle.spread_rules.specs.code.Cases.{status_at}
-use Rattle.spread_rules.specs.Meaning.{EntryMeaning, JournalState, PastTicket, after_entry, filled, is_filled, is_refused, is_replaced, meaning_of, meaning_with, meanings_from, meanings_of, names, no_entries, original_of, past_tickets, status_of, statuses_of, ticket_of}
+use Rattle.spread_rules.specs.Meaning.{EntryMeaning, JournalState, PastTicket, after_entry, filled, is_filled, is_refused, is_replaced, meaning_of, meaning_with, meanings_from, meanings_of, names, no_entries, status_of, statuses_of, asked_by}
 use Rattle.spread_rules.specs.FirstMeaning.{FirstState, PastNew, is_replace, new_of, after_entry as first_after_entry, is_refused as was_refused, meaning_of as first_meaning_of, meaning_with as first_meaning_with, meanings_from as first_meanings_from, meanings_of as first_meanings_of, status_of as first_status_of, statuses_of as first_statuses_of, with_meaning as first_with_meaning}
 use Rattle.spread_rulebook.specs.Rulebook.{Rules, month_count}
 use Rattle.spread_rulebook.proofs.lists.Membership.{in_head, in_tail}
@@ -79,7 +79,7 @@ same_meaning rules past place e n x =
 
 -- ---- and is kept the same
 
-same_entered : (place session : ℕ) (outcome : Outcome) (event : Event) → is_replace event ≡ false → new_of place session outcome event ≡ map as_new (past_tickets place session outcome (original_of event) (ticket_of event))
+same_entered : (place session : ℕ) (outcome : Outcome) (event : Event) → is_replace event ≡ false → new_of place session outcome event ≡ map as_new (asked_by place session outcome event)
 same_entered place session outcome (New t) n = refl
 same_entered place session outcome (Cancel id original) n = refl
 same_entered place session outcome (Replace original t) n = cc
@@ -93,7 +93,7 @@ same_entered place session outcome (Close reason) n = refl
 same_after : (rules : Rules) (past : JournalState) (place : ℕ) (e : Entry) → is_replace e.event ≡ false → IsFirst past → first_after_entry rules (first_of past) place e ≡ first_of (after_entry rules past place e)
 same_after rules past place e n x =
     let m = meaning_of rules past place e in
-    let tickets = past_tickets place e.session m.outcome (original_of e.event) (ticket_of e.event) in
+    let tickets = asked_by place e.session m.outcome e.event in
     ap (first_with_meaning (first_of past) place e) (same_meaning rules past place e n x)
     ∙ ap (λ (ns : List PastNew). record { orders = m.orders; entered = ns; fills = past.fills ++ m.fills })
     (ap (λ (ns : List PastNew). map as_new past.entered ++ ns) (same_entered place e.session m.outcome e.event n) ∙ sym (map-append as_new past.entered tickets))

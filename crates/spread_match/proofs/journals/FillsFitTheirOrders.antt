@@ -22,7 +22,7 @@ use Rattle.spread_rules.specs.Candidates.{takes_part, implied_price, price_of, l
 use Rattle.spread_rulebook.specs.Instruments.{month_of}
 use Rattle.spread_rulebook.specs.Prices.{IsLegPrice, IsOrderPrice}
 use Rattle.spread_rules.specs.Clearing.{Trading, next_candidate, turn, turns, after_match, begin, clear, removed, fills_of, fill_of, leg_prices, leg_prices_of_fill}
-use Rattle.spread_rules.specs.Meaning.{EntryMeaning, JournalState, PastTicket, after_entries, after_entry, cancel_means, has_id, is_own, meaning_of, meaning_of_journal, moved_to, new_order_means, no_entries, order_of, refusal_or_instrument, replace_means, resting, statuses_of}
+use Rattle.spread_rules.specs.Meaning.{EntryMeaning, JournalState, PastTicket, after_entries, after_entry, cancel_means, has_id, is_own, meaning_of, meaning_of_journal, moved_to, new_means, no_entries, order_of, refusal_or_instrument, replace_means, resting, statuses_of}
 use Rattle.spread_rulebook.specs.Rulebook.{Rules, IsRules, IsListed, month_count, references_of, find_symbol, implied}
 use Rattle.spread_rulebook.proofs.lists.Membership.{in_cons_cases, in_head, in_tail, not_in_nil}
 use Rattle.spread_rules.proofs.clearings.TurnsEnd.{members_rest, next_meets, from_filter}
@@ -198,7 +198,7 @@ cleared_fits rules past last place p n xs immediate lawful l a s t on h own =
     }
 
 entered_fits : (rules : Rules) (past : JournalState) (last place session : ℕ) (t : Ticket) (earlier : Option OrderStatus) (r : Result Instrument ℕ) → refusal_or_instrument rules t earlier (find_symbol rules t.symbol) ≡ r → IsRules rules → last < place → IsSound (month_count rules) past last → All (FitsOrder rules) past.orders → IsOrderPrice t.price →
-    PastFits rules (new_order_means rules past.orders place session t r).orders (new_order_means rules past.orders place session t r).fills
+    PastFits rules (new_means rules past.orders place session t r).orders (new_means rules past.orders place session t r).fills
 entered_fits rules past last place session t earlier (Err reason) e lawful l s h k = record { orders = h; fills = λ f c. absurd (not_in_nil f c) }
 entered_fits rules past last place session t earlier (Ok i) e lawful l s h k =
     let w = taken_is rules t earlier i e in
