@@ -1,7 +1,8 @@
 -- What the text of a value means, and how a price is written.
-use Rattle.std.specs.Prelude.{ℕ, ℤ, pos, neg_ℤ, ◌+◌, ◌*◌, ◌/◌, ◌%◌, Bool, true, false, ◌&&◌, not, ◌==◌, nat_le, nat_lt, if◌then◌else◌, List, [], ◌∷◌, ◌++◌, Option, Some, None, Result, Ok, Err, length, take, drop, min, decimal, int_lt, unsigned_abs, codes}
+use Rattle.std.specs.Prelude.{ℕ, ℤ, pos, neg_ℤ, ◌/◌, ◌%◌, Bool, ◌&&◌, not, ◌==◌, nat_le, nat_lt, if◌then◌else◌, List, [], ◌∷◌, ◌++◌, Option, Some, None, Result, Ok, Err, length, take, drop, slice_index, min, decimal, int_lt, unsigned_abs, codes}
 use Rattle.std.specs.Char.{is_ascii_digit}
 use Rattle.std.specs.List.{list_all, before_first, after_first}
+use Rattle.std.specs.Result.{result_map_both}
 use Rattle.host_base.specs.declared.bytes.TheConstants.{DIGIT_ZERO, HYPHEN_MINUS, POINT}
 use Rattle.host_base.specs.declared.limits.TheConstants.{MAX_NUMBER}
 use Rattle.fix_values.specs.declared.values.TheConstants.{MAX_HUNDREDTHS}
@@ -35,21 +36,17 @@ abbrev pub hundredths_in : List ℕ → Result ℕ Unread
 hundredths_in text =
     let whole = before_first (λ b. b == POINT) text in
     let part = after_first (λ b. b == POINT) text in
-    let cents = number_of (take 2 (part ++ codes "00")) in
     if not (is_number (whole ++ part)) then Err Format
     else (if list_all (λ b. b == DIGIT_ZERO) (drop 2 part)
-    then within MAX_HUNDREDTHS (100 * number_of whole + cents)
+    then within MAX_HUNDREDTHS (number_of (whole ++ take 2 (part ++ codes "00")))
     else Err Range)
-
-abbrev pub signed : Bool → Result ℕ Unread → Result ℤ Unread
-signed negative (Ok n) = Ok (if negative then neg_ℤ (pos n) else pos n)
-signed negative (Err e) = Err e
 
 -- an optional `-`, then hundredths
 abbrev pub price_in : List ℕ → Result ℤ Unread
-price_in [] = Err Format
-price_in (b ∷ bs) =
-    if b == HYPHEN_MINUS then signed true (hundredths_in bs) else signed false (hundredths_in (b ∷ bs))
+price_in text =
+    if slice_index text 0 == HYPHEN_MINUS
+    then result_map_both (λ n. neg_ℤ (pos n)) (λ e. e) (hundredths_in (drop 1 text))
+    else result_map_both (λ n. pos n) (λ e. e) (hundredths_in text)
 
 -- a price: an optional `-`, the whole part, a point and two digits; 10000 is `100.00`, -5 is `-0.05`
 abbrev pub price_text : ℤ → List ℕ
@@ -73,5 +70,5 @@ abbrev pub hundredths : List ℕ → List ℕ → Result ℕ Unread
 hundredths whole part =
     if not (is_number (whole ++ part)) then Err Format
     else (if list_all (λ b. b == DIGIT_ZERO) (drop 2 part)
-    then within MAX_HUNDREDTHS (100 * number_of whole + cents part)
+    then within MAX_HUNDREDTHS (number_of (whole ++ take 2 (part ++ codes "00")))
     else Err Range)

@@ -1,1 +1,3 @@
+pub mod KindOfBytes
+pub mod OneOfBytes
 pub mod TableInRange

@@ -1,23 +1,27 @@
 -- What the table gives is in range, and is neither a Logon nor a Close.
-use Rattle.std.proofs.Common.{◌≡◌, ℕ, ◌+◌, ◌*◌, ◌<◌, ◌≤◌, Bool, true, false, ◌&&◌, ◌||◌, not, List, [], ◌∷◌, ◌++◌, Option, Some, None, length, take, drop, refl, ap, ◌∙◌, arith, inl, inr, ◌⊎◌}
-use Rattle.std.specs.Prelude.{pos, neg_ℤ, nat_le, nat_lt, ◌==◌, if◌then◌else◌, Result, Ok, Err, ok_or, is_none}
-use Rattle.std.specs.List.{list_any, list_all, before_first, after_first}
+use Rattle.std.proofs.Common.{◌≡◌, ℕ, ◌<◌, ◌≤◌, Bool, true, false, ◌&&◌, ◌||◌, not, List, [], ◌∷◌, ◌++◌, Option, Some, None, length, take, drop, refl, sym, subst, arith, inl, inr, ◌⊎◌}
+use Rattle.std.specs.Prelude.{ℤ, pos, neg_ℤ, nat_le, nat_lt, ◌==◌, if◌then◌else◌, Result, Ok, Err, ok_or, is_none, find, slice_index}
+use Rattle.std.specs.List.{list_all, before_first, after_first}
+use Rattle.std.specs.Result.{result_map_both}
+use Rattle.std.specs.Str.{bytes_eq}
 use Rattle.std.proofs.lemmas.Bool.{false≢true}
 use Rattle.std.proofs.lemmas.Bool.Decides.{nat_tests}
 use Rattle.std.proofs.lemmas.Int.{ints}
 use Rattle.host_base.specs.Ids.{is_id, id_of}
-use Rattle.spread_rules.specs.Journal.{IsNumber, FitsTicket, FitsEvent, is_reject_reason, is_logon, is_close}
+use Rattle.spread_rules.specs.Journal.{FitsTicket, FitsEvent, is_reject_reason, is_logon, is_close}
 use Rattle.spread_rulebook.specs.Prices.{IsOrderPrice}
 use Rattle.spread_rules.specs.declared.event.Event.{Event}
 use Rattle.spread_rules.specs.declared.event.Event.TheVariants as events
 use Rattle.fix_values.specs.declared.values.Unread.{Unread}
 use Rattle.fix_values.specs.declared.values.Unread.TheVariants.{Format, Range}
 use Rattle.fix_values.specs.Digits.{is_point, is_zero, number_of}
-use Rattle.fix_values.specs.Values.{is_number, within, number_in, quantity_in, hundredths, hundredths_in, signed, price_in}
+use Rattle.fix_values.specs.Values.{is_number, within, number_in, quantity_in, hundredths, hundredths_in, price_in}
 use Rattle.fix_frames.specs.Messages.{get, kind}
 use Rattle.kind_table.specs.declared.table.Meaning.{Meaning}
 use Rattle.kind_table.specs.declared.table.Meaning.TheVariants.{Nothing, Gives, Fills}
-use Rattle.kind_table.specs.Table.{◌>>=◌, required_text, value_at, id_at, or_reason, read_at, one_of, choice_at, choice_or, allowed_if, side_at, test_request, resend_request, sequence_reset, new_order, cancel_request, replace_request, meaning_of_kind, meaning_of_kind_text, meaning_of_message}
+use Rattle.kind_table.specs.Table.{◌>>=◌, value_at, id_at, reason_of, read_at, number_at, choice_at, choice_or, test_request, resend_request, sequence_reset, new_order, cancel_request, replace_request, meaning_of_message}
+use Rattle.kind_table.specs.code.ByKind.{meaning_of_kind, meaning_of_kind_text}
+use Rattle.kind_table.proofs.KindOfBytes.{meaning_is}
 
 -- a result of that kind, or a reason to reject
 abbrev pub Holds : {A : Type 0} → (A → Type 0) → Result A ℕ → Type 0
@@ -48,12 +52,12 @@ either P false r s h g = g
 
 -- ---- one field
 
-required_text_holds : (o : Option (List ℕ)) → Holds Any (required_text o)
-required_text_holds None = refl
-required_text_holds (Some text) = either Any (nat_lt 0 (length text)) (Ok text) (Err 4) tt refl
-
 value_holds : (tag : ℕ) (m : List ℕ) → Holds Any (value_at tag m)
-value_holds tag m = required_text_holds (get tag m)
+value_holds tag m = by_text (get tag m)
+  where
+    by_text : (o : Option (List ℕ)) → Holds Any (ok_or o 1 >>= λ text. if nat_lt 0 (length text) then Ok text else Err 4)
+    by_text None = refl
+    by_text (Some text) = either Any (nat_lt 0 (length text)) (Ok text) (Err 4) tt refl
 
 abbrev IsId : List ℕ → Type 0
 IsId text = is_id text ≡ true
@@ -67,6 +71,10 @@ id_of_holds text = by_test (is_id text) refl
 
 id_holds : (tag : ℕ) (m : List ℕ) → Holds IsId (id_at tag m)
 id_holds tag m = chained Any IsId (value_at tag m) (λ text. ok_or (id_of text) 5) (value_holds tag m) (λ text h. id_of_holds text)
+
+-- with the reason in place of the fault
+abbrev or_reason : {A : Type 0} → Result A Unread → Result A ℕ
+or_reason r = result_map_both (λ x. x) reason_of r
 
 within_holds : (most n : ℕ) → Holds (λ x. x ≤ most) (or_reason (within most n))
 within_holds most n = by_test (nat_le n most) refl
@@ -102,6 +110,9 @@ price_of : (negative : Bool) (n : ℕ) → n ≤ 1000000000 → IsOrderPrice (if
 price_of true n h = record { low = omega (arith, ints, h); high = omega (arith, ints, h) }
 price_of false n h = record { low = omega (arith, ints, h); high = omega (arith, ints, h) }
 
+abbrev signed : Bool → Result ℕ Unread → Result ℤ Unread
+signed negative r = result_map_both (λ n. if negative then neg_ℤ (pos n) else pos n) (λ e. e) r
+
 signed_holds : (negative : Bool) (r : Result ℕ Unread) → Holds (λ x. x ≤ 1000000000) (or_reason r) → Holds IsOrderPrice (or_reason (signed negative r))
 signed_holds negative (Ok n) h = price_of negative n h
 signed_holds negative (Err fault) h = h
@@ -109,8 +120,8 @@ signed_holds negative (Err fault) h = h
 hundredths_in_form : (whole part : List ℕ) → Holds (λ x. x ≤ 1000000000) (or_reason (hundredths whole part))
 hundredths_in_form whole part = by_form (is_number (whole ++ part)) (list_all is_zero (drop 2 part))
   where
-    by_form : (v w : Bool) → Holds (λ x. x ≤ 1000000000) (or_reason (if not v then Err Format else (if w then within 1000000000 (100 * number_of whole + number_of (take 2 (part ++ 48 ∷ 48 ∷ []))) else Err Range)))
-    by_form true true = within_holds 1000000000 (100 * number_of whole + number_of (take 2 (part ++ 48 ∷ 48 ∷ [])))
+    by_form : (v w : Bool) → Holds (λ x. x ≤ 1000000000) (or_reason (if not v then Err Format else (if w then within 1000000000 (number_of (whole ++ take 2 (part ++ 48 ∷ 48 ∷ []))) else Err Range)))
+    by_form true true = within_holds 1000000000 (number_of (whole ++ take 2 (part ++ 48 ∷ 48 ∷ [])))
     by_form true false = refl
     by_form false w = refl
 
@@ -118,30 +129,32 @@ hundredths_holds : (text : List ℕ) → Holds (λ x. x ≤ 1000000000) (or_reas
 hundredths_holds text = hundredths_in_form (before_first is_point text) (after_first is_point text)
 
 price_in_holds : (text : List ℕ) → Holds IsOrderPrice (or_reason (price_in text))
-price_in_holds [] = refl
-price_in_holds (b ∷ bs) = by_sign (b == 45)
+price_in_holds text = by_sign (slice_index text 0 == 45)
   where
-    by_sign : (v : Bool) → Holds IsOrderPrice (or_reason (if v then signed true (hundredths_in bs) else signed false (hundredths_in (b ∷ bs))))
-    by_sign true = signed_holds true (hundredths_in bs) (hundredths_holds bs)
-    by_sign false = signed_holds false (hundredths_in (b ∷ bs)) (hundredths_holds (b ∷ bs))
+    by_sign : (v : Bool) → Holds IsOrderPrice (or_reason (if v then signed true (hundredths_in (drop 1 text)) else signed false (hundredths_in text)))
+    by_sign true = signed_holds true (hundredths_in (drop 1 text)) (hundredths_holds (drop 1 text))
+    by_sign false = signed_holds false (hundredths_in text) (hundredths_holds text)
 
 price_holds : (tag : ℕ) (m : List ℕ) → Holds IsOrderPrice (read_at price_in tag m)
 price_holds tag m = chained Any IsOrderPrice (value_at tag m) (λ text. or_reason (price_in text)) (value_holds tag m) (λ text h. price_in_holds text)
 
-one_of_holds : (allowed text : List ℕ) → Holds Any (one_of allowed text)
-one_of_holds allowed [] = refl
-one_of_holds allowed (b ∷ []) = either Any (list_any (λ a. a == b) allowed) (Ok b) (Err 5) tt refl
-one_of_holds allowed (b ∷ c ∷ cs) = refl
+found_holds : (o : Option ℕ) → Holds Any (ok_or o 5)
+found_holds None = refl
+found_holds (Some b) = tt
 
 choice_holds : (allowed : List ℕ) (tag : ℕ) (m : List ℕ) → Holds Any (choice_at allowed tag m)
-choice_holds allowed tag m = chained Any Any (value_at tag m) (λ text. one_of allowed text) (value_holds tag m) (λ text h. one_of_holds allowed text)
+choice_holds allowed tag m = chained Any Any (value_at tag m) _ (value_holds tag m) (λ text h. found_holds (find (λ a. bytes_eq text (a ∷ [])) allowed))
 
-allowed_holds : (test : Bool) (n : ℕ) → Holds (λ x. (x ≡ n) × (test ≡ true)) (allowed_if test n)
-allowed_holds true n = (refl, refl)
-allowed_holds false n = refl
+-- a number for which a test holds
+abbrev Passes : (ℕ → Bool) → ℕ → Type 0
+Passes test n = IsShort n × (test n ≡ true)
 
-side_holds : (m : List ℕ) → Holds Any (side_at m)
-side_holds m = chained Any Any (choice_at (49 ∷ 50 ∷ []) 54 m) _ (choice_holds (49 ∷ 50 ∷ []) 54 m) (λ b h. tt)
+tested_holds : (test : ℕ → Bool) (tag : ℕ) (m : List ℕ) → Holds (Passes test) (number_at test tag m)
+tested_holds test tag m = chained IsShort (Passes test) (read_at number_in tag m) _ (number_holds tag m) (λ n short. by_test n short (test n) refl)
+  where
+    by_test : (n : ℕ) → IsShort n → (v : Bool) → test n ≡ v → Holds (Passes test) (if v then Ok n else Err 5)
+    by_test n short true e = (short, e)
+    by_test n short false e = refl
 
 choice_or_holds : (missing : Result ℕ ℕ) (allowed : List ℕ) (tag : ℕ) (m : List ℕ) → Holds Any missing → Holds Any (choice_or missing allowed tag m)
 choice_or_holds missing allowed tag m h = either Any (is_none (get tag m)) missing (choice_at allowed tag m) h (choice_holds allowed tag m)
@@ -170,24 +183,18 @@ resend_request_holds : (m : List ℕ) (n : ℕ) → Holds (FitsMeaning n) (resen
 unfolding resend_request
 resend_request_holds m n =
     chained Any (FitsMeaning n) (value_at 52 m) _ (value_holds 52 m) (λ stamp h.
-    chained IsShort (FitsMeaning n) (read_at number_in 7 m) _ (number_holds 7 m) (λ begin short.
-    chained (λ x. (x ≡ begin) × (nat_le 1 begin ≡ true)) (FitsMeaning n) (allowed_if (nat_le 1 begin) begin) _ (allowed_holds (nat_le 1 begin) begin) (λ first begins.
-    chained IsShort (FitsMeaning n) (read_at number_in 16 m) _ (number_holds 16 m) (λ end ends.
-    chained (λ x. (x ≡ end) × (((end == 0) || nat_le first end) ≡ true)) (FitsMeaning n) (allowed_if ((end == 0) || nat_le first end) end) _ (allowed_holds ((end == 0) || nat_le first end) end) (λ last allowed.
-    let from : 1 ≤ begin = grind (arith, nat_tests) in
-    let is_number : IsNumber first = (omega (arith, from, begins.0), omega (arith, short, begins.0)) in
-    let is_last : (last ≡ 0) ⊎ ((first ≤ last) × (last ≤ 999999999)) = last_number first last (omega (arith, ends, allowed.0)) (ap (λ x. (x == 0) || nat_le first x) allowed.0 ∙ allowed.1) in
-    record { fits = (is_number, is_last); no_logon = refl; no_close = refl })))))
+    chained (Passes (λ x. nat_le 1 x)) (FitsMeaning n) (number_at (λ x. nat_le 1 x) 7 m) _ (tested_holds (λ x. nat_le 1 x) 7 m) (λ first begins.
+    chained (Passes (λ x. (x == 0) || nat_le first x)) (FitsMeaning n) (number_at (λ x. (x == 0) || nat_le first x) 16 m) _ (tested_holds (λ x. (x == 0) || nat_le first x) 16 m) (λ last ends.
+    let from : 1 ≤ first = grind (arith, nat_tests) in
+    record { fits = ((from, begins.0), last_number first last ends.0 ends.1); no_logon = refl; no_close = refl })))
 
 sequence_reset_holds : (m : List ℕ) (n : ℕ) → Holds (FitsMeaning n) (sequence_reset m n)
 unfolding sequence_reset
 sequence_reset_holds m n =
     chained Any (FitsMeaning n) (value_at 52 m) _ (value_holds 52 m) (λ stamp h.
-    chained IsShort (FitsMeaning n) (read_at number_in 36 m) _ (number_holds 36 m) (λ new short.
-    chained (λ x. (x ≡ new) × (nat_lt n new ≡ true)) (FitsMeaning n) (allowed_if (nat_lt n new) new) _ (allowed_holds (nat_lt n new) new) (λ next above.
+    chained (Passes (λ x. nat_lt n x)) (FitsMeaning n) (number_at (λ x. nat_lt n x) 36 m) _ (tested_holds (λ x. nat_lt n x) 36 m) (λ next above.
     chained Any (FitsMeaning n) (choice_or (Err 5) (89 ∷ []) 123 m) _ (choice_or_holds (Err 5) (89 ∷ []) 123 m refl) (λ flag set.
-    let over : n < new = grind (arith, nat_tests) in
-    let result : n < next = omega (arith, over, above.0) in result))))
+    let over : n < next = grind (arith, nat_tests) in over)))
 
 new_order_holds : (m : List ℕ) → Holds FitsTicket (new_order m)
 unfolding new_order
@@ -196,7 +203,7 @@ new_order_holds m =
     chained IsId FitsTicket (id_at 11 m) _ (id_holds 11 m) (λ id is_id.
     chained Any FitsTicket (choice_at (49 ∷ 50 ∷ 51 ∷ []) 21 m) _ (choice_holds (49 ∷ 50 ∷ 51 ∷ []) 21 m) (λ handling b.
     chained IsId FitsTicket (id_at 55 m) _ (id_holds 55 m) (λ symbol is_symbol.
-    chained Any FitsTicket (side_at m) _ (side_holds m) (λ side c.
+    chained Any FitsTicket (choice_at (49 ∷ 50 ∷ []) 54 m) _ (choice_holds (49 ∷ 50 ∷ []) 54 m) (λ side c.
     chained Any FitsTicket (value_at 60 m) _ (value_holds 60 m) (λ time d.
     chained IsShort FitsTicket (read_at quantity_in 38 m) _ (quantity_holds 38 m) (λ quantity short.
     chained Any FitsTicket (choice_at (50 ∷ []) 40 m) _ (choice_holds (50 ∷ []) 40 m) (λ type e.
@@ -211,7 +218,7 @@ cancel_request_holds m n =
     chained IsId (FitsMeaning n) (id_at 41 m) _ (id_holds 41 m) (λ original is_original.
     chained IsId (FitsMeaning n) (id_at 11 m) _ (id_holds 11 m) (λ id is_id.
     chained IsId (FitsMeaning n) (id_at 55 m) _ (id_holds 55 m) (λ symbol b.
-    chained Any (FitsMeaning n) (side_at m) _ (side_holds m) (λ side c.
+    chained Any (FitsMeaning n) (choice_at (49 ∷ 50 ∷ []) 54 m) _ (choice_holds (49 ∷ 50 ∷ []) 54 m) (λ side c.
     chained Any (FitsMeaning n) (value_at 60 m) _ (value_holds 60 m) (λ time d.
     record { fits = (is_id, is_original); no_logon = refl; no_close = refl }))))))
 
@@ -244,4 +251,4 @@ with_holds (k ∷ []) m n = kind_holds k m n
 with_holds (k ∷ l ∷ ks) m n = refl
 
 pub meaning_holds : (m : List ℕ) (n : ℕ) → Holds (FitsMeaning n) (meaning_of_message m n)
-meaning_holds m n = with_holds (kind m) m n
+meaning_holds m n = subst (Holds (FitsMeaning n)) (sym (meaning_is m n)) (with_holds (kind m) m n)

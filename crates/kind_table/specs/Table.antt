@@ -1,9 +1,9 @@
 -- What a message of each kind means: its tags in order, or the reason of the first that is at fault.
-use Rattle.std.specs.Prelude.{ℕ, Bool, ◌||◌, ◌==◌, nat_le, nat_lt, length, List, [], ◌∷◌, Option, Some, None, is_none, Result, Ok, Err, ok_or, if◌then◌else◌, codes}
-use Rattle.std.specs.List.{list_any}
+use Rattle.std.specs.Prelude.{ℕ, Bool, ◌||◌, ◌==◌, nat_le, nat_lt, length, List, [], ◌∷◌, find, is_none, Result, Ok, Err, ok_or, if◌then◌else◌, codes}
+use Rattle.std.specs.Result.{result_map_both}
+use Rattle.std.specs.Str.{bytes_eq}
 use Rattle.host_base.specs.Ids.{id_of}
 use Rattle.host_base.specs.declared.limits.TheConstants.{FIRST_MSG_SEQ_NUM}
-use Rattle.spread_rules.specs.declared.order.Side.{Side}
 use Rattle.spread_rules.specs.declared.order.Side.TheVariants.{Buy, Sell}
 use Rattle.spread_rules.specs.declared.codes.session_reject_reason.TheConstants as reject
 use Rattle.spread_rules.specs.declared.event.Ticket.{Ticket}
@@ -26,52 +26,39 @@ abbrev pub ◌>>=◌ : {A B : Type 0} → Result A ℕ → (A → Result B ℕ) 
 -- ---- one field
 
 -- the value of a field, which has to stand and hold something
-abbrev pub required_text : Option (List ℕ) → Result (List ℕ) ℕ
-required_text None = Err reject.REQUIRED_TAG_MISSING
-required_text (Some text) = if nat_lt 0 (length text) then Ok text else Err reject.TAG_WITHOUT_VALUE
-
 abbrev pub value_at : ℕ → List ℕ → Result (List ℕ) ℕ
-value_at tag message = required_text (get tag message)
+value_at tag m =
+    ok_or (get tag m) reject.REQUIRED_TAG_MISSING >>= λ text.
+    if nat_lt 0 (length text) then Ok text else Err reject.TAG_WITHOUT_VALUE
 
 abbrev pub id_at : ℕ → List ℕ → Result (List ℕ) ℕ
-id_at tag message =
-    value_at tag message >>= λ text. ok_or (id_of text) reject.VALUE_OUT_OF_RANGE
+id_at tag m = value_at tag m >>= λ text. ok_or (id_of text) reject.VALUE_OUT_OF_RANGE
 
 -- why a value that can't be read is rejected
 abbrev pub reason_of : Unread → ℕ
 reason_of Format = reject.INCORRECT_FORMAT
 reason_of Range = reject.VALUE_OUT_OF_RANGE
 
-abbrev pub or_reason : {A : Type 0} → Result A Unread → Result A ℕ
-or_reason (Ok x) = Ok x
-or_reason (Err fault) = Err (reason_of fault)
-
 -- a number, a quantity or a price, by the reader of its text
 abbrev pub read_at : {A : Type 0} → (List ℕ → Result A Unread) → ℕ → List ℕ → Result A ℕ
-read_at reader tag message = value_at tag message >>= λ text. or_reason (reader text)
+read_at reader tag m =
+    value_at tag m >>= λ text. result_map_both (λ x. x) reason_of (reader text)
 
--- a value that is allowed, where the test holds
-abbrev pub allowed_if : Bool → ℕ → Result ℕ ℕ
-allowed_if test n = if test then Ok n else Err reject.VALUE_OUT_OF_RANGE
+-- a number for which the test holds
+abbrev pub number_at : (ℕ → Bool) → ℕ → List ℕ → Result ℕ ℕ
+number_at test tag m =
+    read_at number_in tag m >>= λ n. if test n then Ok n else Err reject.VALUE_OUT_OF_RANGE
 
 -- one of the bytes that are allowed, and nothing else
-abbrev pub one_of : List ℕ → List ℕ → Result ℕ ℕ
-one_of allowed (b ∷ []) = allowed_if (list_any (λ a. a == b) allowed) b
-one_of allowed _ = Err reject.VALUE_OUT_OF_RANGE
-
 abbrev pub choice_at : List ℕ → ℕ → List ℕ → Result ℕ ℕ
-choice_at allowed tag message = value_at tag message >>= λ text. one_of allowed text
+choice_at allowed tag m =
+    value_at tag m >>= λ text.
+    ok_or (find (λ a. bytes_eq text (a ∷ [])) allowed) reject.VALUE_OUT_OF_RANGE
 
 -- the same, and another answer where the tag is missing
 abbrev pub choice_or : Result ℕ ℕ → List ℕ → ℕ → List ℕ → Result ℕ ℕ
-choice_or missing allowed tag message =
-    if is_none (get tag message) then missing else choice_at allowed tag message
-
--- Side
-abbrev pub side_at : List ℕ → Result Side ℕ
-side_at message =
-    choice_at (codes "12") tags.SIDE message >>= λ b.
-    Ok (if b == field_values.SIDE_BUY then Buy else Sell)
+choice_or missing allowed tag m =
+    if is_none (get tag m) then missing else choice_at allowed tag m
 
 -- ---- one kind
 
@@ -84,19 +71,16 @@ test_request m = do
 unfoldable pub resend_request : List ℕ → Result Meaning ℕ
 resend_request m = do
   stamp ← value_at tags.SENDING_TIME m
-  begin ← read_at number_in tags.BEGIN_SEQ_NO m
-  first ← allowed_if (nat_le FIRST_MSG_SEQ_NUM begin) begin
-  end ← read_at number_in tags.END_SEQ_NO m
+  first ← number_at (λ n. nat_le FIRST_MSG_SEQ_NUM n) tags.BEGIN_SEQ_NO m
   -- 0 asks for all that follow
-  last ← allowed_if ((end == 0) || nat_le first end) end
+  last ← number_at (λ n. (n == 0) || nat_le first n) tags.END_SEQ_NO m
   Ok (Gives (events.Resend first last))
 
 -- a gap fill of the message with number n
 unfoldable pub sequence_reset : List ℕ → ℕ → Result Meaning ℕ
 sequence_reset m n = do
   stamp ← value_at tags.SENDING_TIME m
-  new ← read_at number_in tags.NEW_SEQ_NO m
-  next ← allowed_if (nat_lt n new) new
+  next ← number_at (λ new. nat_lt n new) tags.NEW_SEQ_NO m
   -- a gap fill has to say so: without the tag it isn't one
   flag ← choice_or (Err reject.VALUE_OUT_OF_RANGE) (codes "Y") tags.GAP_FILL_FLAG m
   Ok (Fills next)
@@ -107,7 +91,7 @@ new_order m = do
   id ← id_at tags.CL_ORD_ID m
   handling ← choice_at (codes "123") tags.HANDL_INST m
   symbol ← id_at tags.SYMBOL m
-  side ← side_at m
+  side ← choice_at (codes "12") tags.SIDE m
   time ← value_at tags.TRANSACT_TIME m
   quantity ← read_at quantity_in tags.ORDER_QTY m
   type ← choice_at (codes "2") tags.ORD_TYPE m
@@ -117,7 +101,7 @@ new_order m = do
   Ok (record {
     id = id;
     symbol = symbol;
-    side = side;
+    side = if side == field_values.SIDE_BUY then Buy else Sell;
     quantity = quantity;
     price = price;
     immediate = time_in_force == field_values.IMMEDIATE_OR_CANCEL;
@@ -129,7 +113,7 @@ cancel_request m = do
   original ← id_at tags.ORIG_CL_ORD_ID m
   id ← id_at tags.CL_ORD_ID m
   symbol ← id_at tags.SYMBOL m
-  side ← side_at m
+  side ← choice_at (codes "12") tags.SIDE m
   time ← value_at tags.TRANSACT_TIME m
   Ok (Gives (events.Cancel id original))
 
@@ -143,25 +127,18 @@ replace_request m = do
 
 -- ---- the table
 
--- an accepted message of a kind of one byte
-abbrev pub meaning_of_kind : ℕ → List ℕ → ℕ → Result Meaning ℕ
-meaning_of_kind k m n =
-    if (k == msg_types.HEARTBEAT) || (k == msg_types.REJECT)
-    then (value_at tags.SENDING_TIME m >>= λ stamp. Ok Nothing)
-    else (if k == msg_types.TEST_REQUEST then test_request m
-    else (if k == msg_types.RESEND_REQUEST then resend_request m
-    else (if k == msg_types.SEQUENCE_RESET then sequence_reset m n
-    else (if k == msg_types.NEW_ORDER_SINGLE
-    then (new_order m >>= λ ticket. Ok (Gives (events.New ticket)))
-    else (if k == msg_types.ORDER_CANCEL_REQUEST then cancel_request m
-    else (if k == msg_types.ORDER_CANCEL_REPLACE_REQUEST then replace_request m
-    else Err reject.INVALID_MSG_TYPE))))))
-
-abbrev pub meaning_of_kind_text : List ℕ → List ℕ → ℕ → Result Meaning ℕ
-meaning_of_kind_text [] m n = Err reject.TAG_WITHOUT_VALUE
-meaning_of_kind_text (k ∷ []) m n = meaning_of_kind k m n
-meaning_of_kind_text (k ∷ l ∷ ks) m n = Err reject.INVALID_MSG_TYPE
-
 -- what an accepted message with number n means, where it is neither the Logon nor a Logout
 abbrev pub meaning_of_message : List ℕ → ℕ → Result Meaning ℕ
-meaning_of_message m n = meaning_of_kind_text (kind m) m n
+meaning_of_message m n =
+    let is : ℕ → Bool = λ type. bytes_eq (kind m) (type ∷ []) in
+    if length (kind m) == 0 then Err reject.TAG_WITHOUT_VALUE
+    else (if is msg_types.HEARTBEAT || is msg_types.REJECT
+    then (value_at tags.SENDING_TIME m >>= λ stamp. Ok Nothing)
+    else (if is msg_types.TEST_REQUEST then test_request m
+    else (if is msg_types.RESEND_REQUEST then resend_request m
+    else (if is msg_types.SEQUENCE_RESET then sequence_reset m n
+    else (if is msg_types.NEW_ORDER_SINGLE
+    then (new_order m >>= λ ticket. Ok (Gives (events.New ticket)))
+    else (if is msg_types.ORDER_CANCEL_REQUEST then cancel_request m
+    else (if is msg_types.ORDER_CANCEL_REPLACE_REQUEST then replace_request m
+    else Err reject.INVALID_MSG_TYPE)))))))

@@ -1,1 +1,2 @@
+pub mod ByKind
 pub mod Shown

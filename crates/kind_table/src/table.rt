@@ -7,8 +7,9 @@ ghost use Rattle.host_base.specs.Ids.{is_id};
 ghost use Rattle.fix_values.specs.Values.{number_in, quantity_in, price_in};
 ghost use Rattle.fix_frames.specs.declared.tags.TheConstants as tags;
 ghost use Rattle.spread_rules.specs.declared.codes.session_reject_reason.TheConstants as session_reject_reason;
-ghost use Rattle.kind_table.specs.Table.{value_at, id_at, read_at, choice_at, choice_or, one_of, side_at, test_request, resend_request, sequence_reset, new_order, cancel_request, replace_request, meaning_of_kind, meaning_of_message, reason_of};
-ghost use Rattle.kind_table.specs.code.Shown.{bytes_behind, ticket_of, ticket_behind, passed_over, is_immediate_at};
+ghost use Rattle.kind_table.specs.Table.{value_at, id_at, read_at, choice_at, choice_or, test_request, resend_request, sequence_reset, new_order, cancel_request, replace_request, meaning_of_message, reason_of};
+ghost use Rattle.kind_table.specs.code.ByKind.{meaning_of_kind};
+ghost use Rattle.kind_table.specs.code.Shown.{bytes_behind, ticket_of, ticket_behind, passed_over, one_of, side_at, is_immediate_at};
 
 use fix_wire::{
     Message, Unread, field_values, msg_types, read_number, read_price, read_quantity, tags,

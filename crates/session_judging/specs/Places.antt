@@ -2,13 +2,14 @@
 use Rattle.std.specs.Prelude.{ℕ, zero, suc, Bool, true, false, ◌&&◌, not, ◌==◌, nat_lt, if◌then◌else◌, List, Option, Some, None, is_some, is_none, option_map, option_and_then, take, drop, slice_get, filter_map}
 use Rattle.std.specs.Bool.{then_some}
 use Rattle.std.specs.List.{list_any, enumerate_from}
-use Rattle.std.specs.Option.{option_map_or, option_or}
+use Rattle.std.specs.Option.{option_eq, option_map_or, option_or}
+use Rattle.std.specs.Str.{bytes_eq}
 use Rattle.host_base.specs.declared.limits.TheConstants.{FIRST_MSG_SEQ_NUM}
 use Rattle.spread_rules.specs.declared.codes.close_reason.TheConstants as close_reason
 use Rattle.spread_rules.specs.declared.event.Event.{Event}
 use Rattle.spread_rules.specs.declared.event.Event.TheVariants as variant
 use Rattle.session_judging.specs.declared.session.Logon.{Logon}
-use Rattle.session_judging.specs.View.{MessageView, is_between}
+use Rattle.session_judging.specs.View.{MessageView}
 
 -- the Logon of the session: that of the first message, where it is a lawful one
 abbrev pub session_logon : List MessageView → Option Logon
@@ -16,7 +17,10 @@ session_logon ms = option_and_then (λ m. m.logon) (slice_get ms 0)
 
 -- the message has the CompIDs of the session's Logon
 abbrev pub has_comp_ids : List MessageView → MessageView → Bool
-has_comp_ids ms m = option_map_or (λ l. is_between m l.client l.host) (session_logon ms) false
+has_comp_ids ms m =
+    option_map_or
+    (λ l. option_eq bytes_eq m.sender (Some l.client) && option_eq bytes_eq m.target (Some l.host))
+    (session_logon ms) false
 
 -- the number due after the last accepted place
 abbrev pub due_after : List MessageView → Option ℕ → ℕ

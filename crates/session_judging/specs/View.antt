@@ -1,6 +1,6 @@
 -- What a session sees of a message.
-use Rattle.std.specs.Prelude.{ℕ, ◌+◌, Bool, false, ◌&&◌, ◌==◌, List, [], ◌∷◌, Option, Some, None, option_map, option_and_then, is_ok, Result, Ok, Err, if◌then◌else◌, codes}
-use Rattle.std.specs.Option.{option_map_or}
+use Rattle.std.specs.Prelude.{ℕ, ◌+◌, Bool, ◌&&◌, not, ◌==◌, List, [], ◌∷◌, Option, Some, None, option_map, option_and_then, is_ok, Result, Ok, Err, if◌then◌else◌, codes}
+use Rattle.std.specs.Option.{option_eq}
 use Rattle.std.specs.Str.{bytes_eq}
 use Rattle.host_base.specs.Ids.{id_of}
 use Rattle.host_base.specs.declared.limits.TheConstants.{FIRST_MSG_SEQ_NUM}
@@ -18,30 +18,22 @@ infixl 10 ◌>>=◌
 abbrev pub ◌>>=◌ : {A B : Type 0} → Option A → (A → Option B) → Option B
 x >>= f = option_and_then f x
 
--- it stands, and is this text
-abbrev pub is_same_text : Option (List ℕ) → List ℕ → Bool
-is_same_text found text = option_map_or (λ t. bytes_eq t text) found false
-
 -- ---- the Logon
 
 -- a Logon with the first number, a sending time, and no encryption
 abbrev pub is_opening : List ℕ → ℕ → Bool
 is_opening m n =
     bytes_eq (kind m) (msg_types.LOGON ∷ []) && (n == FIRST_MSG_SEQ_NUM)
-    && is_ok (value_at tags.SENDING_TIME m) && is_same_text (get tags.ENCRYPT_METHOD m) (codes "0")
-
--- the id that a tag has
-abbrev pub given_id : ℕ → List ℕ → Option (List ℕ)
-given_id tag m = get tag m >>= id_of
+    && is_ok (value_at tags.SENDING_TIME m)
+    && option_eq bytes_eq (get tags.ENCRYPT_METHOD m) (Some (codes "0"))
 
 -- what a lawful Logon says
 unfoldable pub logon_of : List ℕ → ℕ → Option Logon
-logon_of m n =
-    if is_opening m n then
-    (given_id tags.SENDER_COMP_ID m >>= λ client. given_id tags.TARGET_COMP_ID m >>= λ host.
-    given_number tags.HEART_BT_INT m >>= λ beat.
-    Some (record { client = client; host = host; beat = beat }))
-    else None
+logon_of m n = if not (is_opening m n) then None else do
+  client ← get tags.SENDER_COMP_ID m >>= id_of
+  host ← get tags.TARGET_COMP_ID m >>= id_of
+  beat ← given_number tags.HEART_BT_INT m
+  Some (record { client = client; host = host; beat = beat })
 
 -- ---- a later message
 
@@ -71,6 +63,33 @@ pub record MessageView : Type 0 where
   pub next : ℕ
   pub event : Option Event
 
+-- the view of a frame: None where its number can't be read
+abbrev pub view : List ℕ → Option MessageView
+view m = option_map (λ n. record {
+  number = n;
+  sender = get tags.SENDER_COMP_ID m;
+  target = get tags.TARGET_COMP_ID m;
+  logon = logon_of m n;
+  duplicate = option_eq bytes_eq (get tags.POSS_DUP_FLAG m) (Some (codes "Y"));
+  logout = bytes_eq (kind m) (msg_types.LOGOUT ∷ []);
+  next = due_after_accepted n (meaning_of_message m n);
+  event = event_of_accepted n (meaning_of_message m n);
+}) (number m)
+
+-- ---- words of the code alone
+
+-- it stands, and is this text
+abbrev pub is_same_text : Option (List ℕ) → List ℕ → Bool
+is_same_text found text = option_eq bytes_eq found (Some text)
+
+-- the id that a tag has
+abbrev pub given_id : ℕ → List ℕ → Option (List ℕ)
+given_id tag m = get tag m >>= id_of
+
+-- the message is from this client, to this host
+abbrev pub is_between : MessageView → List ℕ → List ℕ → Bool
+is_between m client host = is_same_text m.sender client && is_same_text m.target host
+
 -- the view of a message whose number is n
 abbrev pub view_with : List ℕ → ℕ → MessageView
 view_with m n = record {
@@ -83,11 +102,3 @@ view_with m n = record {
   next = due_after_accepted n (meaning_of_message m n);
   event = event_of_accepted n (meaning_of_message m n);
 }
-
--- the view of a frame: None where its number can't be read
-abbrev pub view : List ℕ → Option MessageView
-view m = option_map (view_with m) (number m)
-
--- the message is from this client, to this host
-abbrev pub is_between : MessageView → List ℕ → List ℕ → Bool
-is_between m client host = is_same_text m.sender client && is_same_text m.target host

@@ -83,7 +83,7 @@ logon_holds : (m : List ℕ) (n : ℕ) → May FitsLogon (logon_of m n)
 unfolding logon_of
 logon_holds m n = by_test (is_opening m n)
   where
-    by_test : (v : Bool) → May FitsLogon (if v then (given_id 49 m >>= λ client. given_id 56 m >>= λ host. given_number 108 m >>= λ beat. Some (record { client = client; host = host; beat = beat })) else None)
+    by_test : (v : Bool) → May FitsLogon (if not v then None else (given_id 49 m >>= λ client. given_id 56 m >>= λ host. given_number 108 m >>= λ beat. Some (record { client = client; host = host; beat = beat })))
     by_test false = tt
     by_test true =
         chained (λ id. is_id id ≡ true) FitsLogon (given_id 49 m) _ (id_in_holds 49 m) (λ client is_client.

@@ -5,7 +5,9 @@ use Rattle.std.proofs.lemmas.Bool.{and_parts}
 use Rattle.std.proofs.lemmas.Bool.Decides.{nat_tests}
 use Rattle.std.proofs.lemmas.Slice.Eq.{bytes_eq-Decides}
 use Rattle.fix_frames.specs.Messages.{kind, number}
-use Rattle.kind_table.specs.Table.{meaning_of_message, meaning_of_kind_text}
+use Rattle.kind_table.specs.Table.{meaning_of_message}
+use Rattle.kind_table.specs.code.ByKind.{meaning_of_kind_text}
+use Rattle.kind_table.proofs.KindOfBytes.{meaning_is}
 use Rattle.session_judging.specs.declared.session.Logon.{Logon}
 use Rattle.session_judging.specs.declared.session.State.TheVariants as states
 use Rattle.session_judging.specs.declared.session.Session.{Session}
@@ -28,7 +30,7 @@ due_two m n l e =
     let parts = and_parts _ _ (and_parts _ _ (and_parts _ _ (opening_of m n l e)).0).0 in
     let kind_is = same_bytes (kind m) (65 ∷ []) parts.0 in
     let one : n ≡ 1 = grind (arith, nat_tests) in
-    ap (λ k. due_after_accepted n (meaning_of_kind_text k m n)) kind_is ∙ (let h : n + 1 ≡ 2 = omega (arith, one) in h)
+    ap (due_after_accepted n) (meaning_is m n) ∙ ap (λ k. due_after_accepted n (meaning_of_kind_text k m n)) kind_is ∙ (let h : n + 1 ≡ 2 = omega (arith, one) in h)
 
 pub judge_opens : (s : Session) (m : List ℕ) (n : ℕ) (l : Logon) → s.state ≡ states.Before → number m ≡ Some n → logon_of m n ≡ Some l → judge s m ≡ opens 2 (Some l)
 judge_opens s m n l state numbered logon =

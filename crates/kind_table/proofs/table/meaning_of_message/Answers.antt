@@ -1,5 +1,6 @@
-use Rattle.std.proofs.Common.{◌≡◌, ℕ, ◌≤◌, List, [], ◌∷◌, Err, length, ap, ◌∙◌, refl, arith}
-use Rattle.kind_table.specs.Table.{meaning_of_kind_text}
+use Rattle.std.proofs.Common.{◌≡◌, ℕ, ◌≤◌, List, [], ◌∷◌, Err, length, ap, ◌∙◌, refl, sym, arith}
+use Rattle.kind_table.specs.code.ByKind.{meaning_of_kind_text}
+use Rattle.kind_table.proofs.KindOfBytes.{meaning_is}
 use Rattle.kind_table.proofs.table.meaning_of_message.Goals as goal
 
 -- a MsgType of two bytes or more is none
@@ -12,3 +13,4 @@ pub returns-in_default : goal.returns-in_default
 returns-in_default c =
     longer c.kind.result.now c.args.message.now.frame.now c.args.number c.in_default.len_at_least
     ∙ ap (λ t. meaning_of_kind_text t c.args.message.now.frame.now c.args.number) c.kind.ensures
+    ∙ sym (meaning_is c.args.message.now.frame.now c.args.number)
