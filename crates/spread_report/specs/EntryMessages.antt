@@ -154,8 +154,7 @@ entry_reports rules place session (New t) outcomes.Rested fills =
 entry_reports rules place session (New t) outcomes.Filled fills =
     new_report session place t ∷ fills_reports rules fills
 entry_reports rules place session (New t) (outcomes.Ended left) fills =
-    new_report session place t
-    ∷ fills_reports rules fills
+    new_report session place t ∷ fills_reports rules fills
     ++ record (order_report session place t status.CANCELED) { cum_qty = t.quantity - left } ∷ []
 entry_reports rules place session (Cancel id original) (outcomes.Cancelled o) fills =
     amended_report rules session id original o status.CANCELED ∷ []
@@ -182,11 +181,10 @@ order_cancel_reject response_to id original reason place ord_status =
 -- a Logout, where the session closed by a Logout, by a number too low or by another CompID
 abbrev pub close_steps : ℕ → List OutgoingStep
 close_steps reason =
+    let logout = λ (text : List ℕ). numbered msg_types.LOGOUT (field tags.TEXT (Text text) ∷ []) in
     if reason == close_reason.LOGOUT then numbered msg_types.LOGOUT [] ∷ []
-    else if reason == close_reason.MSG_SEQ_NUM_TOO_LOW
-    then numbered msg_types.LOGOUT (field tags.TEXT (Text (codes "MsgSeqNum too low")) ∷ []) ∷ []
-    else if reason == close_reason.COMP_ID
-    then numbered msg_types.LOGOUT (field tags.TEXT (Text (codes "CompID")) ∷ []) ∷ []
+    else if reason == close_reason.MSG_SEQ_NUM_TOO_LOW then logout (codes "MsgSeqNum too low") ∷ []
+    else if reason == close_reason.COMP_ID then logout (codes "CompID") ∷ []
     else []
 
 -- What an event brings its session besides execution reports. An EndSeqNo of 0 asks for all that was sent from the
