@@ -7,7 +7,8 @@ use Rattle.std.specs.List.{All, cons_option}
 use Rattle.std.proofs.lemmas.Bool.Decides.{nat_tests}
 use Rattle.std.proofs.lemmas.List.Elements.{All-nil, All-cons, All-head, All-tail}
 use Rattle.host_base.specs.Ids.{is_id, id_of}
-use Rattle.spread_rules.specs.Journal.{IsNumber, FitsEvent, is_logon, is_close, is_end, is_running, is_in_order}
+use Rattle.spread_rules.specs.Journal.{IsNumber, FitsEvent, is_logon, is_close, is_end, is_running, is_in_order, starts_in_order}
+use Rattle.spread_rules.proofs.journals.SessionParts.{order_by_event}
 use Rattle.spread_rules.specs.declared.event.Event.{Event}
 use Rattle.spread_rules.specs.declared.event.Event.TheVariants as events
 use Rattle.fix_values.specs.declared.values.Unread.TheVariants.{Range, Format}
@@ -132,7 +133,7 @@ view_fair m = by_number (number m) (number_holds (get 34 m))
 
 -- what a session in that state may say from now on
 abbrev IsLawfulFrom : State → List Event → Type 0
-IsLawfulFrom states.Before es = All FitsEvent es × (is_in_order es ≡ true)
+IsLawfulFrom states.Before es = All FitsEvent es × (starts_in_order es ≡ true)
 IsLawfulFrom (states.Running r) es = All FitsEvent es × (is_running es ≡ true)
 IsLawfulFrom states.Closed es = es ≡ []
 
@@ -247,7 +248,9 @@ said_is (f ∷ fs) s =
     ∙ ap (cons_option (event_in (judge s f).0)) (said_is fs (judge s f).1)
 
 pub whole_lawful : (fs : List (List ℕ)) → All FitsEvent (events_said new_session fs ++ events_at_end (session_after new_session fs)) × (is_in_order (events_said new_session fs ++ events_at_end (session_after new_session fs)) ≡ true)
-whole_lawful fs = subst (λ es. All FitsEvent es × (is_in_order es ≡ true)) (sym (said_is fs new_session)) (said_lawful fs new_session tt)
+whole_lawful fs =
+    let said = said_lawful fs new_session tt in
+    subst (λ es. All FitsEvent es × (is_in_order es ≡ true)) (sym (said_is fs new_session)) (said.0, order_by_event (said_until_end fs new_session) ∙ said.1)
 
 -- ---- a beginning of what is in range is in range
 
