@@ -5,7 +5,7 @@ use Rattle.fix_frames.specs.Texts.{with_soh}
 use Rattle.fix_values.specs.Values.{quantity_in, price_in}
 use Rattle.fix_frames.specs.declared.frame.TheConstants.{BEGIN_BYTES, CHECKSUM_BYTES}
 use Rattle.fix_frames.specs.Frames.{begin_text, checksum_field, frame_at, frames}
-use Rattle.fix_frames.specs.Messages.{kind, number}
+use Rattle.fix_frames.specs.Messages.{fields, kind, number}
 
 abbrev pub logon : List ℕ
 logon =
@@ -31,9 +31,11 @@ pub order_is : frame_at order ≡ Some 127
 order_is = refl
 
 pub kind_is : kind logon ≡ codes "A"
+unfolding fields
 kind_is = refl
 
 pub number_is : number order ≡ Some 2
+unfolding fields
 number_is = refl
 
 pub price_is : price_in (codes "0012.340") ≡ Ok (pos 1234)
