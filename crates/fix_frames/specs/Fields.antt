@@ -27,7 +27,7 @@ field_of_text text =
     (record { tag = number_of (take digits text); value = drop (digits + 1) text })
 
 -- the fields of a body, where each of its texts is one but for the last, behind the last SOH, which is empty
-abbrev pub fields_of_body : List ℕ → Option (List TagValue)
+unfoldable pub fields_of_body : List ℕ → Option (List TagValue)
 fields_of_body body =
     let texts = slice_split (λ b. b == SOH) body in
     let fields = filter_map field_of_text texts in

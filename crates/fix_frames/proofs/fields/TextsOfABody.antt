@@ -127,6 +127,7 @@ row_of t (u ∷ us) =
 
 -- both are the same
 pub fields_are : (body : List ℕ) → fields_of_body body ≡ fields_by_texts body
+unfolding fields_of_body
 fields_are body = by_texts (first_text body)
   where
     by_texts : HasFirst (slice_split is_soh body) → fields_of_body body ≡ fields_by_texts body
