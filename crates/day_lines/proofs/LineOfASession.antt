@@ -7,7 +7,8 @@ use Rattle.std.specs.List.{cons_option, range_with_len}
 use Rattle.std.specs.Option.{option_to_list}
 use Rattle.std.proofs.lemmas.Bool.{cases_lt}
 use Rattle.std.proofs.lemmas.Bool.Decides.{nat_tests}
-use Rattle.fix_frames.specs.Texts.{strip_prefix}
+use Rattle.fix_frames.specs.Texts.{stripped}
+use Rattle.fix_frames.proofs.texts.WordAtTheFront.{strip_is}
 use Rattle.day_lines.specs.LineText.{DayLine, session_line}
 use Rattle.day_lines.specs.code.OneByOne.{day_line, line_by_bytes}
 
@@ -30,13 +31,13 @@ word_is s h = by_size (cases_lt s 10)
         rw t (ap (λ w. w ++ 58 ∷ []) two)
 
 abbrev by_words : ℕ → ℕ → List ℕ → List DayLine
-by_words a n line = filter_map (λ s. option_map (day_line s) (strip_prefix (word s) line)) (range_with_len a n)
+by_words a n line = filter_map (λ s. option_map (day_line s) (stripped (word s) line)) (range_with_len a n)
 
-words_are : (a n : ℕ) (line : List ℕ) → a + n ≤ 16 → filter_map (λ s. option_map (day_line s) (strip_prefix (decimal s ++ 58 ∷ []) line)) (range_with_len a n) ≡ by_words a n line
+words_are : (a n : ℕ) (line : List ℕ) → a + n ≤ 16 → filter_map (λ s. option_map (day_line s) (stripped (decimal s ++ 58 ∷ []) line)) (range_with_len a n) ≡ by_words a n line
 words_are a zero line h = refl
 words_are a (suc n) line h =
-    ap (λ (w : List ℕ). cons_option (option_map (day_line a) (strip_prefix w line)) (filter_map (λ s. option_map (day_line s) (strip_prefix (decimal s ++ 58 ∷ []) line)) (range_with_len (a + 1) n))) (word_is a (omega (arith, h)))
-    ∙ ap (cons_option (option_map (day_line a) (strip_prefix (word a) line))) (words_are (a + 1) n line (omega (arith, h)))
+    ap (λ (w : List ℕ). cons_option (option_map (day_line a) (stripped w line)) (filter_map (λ s. option_map (day_line s) (stripped (decimal s ++ 58 ∷ []) line)) (range_with_len (a + 1) n))) (word_is a (omega (arith, h)))
+    ∙ ap (cons_option (option_map (day_line a) (stripped (word a) line))) (words_are (a + 1) n line (omega (arith, h)))
 
 abbrev IsSame : List ℕ → Type 0
 IsSame line = option_to_list (line_by_bytes line) ≡ by_words 0 16 line
@@ -78,12 +79,12 @@ no_session b rest other far =
 
 -- the digits up to 5
 teen : (k : ℕ) (rest : List ℕ) → k < 6 → IsSame (49 ∷ (48 + k) ∷ rest)
-teen zero rest h = single (option_map (day_line 10) (strip_prefix (58 ∷ []) rest))
-teen (suc zero) rest h = single (option_map (day_line 11) (strip_prefix (58 ∷ []) rest))
-teen (suc (suc zero)) rest h = single (option_map (day_line 12) (strip_prefix (58 ∷ []) rest))
-teen (suc (suc (suc zero))) rest h = single (option_map (day_line 13) (strip_prefix (58 ∷ []) rest))
-teen (suc (suc (suc (suc zero)))) rest h = single (option_map (day_line 14) (strip_prefix (58 ∷ []) rest))
-teen (suc (suc (suc (suc (suc zero))))) rest h = single (option_map (day_line 15) (strip_prefix (58 ∷ []) rest))
+teen zero rest h = single (option_map (day_line 10) (stripped (58 ∷ []) rest))
+teen (suc zero) rest h = single (option_map (day_line 11) (stripped (58 ∷ []) rest))
+teen (suc (suc zero)) rest h = single (option_map (day_line 12) (stripped (58 ∷ []) rest))
+teen (suc (suc (suc zero))) rest h = single (option_map (day_line 13) (stripped (58 ∷ []) rest))
+teen (suc (suc (suc (suc zero)))) rest h = single (option_map (day_line 14) (stripped (58 ∷ []) rest))
+teen (suc (suc (suc (suc (suc zero))))) rest h = single (option_map (day_line 15) (stripped (58 ∷ []) rest))
 teen (suc (suc (suc (suc (suc (suc k)))))) rest h = absurd (omega (arith, h))
 
 behind_one : (b : ℕ) (rest : List ℕ) → IsSame (49 ∷ b ∷ rest)
@@ -142,4 +143,6 @@ by_word (a ∷ b ∷ rest) = by_place (cases_lt a 48) (cases_lt 57 a)
         subst (λ x. IsSame (x ∷ b ∷ rest)) is (digit (a - 48) b rest (omega arith))
 
 pub by_number : (line : List ℕ) → option_to_list (line_by_bytes line) ≡ session_line line
-by_number line = by_word line ∙ sym (words_are 0 16 line (omega arith))
+by_number line =
+    by_word line ∙ sym (words_are 0 16 line (omega arith))
+    ∙ (λ i. filter_map (λ s. option_map (day_line s) (sym (strip_is (decimal s ++ 58 ∷ []) line) i)) (range_with_len 0 16))

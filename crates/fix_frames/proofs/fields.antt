@@ -1,3 +1,5 @@
+pub mod TextsOfABody
+pub mod KindFirst
 pub mod RowOfFields
 pub mod TableOfFields
 pub mod MarkedField

@@ -1,3 +1,4 @@
+pub mod HeaderAtTheFront
 pub mod WordAtTheFront
 pub mod MarkedPlaces
 pub mod TagIndexes

@@ -4,8 +4,9 @@ use Rattle.fix_values.specs.declared.values.Unread.TheVariants.{Range}
 use Rattle.fix_frames.specs.Texts.{with_soh}
 use Rattle.fix_values.specs.Values.{quantity_in, price_in}
 use Rattle.fix_frames.specs.declared.frame.TheConstants.{BEGIN_BYTES, CHECKSUM_BYTES}
+use Rattle.fix_frames.specs.Fields.{fields_of_body}
 use Rattle.fix_frames.specs.Frames.{begin_text, checksum_field, frame_at, frames}
-use Rattle.fix_frames.specs.Messages.{kind, number}
+use Rattle.fix_frames.specs.Messages.{fields, kind, number}
 
 abbrev pub logon : List ℕ
 logon =
@@ -25,15 +26,19 @@ pub checksum_length_is : length (checksum_field 220) ≡ CHECKSUM_BYTES
 checksum_length_is = refl
 
 pub logon_is : frame_at logon ≡ Some 79
+unfolding fields_of_body
 logon_is = refl
 
 pub order_is : frame_at order ≡ Some 127
+unfolding fields_of_body
 order_is = refl
 
 pub kind_is : kind logon ≡ codes "A"
+unfolding fields fields_of_body
 kind_is = refl
 
 pub number_is : number order ≡ Some 2
+unfolding fields fields_of_body
 number_is = refl
 
 pub price_is : price_in (codes "0012.340") ≡ Ok (pos 1234)
@@ -49,4 +54,5 @@ pub quantity_is : quantity_in (codes "5.") ≡ Ok 5
 quantity_is = refl
 
 pub frames_is : frames (codes "8=" ++ logon ++ order) ≡ logon ∷ order ∷ []
+unfolding fields_of_body
 frames_is = refl

@@ -1,7 +1,9 @@
 -- The fields of a body: a tag, `=`, a value, and SOH after each.
-use Rattle.std.specs.Prelude.{ℕ, ◌+◌, Bool, ◌&&◌, not, ◌==◌, nat_le, nat_lt, if◌then◌else◌, List, [], ◌∷◌, Option, Some, None, option_map, option_and_then, length, take, drop, slice_index}
+use Rattle.std.specs.Prelude.{ℕ, ◌+◌, Bool, ◌&&◌, not, ◌==◌, nat_le, nat_lt, if◌then◌else◌, List, [], ◌∷◌, Option, Some, None, option_map, option_and_then, length, take, drop, slice_index, filter_map}
+use Rattle.std.specs.Bool.{then_some}
 use Rattle.std.specs.Char.{is_ascii_digit}
-use Rattle.std.specs.List.{list_all, position_or_len}
+use Rattle.std.specs.List.{list_all, position_or_len, ends_with, slice_split}
+use Rattle.std.specs.Str.{bytes_eq}
 use Rattle.host_base.specs.declared.bytes.TheConstants.{DIGIT_ZERO, EQUALS, SOH}
 use Rattle.fix_frames.specs.declared.frame.TheConstants.{MAX_TAG_DIGITS}
 use Rattle.fix_values.specs.Digits.{number_of}
@@ -10,6 +12,37 @@ use Rattle.fix_values.specs.Digits.{number_of}
 pub record TagValue : Type 0 where
   pub tag : ℕ
   pub value : List ℕ
+
+-- 1 to 9 digits, the first of them not 0
+abbrev pub is_tag : List ℕ → Bool
+is_tag tag =
+    nat_le 1 (length tag) && nat_le (length tag) MAX_TAG_DIGITS && list_all is_ascii_digit tag
+    && not (slice_index tag 0 == DIGIT_ZERO)
+
+-- a tag, then the first `=`, then the value, which may be empty
+abbrev pub field_of_text : List ℕ → Option TagValue
+field_of_text text =
+    let digits = position_or_len (λ b. b == EQUALS) text in
+    then_some (nat_lt digits (length text) && is_tag (take digits text))
+    (record { tag = number_of (take digits text); value = drop (digits + 1) text })
+
+-- the fields of a body, where each of its texts is one but for the last, behind the last SOH, which is empty
+unfoldable pub fields_of_body : List ℕ → Option (List TagValue)
+fields_of_body body =
+    let texts = slice_split (λ b. b == SOH) body in
+    let fields = filter_map field_of_text texts in
+    then_some ((length texts == length fields + 1) && ends_with bytes_eq texts ([] ∷ [])) fields
+
+-- ---- words of the code alone
+
+abbrev pub with_first : List ℕ → List (List ℕ) → List (List ℕ)
+with_first t ts = t ∷ ts
+
+-- field_of_text, where so many bytes stand before the first `=`
+abbrev pub field_with : ℕ → List ℕ → Option TagValue
+field_with digits text =
+    then_some (nat_lt digits (length text) && is_tag (take digits text))
+    (record { tag = number_of (take digits text); value = drop (digits + 1) text })
 
 -- the byte put in front of the first text; there has to be one
 abbrev pub prepended : ℕ → List (List ℕ) → Option (List (List ℕ))
@@ -23,38 +56,12 @@ field_texts (b ∷ bs) =
     if b == SOH then option_map (λ texts. [] ∷ texts) (field_texts bs)
     else option_and_then (prepended b) (field_texts bs)
 
--- 1 to 9 digits, the first of them not 0
-abbrev pub is_tag : List ℕ → Bool
-is_tag tag =
-    nat_le 1 (length tag) && nat_le (length tag) MAX_TAG_DIGITS && list_all is_ascii_digit tag
-    && not (slice_index tag 0 == DIGIT_ZERO)
-
--- a tag, then the first `=`, then the value, which may be empty
-abbrev pub field_of_text : List ℕ → Option TagValue
-field_of_text text =
-    let digits = position_or_len (λ b. b == EQUALS) text in
-    if nat_lt digits (length text) && is_tag (take digits text)
-    then Some (record { tag = number_of (take digits text); value = drop (digits + 1) text })
-    else None
-
 -- all of them, where each is a field
 abbrev pub fields_of_texts : List (List ℕ) → Option (List TagValue)
 fields_of_texts [] = Some []
 fields_of_texts (t ∷ ts) =
     option_and_then (λ f. option_map (λ fs. f ∷ fs) (fields_of_texts ts)) (field_of_text t)
 
--- the fields of a body, where it is a row of fields
-abbrev pub fields_of_body : List ℕ → Option (List TagValue)
-fields_of_body body = option_and_then fields_of_texts (field_texts body)
-
--- ---- words of the code alone
-
-abbrev pub with_first : List ℕ → List (List ℕ) → List (List ℕ)
-with_first t ts = t ∷ ts
-
--- field_of_text, where so many bytes stand before the first `=`
-abbrev pub field_with : ℕ → List ℕ → Option TagValue
-field_with digits text =
-    if nat_lt digits (length text) && is_tag (take digits text)
-    then Some (record { tag = number_of (take digits text); value = drop (digits + 1) text })
-    else None
+-- the fields of a body, one text after another
+abbrev pub fields_by_texts : List ℕ → Option (List TagValue)
+fields_by_texts body = option_and_then fields_of_texts (field_texts body)

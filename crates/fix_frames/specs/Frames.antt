@@ -1,15 +1,16 @@
 -- Lawful frames, what may still begin one, and the frames of an input (FIX 4.2: BeginString, BodyLength, body,
 -- CheckSum).
-use Rattle.std.specs.Prelude.{◌≡◌, ℕ, zero, suc, ◌+◌, ◌-◌, ◌/◌, ◌%◌, Bool, false, ◌&&◌, ◌||◌, ◌==◌, nat_le, nat_lt, if◌then◌else◌, List, [], ◌∷◌, ◌++◌, Option, Some, None, option_and_then, is_some, length, take, drop, sum, codes}
+use Rattle.std.specs.Prelude.{◌≡◌, ℕ, zero, suc, ◌+◌, ◌-◌, ◌/◌, ◌%◌, Bool, false, ◌&&◌, ◌||◌, ◌==◌, nat_eq, nat_le, nat_lt, if◌then◌else◌, List, [], ◌∷◌, ◌++◌, Option, Some, None, option_and_then, is_some, length, take, drop, sum, codes}
+use Rattle.std.specs.Bool.{then_some}
 use Rattle.std.specs.Char.{is_ascii_digit}
-use Rattle.std.specs.List.{list_all, position_or_len, AllByRecursion, concat}
+use Rattle.std.specs.List.{list_all, position_or_len, before_first, starts_with, AllByRecursion, concat}
 use Rattle.std.specs.Option.{option_map_or}
 use Rattle.std.specs.Str.{bytes_eq}
 use Rattle.host_base.specs.declared.bytes.TheConstants.{DIGIT_ZERO, SOH}
 use Rattle.host_base.specs.declared.limits.TheConstants.{MIN_BODY_LENGTH, MAX_BODY_LENGTH}
 use Rattle.fix_frames.specs.declared.frame.FrameHeader.{FrameHeader}
 use Rattle.fix_frames.specs.declared.frame.TheConstants.{BEGIN_BYTES, CHECKSUM_BYTES, MAX_LENGTH_DIGITS}
-use Rattle.fix_frames.specs.Texts.{strip_prefix, is_cut_short, with_soh}
+use Rattle.fix_frames.specs.Texts.{with_soh}
 use Rattle.fix_values.specs.Digits.{number_of, two_digits}
 use Rattle.fix_frames.specs.Fields.{fields_of_body}
 
@@ -26,34 +27,24 @@ is_body_length digits =
     && list_all is_ascii_digit digits
     && nat_le MIN_BODY_LENGTH (number_of digits) && nat_le (number_of digits) MAX_BODY_LENGTH
 
--- what follows the begin text: BodyLength, and SOH
-abbrev pub header_after : List ℕ → Option FrameHeader
-header_after rest =
-    let digits = position_or_len (λ b. b == SOH) rest in
-    if nat_lt digits (length rest) && is_body_length (take digits rest)
-    then Some (record {
-      body_start = digits + (BEGIN_BYTES + 1);
-      body_length = number_of (take digits rest);
-    })
-    else None
-
--- where a frame's body starts, and how long BodyLength says it is
+-- Where the body starts of a text that begins with the header of a frame, and how long it is: the header is what each
+-- frame begins with, BodyLength and SOH.
 abbrev pub header : List ℕ → Option FrameHeader
-header text = option_and_then header_after (strip_prefix begin_text text)
-
--- how many bytes stand before CheckSum: the header and the body
-abbrev pub summed_length : FrameHeader → ℕ
-summed_length h = h.body_start + h.body_length
+header text =
+    let digits = before_first (λ b. b == SOH) (drop (length begin_text) text) in
+    let start = begin_text ++ (digits ++ (SOH ∷ [])) in
+    then_some (starts_with nat_eq text start && is_body_length digits)
+    (record { body_start = length start; body_length = number_of digits })
 
 -- the length of a frame: its header, its body, and CheckSum
 abbrev pub frame_length : FrameHeader → ℕ
-frame_length h = summed_length h + CHECKSUM_BYTES
+frame_length h = h.body_start + h.body_length + CHECKSUM_BYTES
 
 -- ---- a lawful frame
 
 -- a row of fields whose first is MsgType
 abbrev pub is_body : List ℕ → Bool
-is_body body = is_some (strip_prefix (codes "35=") body) && is_some (fields_of_body body)
+is_body body = starts_with nat_eq body (codes "35=") && is_some (fields_of_body body)
 
 -- CheckSum: its tag, a number in three digits, and SOH
 abbrev pub checksum_field : ℕ → List ℕ
@@ -65,14 +56,13 @@ body_at text h = take h.body_length (drop h.body_start text)
 -- The frame is there whole, its body is one, and its CheckSum is the sum of all bytes before it, modulo 256.
 abbrev pub is_intact : List ℕ → FrameHeader → Bool
 is_intact text h =
+    let summed = h.body_start + h.body_length in
     nat_le (frame_length h) (length text) && is_body (body_at text h)
-    && bytes_eq (take CHECKSUM_BYTES (drop (summed_length h) text))
-    (checksum_field (sum (take (summed_length h) text) % 256))
+    && bytes_eq (take CHECKSUM_BYTES (drop summed text)) (checksum_field (sum (take summed text) % 256))
 
 -- the length of the lawful frame that stands at the front of a text
 abbrev pub frame_at : List ℕ → Option ℕ
-frame_at text =
-    option_and_then (λ h. if is_intact text h then Some (frame_length h) else None) (header text)
+frame_at text = option_and_then (λ h. then_some (is_intact text h) (frame_length h)) (header text)
 
 -- the text is one lawful frame
 abbrev pub IsFrame : List ℕ → Type 0
@@ -86,14 +76,13 @@ pub record IsFrameRow (text : List ℕ) : Type 0 where
 
 -- ---- what may still begin one
 
--- The text may still begin a frame: its front is cut short, or digits of BodyLength and nothing more follow the begin
--- text, or bytes of the frame that the header announces are still to come.
+-- The text may still begin a frame: it is the front of what each frame begins with and of digits of BodyLength, or
+-- bytes of the frame that its header announces are still to come.
 abbrev pub may_begin : List ℕ → Bool
 may_begin text =
-    is_cut_short begin_text text
-    || option_map_or
-    (λ rest. nat_le (length rest) MAX_LENGTH_DIGITS && list_all is_ascii_digit rest)
-    (strip_prefix begin_text text) false
+    let digits = drop (length begin_text) text in
+    (starts_with nat_eq (begin_text ++ digits) text && nat_le (length digits) MAX_LENGTH_DIGITS
+    && list_all is_ascii_digit digits)
     || option_map_or (λ h. nat_lt (length text) (frame_length h)) (header text) false
 
 -- ---- the frames of an input
@@ -114,6 +103,17 @@ frames input = frames_after 0 input
 
 -- ---- words of the code alone
 
+-- the header behind the begin text: BodyLength, and SOH
+abbrev pub header_after : List ℕ → Option FrameHeader
+header_after rest =
+    let digits = position_or_len (λ b. b == SOH) rest in
+    if nat_lt digits (length rest) && is_body_length (take digits rest)
+    then Some (record {
+      body_start = digits + (BEGIN_BYTES + 1);
+      body_length = number_of (take digits rest);
+    })
+    else None
+
 -- header_after, where so many bytes stand before the first SOH
 abbrev pub header_with : ℕ → List ℕ → Option FrameHeader
 header_with digits rest =
@@ -125,13 +125,20 @@ header_with digits rest =
     else None
 
 abbrev pub intact_length : List ℕ → FrameHeader → Option ℕ
-intact_length text h = if is_intact text h then Some (frame_length h) else None
+intact_length text h = then_some (is_intact text h) (frame_length h)
 
 -- digits of BodyLength, and nothing more, follow the begin text
 abbrev pub is_length_open : Option (List ℕ) → Bool
 is_length_open behind =
     option_map_or (λ rest. nat_le (length rest) MAX_LENGTH_DIGITS && list_all is_ascii_digit rest)
     behind false
+
+-- digits of BodyLength, and nothing more, follow the begin text, or it is cut short
+abbrev pub is_front_open : List ℕ → Bool
+is_front_open text =
+    let digits = drop (length begin_text) text in
+    starts_with nat_eq (begin_text ++ digits) text && nat_le (length digits) MAX_LENGTH_DIGITS
+    && list_all is_ascii_digit digits
 
 -- bytes of the frame that the header announces are still to come
 abbrev pub is_unfinished : List ℕ → Option FrameHeader → Bool

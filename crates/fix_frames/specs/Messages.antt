@@ -8,26 +8,24 @@ use Rattle.fix_frames.specs.Frames.{header, body_at}
 use Rattle.fix_values.specs.Values.{number_in}
 
 -- the fields of a message
-abbrev pub fields : List ℕ → List TagValue
-fields message =
-    unwrap_or (option_and_then (λ h. fields_of_body (body_at message h)) (header message)) []
+unfoldable pub fields : List ℕ → List TagValue
+fields m = unwrap_or (option_and_then (λ h. fields_of_body (body_at m h)) (header m)) []
 
 -- MsgType: the value of its first field
 abbrev pub kind : List ℕ → List ℕ
-kind message = unwrap_or (option_map (λ f. f.value) (slice_get (fields message) 0)) []
+kind m = unwrap_or (option_map (λ f. f.value) (slice_get (fields m) 0)) []
 
 -- the value of the first field with that tag
 abbrev pub get : ℕ → List ℕ → Option (List ℕ)
-get tag message = option_map (λ f. f.value) (find (λ f. f.tag == tag) (fields message))
+get tag m = option_map (λ f. f.value) (find (λ f. f.tag == tag) (fields m))
 
 -- the same as a number, where it can be read
 abbrev pub given_number : ℕ → List ℕ → Option ℕ
-given_number tag message = option_and_then (λ text. result_ok (number_in text)) (get tag message)
+given_number tag m = option_and_then (λ text. result_ok (number_in text)) (get tag m)
 
 -- MsgSeqNum, where it can be read and is at least 1
 abbrev pub number : List ℕ → Option ℕ
-number message =
-    option_and_then (λ n. then_some (nat_le 1 n) n) (given_number tags.MSG_SEQ_NUM message)
+number m = option_and_then (λ n. then_some (nat_le 1 n) n) (given_number tags.MSG_SEQ_NUM m)
 
 -- ---- words of the code alone
 

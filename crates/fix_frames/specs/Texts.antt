@@ -1,5 +1,7 @@
 -- Bytes of FIX, and texts that begin alike.
-use Rattle.std.specs.Prelude.{ℕ, Bool, true, false, ◌&&◌, ◌==◌, if◌then◌else◌, List, [], ◌∷◌, map, Option, Some, None}
+use Rattle.std.specs.Prelude.{ℕ, Bool, true, false, ◌&&◌, ◌==◌, nat_eq, if◌then◌else◌, List, [], ◌∷◌, map, length, drop, Option, Some, None}
+use Rattle.std.specs.Bool.{then_some}
+use Rattle.std.specs.List.{starts_with}
 use Rattle.host_base.specs.declared.bytes.TheConstants.{EQUALS, SOH, VERTICAL_BAR}
 
 -- a text in which each `|` stands for SOH, which no character shows
@@ -8,15 +10,7 @@ with_soh text = map (λ b. if b == VERTICAL_BAR then SOH else b) text
 
 -- what follows a word that the text begins with
 abbrev pub strip_prefix : List ℕ → List ℕ → Option (List ℕ)
-strip_prefix [] text = Some text
-strip_prefix (p ∷ ps) [] = None
-strip_prefix (p ∷ ps) (b ∷ bs) = if p == b then strip_prefix ps bs else None
-
--- the text is a proper prefix of the word
-abbrev pub is_cut_short : List ℕ → List ℕ → Bool
-is_cut_short [] text = false
-is_cut_short (p ∷ ps) [] = true
-is_cut_short (p ∷ ps) (b ∷ bs) = (p == b) && is_cut_short ps bs
+strip_prefix word text = then_some (starts_with nat_eq text word) (drop (length word) text)
 
 -- ---- words of the code alone
 
@@ -31,3 +25,15 @@ is_equals b = b == EQUALS
 -- SOH is spelled `|`
 abbrev pub soh_for_bar : ℕ → ℕ
 soh_for_bar b = if b == VERTICAL_BAR then SOH else b
+
+-- strip_prefix, byte by byte
+abbrev pub stripped : List ℕ → List ℕ → Option (List ℕ)
+stripped [] text = Some text
+stripped (p ∷ ps) [] = None
+stripped (p ∷ ps) (b ∷ bs) = if p == b then stripped ps bs else None
+
+-- the text is a proper prefix of the word
+abbrev pub is_cut_short : List ℕ → List ℕ → Bool
+is_cut_short [] text = false
+is_cut_short (p ∷ ps) [] = true
+is_cut_short (p ∷ ps) (b ∷ bs) = (p == b) && is_cut_short ps bs

@@ -66,6 +66,7 @@ impl<'a> Message<'a> {
     }
 
     /// The value of its first field.
+    #[tactic(auto, unfolding(crate::specs::Messages::fields))]
     pub fn kind(&self) -> &'a [u8]
         ensures { result.now ≡ kind self.now.frame.now }
     {
@@ -73,6 +74,7 @@ impl<'a> Message<'a> {
     }
 
     /// The value of the first field with that tag.
+    #[tactic(auto, unfolding(crate::specs::Messages::fields))]
     pub fn get(&self, tag: u32) -> Option<&'a [u8]>
         ensures { option_copied result ≡ get tag self.now.frame.now }
     {

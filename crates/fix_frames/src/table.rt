@@ -166,6 +166,7 @@ pub(crate) fn value_of<'a>(body: &'a [u8], table: Option<&FieldTable>, tag: u32)
 }
 
 /// The same without a table, field by field.
+#[tactic(auto, unfolding(crate::specs::Fields::fields_of_body))]
 fn value_in(text: &[u8], tag: u32) -> Option<&[u8]>
     requires { is_some (fields_of_body text.now) ≡ true }
     ensures { option_copied result ≡ value_of tag text.now }

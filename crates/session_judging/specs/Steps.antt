@@ -12,7 +12,7 @@ use Rattle.session_judging.specs.declared.session.Running.{Running}
 use Rattle.session_judging.specs.declared.session.State.{State}
 use Rattle.session_judging.specs.declared.session.State.TheVariants as states
 use Rattle.session_judging.specs.declared.session.Session.{Session}
-use Rattle.session_judging.specs.View.{MessageView, is_between, view}
+use Rattle.session_judging.specs.View.{Numbered, is_between, numbered, next_due, event_given, logon_in, is_logout, repeats}
 
 abbrev pub new_session : Session
 new_session = record { state = states.Before }
@@ -54,36 +54,36 @@ step_above r =
     else (verdicts.Event (events.Gap r.due), running (record r { gap_asked = true }))
 
 -- the due number: a Logout closes the session, any other message is accepted
-abbrev pub step_due : Running → MessageView → Verdict × Session
+abbrev pub step_due : Running → Numbered → Verdict × Session
 step_due r m =
-    if m.logout then closes close_reason.LOGOUT
-    else (verdict_of m.event, running (record r { due = m.next; gap_asked = false }))
+    if is_logout m then closes close_reason.LOGOUT
+    else (verdict_of (event_given m), running (record r { due = next_due m; gap_asked = false }))
 
 -- a message after the Logon
-abbrev pub step_running : Running → MessageView → Verdict × Session
+abbrev pub step_running : Running → Numbered → Verdict × Session
 step_running r m =
     if not (is_between m r.client r.host) then closes close_reason.COMP_ID
-    else (if nat_lt m.number r.due then step_below r m.duplicate
+    else (if nat_lt m.number r.due then step_below r (repeats m)
     else (if nat_lt r.due m.number then step_above r
     else step_due r m))
 
-abbrev pub step_at : State → MessageView → Verdict × Session
-step_at states.Before m = opens m.next m.logon
+abbrev pub step_at : State → Numbered → Verdict × Session
+step_at states.Before m = opens (next_due m) (logon_in m)
 step_at (states.Running r) m = step_running r m
 step_at states.Closed m = (verdicts.Nothing, closed)
 
 -- what a session says to a message, and the session after it
-abbrev pub step : Session → MessageView → Verdict × Session
+abbrev pub step : Session → Numbered → Verdict × Session
 step s m = step_at s.state m
 
 -- a message whose number can't be read is ignored
-abbrev pub step_or_stay : Session → Option MessageView → Verdict × Session
+abbrev pub step_or_stay : Session → Option Numbered → Verdict × Session
 step_or_stay s None = (verdicts.Nothing, s)
 step_or_stay s (Some m) = step s m
 
 -- what a session says to a frame, and the session after it
 abbrev pub judge : Session → List ℕ → Verdict × Session
-judge s frame = step_or_stay s (view frame)
+judge s frame = step_or_stay s (numbered frame)
 
 abbrev pub end_at : Session → State → Verdict × Session
 end_at s states.Before = closes close_reason.STREAM_ENDED

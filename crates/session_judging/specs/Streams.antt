@@ -4,12 +4,12 @@ use Rattle.spread_rules.specs.declared.codes.close_reason.TheConstants.{STREAM_E
 use Rattle.spread_rules.specs.declared.event.Event.{Event}
 use Rattle.spread_rules.specs.declared.event.Event.TheVariants as variant
 use Rattle.fix_frames.specs.Frames.{frames}
-use Rattle.session_judging.specs.View.{MessageView, view}
+use Rattle.session_judging.specs.View.{Numbered, numbered}
 use Rattle.session_judging.specs.Places.{live, message_events}
 
 -- the messages of a stream: the frames whose number can be read
-abbrev pub messages : List ℕ → List MessageView
-messages stream = filter_map view (frames stream)
+abbrev pub messages : List ℕ → List Numbered
+messages stream = filter_map numbered (frames stream)
 
 -- the events of a stream
 abbrev pub events : List ℕ → List Event
@@ -27,10 +27,10 @@ whole stream =
 -- ---- the same of frames: words of the code alone
 
 abbrev pub events_of : List (List ℕ) → List Event
-events_of fs = message_events (filter_map view fs)
+events_of fs = message_events (filter_map numbered fs)
 
 abbrev pub stays_open_of : List (List ℕ) → Bool
-stays_open_of fs = live (filter_map view fs) (length (filter_map view fs))
+stays_open_of fs = live (filter_map numbered fs) (length (filter_map numbered fs))
 
 abbrev pub whole_of : List (List ℕ) → List Event
 whole_of fs =

@@ -1,4 +1,4 @@
--- What a session sees of a message.
+-- What a session reads in a message.
 use Rattle.std.specs.Prelude.{ℕ, ◌+◌, Bool, ◌&&◌, not, ◌==◌, List, [], ◌∷◌, Option, Some, None, option_map, option_and_then, is_ok, Result, Ok, Err, if◌then◌else◌, codes}
 use Rattle.std.specs.Option.{option_eq}
 use Rattle.std.specs.Str.{bytes_eq}
@@ -48,33 +48,19 @@ abbrev pub due_after_accepted : ℕ → Result Meaning ℕ → ℕ
 due_after_accepted n (Ok (Fills next)) = next
 due_after_accepted n _ = n + 1
 
--- ---- the view
+-- PossDupFlag says that it may be a duplicate
+abbrev pub is_duplicate : List ℕ → Bool
+is_duplicate m = option_eq bytes_eq (get tags.POSS_DUP_FLAG m) (Some (codes "Y"))
 
--- What a session sees of a message: its number, its CompIDs, what it says as a lawful Logon, whether it may be a
--- duplicate, whether it is a Logout, the number that is due after it, and its event as an accepted message after the
--- Logon.
-pub record MessageView : Type 0 where
+-- ---- messages with their numbers
+
+pub record Numbered : Type 0 where
   pub number : ℕ
-  pub sender : Option (List ℕ)
-  pub target : Option (List ℕ)
-  pub logon : Option Logon
-  pub duplicate : Bool
-  pub logout : Bool
-  pub next : ℕ
-  pub event : Option Event
+  pub text : List ℕ
 
--- the view of a frame: None where its number can't be read
-abbrev pub view : List ℕ → Option MessageView
-view m = option_map (λ n. record {
-  number = n;
-  sender = get tags.SENDER_COMP_ID m;
-  target = get tags.TARGET_COMP_ID m;
-  logon = logon_of m n;
-  duplicate = option_eq bytes_eq (get tags.POSS_DUP_FLAG m) (Some (codes "Y"));
-  logout = bytes_eq (kind m) (msg_types.LOGOUT ∷ []);
-  next = due_after_accepted n (meaning_of_message m n);
-  event = event_of_accepted n (meaning_of_message m n);
-}) (number m)
+-- a frame and its number, where that can be read
+abbrev pub numbered : List ℕ → Option Numbered
+numbered m = option_map (λ n. record { number = n; text = m }) (number m)
 
 -- ---- words of the code alone
 
@@ -87,18 +73,29 @@ abbrev pub given_id : ℕ → List ℕ → Option (List ℕ)
 given_id tag m = get tag m >>= id_of
 
 -- the message is from this client, to this host
-abbrev pub is_between : MessageView → List ℕ → List ℕ → Bool
-is_between m client host = is_same_text m.sender client && is_same_text m.target host
+abbrev pub is_between : Numbered → List ℕ → List ℕ → Bool
+is_between m client host =
+    is_same_text (get tags.SENDER_COMP_ID m.text) client
+    && is_same_text (get tags.TARGET_COMP_ID m.text) host
 
--- the view of a message whose number is n
-abbrev pub view_with : List ℕ → ℕ → MessageView
-view_with m n = record {
-  number = n;
-  sender = get tags.SENDER_COMP_ID m;
-  target = get tags.TARGET_COMP_ID m;
-  logon = logon_of m n;
-  duplicate = is_same_text (get tags.POSS_DUP_FLAG m) (codes "Y");
-  logout = bytes_eq (kind m) (msg_types.LOGOUT ∷ []);
-  next = due_after_accepted n (meaning_of_message m n);
-  event = event_of_accepted n (meaning_of_message m n);
-}
+-- what it says as a lawful Logon
+abbrev pub logon_in : Numbered → Option Logon
+logon_in m = logon_of m.text m.number
+
+-- it may be a duplicate; it is a Logout
+abbrev pub repeats : Numbered → Bool
+repeats m = is_same_text (get tags.POSS_DUP_FLAG m.text) (codes "Y")
+
+abbrev pub is_logout : Numbered → Bool
+is_logout m = bytes_eq (kind m.text) (msg_types.LOGOUT ∷ [])
+
+-- the number due after it, and its event, where it is accepted
+abbrev pub next_due : Numbered → ℕ
+next_due m = due_after_accepted m.number (meaning_of_message m.text m.number)
+
+abbrev pub event_given : Numbered → Option Event
+event_given m = event_of_accepted m.number (meaning_of_message m.text m.number)
+
+-- a message whose number is n
+abbrev pub view_with : List ℕ → ℕ → Numbered
+view_with m n = record { number = n; text = m }

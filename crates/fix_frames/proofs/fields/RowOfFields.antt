@@ -1,5 +1,6 @@
 -- A row of fields, one field after another.
 use Rattle.std.proofs.Common.{◌≡◌, ◌≢◌, ℕ, zero, suc, ◌+◌, ◌<◌, ◌≤◌, Bool, true, false, cond, ◌&&◌, not, eqb, ltb, leb, List, [], ◌∷◌, length, take, drop, get_or, Option, Some, None, option_map, option_and_then, is_some, unwrap_or, find, refl, sym, ap, ◌∙◌, arith, add-one, ◌⊎◌, inl, inr}
+use Rattle.std.specs.Bool.{then_some}
 use Rattle.std.specs.List.{position_or_len, list_all}
 use Rattle.std.proofs.lemmas.List.Sums.{fails_before_first, passes_at_first}
 use Rattle.std.proofs.lemmas.Bool.{cases_lt, false≢true}
@@ -12,12 +13,9 @@ use Rattle.std.proofs.lemmas.List.{length-take-le, get_or-take}
 use Rattle.fix_frames.specs.declared.frame.FrameHeader.{FrameHeader}
 use Rattle.fix_frames.specs.Frames.{header, body_at}
 use Rattle.fix_frames.specs.Messages.{fields}
-use Rattle.fix_frames.specs.Fields.{TagValue, field_texts, prepended, with_first, field_of_text, field_with, is_tag, fields_of_texts, fields_of_body}
+use Rattle.fix_frames.specs.Fields.{TagValue, field_texts, prepended, with_first, field_of_text, field_with, is_tag, fields_of_texts, fields_of_body, fields_by_texts}
+use Rattle.fix_frames.proofs.fields.TextsOfABody.{prepended_first, fields_are}
 use Rattle.fix_frames.specs.code.Scans.{first_field, field_up_to, value_of}
-
-pub prepended_first : (b : ℕ) (p : List ℕ) (o : Option (List (List ℕ))) → option_and_then (prepended b) (option_map (with_first p) o) ≡ option_map (with_first (b ∷ p)) o
-prepended_first b p None = refl
-prepended_first b p (Some ps) = refl
 
 -- the first byte 1 ends the first piece
 pub field_texts_cut : (xs : List ℕ) (k : ℕ) → k < length xs → eqb (get_or xs k 0) 1 ≡ true → ((j : ℕ) → j < k → eqb (get_or xs j 0) 1 ≡ false) → field_texts xs ≡ option_map (with_first (take k xs)) (field_texts (drop (suc k) xs))
@@ -40,8 +38,11 @@ field_texts_open (b ∷ c ∷ cs) some before =
 abbrev pub onto_row : TagValue × List ℕ → Option (List TagValue)
 onto_row p = option_map (λ fs. p.0 ∷ fs) (fields_of_body p.1)
 
+abbrev onto_texts : TagValue × List ℕ → Option (List TagValue)
+onto_texts p = option_map (λ fs. p.0 ∷ fs) (fields_by_texts p.1)
+
 with_field : (piece rest : List ℕ) (f : Option TagValue) (o : Option (List (List ℕ))) → o ≡ field_texts rest → f ≡ field_of_text piece →
-    option_and_then fields_of_texts (option_map (with_first piece) o) ≡ option_and_then onto_row (option_map (λ x. (x, rest)) f)
+    option_and_then fields_of_texts (option_map (with_first piece) o) ≡ option_and_then onto_texts (option_map (λ x. (x, rest)) f)
 with_field piece rest None None e g = refl
 with_field piece rest (Some f) None e g = ap (λ x. option_map (λ fs. f ∷ fs) (option_and_then fields_of_texts x)) e
 with_field piece rest None (Some qs) e g = ap (λ x. option_and_then (λ f. option_map (λ fs. f ∷ fs) (fields_of_texts qs)) x) (sym g)
@@ -49,7 +50,7 @@ with_field piece rest (Some f) (Some qs) e g =
     ap (λ x. option_and_then (λ f. option_map (λ fs. f ∷ fs) (fields_of_texts qs)) x) (sym g)
     ∙ ap (λ x. option_map (λ fs. f ∷ fs) (option_and_then fields_of_texts x)) e
 
-row_at : (xs : List ℕ) (end : ℕ) → end ≡ position_or_len is_soh xs → 0 < length xs → (end < length xs) ⊎ (length xs ≤ end) → fields_of_body xs ≡ option_and_then onto_row (field_up_to end xs)
+row_at : (xs : List ℕ) (end : ℕ) → end ≡ position_or_len is_soh xs → 0 < length xs → (end < length xs) ⊎ (length xs ≤ end) → fields_by_texts xs ≡ option_and_then onto_texts (field_up_to end xs)
 row_at xs end e some (inl l) =
     let here : ltb end (length xs) ≡ true = grind (arith, nat_tests) in
     let at : eqb (get_or xs end 0) 1 ≡ true = rw e (passes_at_first is_soh xs 0 (rw (← e) l)) in
@@ -57,17 +58,19 @@ row_at xs end e some (inl l) =
     let cut = field_texts_cut xs end l at before in
     ap (option_and_then fields_of_texts) cut
     ∙ with_field (take end xs) (drop (suc end) xs) (field_of_text (take end xs)) (field_texts (drop (suc end) xs)) refl refl
-    ∙ ap (λ x. option_and_then onto_row (option_map (λ f. (f, drop x xs)) (field_of_text (take end xs)))) (sym (add-one end))
-    ∙ ap (λ x. option_and_then onto_row (cond x (option_map (λ f. (f, drop (end + 1) xs)) (field_of_text (take end xs))) None)) (sym here)
+    ∙ ap (λ x. option_and_then onto_texts (option_map (λ f. (f, drop x xs)) (field_of_text (take end xs)))) (sym (add-one end))
+    ∙ ap (λ x. option_and_then onto_texts (cond x (option_map (λ f. (f, drop (end + 1) xs)) (field_of_text (take end xs))) None)) (sym here)
 row_at xs end e some (inr l) =
     let past_frame : ltb end (length xs) ≡ false = grind (arith, nat_tests) in
     let before : (j : ℕ) → j < length xs → eqb (get_or xs j 0) 1 ≡ false = λ j below. fails_before_first is_soh xs j 0 (rw (← e) (omega arith)) in
     ap (option_and_then fields_of_texts) (field_texts_open xs some before)
-    ∙ ap (λ x. option_and_then onto_row (cond x (option_map (λ f. (f, drop (end + 1) xs)) (field_of_text (take end xs))) None)) (sym past_frame)
+    ∙ ap (λ x. option_and_then onto_texts (cond x (option_map (λ f. (f, drop (end + 1) xs)) (field_of_text (take end xs))) None)) (sym past_frame)
 
 -- a row is its first field and the row behind it
 pub row_is : (xs : List ℕ) → 0 < length xs → fields_of_body xs ≡ option_and_then onto_row (first_field xs)
-row_is xs some = row_at xs (position_or_len is_soh xs) refl some (cases_lt (position_or_len is_soh xs) (length xs))
+row_is xs some =
+    fields_are xs ∙ row_at xs (position_or_len is_soh xs) refl some (cases_lt (position_or_len is_soh xs) (length xs))
+    ∙ (λ i. option_and_then (λ p. option_map (λ fs. p.0 ∷ fs) (sym (fields_are p.1) i)) (first_field xs))
 
 -- the row behind a field is a row exactly where the row is one
 pub row_some : (xs : List ℕ) (p : TagValue × List ℕ) → 0 < length xs → Some p ≡ first_field xs → is_some (fields_of_body p.1) ≡ is_some (fields_of_body xs)
@@ -100,7 +103,7 @@ field_found piece digits tag e l some few first known value =
     let shape = is_tag_is (take digits piece) (omega arith) (omega arith) known (λ z. first (sym same ∙ z)) in
     let here : ltb digits (length piece) ≡ true = grind (arith, nat_tests) in
     ap (λ t. Some (record { tag = t; value = drop (digits + 1) piece })) value
-    ∙ sym (ap (λ x. cond x (Some (record { tag = number_of (take digits piece); value = drop (digits + 1) piece })) None) (ap (λ x. x && is_tag (take digits piece)) here ∙ shape))
+    ∙ sym (ap (λ x. then_some x (record { tag = number_of (take digits piece); value = drop (digits + 1) piece })) (ap (λ x. x && is_tag (take digits piece)) here ∙ shape))
     ∙ ap (λ k. field_with k piece) e
 
 not_field : (text : List ℕ) (p : ℕ) (b : Bool) → b ≡ is_tag (take p text) → (p < length text → b ≡ false) → (ltb p (length text) && is_tag (take p text)) ≡ false
@@ -119,7 +122,7 @@ not_field text p true e h = by_place (cases_lt p (length text))
 pub no_field : (text : List ℕ) (i : ℕ) → ((j : ℕ) → j < i → eqb (get_or text j 0) 61 ≡ false) → ((p : ℕ) → i ≤ p → p < length text → is_tag (take p text) ≡ false) → None ≡ field_of_text text
 no_field text i before other =
     let p = position_or_len is_equals text in
-    sym (ap (λ x. cond x (Some (record { tag = number_of (take p text); value = drop (p + 1) text })) None)
+    sym (ap (λ x. then_some x (record { tag = number_of (take p text); value = drop (p + 1) text }))
     (not_field text p (is_tag (take p text)) refl (λ l. other p (past (cases_lt p i) l) l)))
   where
     past : (position_or_len is_equals text < i) ⊎ (i ≤ position_or_len is_equals text) → position_or_len is_equals text < length text → i ≤ position_or_len is_equals text
@@ -195,6 +198,7 @@ value_none tag xs some e = ap (λ r. option_map (λ f. f.value) (find (λ f. eqb
 
 -- the fields of a message whose claim is known
 pub fields_at : (frame : List ℕ) (head : FrameHeader) → header frame ≡ Some head → fields frame ≡ unwrap_or (fields_of_body (body_at frame head)) []
+unfolding fields
 fields_at frame head e = ap (λ c. unwrap_or (option_and_then (λ h. fields_of_body (body_at frame h)) c) []) e
 
 pub first_some : (xs : List ℕ) (p : TagValue × List ℕ) → Some p ≡ first_field xs → 0 < length xs

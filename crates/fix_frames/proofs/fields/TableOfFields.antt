@@ -143,6 +143,7 @@ or_none (Some v) = refl
 
 -- the table once no field is left
 pub all_tabled : (body : List ℕ) (t : FieldTable) (rest : ℕ) → IsTabled body t rest → length body ≤ rest → (is_some (fields_of_body body) ≡ true) × IsTable body t
+unfolding fields_of_body
 all_tabled body t rest tabled past =
     let none = drop_all rest body past in
     let whole = sym tabled.row ∙ ap (λ x. is_some (fields_of_body x)) none in (

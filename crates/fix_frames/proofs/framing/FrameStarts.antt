@@ -13,7 +13,7 @@ swap_false a b e = grind (arith, nat_tests)
 other_begin : (b : ℕ) (bs : List ℕ) → eqb b 56 ≡ false → from_first_start (b ∷ bs) ≡ from_first_start bs
 other_begin b bs e =
     let f : eqb 56 b ≡ false = swap_false b 56 e in
-    start_nothing b bs (rw f refl) (rw f refl)
+    start_nothing b bs (rw f refl) (rw (e, f) refl)
 
 skip_step : (b : ℕ) (bs : List ℕ) (k : ℕ) (v : Bool) → v ≡ eqb b 56 → k ≡ cond (not v) (1 + position_or_len (is_byte 56) bs) 0 → from_first_start (drop (position_or_len (is_byte 56) bs) bs) ≡ from_first_start bs → from_first_start (drop k (b ∷ bs)) ≡ from_first_start (b ∷ bs)
 skip_step b bs k true v e ih = ap (λ n. from_first_start (drop n (b ∷ bs))) e

@@ -1,6 +1,7 @@
 -- What stands at the front of a text stays what it is when the text goes on.
 use Rattle.std.proofs.Common.{◌≡◌, ℕ, zero, suc, ◌+◌, ◌-◌, ◌<◌, ◌≤◌, Bool, true, false, cond, ◌&&◌, ◌||◌, not, eqb, ltb, leb, List, [], ◌∷◌, ◌++◌, length, take, drop, Option, Some, None, option_map, option_and_then, refl, sym, ap, subst, ◌∙◌, arith, ◌⊎◌, inl, inr, length-append}
 use Rattle.std.proofs.Math.Bool.{and-false}
+use Rattle.std.specs.Bool.{then_some}
 use Rattle.std.specs.Char.{is_ascii_digit}
 use Rattle.std.specs.List.{position_or_len, list_all}
 use Rattle.std.proofs.lemmas.List.{take-append-le, drop-append-le, length-take-le, length-drop, take-append-drop}
@@ -10,38 +11,43 @@ use Rattle.std.proofs.lemmas.Option.{none-some, option_and_then_some, cond_some,
 use Rattle.std.proofs.lemmas.Bool.{false≢true, cases_lt, eqb-true, leb-true, ltb-true, or_from, or_parts, and_parts}
 use Rattle.std.proofs.lemmas.Bool.Decides.{nat_tests}
 use Rattle.fix_frames.specs.declared.frame.FrameHeader.{FrameHeader}
-use Rattle.fix_frames.specs.Texts.{strip_prefix, is_cut_short, is_soh}
+use Rattle.fix_frames.specs.Texts.{stripped, is_cut_short, is_soh}
 use Rattle.fix_values.specs.Digits.{number_of}
 use Rattle.fix_frames.specs.Frames.{begin_text, header, header_after, header_with, is_body_length, is_length_open, is_unfinished, is_intact, is_body, body_at, intact_length, frame_length, frame_at, may_begin}
 use Rattle.fix_frames.proofs.fields.RowOfFields.{place_within}
+use Rattle.fix_frames.proofs.texts.HeaderAtTheFront.{header_is, front_is}
+
+pub some_when : {A : Type 0} (b : Bool) (x y : A) → then_some b x ≡ Some y → (b ≡ true) × (x ≡ y)
+some_when true x y e = (refl, same_Some x y e)
+some_when false x y e = cc
 
 -- a word that stands stays
-pub prefix_stays : (word text more rest : List ℕ) → strip_prefix word text ≡ Some rest → strip_prefix word (text ++ more) ≡ Some (rest ++ more)
+pub prefix_stays : (word text more rest : List ℕ) → stripped word text ≡ Some rest → stripped word (text ++ more) ≡ Some (rest ++ more)
 prefix_stays [] text more rest e = ap (option_map (λ r. r ++ more)) e
 prefix_stays (p ∷ ps) [] more rest e = cc
 prefix_stays (p ∷ ps) (b ∷ bs) more rest e = by_test (λ h. prefix_stays ps bs more rest h) (eqb p b) e
   where
-    by_test : (strip_prefix ps bs ≡ Some rest → strip_prefix ps (bs ++ more) ≡ Some (rest ++ more)) → (v : Bool) → cond v (strip_prefix ps bs) None ≡ Some rest → cond v (strip_prefix ps (bs ++ more)) None ≡ Some (rest ++ more)
+    by_test : (stripped ps bs ≡ Some rest → stripped ps (bs ++ more) ≡ Some (rest ++ more)) → (v : Bool) → cond v (stripped ps bs) None ≡ Some rest → cond v (stripped ps (bs ++ more)) None ≡ Some (rest ++ more)
     by_test ih true e = ih e
     by_test ih false e = cc
 
 -- where a word stands, it isn't cut short
-pub whole_not_short : (word text rest : List ℕ) → strip_prefix word text ≡ Some rest → is_cut_short word text ≡ false
+pub whole_not_short : (word text rest : List ℕ) → stripped word text ≡ Some rest → is_cut_short word text ≡ false
 whole_not_short [] text rest e = refl
 whole_not_short (p ∷ ps) [] rest e = cc
 whole_not_short (p ∷ ps) (b ∷ bs) rest e = by_test (λ h. whole_not_short ps bs rest h) (eqb p b) e
   where
-    by_test : (strip_prefix ps bs ≡ Some rest → is_cut_short ps bs ≡ false) → (v : Bool) → cond v (strip_prefix ps bs) None ≡ Some rest → (v && is_cut_short ps bs) ≡ false
+    by_test : (stripped ps bs ≡ Some rest → is_cut_short ps bs ≡ false) → (v : Bool) → cond v (stripped ps bs) None ≡ Some rest → (v && is_cut_short ps bs) ≡ false
     by_test ih true e = ih e
     by_test ih false e = refl
 
 -- where it neither stands nor is cut short, it never will
-pub other_stays : (word text more : List ℕ) → strip_prefix word text ≡ None → is_cut_short word text ≡ false → (strip_prefix word (text ++ more) ≡ None) × (is_cut_short word (text ++ more) ≡ false)
+pub other_stays : (word text more : List ℕ) → stripped word text ≡ None → is_cut_short word text ≡ false → (stripped word (text ++ more) ≡ None) × (is_cut_short word (text ++ more) ≡ false)
 other_stays [] text more e f = cc
 other_stays (p ∷ ps) [] more e f = cc
 other_stays (p ∷ ps) (b ∷ bs) more e f = by_test (λ g h. other_stays ps bs more g h) (eqb p b) e f
   where
-    by_test : (strip_prefix ps bs ≡ None → is_cut_short ps bs ≡ false → (strip_prefix ps (bs ++ more) ≡ None) × (is_cut_short ps (bs ++ more) ≡ false)) → (v : Bool) → cond v (strip_prefix ps bs) None ≡ None → (v && is_cut_short ps bs) ≡ false → (cond v (strip_prefix ps (bs ++ more)) None ≡ None) × ((v && is_cut_short ps (bs ++ more)) ≡ false)
+    by_test : (stripped ps bs ≡ None → is_cut_short ps bs ≡ false → (stripped ps (bs ++ more) ≡ None) × (is_cut_short ps (bs ++ more) ≡ false)) → (v : Bool) → cond v (stripped ps bs) None ≡ None → (v && is_cut_short ps bs) ≡ false → (cond v (stripped ps (bs ++ more)) None ≡ None) × ((v && is_cut_short ps (bs ++ more)) ≡ false)
     by_test ih true e f = ih e f
     by_test ih false e f = (refl, refl)
 
@@ -159,8 +165,8 @@ header_not_open rest c e =
 
 pub header_stays : (text more : List ℕ) (c : FrameHeader) → header text ≡ Some c → header (text ++ more) ≡ Some c
 header_stays text more c e =
-    option_and_then_some header_after (strip_prefix begin_text text) c e (λ rest stands claims.
-    ap (option_and_then header_after) (prefix_stays begin_text text more rest stands) ∙ header_some_stays rest more c claims)
+    option_and_then_some header_after (stripped begin_text text) c (sym (header_is text) ∙ e) (λ rest stands claims.
+    header_is (text ++ more) ∙ ap (option_and_then header_after) (prefix_stays begin_text text more rest stands) ∙ header_some_stays rest more c claims)
 
 body_stays : (text more : List ℕ) (c : FrameHeader) → frame_length c ≤ length text → body_at (text ++ more) c ≡ body_at text c
 body_stays text more c fits =
@@ -185,7 +191,7 @@ intact_stays text more c fits =
 intact_none : (text : List ℕ) (c : FrameHeader) → intact_length text c ≡ None → is_intact text c ≡ false
 intact_none text c e = by_test (is_intact text c) e
   where
-    by_test : (v : Bool) → cond v (Some (frame_length c)) None ≡ None → v ≡ false
+    by_test : (v : Bool) → then_some v (frame_length c) ≡ None → v ≡ false
     by_test true e = cc
     by_test false e = refl
 
@@ -193,7 +199,7 @@ intact_none text c e = by_test (is_intact text c) e
 pub frame_parts : {P : Type 0} (text : List ℕ) (n : ℕ) → frame_at text ≡ Some n → ((c : FrameHeader) → header text ≡ Some c → is_intact text c ≡ true → frame_length c ≡ n → frame_length c ≤ length text → P) → P
 frame_parts text n e then =
     option_and_then_some (intact_length text) (header text) n e (λ c claims keeps.
-    let p = cond_some (is_intact text c) (frame_length c) n keeps in
+    let p = some_when (is_intact text c) (frame_length c) n keeps in
     let fits = and_parts (leb (frame_length c) (length text)) (is_body (body_at text c)) (and_parts _ _ p.0).0 in
     then c claims p.0 p.1 (leb-true (frame_length c) (length text) fits.0))
 
@@ -202,21 +208,21 @@ pub frame_stays : (text more : List ℕ) (n : ℕ) → frame_at text ≡ Some n 
 frame_stays text more n e =
     frame_parts text n e (λ c claims keeps len fits.
     ap (option_and_then (intact_length (text ++ more))) (header_stays text more c claims)
-    ∙ ap (λ x. cond x (Some (frame_length c)) None) (intact_stays text more c fits ∙ keeps) ∙ ap Some len)
+    ∙ ap (λ x. then_some x (frame_length c)) (intact_stays text more c fits ∙ keeps) ∙ ap Some len)
 
 pub frame_within : (text : List ℕ) (n : ℕ) → frame_at text ≡ Some n → (7 ≤ n) × (n ≤ length text)
 frame_within text n e = frame_parts text n e (λ c claims keeps len fits. (omega arith, omega arith))
 
-never : (text : List ℕ) → frame_at text ≡ None → is_cut_short begin_text text ≡ false → is_length_open (strip_prefix begin_text text) ≡ false → is_unfinished text (header text) ≡ false → (frame_at text ≡ None) × (may_begin text ≡ false)
-never text e cut dead short = (e, or_from _ _ (or_from _ _ cut dead) short)
+never : (text : List ℕ) → frame_at text ≡ None → is_cut_short begin_text text ≡ false → is_length_open (stripped begin_text text) ≡ false → is_unfinished text (header text) ≡ false → (frame_at text ≡ None) × (may_begin text ≡ false)
+never text e cut dead short = (e, or_from _ _ (front_is text ∙ or_from _ _ cut dead) short)
 
 never_with_header : (text more : List ℕ) (c : FrameHeader) → header text ≡ Some c → frame_at text ≡ None → is_unfinished text (header text) ≡ false → (frame_at (text ++ more) ≡ None) × (may_begin (text ++ more) ≡ false)
 never_with_header text more c claims e short =
     let fits : frame_length c ≤ length text = leb_from_ltb (length text) (frame_length c) (sym (ap (is_unfinished text) claims) ∙ short) in
     let lost = intact_none text c (sym (ap (option_and_then (intact_length text)) claims) ∙ e) in
     let claims2 = header_stays text more c claims in
-    let gone = ap (option_and_then (intact_length (text ++ more))) claims2 ∙ ap (λ x. cond x (Some (frame_length c)) None) (intact_stays text more c fits ∙ lost) in
-    option_and_then_some header_after (strip_prefix begin_text text) c claims (λ rest stands says.
+    let gone = ap (option_and_then (intact_length (text ++ more))) claims2 ∙ ap (λ x. then_some x (frame_length c)) (intact_stays text more c fits ∙ lost) in
+    option_and_then_some header_after (stripped begin_text text) c (sym (header_is text) ∙ claims) (λ rest stands says.
     let stands2 = prefix_stays begin_text text more rest stands in
     let cut = whole_not_short begin_text (text ++ more) (rest ++ more) stands2 in
     let dead = ap is_length_open stands2 ∙ not_opened (rest ++ more) (inr (all_not rest more (header_not_open rest c says))) in
@@ -229,16 +235,16 @@ never_with_header text more c claims e short =
     not_ltb : (a b : ℕ) → b ≤ a → ltb a b ≡ false
     not_ltb a b l = grind (arith, nat_tests)
 
-never_unclaimed : (text more : List ℕ) (o : Option (List ℕ)) → o ≡ strip_prefix begin_text text → header text ≡ None → is_cut_short begin_text text ≡ false → is_length_open (strip_prefix begin_text text) ≡ false → (frame_at (text ++ more) ≡ None) × (may_begin (text ++ more) ≡ false)
+never_unclaimed : (text more : List ℕ) (o : Option (List ℕ)) → o ≡ stripped begin_text text → header text ≡ None → is_cut_short begin_text text ≡ false → is_length_open (stripped begin_text text) ≡ false → (frame_at (text ++ more) ≡ None) × (may_begin (text ++ more) ≡ false)
 never_unclaimed text more None e claims cut dead =
     let later = other_stays begin_text text more (sym e) cut in
-    let none = ap (option_and_then header_after) later.0 in
+    let none = header_is (text ++ more) ∙ ap (option_and_then header_after) later.0 in
     never (text ++ more) (ap (option_and_then (intact_length (text ++ more))) none) later.1 (ap is_length_open later.0) (ap (is_unfinished (text ++ more)) none)
 never_unclaimed text more (Some rest) e claims cut dead =
-    let says : header_after rest ≡ None = ap (option_and_then header_after) e ∙ claims in
+    let says : header_after rest ≡ None = ap (option_and_then header_after) e ∙ sym (header_is text) ∙ claims in
     let known = opened_or rest (ap is_length_open e ∙ dead) in
     let stands2 = prefix_stays begin_text text more rest (sym e) in
-    let none = ap (option_and_then header_after) stands2 ∙ header_none_stays rest more says known in
+    let none = header_is (text ++ more) ∙ ap (option_and_then header_after) stands2 ∙ header_none_stays rest more says known in
     never (text ++ more) (ap (option_and_then (intact_length (text ++ more))) none) (whole_not_short begin_text (text ++ more) (rest ++ more) stands2)
     (ap is_length_open stands2 ∙ not_opened (rest ++ more) (opened_stays rest more known)) (ap (is_unfinished (text ++ more)) none)
 
@@ -246,19 +252,19 @@ never_unclaimed text more (Some rest) e claims cut dead =
 pub nothing_stays : (text more : List ℕ) → frame_at text ≡ None → may_begin text ≡ false → (frame_at (text ++ more) ≡ None) × (may_begin (text ++ more) ≡ false)
 nothing_stays text more e m =
     let outer = or_parts _ _ m in
-    let inner = or_parts _ _ outer.0 in
+    let inner = or_parts _ _ (sym (front_is text) ∙ outer.0) in
     by_claim (header text) refl inner.0 inner.1 outer.1
   where
-    by_claim : (o : Option FrameHeader) → o ≡ header text → is_cut_short begin_text text ≡ false → is_length_open (strip_prefix begin_text text) ≡ false → is_unfinished text (header text) ≡ false → (frame_at (text ++ more) ≡ None) × (may_begin (text ++ more) ≡ false)
-    by_claim None o cut dead short = never_unclaimed text more (strip_prefix begin_text text) refl (sym o) cut dead
+    by_claim : (o : Option FrameHeader) → o ≡ header text → is_cut_short begin_text text ≡ false → is_length_open (stripped begin_text text) ≡ false → is_unfinished text (header text) ≡ false → (frame_at (text ++ more) ≡ None) × (may_begin (text ++ more) ≡ false)
+    by_claim None o cut dead short = never_unclaimed text more (stripped begin_text text) refl (sym o) cut dead
     by_claim (Some c) o cut dead short = never_with_header text more c (sym o) e short
 
-behind_front : (word text more rest : List ℕ) → length word ≤ length text → strip_prefix word (text ++ more) ≡ Some rest → (strip_prefix word text ≡ Some (drop (length word) text)) × (rest ≡ drop (length word) text ++ more)
+behind_front : (word text more rest : List ℕ) → length word ≤ length text → stripped word (text ++ more) ≡ Some rest → (stripped word text ≡ Some (drop (length word) text)) × (rest ≡ drop (length word) text ++ more)
 behind_front [] text more rest l e = (refl, sym (same_Some _ _ e))
 behind_front (p ∷ ps) [] more rest l e = absurd (omega arith)
 behind_front (p ∷ ps) (b ∷ bs) more rest l e = by_test (λ h. behind_front ps bs more rest (omega arith) h) (eqb p b) e
   where
-    by_test : (strip_prefix ps (bs ++ more) ≡ Some rest → (strip_prefix ps bs ≡ Some (drop (length ps) bs)) × (rest ≡ drop (length ps) bs ++ more)) → (v : Bool) → cond v (strip_prefix ps (bs ++ more)) None ≡ Some rest → (cond v (strip_prefix ps bs) None ≡ Some (drop (length ps) bs)) × (rest ≡ drop (length ps) bs ++ more)
+    by_test : (stripped ps (bs ++ more) ≡ Some rest → (stripped ps bs ≡ Some (drop (length ps) bs)) × (rest ≡ drop (length ps) bs ++ more)) → (v : Bool) → cond v (stripped ps (bs ++ more)) None ≡ Some rest → (cond v (stripped ps bs) None ≡ Some (drop (length ps) bs)) × (rest ≡ drop (length ps) bs ++ more)
     by_test ih true e = ih e
     by_test ih false e = cc
 
@@ -279,16 +285,16 @@ header_after_front rest more c e l = by_place (cases_lt (position_or_len is_soh 
 -- a claim within a front is the front's own
 pub header_front : (text more : List ℕ) (c : FrameHeader) → header (text ++ more) ≡ Some c → c.body_start ≤ length text → 12 ≤ length text → header text ≡ Some c
 header_front text more c e l twelve =
-    option_and_then_some header_after (strip_prefix begin_text (text ++ more)) c e (λ rest stands says.
+    option_and_then_some header_after (stripped begin_text (text ++ more)) c (sym (header_is (text ++ more)) ∙ e) (λ rest stands says.
     let parts = behind_front begin_text text more rest twelve stands in
     let says2 : header_after (drop 12 text ++ more) ≡ Some c = sym (ap header_after parts.1) ∙ says in
-    ap (option_and_then header_after) parts.0 ∙ header_after_front (drop 12 text) more c says2 (omega (arith, length-drop 12 text)))
+    header_is text ∙ ap (option_and_then header_after) parts.0 ∙ header_after_front (drop 12 text) more c says2 (omega (arith, length-drop 12 text)))
 
 -- the header of a text is that of a front which has the frame
 pub header_alone : (text : List ℕ) (n : ℕ) (c : FrameHeader) → header text ≡ Some c → frame_length c ≤ n → n ≤ length text → header (take n text) ≡ Some c
 header_alone text n c claims fits within =
     let size = length-take-le n text within in
-    let begins : 13 ≤ c.body_start = option_and_then_some header_after (strip_prefix begin_text text) c claims (λ rest stands says. let s = header_start (position_or_len is_soh rest) rest c says in omega (arith, s)) in
+    let begins : 13 ≤ c.body_start = option_and_then_some header_after (stripped begin_text text) c (sym (header_is text) ∙ claims) (λ rest stands says. let s = header_start (position_or_len is_soh rest) rest c says in omega (arith, s)) in
     header_front (take n text) (drop n text) c (ap header (take-append-drop n text) ∙ claims) (omega (arith, size)) (omega (arith, size))
 
 -- a frame at the front of a text is a frame alone
@@ -298,19 +304,19 @@ frame_alone text n e =
     let size = length-take-le n text (omega arith) in
     let claims2 = header_alone text n c claims (omega (arith, len)) (omega (arith, len, fits)) in
     let keeps2 = sym (intact_stays (take n text) (drop n text) c (omega (arith, size))) ∙ ap (λ t. is_intact t c) (take-append-drop n text) ∙ keeps in
-    ap (option_and_then (intact_length (take n text))) claims2 ∙ ap (λ x. cond x (Some (frame_length c)) None) keeps2 ∙ ap Some (len ∙ sym size))
+    ap (option_and_then (intact_length (take n text))) claims2 ∙ ap (λ x. then_some x (frame_length c)) keeps2 ∙ ap Some (len ∙ sym size))
 
 cut_short : (word text : List ℕ) → is_cut_short word text ≡ true → length text < length word
 cut_short [] text e = cc
 cut_short (p ∷ ps) [] e = omega arith
 cut_short (p ∷ ps) (b ∷ bs) e = let t = and_parts (eqb p b) (is_cut_short ps bs) e in omega (arith, cut_short ps bs t.1)
 
-behind_len : (word text rest : List ℕ) → strip_prefix word text ≡ Some rest → length text ≡ length word + length rest
+behind_len : (word text rest : List ℕ) → stripped word text ≡ Some rest → length text ≡ length word + length rest
 behind_len [] text rest e = let h = ap length (same_Some _ _ e) in omega (arith, h)
 behind_len (p ∷ ps) [] rest e = cc
 behind_len (p ∷ ps) (b ∷ bs) rest e = by_test (λ h. behind_len ps bs rest h) (eqb p b) e
   where
-    by_test : (strip_prefix ps bs ≡ Some rest → length bs ≡ length ps + length rest) → (v : Bool) → cond v (strip_prefix ps bs) None ≡ Some rest → suc (length bs) ≡ suc (length ps) + length rest
+    by_test : (stripped ps bs ≡ Some rest → length bs ≡ length ps + length rest) → (v : Bool) → cond v (stripped ps bs) None ≡ Some rest → suc (length bs) ≡ suc (length ps) + length rest
     by_test ih true e = let h = ih e in omega (arith, h)
     by_test ih false e = cc
 
@@ -336,11 +342,11 @@ begins_short text e = by_cut (is_cut_short begin_text text) refl
     by_claim : (o : Option FrameHeader) → o ≡ header text → is_unfinished text o ≡ true → length text < 4124
     by_claim None o s = cc
     by_claim (Some c) o s =
-        option_and_then_some header_after (strip_prefix begin_text text) c (sym o) (λ rest stands says.
+        option_and_then_some header_after (stripped begin_text text) c (sym (header_is text) ∙ sym o) (λ rest stands says.
         let b = header_bound (position_or_len is_soh rest) rest c says in
         let l : length text < frame_length c = ltb-true (length text) (frame_length c) s in omega (arith, b, l))
 
-    by_behind : (o : Option (List ℕ)) → o ≡ strip_prefix begin_text text → (is_length_open o || is_unfinished text (header text)) ≡ true → length text < 4124
+    by_behind : (o : Option (List ℕ)) → o ≡ stripped begin_text text → (is_length_open o || is_unfinished text (header text)) ≡ true → length text < 4124
     by_behind None o s = by_claim (header text) refl s
     by_behind (Some rest) o s = by_open (is_length_open (Some rest)) refl
       where
@@ -352,12 +358,12 @@ begins_short text e = by_cut (is_cut_short begin_text text) refl
 
     by_cut : (v : Bool) → v ≡ is_cut_short begin_text text → length text < 4124
     by_cut true v = let h = cut_short begin_text text (sym v) in omega (arith, h)
-    by_cut false v = by_behind (strip_prefix begin_text text) refl (shift _ _ _ (sym v) e)
+    by_cut false v = by_behind (stripped begin_text text) refl (shift _ _ _ (sym v) (ap (λ x. x || is_unfinished text (header text)) (sym (front_is text)) ∙ e))
 
 -- no frame is longer than 4,124 bytes
 pub frame_short : (text : List ℕ) (n : ℕ) → frame_at text ≡ Some n → n ≤ 4124
 frame_short text n e =
     frame_parts text n e (λ h claims keeps len fits.
-    option_and_then_some header_after (strip_prefix begin_text text) h claims (λ rest stands says.
+    option_and_then_some header_after (stripped begin_text text) h (sym (header_is text) ∙ claims) (λ rest stands says.
     let b = header_bound (position_or_len is_soh rest) rest h says in
     omega (arith, b, len)))

@@ -1,21 +1,30 @@
 -- A word at the front of a text, by recursion and in std's words.
-use Rattle.std.proofs.Common.{◌≡◌, ℕ, suc, ◌<◌, Bool, true, false, cond, ◌&&◌, ◌||◌, option_and_then, ◌==◌, nat_eq, ltb, eqb, List, [], ◌∷◌, length, drop, Some, None, refl, sym, ap, ◌∙◌, arith}
+use Rattle.std.proofs.Common.{◌≡◌, ℕ, suc, ◌<◌, Bool, true, false, cond, ◌&&◌, ◌||◌, ◌==◌, nat_eq, ltb, eqb, List, [], ◌∷◌, length, drop, Some, None, refl, sym, ap, ◌∙◌, arith}
+use Rattle.std.specs.Bool.{then_some}
 use Rattle.std.specs.List.{starts_with}
 use Rattle.std.proofs.lemmas.Bool.Decides.{nat_tests}
-use Rattle.fix_frames.specs.Texts.{strip_prefix, is_cut_short}
-use Rattle.fix_frames.specs.Frames.{begin_text, header, header_after, is_length_open}
+use Rattle.fix_frames.specs.Texts.{strip_prefix, stripped, is_cut_short}
+use Rattle.fix_frames.specs.Frames.{begin_text, is_length_open}
 use Rattle.fix_frames.specs.code.Scans.{is_header_open}
 
-pub behind_is : (word text : List ℕ) → strip_prefix word text ≡ cond (starts_with nat_eq text word) (Some (drop (length word) text)) None
+pub behind_is : (word text : List ℕ) → stripped word text ≡ cond (starts_with nat_eq text word) (Some (drop (length word) text)) None
 behind_is [] text = refl
 behind_is (p ∷ ps) [] = refl
 behind_is (p ∷ ps) (b ∷ bs) =
-    elim (p == b) as (λ v. cond v (strip_prefix ps bs) None ≡ cond (v && starts_with nat_eq bs ps) (Some (drop (length ps) bs)) None) [
+    elim (p == b) as (λ v. cond v (stripped ps bs) None ≡ cond (v && starts_with nat_eq bs ps) (Some (drop (length ps) bs)) None) [
       | true ↦ behind_is ps bs
       | false ↦ refl
     ]
 
-eqb_swap : (a b : ℕ) → eqb a b ≡ eqb b a
+pub some_where : {A : Type 0} (b : Bool) (x : A) → then_some b x ≡ cond b (Some x) None
+some_where true x = refl
+some_where false x = refl
+
+-- the same of the word that says it at once
+pub strip_is : (word text : List ℕ) → strip_prefix word text ≡ stripped word text
+strip_is word text = some_where (starts_with nat_eq text word) (drop (length word) text) ∙ sym (behind_is word text)
+
+pub eqb_swap : (a b : ℕ) → eqb a b ≡ eqb b a
 eqb_swap a b = grind (arith, nat_tests)
 
 and_swap : (x y z : Bool) → (x && (y && z)) ≡ (y && (x && z))
@@ -23,7 +32,7 @@ and_swap true y z = refl
 and_swap false true z = refl
 and_swap false false z = refl
 
-ltb_suc : (a b : ℕ) → ltb (suc a) (suc b) ≡ ltb a b
+pub ltb_suc : (a b : ℕ) → ltb (suc a) (suc b) ≡ ltb a b
 ltb_suc a b = grind (arith, nat_tests)
 
 pub cut_is : (word text : List ℕ) → is_cut_short word text ≡ (ltb (length text) (length word) && starts_with nat_eq word text)
@@ -34,9 +43,6 @@ cut_is (p ∷ ps) (b ∷ bs) =
     ap (λ x. (p == b) && x) (cut_is ps bs) ∙ and_swap (p == b) (ltb (length bs) (length ps)) (starts_with nat_eq ps bs)
     ∙ ap (λ x. x && ((p == b) && starts_with nat_eq ps bs)) (sym (ltb_suc (length bs) (length ps)))
     ∙ ap (λ x. ltb (suc (length bs)) (suc (length ps)) && (x && starts_with nat_eq ps bs)) (eqb_swap p b)
-
-pub header_when : (text : List ℕ) (b : Bool) → b ≡ starts_with nat_eq text begin_text → b ≡ true → header text ≡ header_after (drop 12 text)
-header_when text b e t = ap (option_and_then header_after) (behind_is begin_text text ∙ ap (λ x. cond x (Some (drop 12 text)) None) (sym e ∙ t))
 
 or_false : (x : Bool) → (x || false) ≡ x
 or_false true = refl

@@ -9,7 +9,7 @@ use Rattle.fix_frames.specs.declared.frame.Scan.{Scan}
 use Rattle.fix_frames.specs.declared.frame.Scan.TheVariants.{Frame, Incomplete, Garbled}
 use Rattle.fix_frames.specs.declared.frame.LeadingField.{LeadingField}
 use Rattle.fix_frames.specs.declared.frame.Tag.{Tag}
-use Rattle.fix_frames.specs.Texts.{is_soh, strip_prefix, is_cut_short}
+use Rattle.fix_frames.specs.Texts.{is_soh, stripped, is_cut_short}
 use Rattle.fix_frames.specs.Fields.{TagValue, fields_of_body, field_of_text}
 use Rattle.fix_frames.specs.Frames.{begin_text, frame_at, may_begin, is_length_open}
 
@@ -30,7 +30,7 @@ header_read digits number =
 
 -- a text without a header may still begin a frame
 abbrev pub is_header_open : List ℕ → Bool
-is_header_open text = is_cut_short begin_text text || is_length_open (strip_prefix begin_text text)
+is_header_open text = is_cut_short begin_text text || is_length_open (stripped begin_text text)
 
 abbrev pub field_up_to : ℕ → List ℕ → Option (TagValue × List ℕ)
 field_up_to end body =

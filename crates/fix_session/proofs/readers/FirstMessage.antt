@@ -89,7 +89,7 @@ found_kept held now s v o e f = record {
 
 -- ---- what is passed
 
-same_state : (held held2 : List ℕ) (s s2 : Session) → held ≡ held2 → s ≡ s2 → record { held = held; session = s } ≡ (let r : ReaderState = record { held = held2; session = s2 } in r)
+pub same_state : (held held2 : List ℕ) (s s2 : Session) → held ≡ held2 → s ≡ s2 → record { held = held; session = s } ≡ (let r : ReaderState = record { held = held2; session = s2 } in r)
 same_state held held2 s s2 e f = rw (e, f) refl
 
 -- no message stands

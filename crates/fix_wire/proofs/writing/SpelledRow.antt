@@ -8,7 +8,7 @@ use Rattle.std.proofs.lemmas.Bool.Decides.{nat_tests}
 use Rattle.fix_frames.specs.Texts.{is_equals}
 use Rattle.fix_values.specs.Digits.{number_of}
 use Rattle.fix_frames.specs.Fields.{TagValue, field_texts, prepended, with_first, field_of_text, field_with, is_tag, fields_of_texts, fields_of_body}
-use Rattle.fix_frames.proofs.fields.RowOfFields.{prepended_first}
+use Rattle.fix_frames.proofs.fields.TextsOfABody.{prepended_first, fields_are}
 use Rattle.fix_frames.proofs.fields.ShortTags.{digit_is_not_equals}
 
 -- no byte 1
@@ -89,4 +89,4 @@ fields_all (s ∷ ss) =
 
 -- what is spelled is read
 pub row_spelled : (ss : List Spelled) → fields_of_body (flat_map ended ss) ≡ Some (map_fields ss)
-row_spelled ss = ap (option_and_then fields_of_texts) (pieces_all ss) ∙ fields_all ss
+row_spelled ss = fields_are (flat_map ended ss) ∙ ap (option_and_then fields_of_texts) (pieces_all ss) ∙ fields_all ss

@@ -1,8 +1,9 @@
 -- A written message is a lawful frame with its fields.
-use Rattle.std.proofs.Common.{rules, ◌≡◌, ◌≢◌, ℕ, ◌+◌, ◌/◌, ◌%◌, ◌<◌, ◌≤◌, ◌^◌, pos, Bool, true, false, cond, ◌&&◌, not, eqb, leb, ltb, List, [], ◌∷◌, ◌++◌, map, length, take, drop, sum, Some, None, option_and_then, is_some, unwrap_or, get_or, refl, sym, ap, ◌∙◌, subst, arith, length-append}
+use Rattle.std.proofs.Common.{rules, ◌≡◌, ◌≢◌, ℕ, ◌+◌, ◌/◌, ◌%◌, ◌<◌, ◌≤◌, ◌^◌, pos, Bool, true, false, cond, ◌&&◌, not, nat_eq, eqb, leb, ltb, List, [], ◌∷◌, ◌++◌, map, length, take, drop, sum, Some, None, option_and_then, is_some, unwrap_or, get_or, refl, sym, ap, ◌∙◌, subst, arith, length-append}
 use Rattle.std.specs.Prelude.{decimal, slice_index, unsigned_abs, int_lt}
 use Rattle.std.specs.Char.{is_ascii_digit}
-use Rattle.std.specs.List.{list_all, position_or_len, flat_map, AllByRecursion}
+use Rattle.std.specs.Bool.{then_some}
+use Rattle.std.specs.List.{list_all, position_or_len, starts_with, flat_map, AllByRecursion}
 use Rattle.std.specs.Str.{bytes_eq}
 use Rattle.std.proofs.lemmas.Bool.{and_parts, and_from}
 use Rattle.std.proofs.lemmas.Bool.Decides.{nat_tests}
@@ -17,7 +18,7 @@ use Rattle.fix_wire.specs.declared.writer.Value.TheVariants.{Text, Number, Price
 use Rattle.fix_wire.specs.declared.writer.Field as given
 use Rattle.fix_wire.specs.declared.writer.Head.{Head}
 use Rattle.fix_wire.specs.declared.writer.SpelledHead.{SpelledHead}
-use Rattle.fix_frames.specs.Texts.{is_soh, strip_prefix}
+use Rattle.fix_frames.specs.Texts.{is_soh}
 use Rattle.fix_values.specs.Digits.{number_after, number_of, two_digits}
 use Rattle.fix_frames.specs.Fields.{TagValue, is_tag, fields_of_body}
 use Rattle.fix_frames.specs.Frames.{begin_text, header, header_after, header_with, is_body_length, is_body, is_intact, body_at, frame_length, intact_length, frame_at, frames, checksum_field}
@@ -28,6 +29,7 @@ use Rattle.fix_wire.specs.Spelling.{spelled_body}
 use Rattle.fix_wire.proofs.writing.HeadFields.{head_spelled}
 use Rattle.fix_wire.proofs.writing.SpelledRow as spelled
 use Rattle.fix_frames.proofs.framing.FramesHeld.{scan_frame}
+use Rattle.fix_frames.proofs.texts.HeaderAtTheFront.{header_is}
 
 -- ---- the body as one list of fields
 
@@ -232,8 +234,8 @@ body_row h fs fits = row_written (all_fields h fs) (all_fit h fs fits.0 fits.1)
 
 body_lawful : (h : Head) (fs : List given.Field) → FitsMessage h fs → is_body (body_text h fs) ≡ true
 body_lawful h fs fits =
-    and_from (is_some (strip_prefix (51 ∷ 53 ∷ 61 ∷ []) (body_text h fs))) (is_some (fields_of_body (body_text h fs)))
-    (ap (λ t. is_some (strip_prefix (51 ∷ 53 ∷ 61 ∷ []) t)) (body_front h fs)) (ap is_some (body_row h fs fits))
+    and_from (starts_with nat_eq (body_text h fs) (51 ∷ 53 ∷ 61 ∷ [])) (is_some (fields_of_body (body_text h fs)))
+    (ap (λ t. starts_with nat_eq t (51 ∷ 53 ∷ 61 ∷ [])) (body_front h fs)) (ap is_some (body_row h fs fits))
 
 body_long : (h : Head) (fs : List given.Field) → 5 ≤ length (body_text h fs)
 body_long h fs = let e = ap length (body_front h fs) in omega (arith, e)
@@ -280,7 +282,7 @@ header_of ds body = record { body_start = length ds + 13; body_length = length b
 
 framed_header : (ds body : List ℕ) → is_body_length ds ≡ true → is_plain ds ≡ true → number_of ds ≡ length body → header (framed ds body) ≡ Some (header_of ds body)
 framed_header ds body size plain number =
-    ap header_after (append_assoc ds (1 ∷ body) (checksum_field (sum (front_of ds body) % 256)))
+    header_is (framed ds body) ∙ ap header_after (append_assoc ds (1 ∷ body) (checksum_field (sum (front_of ds body) % 256)))
     ∙ header_spelled ds (body ++ checksum_field (sum (front_of ds body) % 256)) size plain
     ∙ ap (λ n. Some (record { body_start = length ds + 13; body_length = n })) number
 
@@ -320,10 +322,11 @@ framed_len ds body = let h = length-append ds (1 ∷ body) in let g = length-app
 framed_frame : (ds body : List ℕ) → is_body_length ds ≡ true → is_plain ds ≡ true → number_of ds ≡ length body → is_body body ≡ true → frame_at (framed ds body) ≡ Some (length (framed ds body))
 framed_frame ds body size plain number lawful =
     ap (option_and_then (intact_length (framed ds body))) (framed_header ds body size plain number)
-    ∙ ap (λ v. cond v (Some (frame_length (header_of ds body))) None) (framed_kept ds body lawful)
+    ∙ ap (λ v. then_some v (frame_length (header_of ds body))) (framed_kept ds body lawful)
     ∙ ap Some (framed_len ds body)
 
 framed_fields : (ds body : List ℕ) (fs : List TagValue) → is_body_length ds ≡ true → is_plain ds ≡ true → number_of ds ≡ length body → fields_of_body body ≡ Some fs → fields (framed ds body) ≡ fs
+unfolding fields
 framed_fields ds body fs size plain number reads =
     ap (λ o. unwrap_or (option_and_then (λ c. fields_of_body (body_at (framed ds body) c)) o) []) (framed_header ds body size plain number)
     ∙ ap (λ b. unwrap_or (fields_of_body b) []) (body_in ds body (checksum_field (sum (front_of ds body) % 256)))

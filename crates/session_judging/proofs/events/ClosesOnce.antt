@@ -11,7 +11,7 @@ use Rattle.session_judging.specs.declared.session.State.TheVariants as states
 use Rattle.session_judging.specs.declared.session.Session.{Session}
 use Rattle.session_judging.specs.declared.session.Verdict.{Verdict}
 use Rattle.session_judging.specs.declared.session.Verdict.TheVariants as verdicts
-use Rattle.session_judging.specs.View.{MessageView, is_between, view}
+use Rattle.session_judging.specs.View.{Numbered, is_between, numbered, next_due, event_given, logon_in, is_logout, repeats}
 use Rattle.session_judging.specs.Steps.{running, closed, verdict_of, closes, opens, step_below, step_above, step_due, step_running, step_at, step_or_stay, judge, ended, is_closed, is_closing}
 use Rattle.kind_table.proofs.TableInRange.{IsGiven}
 use Rattle.session_judging.proofs.events.InRangeAndOrder.{May, IsFair, view_fair}
@@ -39,45 +39,45 @@ accepted_honest : (r : Running) (o : Option Event) → May IsGiven o → IsHones
 accepted_honest r None h = refl
 accepted_honest r (Some e) h = sym h.no_close
 
-due_honest : (r : Running) (m : MessageView) → IsFair m → IsHonest (step_due r m)
-due_honest r m fair = by_logout m.logout
+due_honest : (r : Running) (m : Numbered) → IsFair m → IsHonest (step_due r m)
+due_honest r m fair = by_logout (is_logout m)
   where
-    by_logout : (v : Bool) → IsHonest (if v then closes 1 else (verdict_of m.event, running (record r { due = m.next; gap_asked = false })))
+    by_logout : (v : Bool) → IsHonest (if v then closes 1 else (verdict_of (event_given m), running (record r { due = (next_due m); gap_asked = false })))
     by_logout true = refl
-    by_logout false = accepted_honest (record r { due = m.next; gap_asked = false }) m.event fair.event
+    by_logout false = accepted_honest (record r { due = (next_due m); gap_asked = false }) (event_given m) fair.event
 
-running_honest : (r : Running) (m : MessageView) → IsFair m → IsHonest (step_running r m)
+running_honest : (r : Running) (m : Numbered) → IsFair m → IsHonest (step_running r m)
 running_honest r m fair = by_number (is_between m r.client r.host) (nat_lt m.number r.due) (nat_lt r.due m.number)
   where
-    by_number : (same below above : Bool) → IsHonest (if not same then closes 4 else (if below then step_below r m.duplicate else (if above then step_above r else step_due r m)))
+    by_number : (same below above : Bool) → IsHonest (if not same then closes 4 else (if below then step_below r (repeats m) else (if above then step_above r else step_due r m)))
     by_number false below above = refl
-    by_number true true above = below_honest r m.duplicate
+    by_number true true above = below_honest r (repeats m)
     by_number true false true = above_honest r
     by_number true false false = due_honest r m fair
 
-state_honest : (t : State) (m : MessageView) → is_closed (record { state = t }) ≡ false → IsFair m → IsHonest (step_at t m)
-state_honest states.Before m opens_ fair = opens_honest m.next m.logon
+state_honest : (t : State) (m : Numbered) → is_closed (record { state = t }) ≡ false → IsFair m → IsHonest (step_at t m)
+state_honest states.Before m opens_ fair = opens_honest (next_due m) (logon_in m)
 state_honest (states.Running r) m opens_ fair = running_honest r m fair
 state_honest states.Closed m opens_ fair = absurd (false≢true (sym opens_))
 
-stay_honest : (s : Session) (o : Option MessageView) → is_closed s ≡ false → May IsFair o → IsHonest (step_or_stay s o)
+stay_honest : (s : Session) (o : Option Numbered) → is_closed s ≡ false → May IsFair o → IsHonest (step_or_stay s o)
 stay_honest s None opens_ fair = opens_
 stay_honest s (Some m) opens_ fair = state_honest s.state m opens_ fair
 
 pub closes_with : (s : Session) (f : List ℕ) → is_closed s ≡ false → is_closed (judge s f).1 ≡ is_closing (judge s f).0
-closes_with s f opens_ = stay_honest s (view f) opens_ (view_fair f)
+closes_with s f opens_ = stay_honest s (numbered f) opens_ (view_fair f)
 
 pub closed_silent : (s : Session) (f : List ℕ) → is_closed s ≡ true → judge s f ≡ (verdicts.Nothing, s)
 closed_silent s f = by_state s.state
   where
-    by_view : (o : Option MessageView) → step_or_stay closed o ≡ (verdicts.Nothing, closed)
+    by_view : (o : Option Numbered) → step_or_stay closed o ≡ (verdicts.Nothing, closed)
     by_view None = refl
     by_view (Some m) = refl
 
     by_state : (t : State) → is_closed (record { state = t }) ≡ true → judge (record { state = t }) f ≡ (verdicts.Nothing, record { state = t })
     by_state states.Before e = absurd (false≢true e)
     by_state (states.Running r) e = absurd (false≢true e)
-    by_state states.Closed e = by_view (view f)
+    by_state states.Closed e = by_view (numbered f)
 
 pub ended_closed : (s : Session) → is_closed (ended s).1 ≡ true
 ended_closed s = by_state s.state

@@ -24,7 +24,7 @@ use Rattle.session_judging.specs.declared.session.State.TheVariants as states
 use Rattle.session_judging.specs.declared.session.Session.{Session}
 use Rattle.session_judging.specs.declared.session.Verdict.{Verdict}
 use Rattle.kind_table.specs.Table.{meaning_of_message}
-use Rattle.session_judging.specs.View.{◌>>=◌, MessageView, is_between, is_opening, given_id, logon_of, event_of_accepted, due_after_accepted, view_with, view}
+use Rattle.session_judging.specs.View.{◌>>=◌, Numbered, is_between, is_opening, given_id, logon_of, event_of_accepted, due_after_accepted, view_with, numbered, next_due, event_given, logon_in, is_logout, repeats}
 use Rattle.session_judging.specs.Steps.{new_session, running, closed, verdict_of, logon_event, closes, opens, step_below, step_above, step_due, step_running, step_at, step_or_stay, judge, event_in, events_said, session_after, events_at_end}
 use Rattle.kind_table.proofs.TableInRange.{Holds, IsGiven, FitsMeaning, meaning_holds}
 use Rattle.session_judging.proofs.events.StateOfPlaces.{cons_two}
@@ -37,17 +37,17 @@ chained : {A B : Type 0} (P : A → Type 0) (Q : B → Type 0) (o : Option A) (f
 chained P Q None f h g = tt
 chained P Q (Some x) f h g = g x h
 
--- ---- the view of a frame
+-- ---- the numbered of a frame
 
 abbrev pub FitsLogon : Logon → Type 0
 FitsLogon l = FitsEvent (logon_event l)
 
 -- what a session sees of a message is in range
-pub record IsFair (m : MessageView) : Type 0 where
+pub record IsFair (m : Numbered) : Type 0 where
   pub number : IsNumber m.number
-  pub next : 1 ≤ m.next
-  pub event : May IsGiven m.event
-  pub logon : May FitsLogon m.logon
+  pub next : 1 ≤ (next_due m)
+  pub event : May IsGiven (event_given m)
+  pub logon : May FitsLogon (logon_in m)
 
 id_holds : (text : List ℕ) → May (λ id. is_id id ≡ true) (id_of text)
 id_holds text = by_test (is_id text) refl
@@ -122,7 +122,7 @@ pub number_holds : (o : Option (List ℕ)) → May IsNumber (option_and_then (λ
 number_holds None = tt
 number_holds (Some text) = chained (λ x. x ≤ 999999999) IsNumber (result_ok (number_in text)) _ (read_holds text) at_least_one_holds
 
-pub view_fair : (m : List ℕ) → May IsFair (view m)
+pub view_fair : (m : List ℕ) → May IsFair (numbered m)
 view_fair m = by_number (number m) (number_holds (get 34 m))
   where
     by_number : (o : Option ℕ) → May IsNumber o → May IsFair (option_map (view_with m) o)
@@ -192,33 +192,33 @@ above_lawful rest ih r low high = by_asked r.gap_asked
     by_asked true = ih (running r) low
     by_asked false = given_more r (record r { gap_asked = true }) (events.Gap r.due) (rest (running (record r { gap_asked = true }))) (record { fits = (low, high); no_logon = refl; no_close = refl }) (ih (running (record r { gap_asked = true })) low)
 
-due_lawful : (rest : Session → List Event) → IsLawfulRest rest → (r : Running) (m : MessageView) → IsFair m
+due_lawful : (rest : Session → List Event) → IsLawfulRest rest → (r : Running) (m : Numbered) → IsFair m
     → IsLawfulFrom (states.Running r) (says_first rest (step_due r m))
-due_lawful rest ih r m fair = by_logout m.logout
+due_lawful rest ih r m fair = by_logout (is_logout m)
   where
-    by_logout : (v : Bool) → IsLawfulFrom (states.Running r) (says_first rest (if v then closes 1 else (verdict_of m.event, running (record r { due = m.next; gap_asked = false }))))
+    by_logout : (v : Bool) → IsLawfulFrom (states.Running r) (says_first rest (if v then closes 1 else (verdict_of (event_given m), running (record r { due = (next_due m); gap_asked = false }))))
     by_logout true = close_later r 1 (rest closed) (omega arith) (omega arith) (ih closed tt)
-    by_logout false = accepted_lawful rest ih r (record r { due = m.next; gap_asked = false }) fair.next m.event fair.event
+    by_logout false = accepted_lawful rest ih r (record r { due = (next_due m); gap_asked = false }) fair.next (event_given m) fair.event
 
-running_lawful : (rest : Session → List Event) → IsLawfulRest rest → (r : Running) (m : MessageView) → 1 ≤ r.due → IsFair m
+running_lawful : (rest : Session → List Event) → IsLawfulRest rest → (r : Running) (m : Numbered) → 1 ≤ r.due → IsFair m
     → IsLawfulFrom (states.Running r) (says_first rest (step_running r m))
 running_lawful rest ih r m low fair = by_number (is_between m r.client r.host) (nat_lt m.number r.due) (nat_lt r.due m.number) refl
   where
-    by_number : (same below above : Bool) → nat_lt r.due m.number ≡ above → IsLawfulFrom (states.Running r) (says_first rest (if not same then closes 4 else (if below then step_below r m.duplicate else (if above then step_above r else step_due r m))))
+    by_number : (same below above : Bool) → nat_lt r.due m.number ≡ above → IsLawfulFrom (states.Running r) (says_first rest (if not same then closes 4 else (if below then step_below r (repeats m) else (if above then step_above r else step_due r m))))
     by_number false below above e = close_later r 4 (rest closed) (omega arith) (omega arith) (ih closed tt)
-    by_number true true above e = below_lawful rest ih r low m.duplicate
+    by_number true true above e = below_lawful rest ih r low (repeats m)
     by_number true false true e =
         let over : r.due < m.number = grind (arith, nat_tests) in
         above_lawful rest ih r low (omega (arith, over, fair.number.1))
     by_number true false false e = due_lawful rest ih r m fair
 
-step_lawful : (rest : Session → List Event) → IsLawfulRest rest → (t : State) (m : MessageView) → IsSound t → IsFair m
+step_lawful : (rest : Session → List Event) → IsLawfulRest rest → (t : State) (m : Numbered) → IsSound t → IsFair m
     → IsLawfulFrom t (says_first rest (step_at t m))
-step_lawful rest ih states.Before m sound fair = opens_lawful rest ih m.next m.logon fair.next fair.logon
+step_lawful rest ih states.Before m sound fair = opens_lawful rest ih (next_due m) (logon_in m) fair.next fair.logon
 step_lawful rest ih (states.Running r) m sound fair = running_lawful rest ih r m sound fair
 step_lawful rest ih states.Closed m sound fair = ih closed tt
 
-judge_lawful : (rest : Session → List Event) → IsLawfulRest rest → (s : Session) (o : Option MessageView) → IsSound s.state → May IsFair o
+judge_lawful : (rest : Session → List Event) → IsLawfulRest rest → (s : Session) (o : Option Numbered) → IsSound s.state → May IsFair o
     → IsLawfulFrom s.state (says_first rest (step_or_stay s o))
 judge_lawful rest ih s None sound fair = ih s sound
 judge_lawful rest ih s (Some m) sound fair = step_lawful rest ih s.state m sound fair
@@ -239,7 +239,7 @@ end_lawful s sound = by_state s.state sound
 
 said_lawful : (fs : List (List ℕ)) → IsLawfulRest (said_until_end fs)
 said_lawful [] = end_lawful
-said_lawful (f ∷ fs) = λ s sound. judge_lawful (said_until_end fs) (said_lawful fs) s (view f) sound (view_fair f)
+said_lawful (f ∷ fs) = λ s sound. judge_lawful (said_until_end fs) (said_lawful fs) s (numbered f) sound (view_fair f)
 
 said_is : (fs : List (List ℕ)) (s : Session) → events_said s fs ++ events_at_end (session_after s fs) ≡ said_until_end fs s
 said_is [] s = refl

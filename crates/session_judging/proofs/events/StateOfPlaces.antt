@@ -14,7 +14,7 @@ use Rattle.spread_rules.specs.declared.event.Event.{Event}
 use Rattle.spread_rules.specs.declared.event.Event.TheVariants as variant
 use Rattle.session_judging.specs.declared.session.Logon.{Logon}
 use Rattle.session_judging.specs.declared.session.Session.{Session}
-use Rattle.session_judging.specs.View.{MessageView, is_between, view}
+use Rattle.session_judging.specs.View.{Numbered, is_between, numbered, next_due, event_given, logon_in, is_logout, repeats}
 use Rattle.session_judging.specs.Places.{session_logon, due_after, closing, is_accepted, live, last_accepted_before, due, has_open_gap, event, message_events}
 use Rattle.session_judging.specs.Streams.{whole_of}
 use Rattle.session_judging.specs.Steps as steps
@@ -25,26 +25,26 @@ abbrev place_after : Option ℕ → ℕ
 place_after last = option_map_or suc last 0
 
 -- a live message after the first, by the session's Logon: it is accepted; why it closes the session
-abbrev is_next : Option Logon → ℕ → MessageView → Bool
+abbrev is_next : Option Logon → ℕ → Numbered → Bool
 is_next o due m = option_map_or (λ l. is_between m l.client l.host) o false && eqb m.number due
 
-abbrev closing_later : Option Logon → ℕ → MessageView → Option ℕ
+abbrev closing_later : Option Logon → ℕ → Numbered → Option ℕ
 closing_later o due m =
     cond (not (option_map_or (λ l. is_between m l.client l.host) o false)) (Some 4)
-    (cond (ltb m.number due && not m.duplicate) (Some 2) (cond (eqb m.number due && m.logout) (Some 1) None))
+    (cond (ltb m.number due && not (repeats m)) (Some 2) (then_some (eqb m.number due && (is_logout m)) 1))
 
 -- the message at a place: it closes the session, it is accepted
-abbrev closes_at : List MessageView → ℕ → ℕ → Option MessageView → Bool
+abbrev closes_at : List Numbered → ℕ → ℕ → Option Numbered → Bool
 closes_at ms p due o = is_some (option_and_then (closing ms p due) o)
 
-abbrev accepts_at : List MessageView → ℕ → ℕ → Option MessageView → Bool
+abbrev accepts_at : List Numbered → ℕ → ℕ → Option Numbered → Bool
 accepts_at ms p due o = option_map_or (is_accepted ms p due) o false
 
-abbrev next_after : Option MessageView → ℕ
-next_after o = option_map_or (λ m. m.next) o 1
+abbrev next_after : Option Numbered → ℕ
+next_after o = option_map_or (λ m. (next_due m)) o 1
 
 -- the events of the places from p on
-abbrev events_from : List MessageView → ℕ → List MessageView → List Event
+abbrev events_from : List Numbered → ℕ → List Numbered → List Event
 events_from ms p later = filter_map (λ place. event ms place.0 place.1) (enumerate_from p later)
 
 -- a running session, by what it is between, the due number, and whether a gap was asked
@@ -56,7 +56,7 @@ runs_or None d a = closed
 runs_or (Some ids) d a = runs ids d a
 
 -- one step, with the verdict read as an event
-abbrev says : Session → MessageView → Option Event × Session
+abbrev says : Session → Numbered → Option Event × Session
 says s m = (event_in (step s m).0, (step s m).1)
 
 number_case : (n d : ℕ) → ((ltb n d ≡ true) × (ltb d n ≡ false) × (eqb n d ≡ false)) ⊎ (((ltb n d ≡ false) × (ltb d n ≡ true) × (eqb n d ≡ false)) ⊎ ((ltb n d ≡ false) × (ltb d n ≡ false) × (eqb n d ≡ true)))
@@ -72,27 +72,27 @@ event_in_of None = refl
 event_in_of (Some e) = refl
 
 -- the state that the places before p make
-abbrev state_at : List MessageView → ℕ → Session
+abbrev state_at : List Numbered → ℕ → Session
 state_at ms zero = new_session
 state_at ms (suc p) = cond (live ms (suc p)) (runs_or (session_logon ms) (due ms (suc p)) (has_open_gap ms (suc p))) closed
 
-first_step : (m : MessageView) (ms : List MessageView) (o : Option Logon) → m.logon ≡ o → says new_session m ≡ (event (m ∷ ms) 0 m, state_at (m ∷ ms) 1)
+first_step : (m : Numbered) (ms : List Numbered) (o : Option Logon) → (logon_in m) ≡ o → says new_session m ≡ (event (m ∷ ms) 0 m, state_at (m ∷ ms) 1)
 first_step m ms None e = rw e
 first_step m ms (Some o) e = rw e
 
 -- what the places say of a live message after the first
-abbrev placed : Option Logon → ℕ → Bool → MessageView → Option (Event)
-placed parties d a m = option_or (option_map variant.Close (closing_later parties d m)) (cond (is_next parties d m) (m.event) (then_some (ltb d m.number && not a) (variant.Gap d)))
+abbrev placed : Option Logon → ℕ → Bool → Numbered → Option (Event)
+placed parties d a m = option_or (option_map variant.Close (closing_later parties d m)) (cond (is_next parties d m) ((event_given m)) (then_some (ltb d m.number && not a) (variant.Gap d)))
 
 -- one step of a running session, and what the places say
-step_is : (parties : Logon) (d : ℕ) (a : Bool) (m : MessageView) (l : Bool) (d2 : ℕ) (a2 : Bool) →
+step_is : (parties : Logon) (d : ℕ) (a : Bool) (m : Numbered) (l : Bool) (d2 : ℕ) (a2 : Bool) →
     l ≡ not (is_some (closing_later (Some parties) d m)) →
-    (is_next (Some parties) d m ≡ true → (d2 ≡ m.next) × (a2 ≡ false)) →
+    (is_next (Some parties) d m ≡ true → (d2 ≡ (next_due m)) × (a2 ≡ false)) →
     (is_next (Some parties) d m ≡ false → (d2 ≡ d) × (a2 ≡ (a || ltb d m.number))) →
     says (runs parties d a) m ≡ (placed (Some parties) d a m, cond l (runs parties d2 a2) closed)
 step_is parties d a m l d2 a2 lives taken passed = by_same (is_between m parties.client parties.host) refl (number_case m.number d)
   where
-    by_below : (dup : Bool) → m.duplicate ≡ dup → is_between m parties.client parties.host ≡ true → (ltb m.number d ≡ true) × (ltb d m.number ≡ false) × (eqb m.number d ≡ false) → says (runs parties d a) m ≡ (placed (Some parties) d a m, cond l (runs parties d2 a2) closed)
+    by_below : (dup : Bool) → (repeats m) ≡ dup → is_between m parties.client parties.host ≡ true → (ltb m.number d ≡ true) × (ltb d m.number ≡ false) × (eqb m.number d ≡ false) → says (runs parties d a) m ≡ (placed (Some parties) d a m, cond l (runs parties d2 a2) closed)
     by_below true dup s (lt, gt, eq) =
         let other = passed (simp (s, eq)) in
         let same : a2 ≡ a = other.1 ∙ ap (λ x. a || x) gt ∙ or-false a in
@@ -114,31 +114,31 @@ step_is parties d a m l d2 a2 lives taken passed = by_same (is_between m parties
         let alive : l ≡ true = simp (s, lt, eq) at lives in
         simp (s, lt, gt, eq, alive, other.0, same, e)
 
-    by_due : (ends : Bool) → m.logout ≡ ends → is_between m parties.client parties.host ≡ true → (ltb m.number d ≡ false) × (ltb d m.number ≡ false) × (eqb m.number d ≡ true) → says (runs parties d a) m ≡ (placed (Some parties) d a m, cond l (runs parties d2 a2) closed)
+    by_due : (ends : Bool) → (is_logout m) ≡ ends → is_between m parties.client parties.host ≡ true → (ltb m.number d ≡ false) × (ltb d m.number ≡ false) × (eqb m.number d ≡ true) → says (runs parties d a) m ≡ (placed (Some parties) d a m, cond l (runs parties d2 a2) closed)
     by_due true e s (lt, gt, eq) =
         let dead : l ≡ false = simp (s, lt, eq, e) at lives in
         simp (s, lt, gt, eq, dead, e)
     by_due false e s (lt, gt, eq) =
         let next = taken (simp (s, eq)) in
         let alive : l ≡ true = simp (s, lt, eq, e) at lives in
-        simp (s, lt, gt, eq, alive, next.0, next.1, e, event_in_of m.event)
+        simp (s, lt, gt, eq, alive, next.0, next.1, e, event_in_of (event_given m))
 
     by_same : (v : Bool) → is_between m parties.client parties.host ≡ v → ((ltb m.number d ≡ true) × (ltb d m.number ≡ false) × (eqb m.number d ≡ false)) ⊎ (((ltb m.number d ≡ false) × (ltb d m.number ≡ true) × (eqb m.number d ≡ false)) ⊎ ((ltb m.number d ≡ false) × (ltb d m.number ≡ false) × (eqb m.number d ≡ true))) → says (runs parties d a) m ≡ (placed (Some parties) d a m, cond l (runs parties d2 a2) closed)
     by_same false s n = let dead : l ≡ false = rw s at lives in rw (s, dead)
-    by_same true s (inl n) = by_below m.duplicate refl s n
+    by_same true s (inl n) = by_below (repeats m) refl s n
     by_same true s (inr (inl n)) = by_above a refl s n
-    by_same true s (inr (inr n)) = by_due m.logout refl s n
+    by_same true s (inr (inr n)) = by_due (is_logout m) refl s n
 
 -- where a place after the first is live, the first message opened the session
-opened_some : (m : MessageView) (ms : List MessageView) (p : ℕ) → live (m ∷ ms) (suc p) ≡ true → (o : Logon) × (session_logon (m ∷ ms) ≡ Some o)
-opened_some m ms zero e = by_opens m.logon refl
+opened_some : (m : Numbered) (ms : List Numbered) (p : ℕ) → live (m ∷ ms) (suc p) ≡ true → (o : Logon) × (session_logon (m ∷ ms) ≡ Some o)
+opened_some m ms zero e = by_opens (logon_in m) refl
   where
-    by_opens : (o : Option Logon) → m.logon ≡ o → (q : Logon) × (session_logon (m ∷ ms) ≡ Some q)
+    by_opens : (o : Option Logon) → (logon_in m) ≡ o → (q : Logon) × (session_logon (m ∷ ms) ≡ Some q)
     by_opens (Some o) h = (o, h)
     by_opens None h = absurd (false≢true (simp h at e))
 opened_some m ms (suc p) e = opened_some m ms p (and_parts _ _ e).0
 
-last_below : (ms : List MessageView) (p : ℕ) → place_after (last_accepted_before ms p) ≤ p
+last_below : (ms : List Numbered) (p : ℕ) → place_after (last_accepted_before ms p) ≤ p
 last_below ms zero = omega arith
 last_below ms (suc p) = by_test (last_below ms p) (live ms p && accepts_at ms p (due ms p) (slice_get ms p))
   where
@@ -146,12 +146,12 @@ last_below ms (suc p) = by_test (last_below ms p) (live ms p && accepts_at ms p 
     by_test ih true = omega arith
     by_test ih false = omega arith
 
-take_one_more : (ms : List MessageView) (q : ℕ) (m : MessageView) → slice_get ms q ≡ Some m → take (suc q) ms ≡ take q ms ++ m ∷ []
+take_one_more : (ms : List Numbered) (q : ℕ) (m : Numbered) → slice_get ms q ≡ Some m → take (suc q) ms ≡ take q ms ++ m ∷ []
 take_one_more [] q m e = cc
 take_one_more (x ∷ ms) zero m e = ap (λ y. y ∷ []) (same_Some _ _ e)
 take_one_more (x ∷ ms) (suc q) m e = ap (λ t. x ∷ t) (take_one_more ms q m e)
 
-asked_more : (ms : List MessageView) (q d f : ℕ) (m : MessageView) → slice_get ms q ≡ Some m → f ≤ q →
+asked_more : (ms : List Numbered) (q d f : ℕ) (m : Numbered) → slice_get ms q ≡ Some m → f ≤ q →
     list_any (λ x. ltb d x.number) (drop f (take (suc q) ms)) ≡ (list_any (λ x. ltb d x.number) (drop f (take q ms)) || ltb d m.number)
 asked_more ms q d f m e l =
     let within = slice_get_within ms q m e in
@@ -160,13 +160,13 @@ asked_more ms q d f m e l =
     ∙ list_any-append (λ x. ltb d x.number) (drop f (take q ms)) (m ∷ [])
     ∙ ap (λ x. list_any (λ y. ltb d y.number) (drop f (take q ms)) || x) (or-false (ltb d m.number))
 
-later_step : (x : MessageView) (xs : List MessageView) (p : ℕ) (m : MessageView) → slice_get xs p ≡ Some m → says (state_at (x ∷ xs) (suc p)) m ≡ (event (x ∷ xs) (suc p) m, state_at (x ∷ xs) (suc (suc p)))
+later_step : (x : Numbered) (xs : List Numbered) (p : ℕ) (m : Numbered) → slice_get xs p ≡ Some m → says (state_at (x ∷ xs) (suc p)) m ≡ (event (x ∷ xs) (suc p) m, state_at (x ∷ xs) (suc (suc p)))
 later_step x xs p m get = by_live (live (x ∷ xs) (suc p)) refl
   where
     by_live : (v : Bool) → live (x ∷ xs) (suc p) ≡ v → says (state_at (x ∷ xs) (suc p)) m ≡ (event (x ∷ xs) (suc p) m, state_at (x ∷ xs) (suc (suc p)))
     by_live false e = simp e
     by_live true e =
-        let ms : List MessageView = x ∷ xs in
+        let ms : List Numbered = x ∷ xs in
         let q : ℕ = suc p in
         let o = opened_some x xs p e in
         let parties = o.0 in
@@ -184,7 +184,7 @@ later_step x xs p m get = by_live (live (x ∷ xs) (suc p)) refl
         let last_is : last_accepted_before ms (suc q) ≡ cond (is_next (Some parties) d m) (Some q) (last_accepted_before ms q) =
         ap (λ v. cond (v && accepts_at ms q d (slice_get ms q)) (Some q) (last_accepted_before ms q)) e
         ∙ ap (λ g. cond (accepts_at ms q d g) (Some q) (last_accepted_before ms q)) get ∙ ap (λ h. cond (is_next h d m) (Some q) (last_accepted_before ms q)) op in
-        let taken : is_next (Some parties) d m ≡ true → (d2 ≡ m.next) × (a2 ≡ false) = λ t.
+        let taken : is_next (Some parties) d m ≡ true → (d2 ≡ (next_due m)) × (a2 ≡ false) = λ t.
         let la : last_accepted_before ms (suc q) ≡ Some q = last_is ∙ ap (λ v. cond v (Some q) (last_accepted_before ms q)) t in
         let none : drop (suc q) (take (suc q) ms) ≡ [] = drop_all (suc q) (take (suc q) ms) (omega (arith, length-take (suc q) ms)) in (
           ap (λ t. due_after ms t) la ∙ ap (λ g. next_after g) get,
@@ -199,27 +199,27 @@ later_step x xs p m get = by_live (live (x ∷ xs) (suc p)) refl
         ap (λ s. says s m) state ∙ step_is parties d a m l d2 a2 lives taken passed
         ∙ ap (λ v. (v, cond l (runs parties d2 a2) closed)) (sym placed_is) ∙ ap (λ s. (event ms q m, s)) (sym then)
 
-get_front : (ms : List MessageView) (p : ℕ) (m : MessageView) (later : List MessageView) → drop p ms ≡ m ∷ later → (slice_get ms p ≡ Some m) × (drop (suc p) ms ≡ later)
+get_front : (ms : List Numbered) (p : ℕ) (m : Numbered) (later : List Numbered) → drop p ms ≡ m ∷ later → (slice_get ms p ≡ Some m) × (drop (suc p) ms ≡ later)
 get_front [] zero m later e = cc
 get_front [] (suc p) m later e = cc
 get_front (x ∷ ms) zero m later e = (cc, cc)
 get_front (x ∷ ms) (suc p) m later e = get_front ms p m later e
 
-one_step : (ms : List MessageView) (p : ℕ) (m : MessageView) → slice_get ms p ≡ Some m → says (state_at ms p) m ≡ (event ms p m, state_at ms (suc p))
+one_step : (ms : List Numbered) (p : ℕ) (m : Numbered) → slice_get ms p ≡ Some m → says (state_at ms p) m ≡ (event ms p m, state_at ms (suc p))
 one_step [] p m e = cc
-one_step (x ∷ xs) zero m e = let same = same_Some _ _ e in subst (λ y. says new_session y ≡ (event (x ∷ xs) 0 y, state_at (x ∷ xs) 1)) same (first_step x xs x.logon refl)
+one_step (x ∷ xs) zero m e = let same = same_Some _ _ e in subst (λ y. says new_session y ≡ (event (x ∷ xs) 0 y, state_at (x ∷ xs) 1)) same (first_step x xs (logon_in x) refl)
 one_step (x ∷ xs) (suc p) m e = later_step x xs p m e
 
 -- what a session says to messages, and the session after them
-abbrev says_all : Session → List MessageView → List Event
+abbrev says_all : Session → List Numbered → List Event
 says_all s [] = []
 says_all s (m ∷ ms) = cons_option (says s m).0 (says_all (says s m).1 ms)
 
-abbrev after_all : Session → List MessageView → Session
+abbrev after_all : Session → List Numbered → Session
 after_all s [] = s
 after_all s (m ∷ ms) = after_all (says s m).1 ms
 
-says_is : (ms later : List MessageView) (p : ℕ) → drop p ms ≡ later → says_all (state_at ms p) later ≡ events_from ms p later
+says_is : (ms later : List Numbered) (p : ℕ) → drop p ms ≡ later → says_all (state_at ms p) later ≡ events_from ms p later
 says_is ms [] p e = refl
 says_is ms (m ∷ later) p e =
     let front = get_front ms p m later e in
@@ -227,14 +227,14 @@ says_is ms (m ∷ later) p e =
     ap (λ r. cons_option r.0 (says_all r.1 later)) s ∙ ap (λ t. cons_option (event ms p m) t) (says_is ms later (suc p) front.1)
     ∙ ap (λ k. cons_option (event ms p m) (events_from ms k later)) (sym (add-one p))
 
-after_is : (ms later : List MessageView) (p n : ℕ) → drop p ms ≡ later → p + length later ≡ n → after_all (state_at ms p) later ≡ state_at ms n
+after_is : (ms later : List Numbered) (p n : ℕ) → drop p ms ≡ later → p + length later ≡ n → after_all (state_at ms p) later ≡ state_at ms n
 after_is ms [] p n e l = let same : p ≡ n = omega (arith, l) in ap (λ k. state_at ms k) same
 after_is ms (m ∷ later) p n e l =
     let front = get_front ms p m later e in
     let s = one_step ms p m front.0 in
     ap (λ r. after_all r.1 later) s ∙ after_is ms later (suc p) n front.1 (omega arith)
 
-end_is : (ms : List MessageView) → events_at_end (state_at ms (length ms)) ≡ cond (live ms (length ms)) (variant.Close 5 ∷ []) []
+end_is : (ms : List Numbered) → events_at_end (state_at ms (length ms)) ≡ cond (live ms (length ms)) (variant.Close 5 ∷ []) []
 end_is [] = refl
 end_is (x ∷ xs) = by_live (live (x ∷ xs) (suc (length xs))) refl
   where
@@ -247,36 +247,36 @@ end_is (x ∷ xs) = by_live (live (x ∷ xs) (suc (length xs))) refl
         ∙ sym (ap (λ v. cond v (variant.Close 5 ∷ []) []) e)
 
 -- frames whose number can't be read say nothing and change nothing
-events_said_messages : (s : Session) (fs : List (List ℕ)) → events_said s fs ≡ says_all s (filter_map view fs)
+events_said_messages : (s : Session) (fs : List (List ℕ)) → events_said s fs ≡ says_all s (filter_map numbered fs)
 events_said_messages s [] = refl
-events_said_messages s (f ∷ fs) = by_view (view f) (λ t. events_said_messages t fs)
+events_said_messages s (f ∷ fs) = by_view (numbered f) (λ t. events_said_messages t fs)
   where
-    by_view : (o : Option MessageView) → ((t : Session) → events_said t fs ≡ says_all t (filter_map view fs)) →
-        cons_option (event_in (steps.step_or_stay s o).0) (events_said (steps.step_or_stay s o).1 fs) ≡ says_all s (cons_option o (filter_map view fs))
+    by_view : (o : Option Numbered) → ((t : Session) → events_said t fs ≡ says_all t (filter_map numbered fs)) →
+        cons_option (event_in (steps.step_or_stay s o).0) (events_said (steps.step_or_stay s o).1 fs) ≡ says_all s (cons_option o (filter_map numbered fs))
     by_view None ih = ih s
     by_view (Some m) ih = ap (cons_option (event_in (step s m).0)) (ih (step s m).1)
 
-after_messages : (s : Session) (fs : List (List ℕ)) → session_after s fs ≡ after_all s (filter_map view fs)
+after_messages : (s : Session) (fs : List (List ℕ)) → session_after s fs ≡ after_all s (filter_map numbered fs)
 after_messages s [] = refl
-after_messages s (f ∷ fs) = by_view (view f) (λ t. after_messages t fs)
+after_messages s (f ∷ fs) = by_view (numbered f) (λ t. after_messages t fs)
   where
-    by_view : (o : Option MessageView) → ((t : Session) → session_after t fs ≡ after_all t (filter_map view fs)) →
-        session_after (steps.step_or_stay s o).1 fs ≡ after_all s (cons_option o (filter_map view fs))
+    by_view : (o : Option Numbered) → ((t : Session) → session_after t fs ≡ after_all t (filter_map numbered fs)) →
+        session_after (steps.step_or_stay s o).1 fs ≡ after_all s (cons_option o (filter_map numbered fs))
     by_view None ih = ih s
     by_view (Some m) ih = ih (step s m).1
 
-pub events_law : (fs : List (List ℕ)) → events_said new_session fs ≡ message_events (filter_map view fs)
-events_law fs = events_said_messages new_session fs ∙ says_is (filter_map view fs) (filter_map view fs) 0 refl
+pub events_law : (fs : List (List ℕ)) → events_said new_session fs ≡ message_events (filter_map numbered fs)
+events_law fs = events_said_messages new_session fs ∙ says_is (filter_map numbered fs) (filter_map numbered fs) 0 refl
 
 pub whole_law : (fs : List (List ℕ)) → events_said new_session fs ++ events_at_end (session_after new_session fs) ≡ whole_of fs
 whole_law fs =
-    let ms = filter_map view fs in
+    let ms = filter_map numbered fs in
     ap (λ t. t ++ events_at_end (session_after new_session fs)) (events_law fs)
     ∙ ap (λ t. message_events ms ++ events_at_end t) (after_messages new_session fs ∙ after_is ms ms 0 (length ms) refl (omega arith))
     ∙ ap (λ t. message_events ms ++ t) (end_is ms)
 
-pub closed_law : (fs : List (List ℕ)) → events_at_end (session_after new_session fs) ≡ cond (live (filter_map view fs) (length (filter_map view fs))) (variant.Close 5 ∷ []) []
-closed_law fs = let ms = filter_map view fs in ap events_at_end (after_messages new_session fs ∙ after_is ms ms 0 (length ms) refl (omega arith)) ∙ end_is ms
+pub closed_law : (fs : List (List ℕ)) → events_at_end (session_after new_session fs) ≡ cond (live (filter_map numbered fs) (length (filter_map numbered fs))) (variant.Close 5 ∷ []) []
+closed_law fs = let ms = filter_map numbered fs in ap events_at_end (after_messages new_session fs ∙ after_is ms ms 0 (length ms) refl (omega arith)) ∙ end_is ms
 
 pub cons_two : (o : Option Event) (xs ys : List Event) → cons_option o (xs ++ ys) ≡ cons_option o xs ++ ys
 cons_two None xs ys = refl

@@ -1,6 +1,6 @@
 use Rattle.std.proofs.Common.{sym, ap, ◌∙◌}
 use Rattle.std.proofs.lemmas.List.{take_rest}
-use Rattle.fix_frames.proofs.texts.WordAtTheFront.{header_when}
+use Rattle.fix_frames.proofs.texts.HeaderAtTheFront.{header_when}
 use Rattle.fix_frames.specs.Frames.{header_after}
 use Rattle.fix_frames.proofs.frame.header_of.Goals as goal
 
