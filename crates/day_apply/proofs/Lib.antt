@@ -1,2 +1,4 @@
 pub mod EntryByEntry
 pub mod HandedOn
+pub mod OneByOne
+pub mod SomeSession

@@ -4,6 +4,7 @@
 mod apply;
 mod fault;
 mod journal;
+pub mod laws;
 mod report;
 
 pub use apply::AppliedEntries;

@@ -1,14 +1,14 @@
 -- A line's session, as its bytes are compared one by one, is the one whose number it begins with.
-use Rattle.std.proofs.Common.{◌≡◌, ◌≢◌, ℕ, zero, suc, ◌+◌, ◌-◌, ◌/◌, ◌%◌, ◌<◌, ◌≤◌, Bool, true, false, cond, eqb, ltb, leb, List, [], ◌∷◌, ◌++◌, Option, Some, None, option_map, refl, sym, ap, ◌∙◌, subst, arith, ◌⊎◌, inl, inr}
+use Rattle.std.proofs.Common.{◌≡◌, ◌≢◌, ℕ, zero, suc, ◌+◌, ◌-◌, ◌/◌, ◌%◌, ◌<◌, ◌≤◌, Bool, true, false, cond, eqb, ltb, leb, List, [], ◌∷◌, ◌++◌, length-append, Option, Some, None, option_map, refl, sym, ap, ◌∙◌, subst, arith, ◌⊎◌, inl, inr}
 use Rattle.std.proofs.lemmas.Fmt.{decimal_digit, decimal_step}
 use Rattle.std.specs.Char.{is_ascii_digit}
-use Rattle.std.specs.Prelude.{◌&&◌, decimal, filter_map}
-use Rattle.std.specs.List.{cons_option, range_with_len}
+use Rattle.std.specs.Prelude.{◌&&◌, nat_eq, decimal, drop, filter, filter_map, length, map}
+use Rattle.std.specs.List.{cons_option, range_with_len, starts_with}
 use Rattle.std.specs.Option.{option_to_list}
 use Rattle.std.proofs.lemmas.Bool.{cases_lt}
 use Rattle.std.proofs.lemmas.Bool.Decides.{nat_tests}
 use Rattle.fix_frames.specs.Texts.{stripped}
-use Rattle.fix_frames.proofs.texts.WordAtTheFront.{strip_is}
+use Rattle.fix_frames.proofs.texts.WordAtTheFront.{behind_is}
 use Rattle.day_lines.specs.LineText.{DayLine, session_line}
 use Rattle.day_lines.specs.code.OneByOne.{day_line, line_by_bytes}
 
@@ -142,7 +142,26 @@ by_word (a ∷ b ∷ rest) = by_place (cases_lt a 48) (cases_lt 57 a)
         let is : 48 + (a - 48) ≡ a = omega arith in
         subst (λ x. IsSame (x ∷ b ∷ rest)) is (digit (a - 48) b rest (omega arith))
 
+-- the sessions whose number and colon the line begins with
+abbrev leading : List ℕ → ℕ → Bool
+leading line s = starts_with nat_eq line (decimal s ++ 58 ∷ [])
+
+abbrev behind : List ℕ → ℕ → DayLine
+behind line s = day_line s (drop (length (decimal s) + 1) line)
+
+by_leads : (line : List ℕ) (ns : List ℕ) → filter_map (λ s. option_map (day_line s) (stripped (decimal s ++ 58 ∷ []) line)) ns ≡ map (behind line) (filter (leading line) ns)
+by_leads line [] = refl
+by_leads line (s ∷ ns) =
+    let later = filter_map (λ n. option_map (day_line n) (stripped (decimal n ++ 58 ∷ []) line)) ns in
+    ap (λ (o : Option (List ℕ)). cons_option (option_map (day_line s) o) later) (behind_is (decimal s ++ 58 ∷ []) line)
+    ∙ by_test (leading line s) later (filter (leading line) ns) (by_leads line ns)
+  where
+    by_test : (v : Bool) (later : List DayLine) (those : List ℕ) → later ≡ map (behind line) those →
+        cons_option (option_map (day_line s) (cond v (Some (drop (length (decimal s ++ 58 ∷ [])) line)) None)) later ≡ map (behind line) (cond v (s ∷ those) those)
+    by_test true later those e =
+        ap (λ (ls : List DayLine). day_line s (drop (length (decimal s ++ 58 ∷ [])) line) ∷ ls) e
+        ∙ ap (λ (k : ℕ). day_line s (drop k line) ∷ map (behind line) those) (length-append (decimal s) (58 ∷ []))
+    by_test false later those e = e
+
 pub by_number : (line : List ℕ) → option_to_list (line_by_bytes line) ≡ session_line line
-by_number line =
-    by_word line ∙ sym (words_are 0 16 line (omega arith))
-    ∙ (λ i. filter_map (λ s. option_map (day_line s) (sym (strip_is (decimal s ++ 58 ∷ []) line) i)) (range_with_len 0 16))
+by_number line = by_word line ∙ (sym (words_are 0 16 line (omega arith)) ∙ by_leads line (range_with_len 0 16))

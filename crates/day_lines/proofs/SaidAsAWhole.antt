@@ -38,13 +38,25 @@ passed_silent [] e = refl
 passed_silent (a ∷ []) e = refl
 passed_silent (a ∷ b ∷ rest) e = let is : a ≡ 35 = grind (arith, nat_tests) in rw is
 
-at_once : (n : ℕ) (ls : List (List ℕ)) → session_lines n ls ≡ answer (list_any is_bad ls) (position_or_len is_bad ls + n) (flat_map session_line ls)
+-- a line that is neither passed over nor of a session
+abbrev is_neither : List ℕ → Bool
+is_neither line = not (is_passed_over line) && eqb (length (session_line line)) 0
+
+-- it is a bad one
+neither_is : (line : List ℕ) → is_neither line ≡ is_bad line
+neither_is [] = refl
+neither_is (b ∷ bs) = refl
+
+at_once : (n : ℕ) (ls : List (List ℕ)) → session_lines n ls ≡ answer (list_any is_neither ls) (position_or_len is_neither ls + n) (flat_map session_line ls)
 at_once n [] = refl
 at_once n (l ∷ ls) =
-    let any = list_any is_bad ls in
-    let place = position_or_len is_bad ls in
+    let any = list_any is_neither ls in
+    let place = position_or_len is_neither ls in
     in_front n place (is_passed_over l) any (line_by_bytes l) (flat_map session_line ls) (session_lines (n + 1) ls) (passed_silent l) (at_once (n + 1) ls)
     ∙ ap (λ (says : List DayLine). with_front (is_passed_over l) any n place says (flat_map session_line ls)) (by_number l)
 
+bad_ones : (ls : List (List ℕ)) → answer (list_any is_neither ls) (position_or_len is_neither ls + 1) (flat_map session_line ls) ≡ answer (list_any is_bad ls) (position_or_len is_bad ls + 1) (flat_map session_line ls)
+bad_ones ls = λ i. answer (list_any (λ l. neither_is l i) ls) (position_or_len (λ l. neither_is l i) ls + 1) (flat_map session_line ls)
+
 pub said_at_once : (text : List ℕ) → lines_said (with_soh text) ≡ day_lines_of text
-said_at_once text = at_once 1 (lines_of (with_soh text))
+said_at_once text = at_once 1 (lines_of (with_soh text)) ∙ bad_ones (lines_of (with_soh text))

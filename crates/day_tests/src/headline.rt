@@ -4,16 +4,18 @@ ghost use Rattle.std.specs.Prelude.{◌≡◌, ℕ, ◌<◌, ◌≤◌, ◌⊎�
 ghost use Rattle.host_base.specs.declared.limits.TheConstants.{MAX_INPUT_BYTES, SESSIONS};
 ghost use Rattle.spread_rules.specs.Journal.{IsLawful};
 ghost use Rattle.spread_rules.specs.Legs.{bought, sold, paid, received};
-ghost use Rattle.spread_rules.specs.Meaning.{meaning_of_journal, filled};
+ghost use Rattle.spread_rules.specs.Meaning.{filled};
 ghost use Rattle.spread_rules.specs.Quiet.{IsQuiet};
 ghost use Rattle.spread_rulebook.specs.Rulebook.{implied};
 ghost use Rattle.spread_rules.specs.declared.fill.Fill.{Fill};
 ghost use Rattle.spread_match.specs.Sound.{KeepsOrder};
+ghost use Rattle.std.specs.List.{flat_map};
+ghost use Rattle.spread_report.specs.Outgoing.{AppliedEntry};
 ghost use Rattle.spread_report.specs.Messages.{IsRow, messages_to};
 ghost use Rattle.spread_report.specs.Sessions.{bytes_of};
 ghost use Rattle.spread_journal.specs.JournalReading.{ReadsJournal};
 ghost use Rattle.journal_parts.specs.JournalText.{journal_text};
-ghost use Rattle.day_apply.specs.Applied.{outgoing_bytes, applied_entries};
+ghost use Rattle.day_apply.specs.Applied.{outgoing_bytes, applied_entries, applied_journal};
 ghost use Rattle.day_lines.specs.Reading.{IsJournalOf, HasParts};
 ghost use Rattle.spread_host.specs.Days.{IsReplayFault, IsPartOut, text_of_day};
 ghost use Rattle.spread_host.specs.declared.fault.HostFault.{HostFault};
@@ -46,7 +48,8 @@ pub fn day_of_lines<S: Source, K: Sink, A: Allocator + Copy>(
     ensures read_again { IfOk result (λ day.
         ReadsJournal (journal_text day.journal.items) (Ok day.journal.items)) }
     ensures fills { IfOk result (λ day.
-        day.fills.items ≡ (meaning_of_journal rulebook.now day.journal.items).fills) }
+        day.fills.items ≡ flat_map (λ (w : AppliedEntry). w.fills)
+        (applied_entries rulebook.now day.journal.items)) }
     ensures outgoing { IfOk result (λ day. (s : ℕ) → s < SESSIONS
         → bytes_of day.out.items s ≡ outgoing_bytes rulebook.now stamp day.journal.items s) }
     ensures whole_frames { IfOk result (λ day. (s : ℕ) → s < SESSIONS
@@ -59,7 +62,7 @@ pub fn day_of_lines<S: Source, K: Sink, A: Allocator + Copy>(
         (month : ℕ) → paid month day.fills.items ≡ received month day.fills.items) }
     ensures quiet { IfOk result (λ day. (n : ℕ)
         → IsQuiet (implied rulebook.now)
-        (meaning_of_journal rulebook.now (take n day.journal.items)).orders) }
+        (applied_journal rulebook.now (take n day.journal.items)).orders) }
     ensures limits { IfOk result (λ day.
         (f : Fill) → Contains day.fills.items f → KeepsOrder day.journal.items f) }
     ensures totals { IfOk result (λ day.

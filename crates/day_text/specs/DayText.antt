@@ -1,4 +1,4 @@
--- The text of a day: its journal, its fills, what each session is sent, and the months.
+-- What the text of a day shows: its journal, its fills, what each session is sent, and the months.
 use Rattle.std.specs.Prelude.{ℕ, Bool, true, false, List, ◌++◌, map, All}
 use Rattle.std.specs.declared.vec.Vec.{Vec}
 use Rattle.journal_parts.specs.JournalText.{journal_text}
@@ -10,10 +10,6 @@ use Rattle.day_text.specs.Messages.{outgoing_lines}
 use Rattle.day_text.specs.Months.{month_lines}
 use Rattle.month_totals.specs.Totals.{IsSummable}
 
--- the lines of fills, and of months
-abbrev pub fills_text : Rules → List Fill → List ℕ
-fills_text rules fills = fill_lines rules fills ++ month_lines rules fills
-
 -- the lists' bytes, session by session
 abbrev pub texts_of : {A : Type 0} → List (Vec ℕ A) → List (List ℕ)
 texts_of {A} lists = map (λ (v : Vec ℕ A). v.items) lists
@@ -22,6 +18,12 @@ texts_of {A} lists = map (λ (v : Vec ℕ A). v.items) lists
 pub record AreShown (rules : Rules) (fills : List Fill) : Type 0 where
   pub listed : All (λ f. IsListed rules f.instrument) fills
   pub summable : All IsSummable fills
+
+-- ---- words of `check` and of the code
+
+-- the lines of fills, and of months
+abbrev pub fills_text : Rules → List Fill → List ℕ
+fills_text rules fills = fill_lines rules fills ++ month_lines rules fills
 
 -- the text of a day: the journal, fills, then what each session is sent, then the months; or the journal alone
 abbrev pub day_text : Bool → Rules → List Entry → List Fill → List (List ℕ) → List ℕ

@@ -24,6 +24,8 @@ fill_line rules f =
     ++ legs_text f.instrument f.near f.far
     ++ LINE_FEED ∷ []
 
+-- ---- words of `check` and of the code
+
 -- a line for each fill, in order
 abbrev pub fill_lines : Rules → List Fill → List ℕ
 fill_lines rules fills = flat_map (fill_line rules) fills

@@ -10,12 +10,12 @@ outgoing_line session message =
     (codes "O " ++ decimal session ++ codes ":")
     ++ map (λ b. if b == SOH then VERTICAL_BAR else b) message ++ LINE_FEED ∷ []
 
+-- ---- words that the headline does not rest on
+
 -- a line for each message, session by session
 abbrev pub outgoing_lines : List (List ℕ) → List ℕ
 outgoing_lines texts =
     flat_map (λ s. flat_map (outgoing_line s.0) (frames s.1)) (enumerate_from 0 texts)
-
--- ---- words of the code alone
 
 abbrev pub shown_byte : ℕ → ℕ
 shown_byte b = if b == SOH then VERTICAL_BAR else b

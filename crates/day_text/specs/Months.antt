@@ -3,24 +3,25 @@ use Rattle.std.specs.Prelude.{ℕ, List, [], ◌∷◌, ◌++◌, codes, decimal
 use Rattle.std.specs.List.{flat_map, enumerate_from}
 use Rattle.std.specs.Fmt.{signed_decimal}
 use Rattle.spread_rules.specs.declared.fill.Fill.{Fill}
-use Rattle.spread_rules.specs.Legs.{bought, sold, paid, received}
+use Rattle.spread_rules.specs.Legs.{lots, money}
+use Rattle.spread_rules.specs.declared.order.Side.TheVariants.{Buy, Sell}
 use Rattle.spread_rulebook.specs.Rulebook.{Rules, names_of}
 use Rattle.host_base.specs.declared.bytes.TheConstants.{LINE_FEED, SPACE}
 
 -- `M NAME BOUGHT SOLD PAID RECEIVED`, of the month with this number
 abbrev pub month_line : List ℕ → ℕ → List Fill → List ℕ
-month_line name month fills =
+month_line name m fills =
     codes "M " ++ name
-    ++ (SPACE ∷ decimal (bought month fills) ++ SPACE ∷ decimal (sold month fills))
-    ++ (SPACE ∷ signed_decimal (paid month fills) ++ SPACE ∷ signed_decimal (received month fills))
+    ++ (SPACE ∷ decimal (lots Buy m fills) ++ SPACE ∷ decimal (lots Sell m fills))
+    ++ (SPACE ∷ signed_decimal (money Buy m fills) ++ SPACE ∷ signed_decimal (money Sell m fills))
     ++ LINE_FEED ∷ []
+
+-- ---- words of `check` and of the code
 
 -- a line for each month of the rulebook, in order
 abbrev pub month_lines : Rules → List Fill → List ℕ
 month_lines rules fills =
     flat_map (λ m. month_line m.1 m.0 fills) (enumerate_from 0 (names_of rules))
-
--- ---- words of the code alone
 
 -- the lines of these months, of which the first has this number
 abbrev pub month_lines_from : ℕ → List (List ℕ) → List Fill → List ℕ

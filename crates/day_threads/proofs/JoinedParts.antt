@@ -53,8 +53,8 @@ parts_of_front streams front journal pre parts s = prefix_trans (restricted s fr
 -- the matching thread's fault is one of the day
 pub live_fault : {A : Type 0} (rules : Rules) (streams : List (Vec ℕ A)) (ring room : ℕ) (took : List Entry) (f : ApplyFault)
     → IsBeginningOf streams took → IsApplyFault rules took f → IsThreadsFault rules streams ring room (of_apply f)
-live_fault rules streams ring room took (NoMemory place) parts is = inr record { journal = took; is_of = parts; within = omega (arith, is) }
-live_fault rules streams ring room took (NumbersSpent place) parts is = record { journal = took; is_of = parts; spends = is }
+live_fault rules streams ring room took (NoMemory place) parts is = inr (took, parts, omega (arith, is))
+live_fault rules streams ring room took (NumbersSpent place) parts is = (took, parts, is)
 
 -- the matching thread's fault is one of how the two ended
 pub fault_named : (q : SequenceEnd) (m : MatchEnd) (place : ℕ) (f : ApplyFault) → m ≡ Fault f → IsFaultOfEnds q m place (of_apply f)
@@ -68,7 +68,7 @@ pub fault_of_day : {A : Type 0} (room ring : ℕ) (streams : List (Vec ℕ A)) (
 fault_of_day room ring streams q m place sequenced matched parts within threads.JournalFull is =
     subst (λ (e : SequenceEnd). SequenceEnds e room streams q.journal.items q.feeder) is sequenced
 fault_of_day room ring streams q m place sequenced matched parts within (threads.NoMemory p) (inl same) =
-    inr record { journal = taken m.matcher; is_of = parts; within = omega (arith, same, within) }
+    inr (taken m.matcher, parts, omega (arith, same, within))
 fault_of_day room ring streams q m place sequenced matched parts within (threads.NoMemory p) (inr is) =
     live_fault (sending_rules m.posted.reported) streams ring room (taken m.matcher) (NoMemory p) parts (subst (λ (e : MatchEnd). MatchEnds e (taken m.matcher) m.posted) is matched)
 fault_of_day room ring streams q m place sequenced matched parts within (threads.NumbersSpent p) is =

@@ -1,8 +1,8 @@
 //! One turn of a new order over a list of orders.
 ghost use Rattle.std.specs.Prelude.{◌≡◌, ◌-◌, All, IfSome, None, Some, fold};
 ghost use Rattle.spread_rules.specs.code.Cases.{with_less_left};
-ghost use Rattle.spread_rules.specs.Candidates.{HasOrderPrice, HasLegPrice};
-ghost use Rattle.spread_rules.specs.Clearing.{after_fill, leg_prices, members, reduced, removed};
+ghost use Rattle.spread_rules.specs.Candidates.{HasOrderPrice, HasLegPrice, members};
+ghost use Rattle.spread_rules.specs.Clearing.{after_fill, leg_prices, reduced, removed};
 ghost use Rattle.spread_rulebook.specs.Rulebook.{implied};
 ghost use Rattle.explained_turns.specs.Explained.{AreNext, Follows, HaveLegPrices};
 ghost use Rattle.explained_turns.specs.code.Turns.{IsNextTurn};

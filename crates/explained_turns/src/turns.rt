@@ -1,7 +1,7 @@
 //! The turns of a new order, one after another.
 ghost use Rattle.std.specs.Prelude.{◌≡◌, ◌-◌, All, IfOk, fold};
-ghost use Rattle.spread_rules.specs.Candidates.{HasOrderPrice};
-ghost use Rattle.spread_rules.specs.Clearing.{after_fill, clear, members};
+ghost use Rattle.spread_rules.specs.Candidates.{HasOrderPrice, members};
+ghost use Rattle.spread_rules.specs.Clearing.{after_fill, clear};
 ghost use Rattle.spread_rulebook.specs.Rulebook.{implied, references_of};
 ghost use Rattle.explained_turns.specs.Explained.{AreTurns, HaveLegPrices, IsBeyond};
 ghost use Rattle.explained_turns.specs.code.Turns.{IsAfter};

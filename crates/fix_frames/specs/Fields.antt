@@ -1,30 +1,26 @@
 -- The fields of a body: a tag, `=`, a value, and SOH after each.
 use Rattle.std.specs.Prelude.{ℕ, ◌+◌, Bool, ◌&&◌, not, ◌==◌, nat_le, nat_lt, if◌then◌else◌, List, [], ◌∷◌, Option, Some, None, option_map, option_and_then, length, take, drop, slice_index, filter_map}
 use Rattle.std.specs.Bool.{then_some}
-use Rattle.std.specs.Char.{is_ascii_digit}
-use Rattle.std.specs.List.{list_all, position_or_len, ends_with, slice_split}
+use Rattle.std.specs.List.{position_or_len, ends_with, slice_split}
 use Rattle.std.specs.Str.{bytes_eq}
 use Rattle.host_base.specs.declared.bytes.TheConstants.{DIGIT_ZERO, EQUALS, SOH}
 use Rattle.fix_frames.specs.declared.frame.TheConstants.{MAX_TAG_DIGITS}
 use Rattle.fix_values.specs.Digits.{number_of}
+use Rattle.fix_values.specs.Values.{is_number}
 
 -- one field
 pub record TagValue : Type 0 where
   pub tag : ℕ
   pub value : List ℕ
 
--- 1 to 9 digits, the first of them not 0
-abbrev pub is_tag : List ℕ → Bool
-is_tag tag =
-    nat_le 1 (length tag) && nat_le (length tag) MAX_TAG_DIGITS && list_all is_ascii_digit tag
-    && not (slice_index tag 0 == DIGIT_ZERO)
-
--- a tag, then the first `=`, then the value, which may be empty
+-- a tag of 1 to 9 digits, the first of them not 0, then the first `=`, then the value, which may be empty
 abbrev pub field_of_text : List ℕ → Option TagValue
 field_of_text text =
     let digits = position_or_len (λ b. b == EQUALS) text in
-    then_some (nat_lt digits (length text) && is_tag (take digits text))
-    (record { tag = number_of (take digits text); value = drop (digits + 1) text })
+    let tag = take digits text in
+    then_some (nat_lt digits (length text) && (is_number tag
+    && nat_le (length tag) MAX_TAG_DIGITS && not (slice_index tag 0 == DIGIT_ZERO)))
+    (record { tag = number_of tag; value = drop (digits + 1) text })
 
 -- the fields of a body, where each of its texts is one but for the last, behind the last SOH, which is empty
 unfoldable pub fields_of_body : List ℕ → Option (List TagValue)
@@ -33,7 +29,12 @@ fields_of_body body =
     let fields = filter_map field_of_text texts in
     then_some ((length texts == length fields + 1) && ends_with bytes_eq texts ([] ∷ [])) fields
 
--- ---- words of the code alone
+-- ---- words that the headline does not rest on
+
+-- a number of 1 to 9 digits, the first of them not 0
+abbrev pub is_tag : List ℕ → Bool
+is_tag tag =
+    is_number tag && nat_le (length tag) MAX_TAG_DIGITS && not (slice_index tag 0 == DIGIT_ZERO)
 
 abbrev pub with_first : List ℕ → List (List ℕ) → List (List ℕ)
 with_first t ts = t ∷ ts

@@ -12,6 +12,7 @@ use Rattle.fix_frames.specs.declared.frame.FrameHeader.{FrameHeader}
 use Rattle.fix_frames.specs.declared.frame.TheConstants.{BEGIN_BYTES, CHECKSUM_BYTES, MAX_LENGTH_DIGITS}
 use Rattle.fix_frames.specs.Texts.{with_soh}
 use Rattle.fix_values.specs.Digits.{number_of, two_digits}
+use Rattle.fix_values.specs.Values.{is_number}
 use Rattle.fix_frames.specs.Fields.{fields_of_body}
 
 -- ---- the header: BeginString and BodyLength
@@ -23,8 +24,7 @@ begin_text = with_soh (codes "8=FIX.4.2|9=")
 -- 1 to 8 digits of a number from 5 to 4096; leading zeros are allowed
 abbrev pub is_body_length : List ℕ → Bool
 is_body_length digits =
-    nat_le 1 (length digits) && nat_le (length digits) MAX_LENGTH_DIGITS
-    && list_all is_ascii_digit digits
+    is_number digits && nat_le (length digits) MAX_LENGTH_DIGITS
     && nat_le MIN_BODY_LENGTH (number_of digits) && nat_le (number_of digits) MAX_BODY_LENGTH
 
 -- Where the body starts of a text that begins with the header of a frame, and how long it is: the header is what each
@@ -42,10 +42,6 @@ frame_length h = h.body_start + h.body_length + CHECKSUM_BYTES
 
 -- ---- a lawful frame
 
--- a row of fields whose first is MsgType
-abbrev pub is_body : List ℕ → Bool
-is_body body = starts_with nat_eq body (codes "35=") && is_some (fields_of_body body)
-
 -- CheckSum: its tag, a number in three digits, and SOH
 abbrev pub checksum_field : ℕ → List ℕ
 checksum_field n = codes "10=" ++ ((DIGIT_ZERO + n / 100) ∷ two_digits n ++ (SOH ∷ []))
@@ -53,12 +49,12 @@ checksum_field n = codes "10=" ++ ((DIGIT_ZERO + n / 100) ∷ two_digits n ++ (S
 abbrev pub body_at : List ℕ → FrameHeader → List ℕ
 body_at text h = take h.body_length (drop h.body_start text)
 
--- The frame is there whole, its body is one, and its CheckSum is the sum of all bytes before it, modulo 256.
+-- The body is a row of fields whose first is MsgType, and CheckSum follows: the sum of all bytes before it, modulo 256.
 abbrev pub is_intact : List ℕ → FrameHeader → Bool
 is_intact text h =
-    let summed = h.body_start + h.body_length in
-    nat_le (frame_length h) (length text) && is_body (body_at text h)
-    && bytes_eq (take CHECKSUM_BYTES (drop summed text)) (checksum_field (sum (take summed text) % 256))
+    let summed = take (h.body_start + h.body_length) text in
+    starts_with nat_eq (body_at text h) (codes "35=") && is_some (fields_of_body (body_at text h))
+    && starts_with nat_eq text (summed ++ checksum_field (sum summed % 256))
 
 -- the length of the lawful frame that stands at the front of a text
 abbrev pub frame_at : List ℕ → Option ℕ
@@ -101,7 +97,7 @@ frames_after zero (b ∷ bs) = elim (frame_at (b ∷ bs)) [
 abbrev pub frames : List ℕ → List (List ℕ)
 frames input = frames_after 0 input
 
--- ---- words of the code alone
+-- ---- words that the headline does not rest on
 
 -- the header behind the begin text: BodyLength, and SOH
 abbrev pub header_after : List ℕ → Option FrameHeader
@@ -123,6 +119,18 @@ header_with digits rest =
       body_length = number_of (take digits rest);
     })
     else None
+
+-- a row of fields whose first is MsgType
+abbrev pub is_body : List ℕ → Bool
+is_body body = starts_with nat_eq body (codes "35=") && is_some (fields_of_body body)
+
+-- is_intact, in the order of the code: the frame is there whole, its body is one, and its last bytes are its CheckSum
+abbrev pub is_intact_by_size : List ℕ → FrameHeader → Bool
+is_intact_by_size text h =
+    let summed = h.body_start + h.body_length in
+    nat_le (frame_length h) (length text) && is_body (body_at text h)
+    && bytes_eq (take CHECKSUM_BYTES (drop summed text))
+    (checksum_field (sum (take summed text) % 256))
 
 abbrev pub intact_length : List ℕ → FrameHeader → Option ℕ
 intact_length text h = then_some (is_intact text h) (frame_length h)

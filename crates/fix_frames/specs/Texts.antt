@@ -1,18 +1,12 @@
 -- Bytes of FIX, and texts that begin alike.
-use Rattle.std.specs.Prelude.{ℕ, Bool, true, false, ◌&&◌, ◌==◌, nat_eq, if◌then◌else◌, List, [], ◌∷◌, map, length, drop, Option, Some, None}
-use Rattle.std.specs.Bool.{then_some}
-use Rattle.std.specs.List.{starts_with}
+use Rattle.std.specs.Prelude.{ℕ, Bool, true, false, ◌&&◌, ◌==◌, if◌then◌else◌, List, [], ◌∷◌, map, Option, Some, None}
 use Rattle.host_base.specs.declared.bytes.TheConstants.{EQUALS, SOH, VERTICAL_BAR}
 
 -- a text in which each `|` stands for SOH, which no character shows
 abbrev pub with_soh : List ℕ → List ℕ
 with_soh text = map (λ b. if b == VERTICAL_BAR then SOH else b) text
 
--- what follows a word that the text begins with
-abbrev pub strip_prefix : List ℕ → List ℕ → Option (List ℕ)
-strip_prefix word text = then_some (starts_with nat_eq text word) (drop (length word) text)
-
--- ---- words of the code alone
+-- ---- words that the headline does not rest on
 
 -- SOH, which ends a field
 abbrev pub is_soh : ℕ → Bool
@@ -26,7 +20,7 @@ is_equals b = b == EQUALS
 abbrev pub soh_for_bar : ℕ → ℕ
 soh_for_bar b = if b == VERTICAL_BAR then SOH else b
 
--- strip_prefix, byte by byte
+-- what follows a word that the text begins with
 abbrev pub stripped : List ℕ → List ℕ → Option (List ℕ)
 stripped [] text = Some text
 stripped (p ∷ ps) [] = None

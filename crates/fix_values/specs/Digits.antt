@@ -10,7 +10,7 @@ two_digits n = (DIGIT_ZERO + n / 10 % 10) ∷ (DIGIT_ZERO + n % 10) ∷ []
 abbrev pub number_of : List ℕ → ℕ
 number_of ds = fold (λ n d. 10 * n + (d - DIGIT_ZERO)) 0 ds
 
--- ---- words of the code alone
+-- ---- words that the headline does not rest on
 
 -- the number that these digits spell, after digits that spell n
 abbrev pub number_after : ℕ → List ℕ → ℕ

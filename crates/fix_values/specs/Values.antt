@@ -54,7 +54,7 @@ price_text z =
     (if int_lt z (pos 0) then HYPHEN_MINUS ∷ [] else [])
     ++ (decimal (unsigned_abs z / 100) ++ (POINT ∷ two_digits (unsigned_abs z % 100)))
 
--- ---- words of the code alone
+-- ---- words that the headline does not rest on
 
 -- the number that digits spell, or the greatest price where it is more
 abbrev pub limited_digits : List ℕ → Option ℕ

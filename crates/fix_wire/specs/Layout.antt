@@ -25,53 +25,51 @@ value_text (Number n) = decimal n
 value_text (Price z) = price_text z
 value_text (Pair a b) = decimal a ++ (HYPHEN_MINUS ∷ decimal b)
 
--- a tag, `=`, a value and SOH
-abbrev pub field_text : TagValue → List ℕ
-field_text f = (decimal f.tag ++ (EQUALS ∷ f.value)) ++ (SOH ∷ [])
-
-abbrev pub field : ℕ → List ℕ → TagValue
+abbrev pub field : ℕ → Value → given.Field
 field tag value = record { tag = tag; value = value }
+
+-- a field as it is written: its tag, `=`, its value and SOH
+abbrev pub field_text : given.Field → List ℕ
+field_text f = (decimal f.tag ++ (EQUALS ∷ value_text f.value)) ++ (SOH ∷ [])
 
 -- what each message begins with: MsgType, MsgSeqNum, PossDupFlag in a duplicate, SenderCompID, SendingTime,
 -- TargetCompID, and OrigSendingTime in a duplicate
-abbrev pub head_fields : Head → List TagValue
+abbrev pub head_fields : Head → List given.Field
 head_fields h =
-    (field tags.MSG_TYPE (h.kind ∷ []) ∷ field tags.MSG_SEQ_NUM (decimal h.number) ∷ [])
-    ++ ((if h.duplicate then field tags.POSS_DUP_FLAG (codes "Y") ∷ [] else [])
-    ++ ((field tags.SENDER_COMP_ID h.sender ∷ field tags.SENDING_TIME h.stamp
-    ∷ field tags.TARGET_COMP_ID h.target ∷ [])
-    ++ (if h.duplicate then field tags.ORIG_SENDING_TIME h.stamp ∷ [] else [])))
+    field tags.MSG_TYPE (Text (h.kind ∷ [])) ∷ field tags.MSG_SEQ_NUM (Number h.number)
+    ∷ (if h.duplicate then field tags.POSS_DUP_FLAG (Text (codes "Y")) ∷ [] else [])
+    ++ field tags.SENDER_COMP_ID (Text h.sender) ∷ field tags.SENDING_TIME (Text h.stamp)
+    ∷ field tags.TARGET_COMP_ID (Text h.target)
+    ∷ (if h.duplicate then field tags.ORIG_SENDING_TIME (Text h.stamp) ∷ [] else [])
 
--- the body: MsgType to the last field
-abbrev pub body_text : Head → List given.Field → List ℕ
-body_text h fs =
-    flat_map field_text (head_fields h ++ map (λ f. field f.tag (value_text f.value)) fs)
-
--- The one text of a message: BeginString, BodyLength without leading zeros, the body, and CheckSum, which sums all bytes
--- before it.
+-- The one text of a message: BeginString, BodyLength without leading zeros, the body, which is MsgType to the last
+-- field, and CheckSum, which sums all bytes before it.
 abbrev pub message_text : Head → List given.Field → List ℕ
 message_text h fs =
-    let body = body_text h fs in
+    let body = flat_map field_text (head_fields h ++ fs) in
     let summed = begin_text ++ (decimal (length body) ++ (SOH ∷ body)) in
     summed ++ checksum_field (sum summed % 256)
 
--- ---- fields as they are given
+-- ---- the body, and its fields as they are read
 
--- a field as it is written
+abbrev pub body_text : Head → List given.Field → List ℕ
+body_text h fs = flat_map field_text (head_fields h ++ fs)
+
+-- a field as it is read
 abbrev pub field_of_given : given.Field → TagValue
-field_of_given f = field f.tag (value_text f.value)
+field_of_given f = record { tag = f.tag; value = value_text f.value }
 
 -- all fields of a message
 abbrev pub all_fields : Head → List given.Field → List TagValue
-all_fields h fs = head_fields h ++ map field_of_given fs
+all_fields h fs = map field_of_given (head_fields h ++ fs)
 
 -- ---- a head that is spelled in part
 
 -- these bytes are SenderCompID, SendingTime and TargetCompID
 pub record SpellsParties (p : SpelledParties) (sender target stamp : List ℕ) : Type 0 where
   pub text : take p.len p.bytes ≡ flat_map field_text
-      (field tags.SENDER_COMP_ID sender ∷ field tags.SENDING_TIME stamp
-      ∷ field tags.TARGET_COMP_ID target ∷ [])
+      (field tags.SENDER_COMP_ID (Text sender) ∷ field tags.SENDING_TIME (Text stamp)
+      ∷ field tags.TARGET_COMP_ID (Text target) ∷ [])
   pub short : p.len ≤ MAX_PARTIES_LENGTH
   pub sender_plain : is_plain sender ≡ true
   pub target_plain : is_plain target ≡ true
@@ -139,10 +137,10 @@ pub record IsReadBack (h : Head) (fs : List given.Field) : Type 0 where
   pub same : fields (message_text h fs) ≡ all_fields h fs
   pub first : (more : List ℕ) → frames (message_text h fs ++ more) ≡ message_text h fs ∷ frames more
 
--- ---- words of the code alone
+-- ---- words that the headline does not rest on
 
 -- the fields of a duplicate alone
-abbrev pub only_if : Bool → TagValue → List TagValue
+abbrev pub only_if : Bool → given.Field → List given.Field
 only_if duplicate f = if duplicate then f ∷ [] else []
 
 -- what CheckSum sums

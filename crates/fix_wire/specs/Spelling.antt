@@ -7,7 +7,7 @@ use Rattle.fix_frames.specs.Texts.{with_soh}
 use Rattle.fix_wire.specs.declared.parties.SpelledParties.{SpelledParties}
 use Rattle.fix_wire.specs.declared.writer.SpelledHead.{SpelledHead}
 use Rattle.fix_wire.specs.declared.writer.Field as given
-use Rattle.fix_wire.specs.Layout.{field_text, field_of_given, orig_time}
+use Rattle.fix_wire.specs.Layout.{field_text, orig_time}
 
 -- MsgType, MsgSeqNum, and PossDupFlag in a duplicate
 abbrev pub kind_text : ℕ → ℕ → Bool → List ℕ
@@ -31,4 +31,4 @@ spelled_head l =
 
 -- MsgType to the last field
 abbrev pub spelled_body : SpelledHead → List given.Field → List ℕ
-spelled_body l fs = spelled_head l ++ flat_map (λ f. field_text (field_of_given f)) fs
+spelled_body l fs = spelled_head l ++ flat_map field_text fs

@@ -2,7 +2,7 @@
 ghost use Rattle.std.specs.Prelude.{◌≡◌, ◌++◌, ◌≤◌, ◌*◌, ◌+◌, List, length, take};
 ghost use Rattle.std.specs.List.{flat_map, AllByRecursion};
 ghost use Rattle.fix_wire.specs.declared.writer.Field as given;
-ghost use Rattle.fix_wire.specs.Layout.{field_text, field_of_given, FitsValueOf};
+ghost use Rattle.fix_wire.specs.Layout.{field_text, FitsValueOf};
 
 use crate::spelling::put_fields;
 use crate::writer::Field;
@@ -19,7 +19,7 @@ pub trait Body {
     fn put(&self, room: &mut [u8], at: usize) -> usize
         requires within { at + 64 * length (fields self.now) ≤ length room.old }
         ensures text { take result room.new
-            ≡ take at room.old ++ flat_map (λ f. field_text (field_of_given f)) (fields self.now) }
+            ≡ take at room.old ++ flat_map field_text (fields self.now) }
         ensures most { result ≤ at + 64 * length (fields self.now) }
         ensures values { AllByRecursion FitsValueOf (fields self.now) }
         ensures size { length room.new ≡ length room.old };

@@ -7,7 +7,7 @@ ghost use Rattle.fix_frames.specs.Frames.{begin_text, checksum_field};
 ghost use Rattle.host_base.specs.declared.bytes.TheConstants.{DIGIT_ZERO, EQUALS};
 ghost use Rattle.fix_wire.specs.declared.writer.Value.TheVariants.{Text};
 ghost use Rattle.host_base.specs.Ids.{is_plain};
-ghost use Rattle.fix_wire.specs.Layout.{value_text, field_text, field_of_given, orig_time, summed_text, FitsValueOf, FitsValue};
+ghost use Rattle.fix_wire.specs.Layout.{value_text, field_text, orig_time, summed_text, FitsValueOf, FitsValue};
 ghost use Rattle.fix_wire.specs.Spelling.{kind_text, orig_text, spelled, spelled_head, spelled_body};
 
 use crate::body::Body;
@@ -71,7 +71,7 @@ fn put_tag(room: &mut [u8], at: usize, tag: u32) -> usize
 pub fn put_text_field(room: &mut [u8], at: usize, tag: u32, text: &Id) -> usize
     requires within { at + 63 ≤ length room.old }
     ensures text { take result room.new
-        ≡ take at room.old ++ field_text (field_of_given (record { tag = tag; value = Text text.now })) }
+        ≡ take at room.old ++ field_text (record { tag = tag; value = Text text.now }) }
     ensures most { result ≤ at + 63 }
     ensures fits { FitsValueOf (record { tag = tag; value = Text text.now }) }
     ensures size { length room.new ≡ length room.old }
@@ -86,7 +86,7 @@ pub fn put_text_field(room: &mut [u8], at: usize, tag: u32, text: &Id) -> usize
 pub fn put_field(room: &mut [u8], at: usize, field: &Field) -> usize
     requires within { at + 63 ≤ length room.old }
     ensures text { take result room.new
-        ≡ take at room.old ++ field_text (field_of_given field.now) }
+        ≡ take at room.old ++ field_text field.now }
     ensures most { result ≤ at + 63 }
     ensures fits { FitsValueOf field.now }
     ensures size { length room.new ≡ length room.old }
@@ -99,7 +99,7 @@ pub fn put_field(room: &mut [u8], at: usize, field: &Field) -> usize
 pub(crate) fn put_fields(room: &mut [u8], at: usize, fields: &[Field]) -> usize
     requires within { at + 64 * length fields.now ≤ length room.old }
     ensures text { take result room.new
-        ≡ take at room.old ++ flat_map (λ f. field_text (field_of_given f)) fields.now }
+        ≡ take at room.old ++ flat_map field_text fields.now }
     ensures most { result ≤ at + 64 * length fields.now }
     ensures values { AllByRecursion FitsValueOf fields.now }
     ensures size { length room.new ≡ length room.old }

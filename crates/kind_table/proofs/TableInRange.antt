@@ -19,8 +19,8 @@ use Rattle.fix_values.specs.Values.{is_number, within, number_in, quantity_in, h
 use Rattle.fix_frames.specs.Messages.{get, kind}
 use Rattle.kind_table.specs.declared.table.Meaning.{Meaning}
 use Rattle.kind_table.specs.declared.table.Meaning.TheVariants.{Nothing, Gives, Fills}
-use Rattle.kind_table.specs.Table.{◌>>=◌, value_at, id_at, reason_of, read_at, number_at, choice_at, choice_or, test_request, resend_request, sequence_reset, new_order, cancel_request, replace_request, meaning_of_message}
-use Rattle.kind_table.specs.code.ByKind.{meaning_of_kind, meaning_of_kind_text}
+use Rattle.kind_table.specs.Table.{◌>>=◌, value_at, id_at, reason_of, read_at, number_at, choice_at, choice_or, test_request, resend_request, sequence_reset, new_order, cancel_request, replace_request, meaning_by, meaning_of_message}
+use Rattle.kind_table.specs.code.ByKind.{known, meaning_of_kind, meaning_of_kind_text}
 use Rattle.kind_table.proofs.KindOfBytes.{meaning_is}
 
 -- a result of that kind, or a reason to reject
@@ -161,15 +161,11 @@ choice_or_holds missing allowed tag m h = either Any (is_none (get tag m)) missi
 
 -- ---- one kind
 
-passed_over_holds : (m : List ℕ) (n : ℕ) → Holds (FitsMeaning n) (value_at 52 m >>= λ stamp. Ok Nothing)
-passed_over_holds m n = chained Any (FitsMeaning n) (value_at 52 m) _ (value_holds 52 m) (λ stamp h. tt)
-
 test_request_holds : (m : List ℕ) (n : ℕ) → Holds (FitsMeaning n) (test_request m)
 unfolding test_request
 test_request_holds m n =
-    chained Any (FitsMeaning n) (value_at 52 m) _ (value_holds 52 m) (λ stamp h.
     chained IsId (FitsMeaning n) (id_at 112 m) _ (id_holds 112 m) (λ text id.
-    record { fits = id; no_logon = refl; no_close = refl }))
+    record { fits = id; no_logon = refl; no_close = refl })
 
 last_number : (first end : ℕ) → end ≤ 999999999 → ((end == 0) || nat_le first end) ≡ true → (end ≡ 0) ⊎ ((first ≤ end) × (end ≤ 999999999))
 last_number first end most e = by_test (end == 0) (nat_le first end) refl refl e
@@ -182,24 +178,21 @@ last_number first end most e = by_test (end == 0) (nat_le first end) refl refl e
 resend_request_holds : (m : List ℕ) (n : ℕ) → Holds (FitsMeaning n) (resend_request m)
 unfolding resend_request
 resend_request_holds m n =
-    chained Any (FitsMeaning n) (value_at 52 m) _ (value_holds 52 m) (λ stamp h.
     chained (Passes (λ x. nat_le 1 x)) (FitsMeaning n) (number_at (λ x. nat_le 1 x) 7 m) _ (tested_holds (λ x. nat_le 1 x) 7 m) (λ first begins.
     chained (Passes (λ x. (x == 0) || nat_le first x)) (FitsMeaning n) (number_at (λ x. (x == 0) || nat_le first x) 16 m) _ (tested_holds (λ x. (x == 0) || nat_le first x) 16 m) (λ last ends.
     let from : 1 ≤ first = grind (arith, nat_tests) in
-    record { fits = ((from, begins.0), last_number first last ends.0 ends.1); no_logon = refl; no_close = refl })))
+    record { fits = ((from, begins.0), last_number first last ends.0 ends.1); no_logon = refl; no_close = refl }))
 
 sequence_reset_holds : (m : List ℕ) (n : ℕ) → Holds (FitsMeaning n) (sequence_reset m n)
 unfolding sequence_reset
 sequence_reset_holds m n =
-    chained Any (FitsMeaning n) (value_at 52 m) _ (value_holds 52 m) (λ stamp h.
     chained (Passes (λ x. nat_lt n x)) (FitsMeaning n) (number_at (λ x. nat_lt n x) 36 m) _ (tested_holds (λ x. nat_lt n x) 36 m) (λ next above.
     chained Any (FitsMeaning n) (choice_or (Err 5) (89 ∷ []) 123 m) _ (choice_or_holds (Err 5) (89 ∷ []) 123 m refl) (λ flag set.
-    let over : n < next = grind (arith, nat_tests) in over)))
+    let over : n < next = grind (arith, nat_tests) in over))
 
 new_order_holds : (m : List ℕ) → Holds FitsTicket (new_order m)
 unfolding new_order
 new_order_holds m =
-    chained Any FitsTicket (value_at 52 m) _ (value_holds 52 m) (λ stamp a.
     chained IsId FitsTicket (id_at 11 m) _ (id_holds 11 m) (λ id is_id.
     chained Any FitsTicket (choice_at (49 ∷ 50 ∷ 51 ∷ []) 21 m) _ (choice_holds (49 ∷ 50 ∷ 51 ∷ []) 21 m) (λ handling b.
     chained IsId FitsTicket (id_at 55 m) _ (id_holds 55 m) (λ symbol is_symbol.
@@ -209,41 +202,55 @@ new_order_holds m =
     chained Any FitsTicket (choice_at (50 ∷ []) 40 m) _ (choice_holds (50 ∷ []) 40 m) (λ type e.
     chained IsOrderPrice FitsTicket (read_at price_in 44 m) _ (price_holds 44 m) (λ price is_price.
     chained Any FitsTicket (choice_or (Ok 48) (48 ∷ 51 ∷ []) 59 m) _ (choice_or_holds (Ok 48) (48 ∷ 51 ∷ []) 59 m tt) (λ time_in_force f.
-    record { id = is_id; symbol = is_symbol; quantity = short; price = is_price }))))))))))
+    record { id = is_id; symbol = is_symbol; quantity = short; price = is_price })))))))))
 
 cancel_request_holds : (m : List ℕ) (n : ℕ) → Holds (FitsMeaning n) (cancel_request m)
 unfolding cancel_request
 cancel_request_holds m n =
-    chained Any (FitsMeaning n) (value_at 52 m) _ (value_holds 52 m) (λ stamp a.
     chained IsId (FitsMeaning n) (id_at 41 m) _ (id_holds 41 m) (λ original is_original.
     chained IsId (FitsMeaning n) (id_at 11 m) _ (id_holds 11 m) (λ id is_id.
     chained IsId (FitsMeaning n) (id_at 55 m) _ (id_holds 55 m) (λ symbol b.
     chained Any (FitsMeaning n) (choice_at (49 ∷ 50 ∷ []) 54 m) _ (choice_holds (49 ∷ 50 ∷ []) 54 m) (λ side c.
     chained Any (FitsMeaning n) (value_at 60 m) _ (value_holds 60 m) (λ time d.
-    record { fits = (is_id, is_original); no_logon = refl; no_close = refl }))))))
+    record { fits = (is_id, is_original); no_logon = refl; no_close = refl })))))
 
 replace_request_holds : (m : List ℕ) (n : ℕ) → Holds (FitsMeaning n) (replace_request m)
 unfolding replace_request
 replace_request_holds m n =
-    chained Any (FitsMeaning n) (value_at 52 m) _ (value_holds 52 m) (λ stamp a.
     chained IsId (FitsMeaning n) (id_at 41 m) _ (id_holds 41 m) (λ original is_original.
     chained FitsTicket (FitsMeaning n) (new_order m) _ (new_order_holds m) (λ ticket fits.
-    record { fits = (is_original, fits); no_logon = refl; no_close = refl })))
+    record { fits = (is_original, fits); no_logon = refl; no_close = refl }))
 
 -- ---- the table
 
 new_holds : (m : List ℕ) (n : ℕ) → Holds (FitsMeaning n) (new_order m >>= λ ticket. Ok (Gives (events.New ticket)))
 new_holds m n = chained FitsTicket (FitsMeaning n) (new_order m) _ (new_order_holds m) (λ t fits. record { fits = fits; no_logon = refl; no_close = refl })
 
+-- what a kind says is in range, if it is known
+abbrev IsKnown : ℕ → Option (Result Meaning ℕ) → Type 0
+IsKnown n None = Unit {0}
+IsKnown n (Some r) = Holds (FitsMeaning n) r
+
+either_known : (n : ℕ) (v : Bool) (o p : Option (Result Meaning ℕ)) → IsKnown n o → IsKnown n p → IsKnown n (if v then o else p)
+either_known n true o p h g = h
+either_known n false o p h g = g
+
+by_kind : (k : ℕ) (m : List ℕ) (n : ℕ) → IsKnown n (meaning_by (λ type. k == type) m n)
+by_kind k m n =
+    either_known n ((k == 48) || (k == 51)) _ _ tt (
+    either_known n (k == 49) _ _ (test_request_holds m n) (
+    either_known n (k == 50) _ _ (resend_request_holds m n) (
+    either_known n (k == 52) _ _ (sequence_reset_holds m n) (
+    either_known n (k == 68) _ _ (new_holds m n) (
+    either_known n (k == 70) _ _ (cancel_request_holds m n) (
+    either_known n (k == 71) _ _ (replace_request_holds m n) tt))))))
+
+known_holds : (o : Option (Result Meaning ℕ)) (m : List ℕ) (n : ℕ) → IsKnown n o → Holds (FitsMeaning n) (known o m)
+known_holds None m n h = refl
+known_holds (Some r) m n h = chained Any (FitsMeaning n) (value_at 52 m) (λ stamp. r) (value_holds 52 m) (λ stamp stands. h)
+
 kind_holds : (k : ℕ) (m : List ℕ) (n : ℕ) → Holds (FitsMeaning n) (meaning_of_kind k m n)
-kind_holds k m n =
-    either (FitsMeaning n) ((k == 48) || (k == 51)) _ _ (passed_over_holds m n) (
-    either (FitsMeaning n) (k == 49) _ _ (test_request_holds m n) (
-    either (FitsMeaning n) (k == 50) _ _ (resend_request_holds m n) (
-    either (FitsMeaning n) (k == 52) _ _ (sequence_reset_holds m n) (
-    either (FitsMeaning n) (k == 68) _ _ (new_holds m n) (
-    either (FitsMeaning n) (k == 70) _ _ (cancel_request_holds m n) (
-    either (FitsMeaning n) (k == 71) _ _ (replace_request_holds m n) refl))))))
+kind_holds k m n = known_holds (meaning_by (λ type. k == type) m n) m n (by_kind k m n)
 
 with_holds : (kind m : List ℕ) (n : ℕ) → Holds (FitsMeaning n) (meaning_of_kind_text kind m n)
 with_holds [] m n = refl

@@ -1,5 +1,5 @@
 -- What a message of each kind means: its tags in order, or the reason of the first that is at fault.
-use Rattle.std.specs.Prelude.{ℕ, Bool, ◌||◌, ◌==◌, nat_le, nat_lt, length, List, [], ◌∷◌, find, is_none, Result, Ok, Err, ok_or, if◌then◌else◌, codes}
+use Rattle.std.specs.Prelude.{ℕ, Bool, ◌||◌, ◌==◌, nat_le, nat_lt, length, List, [], ◌∷◌, find, is_none, Option, Some, None, Result, Ok, Err, ok_or, if◌then◌else◌, codes}
 use Rattle.std.specs.Result.{result_map_both}
 use Rattle.std.specs.Str.{bytes_eq}
 use Rattle.host_base.specs.Ids.{id_of}
@@ -60,17 +60,13 @@ abbrev pub choice_or : Result ℕ ℕ → List ℕ → ℕ → List ℕ → Resu
 choice_or missing allowed tag m =
     if is_none (get tag m) then missing else choice_at allowed tag m
 
--- ---- one kind
+-- ---- one kind, its SendingTime apart
 
 unfoldable pub test_request : List ℕ → Result Meaning ℕ
-test_request m = do
-  stamp ← value_at tags.SENDING_TIME m
-  text ← id_at tags.TEST_REQ_ID m
-  Ok (Gives (events.TestReply text))
+test_request m = id_at tags.TEST_REQ_ID m >>= λ text. Ok (Gives (events.TestReply text))
 
 unfoldable pub resend_request : List ℕ → Result Meaning ℕ
 resend_request m = do
-  stamp ← value_at tags.SENDING_TIME m
   first ← number_at (λ n. nat_le FIRST_MSG_SEQ_NUM n) tags.BEGIN_SEQ_NO m
   -- 0 asks for all that follow
   last ← number_at (λ n. (n == 0) || nat_le first n) tags.END_SEQ_NO m
@@ -79,7 +75,6 @@ resend_request m = do
 -- a gap fill of the message with number n
 unfoldable pub sequence_reset : List ℕ → ℕ → Result Meaning ℕ
 sequence_reset m n = do
-  stamp ← value_at tags.SENDING_TIME m
   next ← number_at (λ new. nat_lt n new) tags.NEW_SEQ_NO m
   -- a gap fill has to say so: without the tag it isn't one
   flag ← choice_or (Err reject.VALUE_OUT_OF_RANGE) (codes "Y") tags.GAP_FILL_FLAG m
@@ -87,7 +82,6 @@ sequence_reset m n = do
 
 unfoldable pub new_order : List ℕ → Result Ticket ℕ
 new_order m = do
-  stamp ← value_at tags.SENDING_TIME m
   id ← id_at tags.CL_ORD_ID m
   handling ← choice_at (codes "123") tags.HANDL_INST m
   symbol ← id_at tags.SYMBOL m
@@ -109,7 +103,6 @@ new_order m = do
 
 unfoldable pub cancel_request : List ℕ → Result Meaning ℕ
 cancel_request m = do
-  stamp ← value_at tags.SENDING_TIME m
   original ← id_at tags.ORIG_CL_ORD_ID m
   id ← id_at tags.CL_ORD_ID m
   symbol ← id_at tags.SYMBOL m
@@ -120,25 +113,29 @@ cancel_request m = do
 -- the id of an order, and then all that a new order says
 unfoldable pub replace_request : List ℕ → Result Meaning ℕ
 replace_request m = do
-  stamp ← value_at tags.SENDING_TIME m
   original ← id_at tags.ORIG_CL_ORD_ID m
   ticket ← new_order m
   Ok (Gives (events.Replace original ticket))
 
 -- ---- the table
 
--- what an accepted message with number n means, where it is neither the Logon nor a Logout
-abbrev pub meaning_of_message : List ℕ → ℕ → Result Meaning ℕ
-meaning_of_message m n =
-    let is : ℕ → Bool = λ type. bytes_eq (kind m) (type ∷ []) in
-    if length (kind m) == 0 then Err reject.TAG_WITHOUT_VALUE
-    else (if is msg_types.HEARTBEAT || is msg_types.REJECT
-    then (value_at tags.SENDING_TIME m >>= λ stamp. Ok Nothing)
-    else (if is msg_types.TEST_REQUEST then test_request m
-    else (if is msg_types.RESEND_REQUEST then resend_request m
-    else (if is msg_types.SEQUENCE_RESET then sequence_reset m n
+-- what the message with number n says by its kind, which is the one for which the test holds; None where it is another
+abbrev pub meaning_by : (ℕ → Bool) → List ℕ → ℕ → Option (Result Meaning ℕ)
+meaning_by is m n =
+    if is msg_types.HEARTBEAT || is msg_types.REJECT then Some (Ok Nothing)
+    else (if is msg_types.TEST_REQUEST then Some (test_request m)
+    else (if is msg_types.RESEND_REQUEST then Some (resend_request m)
+    else (if is msg_types.SEQUENCE_RESET then Some (sequence_reset m n)
     else (if is msg_types.NEW_ORDER_SINGLE
-    then (new_order m >>= λ ticket. Ok (Gives (events.New ticket)))
-    else (if is msg_types.ORDER_CANCEL_REQUEST then cancel_request m
-    else (if is msg_types.ORDER_CANCEL_REPLACE_REQUEST then replace_request m
-    else Err reject.INVALID_MSG_TYPE)))))))
+    then Some (new_order m >>= λ ticket. Ok (Gives (events.New ticket)))
+    else (if is msg_types.ORDER_CANCEL_REQUEST then Some (cancel_request m)
+    else (if is msg_types.ORDER_CANCEL_REPLACE_REQUEST then Some (replace_request m)
+    else None))))))
+
+-- What an accepted message with number n means, where it is neither the Logon nor a Logout: what it says by its kind,
+-- where that is known and SendingTime stands, which is looked at before other tags.
+abbrev pub meaning_of_message : List ℕ → ℕ → Result Meaning ℕ
+meaning_of_message m n = if length (kind m) == 0 then Err reject.TAG_WITHOUT_VALUE else do
+  said ← ok_or (meaning_by (λ type. bytes_eq (kind m) (type ∷ [])) m n) reject.INVALID_MSG_TYPE
+  stamp ← value_at tags.SENDING_TIME m
+  said

@@ -9,7 +9,7 @@ ghost use Rattle.fix_frames.specs.declared.tags.TheConstants as tags;
 ghost use Rattle.spread_rules.specs.declared.codes.session_reject_reason.TheConstants as session_reject_reason;
 ghost use Rattle.kind_table.specs.Table.{value_at, id_at, read_at, choice_at, choice_or, test_request, resend_request, sequence_reset, new_order, cancel_request, replace_request, meaning_of_message, reason_of};
 ghost use Rattle.kind_table.specs.code.ByKind.{meaning_of_kind};
-ghost use Rattle.kind_table.specs.code.Shown.{bytes_behind, ticket_of, ticket_behind, passed_over, one_of, side_at, is_immediate_at};
+ghost use Rattle.kind_table.specs.code.Shown.{bytes_behind, ticket_of, ticket_behind, stamped, passed_over, one_of, side_at, is_immediate_at};
 
 use fix_wire::{
     Message, Unread, field_values, msg_types, read_number, read_price, read_quantity, tags,
@@ -161,7 +161,7 @@ fn passed_over(message: &Message) -> Result<Meaning, u8>
 
 #[tactic(auto, unfolding(crate::specs::Table::test_request))]
 fn test_request(message: &Message) -> Result<Meaning, u8>
-    ensures { result ≡ test_request message.now.frame.now }
+    ensures { result ≡ stamped message.now.frame.now (test_request message.now.frame.now) }
 {
     value_at(message, tags::SENDING_TIME)?;
     let text = Id::of(id_text_at(message, tags::TEST_REQ_ID)?);
@@ -170,7 +170,7 @@ fn test_request(message: &Message) -> Result<Meaning, u8>
 
 #[tactic(auto, unfolding(crate::specs::Table::resend_request))]
 fn resend_request(message: &Message) -> Result<Meaning, u8>
-    ensures { result ≡ resend_request message.now.frame.now }
+    ensures { result ≡ stamped message.now.frame.now (resend_request message.now.frame.now) }
 {
     value_at(message, tags::SENDING_TIME)?;
     let first = number_at(message, tags::BEGIN_SEQ_NO)?;
@@ -190,7 +190,8 @@ fn resend_request(message: &Message) -> Result<Meaning, u8>
 /// A SequenceReset with this number.
 #[tactic(auto, unfolding(crate::specs::Table::sequence_reset))]
 fn sequence_reset(message: &Message, number: u32) -> Result<Meaning, u8>
-    ensures { result ≡ sequence_reset message.now.frame.now number }
+    ensures { result
+        ≡ stamped message.now.frame.now (sequence_reset message.now.frame.now number) }
 {
     value_at(message, tags::SENDING_TIME)?;
     let next = number_at(message, tags::NEW_SEQ_NO)?;
@@ -215,7 +216,8 @@ pub struct OrderTexts<'a> {
 #[tactic(auto, unfolding(crate::specs::Table::new_order))]
 #[inline(always)]
 pub fn order_texts<'a>(message: &Message<'a>) -> Result<OrderTexts<'a>, u8>
-    ensures ticket { ticket_behind result ≡ new_order message.now.frame.now }
+    ensures ticket { ticket_behind result
+        ≡ stamped message.now.frame.now (new_order message.now.frame.now) }
     ensures id { IfOk result (λ o. is_id o.id.now ≡ true) }
     ensures symbol { IfOk result (λ o. is_id o.symbol.now ≡ true) }
 {
@@ -257,7 +259,7 @@ pub fn ticket_of(texts: &OrderTexts) -> Ticket
 }
 
 fn new_order(message: &Message) -> Result<Ticket, u8>
-    ensures { result ≡ new_order message.now.frame.now }
+    ensures { result ≡ stamped message.now.frame.now (new_order message.now.frame.now) }
 {
     match order_texts(message) {
         Ok(texts) => Ok(ticket_of(&texts)),
@@ -267,7 +269,7 @@ fn new_order(message: &Message) -> Result<Ticket, u8>
 
 #[tactic(auto, unfolding(crate::specs::Table::cancel_request))]
 fn cancel_request(message: &Message) -> Result<Meaning, u8>
-    ensures { result ≡ cancel_request message.now.frame.now }
+    ensures { result ≡ stamped message.now.frame.now (cancel_request message.now.frame.now) }
 {
     value_at(message, tags::SENDING_TIME)?;
     let original = Id::of(id_text_at(message, tags::ORIG_CL_ORD_ID)?);
@@ -281,7 +283,7 @@ fn cancel_request(message: &Message) -> Result<Meaning, u8>
 /// The id of an order, and then all that a new order says.
 #[tactic(auto, unfolding(crate::specs::Table::replace_request))]
 fn replace_request(message: &Message) -> Result<Meaning, u8>
-    ensures { result ≡ replace_request message.now.frame.now }
+    ensures { result ≡ stamped message.now.frame.now (replace_request message.now.frame.now) }
 {
     value_at(message, tags::SENDING_TIME)?;
     let original = Id::of(id_text_at(message, tags::ORIG_CL_ORD_ID)?);

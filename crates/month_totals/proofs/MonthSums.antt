@@ -15,7 +15,7 @@ use Rattle.spread_rulebook.specs.declared.instrument.Instrument.{Instrument}
 use Rattle.spread_rulebook.specs.declared.instrument.Instrument.TheVariants.{Outright, Spread}
 use Rattle.spread_rules.specs.declared.fill.Fill.{Fill}
 use Rattle.spread_rules.specs.code.Cases.{quantity_in, money_in}
-use Rattle.spread_rules.specs.Legs.{Leg, is_side, legs_by, legs_in, legs, quantities, money, other_side}
+use Rattle.spread_rules.specs.Legs.{Leg, is_side, legs_by, legs_in, legs, quantities, money_of_legs, other_side}
 use Rattle.spread_rules.proofs.clearings.SumsOverLegs.{bought_is, sold_is, paid_is, received_is}
 use Rattle.month_totals.specs.declared.totals.MonthTotals.{MonthTotals}
 use Rattle.month_totals.specs.Totals.{AreTotals, IsSummable}
@@ -150,7 +150,7 @@ room_by (Spread i j) s q p x y n ts few pl ph xl xh yl yh h =
     (room_leg (n + 1) (with_leg ts a) b (record { quantity = few; price = record { low = yl; high = yh } }) (room_leg n ts a (record { quantity = few; price = record { low = xl; high = xh } }) h) k d lt)
 
 pub room_fill : (n : ℕ) (ts : List MonthTotals) (f : Fill) → IsSummable f → All (HasRoom n) ts → All (HasRoom (n + 2)) (with_fill ts f)
-room_fill n ts f s h = room_by f.instrument f.side f.quantity f.price f.near f.far n ts s.quantity s.price.low s.price.high s.near.low s.near.high s.far.low s.far.high h
+room_fill n ts f s h = room_by f.instrument f.side f.quantity f.price f.near f.far n ts s.0 s.1.low s.1.high s.2.low s.2.high s.3.low s.3.high h
 
 pub room_fills : (fs : List Fill) (n : ℕ) (ts : List MonthTotals) → All IsSummable fs → All (HasRoom n) ts → All (HasRoom (n + 2 * length fs)) (fold with_fill ts fs)
 room_fills [] n ts s h = λ k d lt. room_more n (n + 2 * length {A = Fill} []) (get_or ts k d) (omega arith) (h k d lt)
@@ -196,8 +196,8 @@ abbrev pub after_legs : MonthTotals → ℕ → List Leg → MonthTotals
 after_legs t m ls = record {
   bought = t.bought + quantities Buy m ls;
   sold = t.sold + quantities Sell m ls;
-  paid = t.paid +ℤ money Buy m ls;
-  received = t.received +ℤ money Sell m ls;
+  paid = t.paid +ℤ money_of_legs Buy m ls;
+  received = t.received +ℤ money_of_legs Sell m ls;
 }
 
 no_lots : (n : ℕ) → n ≡ n + 0
@@ -244,7 +244,7 @@ fold_is (l ∷ ls) ts m d lt =
     fold_is ls (with_leg ts l) m d (omega (arith, len))
     ∙ (ap (λ (t : MonthTotals). after_legs t m ls) (one_leg ts l m d lt)
     ∙ same_totals _ _ _ _ _ _ _ _ (lots_assoc u.bought (quantity_in Buy m l) (quantities Buy m ls)) (lots_assoc u.sold (quantity_in Sell m l) (quantities Sell m ls))
-    (money_assoc u.paid (money_in Buy m l) (money Buy m ls)) (money_assoc u.received (money_in Sell m l) (money Sell m ls)))
+    (money_assoc u.paid (money_in Buy m l) (money_of_legs Buy m ls)) (money_assoc u.received (money_in Sell m l) (money_of_legs Sell m ls)))
 
 pub fold_fills : (fs : List Fill) (ts : List MonthTotals) → fold with_fill ts fs ≡ fold with_leg ts (legs fs)
 fold_fills [] ts = refl
@@ -269,17 +269,17 @@ sums_are fs = λ m d lt.
     ∙ (ap (λ (t : MonthTotals). after_legs t m (legs fs)) (none_summed m d less)
     ∙ same_totals _ _ _ _ _ _ _ _
     (from_no_lots (quantities Buy m (legs fs)) ∙ sym (bought_is m fs)) (from_no_lots (quantities Sell m (legs fs)) ∙ sym (sold_is m fs))
-    (from_no_money (money Buy m (legs fs)) ∙ sym (paid_is m fs)) (from_no_money (money Sell m (legs fs)) ∙ sym (received_is m fs))))
+    (from_no_money (money_of_legs Buy m (legs fs)) ∙ sym (paid_is m fs)) (from_no_money (money_of_legs Sell m (legs fs)) ∙ sym (received_is m fs))))
 
 -- room for the far leg of a spread
 pub room_far : (ts us : List MonthTotals) (month : ℕ) (s : Side) (f : Fill) → us ≡ with_leg ts (record { month = month; side = s; quantity = f.quantity; price = to_z w64 (of_z w64 f.near) }) → IsSummable f → All (HasRoom (2 ^ 66)) ts → All (HasRoom (2 ^ 67)) us
 room_far ts us month s f is sum h =
     let l : Leg = record { month = month; side = s; quantity = f.quantity; price = f.near } in
-    let fits : FitsSigned w64 f.near = let low = sum.near.low in let high = sum.near.high in omega (arith, ints) in
+    let fits : FitsSigned w64 f.near = let low = sum.2.low in let high = sum.2.high in omega (arith, ints) in
     let same = rw (to_z-of_z w64 f.near fits) at is in
     subst (λ (t : List MonthTotals). All (HasRoom (2 ^ 67)) t) (sym same)
     (λ k d lt. room_more (2 ^ 66 + 1) (2 ^ 67) (get_or (with_leg ts l) k d) (omega arith)
-    (room_leg (2 ^ 66) ts l (record { quantity = sum.quantity; price = sum.near }) h k d lt))
+    (room_leg (2 ^ 66) ts l (record { quantity = sum.0; price = sum.2 }) h k d lt))
 
 -- the sums of the fills so far
 pub sums_taken : (fs : List Fill) (n : ℕ) (ts : List MonthTotals) → ts ≡ fold with_fill empty_months (take n fs) → length fs ≤ n → AreTotals fs ts

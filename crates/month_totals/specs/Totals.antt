@@ -29,8 +29,6 @@ IsBelow n (Outright m) = m < n
 IsBelow n (Spread i j) = (i < n) × (j < n)
 
 -- a quantity and prices for which a day's sums have room
-pub record IsSummable (f : Fill) : Type 0 where
-  pub quantity : f.quantity ≤ MAX_ORDER_QTY
-  pub price : IsLegPrice f.price
-  pub near : IsLegPrice f.near
-  pub far : IsLegPrice f.far
+abbrev pub IsSummable : Fill → Type 0
+IsSummable f =
+    (f.quantity ≤ MAX_ORDER_QTY) × IsLegPrice f.price × IsLegPrice f.near × IsLegPrice f.far

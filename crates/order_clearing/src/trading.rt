@@ -1,7 +1,7 @@
 //! Turns over a book.
 ghost use Rattle.std.specs.Prelude.{◌≡◌, ◌<◌, ◌≤◌, ◌+◌, ◌-◌, ◌*◌, ◌++◌, ◌∷◌, [], List, Contains, vec_len, vec_capacity, fold, min, length};
-ghost use Rattle.spread_rules.specs.Candidates.{least_left, AllStandIn, HasLegPrice, PlacesDiffer};
-ghost use Rattle.spread_rules.specs.Clearing.{leg_prices_of_fill, fill_of, after_fill, fills_of, members, clear};
+ghost use Rattle.spread_rules.specs.Candidates.{least_left, AllStandIn, HasLegPrice, PlacesDiffer, members};
+ghost use Rattle.spread_rules.specs.Clearing.{leg_prices_of_fill, fill_of, after_fill, fills_of, clear};
 ghost use Rattle.order_clearing.specs.Tradable.{IsTradable};
 ghost use Rattle.order_clearing.specs.code.Turns.{HaveLeft, AreApart};
 ghost use Rattle.spread_rulebook.specs.Rulebook.{implied, month_count, references_of};

@@ -5,6 +5,7 @@ use Rattle.spread_rules.specs.declared.order.Side.{Side}
 use Rattle.spread_rules.specs.declared.order.Side.TheVariants.{Buy, Sell}
 use Rattle.report_bodies.specs.declared.codes.MultiLegReportingType.{MultiLegReportingType}
 use Rattle.report_bodies.specs.declared.codes.MultiLegReportingType.TheVariants.{SingleSecurity, IndividualLeg, MultiLegSecurity}
+use Rattle.report_bodies.specs.declared.codes.TheConstants.{SINGLE_SECURITY, INDIVIDUAL_LEG, MULTI_LEG_SECURITY}
 use Rattle.report_bodies.specs.declared.codes.OrdStatus.{OrdStatus}
 use Rattle.report_bodies.specs.declared.codes.OrdStatus.TheVariants.{New, PartiallyFilled, Filled, Canceled, Replaced, Rejected}
 
@@ -13,13 +14,13 @@ abbrev pub side_code : Side → ℕ
 side_code Buy = 1
 side_code Sell = 2
 
+-- ---- words that the headline does not rest on
+
 -- MultiLegReportingType, tag 442
 abbrev pub multi_leg_code : MultiLegReportingType → ℕ
-multi_leg_code SingleSecurity = 1
-multi_leg_code IndividualLeg = 2
-multi_leg_code MultiLegSecurity = 3
-
--- ---- words of the code alone
+multi_leg_code SingleSecurity = SINGLE_SECURITY
+multi_leg_code IndividualLeg = INDIVIDUAL_LEG
+multi_leg_code MultiLegSecurity = MULTI_LEG_SECURITY
 
 -- OrdStatus, tag 39, and ExecType, tag 150
 abbrev pub ord_status_code : OrdStatus → ℕ

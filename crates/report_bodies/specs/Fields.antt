@@ -4,15 +4,13 @@ use Rattle.std.specs.Option.{option_to_list}
 use Rattle.fix_wire.specs.declared.writer.Value.{Value}
 use Rattle.fix_wire.specs.declared.writer.Value.TheVariants.{Text, Number, Price, Pair}
 use Rattle.fix_wire.specs.declared.writer.Field.{Field}
+use Rattle.fix_wire.specs.Layout.{field}
 
-abbrev pub field : ℕ → Value → Field
-field tag value = record { tag = tag; value = value }
+-- the field with the value that this makes of what is there, or none
+abbrev pub optional_field : {A : Type 0} → ℕ → Option A → (A → Value) → List Field
+optional_field tag o value = option_to_list (option_map (λ a. field tag (value a)) o)
 
--- the field with such a value, or none
-abbrev pub optional_field : {A : Type 0} → ℕ → (A → Value) → Option A → List Field
-optional_field tag value o = option_to_list (option_map (λ a. field tag (value a)) o)
-
--- ---- words of the code alone
+-- ---- words that the headline does not rest on
 
 -- a field with a text, a number, a price in hundredths, or two numbers
 abbrev pub text_field : ℕ → List ℕ → Field

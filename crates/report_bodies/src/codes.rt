@@ -13,6 +13,12 @@ pub const EXEC_TRANS_TYPE_NEW: u64 = 0;
 pub const CXL_REJ_RESPONSE_TO_CANCEL: u64 = 1;
 /// CxlRejResponseTo (tag 434): an OrderCancelReplaceRequest.
 pub const CXL_REJ_RESPONSE_TO_REPLACE: u64 = 2;
+/// MultiLegReportingType (tag 442): an outright's fill.
+pub const SINGLE_SECURITY: u64 = 1;
+/// MultiLegReportingType (tag 442): one leg of a spread's fill.
+pub const INDIVIDUAL_LEG: u64 = 2;
+/// MultiLegReportingType (tag 442): a spread's fill as a whole.
+pub const MULTI_LEG_SECURITY: u64 = 3;
 
 /// ExecType and OrdStatus (tags 150 and 39): what became of an order.
 #[derive(Clone, Copy)]
@@ -58,9 +64,9 @@ impl MultiLegReportingType {
         ensures { result ≡ code.multi_leg_code self }
     {
         match self {
-            MultiLegReportingType::SingleSecurity => 1,
-            MultiLegReportingType::IndividualLeg => 2,
-            MultiLegReportingType::MultiLegSecurity => 3,
+            MultiLegReportingType::SingleSecurity => SINGLE_SECURITY,
+            MultiLegReportingType::IndividualLeg => INDIVIDUAL_LEG,
+            MultiLegReportingType::MultiLegSecurity => MULTI_LEG_SECURITY,
         }
     }
 }

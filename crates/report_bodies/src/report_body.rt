@@ -2,7 +2,7 @@
 ghost use Rattle.std.specs.Prelude.{◌≡◌, ◌++◌, ◌≤◌, ◌+◌, FitsSigned, length, take};
 ghost use Rattle.std.specs.Int.{w64};
 ghost use Rattle.std.specs.List.{flat_map, AllByRecursion};
-ghost use Rattle.fix_wire.specs.Layout.{field_text, field_of_given, FitsValueOf};
+ghost use Rattle.fix_wire.specs.Layout.{field_text, FitsValueOf};
 ghost use Rattle.report_bodies.specs.code.ReportBodies.{order_fields, event_fields, terms_fields, left_fields, last_fields, fields_of_order, fields_of_reject, fields_of_cancel, fields_of_fill};
 
 use crate::codes::{EXEC_TRANS_TYPE_NEW, MultiLegReportingType, OrdStatus, side_code};
@@ -69,7 +69,7 @@ pub struct FillReport<'a> {
 fn put_order(room: &mut [u8], at: usize, report: &OrderReport<'_>) -> usize
     requires within { at + 128 ≤ length room.old }
     ensures text { take result room.new ≡ take at room.old
-        ++ flat_map (λ f. field_text (field_of_given f)) (order_fields report.now) }
+        ++ flat_map field_text (order_fields report.now) }
     ensures most { result ≤ at + 128 }
     ensures values { AllByRecursion FitsValueOf (order_fields report.now) }
     ensures size { length room.new ≡ length room.old }
@@ -82,7 +82,7 @@ fn put_order(room: &mut [u8], at: usize, report: &OrderReport<'_>) -> usize
 fn put_event(room: &mut [u8], at: usize, report: &OrderReport<'_>) -> usize
     requires within { at + 256 ≤ length room.old }
     ensures text { take result room.new ≡ take at room.old
-        ++ flat_map (λ f. field_text (field_of_given f)) (event_fields report.now) }
+        ++ flat_map field_text (event_fields report.now) }
     ensures most { result ≤ at + 256 }
     ensures values { AllByRecursion FitsValueOf (event_fields report.now) }
     ensures size { length room.new ≡ length room.old }
@@ -107,7 +107,7 @@ fn put_event(room: &mut [u8], at: usize, report: &OrderReport<'_>) -> usize
 fn put_terms(room: &mut [u8], at: usize, report: &OrderReport<'_>) -> usize
     requires within { at + 192 ≤ length room.old }
     ensures text { take result room.new ≡ take at room.old
-        ++ flat_map (λ f. field_text (field_of_given f)) (terms_fields report.now) }
+        ++ flat_map field_text (terms_fields report.now) }
     ensures most { result ≤ at + 192 }
     ensures values { AllByRecursion FitsValueOf (terms_fields report.now) }
     ensures size { length room.new ≡ length room.old }
@@ -121,7 +121,7 @@ fn put_terms(room: &mut [u8], at: usize, report: &OrderReport<'_>) -> usize
 fn put_left(room: &mut [u8], at: usize, report: &OrderReport<'_>) -> usize
     requires within { at + 192 ≤ length room.old }
     ensures text { take result room.new ≡ take at room.old
-        ++ flat_map (λ f. field_text (field_of_given f)) (left_fields report.now) }
+        ++ flat_map field_text (left_fields report.now) }
     ensures most { result ≤ at + 192 }
     ensures values { AllByRecursion FitsValueOf (left_fields report.now) }
     ensures size { length room.new ≡ length room.old }
@@ -139,7 +139,7 @@ fn put_left(room: &mut [u8], at: usize, report: &OrderReport<'_>) -> usize
 fn put_last(room: &mut [u8], at: usize, quantity: u64, price: i64) -> usize
     requires within { at + 128 ≤ length room.old }
     ensures text { take result room.new ≡ take at room.old
-        ++ flat_map (λ f. field_text (field_of_given f)) (last_fields quantity price) }
+        ++ flat_map field_text (last_fields quantity price) }
     ensures most { result ≤ at + 128 }
     ensures values { AllByRecursion FitsValueOf (last_fields quantity price) }
     ensures size { length room.new ≡ length room.old }

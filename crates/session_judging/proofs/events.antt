@@ -1,4 +1,6 @@
 pub mod StateOfPlaces
+pub mod OpeningInParts
 pub mod OpensAtTwo
+pub mod DueAfterOrders
 pub mod InRangeAndOrder
 pub mod ClosesOnce

@@ -1,7 +1,7 @@
 -- What the messages of a finished list mean, place by place. A place is the index of a message in the list.
-use Rattle.std.specs.Prelude.{ℕ, zero, suc, Bool, true, false, ◌&&◌, not, ◌==◌, nat_lt, if◌then◌else◌, List, [], ◌∷◌, Option, Some, None, is_some, is_none, option_map, option_and_then, take, drop, slice_get, filter_map}
+use Rattle.std.specs.Prelude.{ℕ, zero, suc, Bool, true, false, ◌&&◌, ◌||◌, not, ◌==◌, nat_lt, if◌then◌else◌, List, [], ◌∷◌, Option, Some, None, is_some, is_none, option_map, option_and_then, slice_get, filter_map, codes}
 use Rattle.std.specs.Bool.{then_some}
-use Rattle.std.specs.List.{list_any, enumerate_from}
+use Rattle.std.specs.List.{enumerate_from}
 use Rattle.std.specs.Option.{option_eq, option_map_or, option_or}
 use Rattle.std.specs.Str.{bytes_eq}
 use Rattle.host_base.specs.declared.limits.TheConstants.{FIRST_MSG_SEQ_NUM}
@@ -13,65 +13,49 @@ use Rattle.fix_frames.specs.declared.tags.TheConstants as tags
 use Rattle.fix_frames.specs.Messages.{get, kind}
 use Rattle.kind_table.specs.Table.{meaning_of_message}
 use Rattle.session_judging.specs.declared.session.Logon.{Logon}
-use Rattle.session_judging.specs.View.{Numbered, logon_of, is_duplicate, event_of_accepted, due_after_accepted}
+use Rattle.session_judging.specs.View.{Numbered, logon_of, event_of_accepted, due_after_accepted}
 
--- the Logon of the session: that of the first message, where it is a lawful one
-abbrev pub session_logon : List Numbered → Option Logon
-session_logon ms = option_and_then (λ m. logon_of m.text m.number) (slice_get ms 0)
-
--- the message has the CompIDs of the session's Logon
+-- the message has the CompIDs of the session's Logon, which is the first message, where that is a lawful one
 abbrev pub has_comp_ids : List Numbered → Numbered → Bool
 has_comp_ids ms m =
+    let logon = option_and_then (λ first. logon_of first.text first.number) (slice_get ms 0) in
     option_map_or (λ l. option_eq bytes_eq (get tags.SENDER_COMP_ID m.text) (Some l.client)
-    && option_eq bytes_eq (get tags.TARGET_COMP_ID m.text) (Some l.host)) (session_logon ms) false
-
--- the number due after the last accepted place
-abbrev pub due_after : List Numbered → Option ℕ → ℕ
-due_after ms last =
-    option_map_or (λ m. due_after_accepted m.number (meaning_of_message m.text m.number))
-    (option_and_then (slice_get ms) last) FIRST_MSG_SEQ_NUM
+    && option_eq bytes_eq (get tags.TARGET_COMP_ID m.text) (Some l.host)) logon false
 
 -- a live message at a place, where `due` is due: it is accepted
 abbrev pub is_accepted : List Numbered → ℕ → ℕ → Numbered → Bool
 is_accepted ms zero due m = is_some (logon_of m.text m.number)
 is_accepted ms (suc p) due m = has_comp_ids ms m && (m.number == due)
 
--- a live message at a place, where `due` is due: why it closes the session
+-- A live message at a place, where `due` is due: why it closes the session. A number below the due one is no reason
+-- where PossDupFlag says that the message may be a duplicate.
 abbrev pub closing : List Numbered → ℕ → ℕ → Numbered → Option ℕ
 closing ms zero due m = then_some (is_none (logon_of m.text m.number)) close_reason.NO_LOGON
 closing ms (suc p) due m =
     if not (has_comp_ids ms m) then Some close_reason.COMP_ID
-    else (if nat_lt m.number due && not (is_duplicate m.text)
+    else (if nat_lt m.number due
+    && not (option_eq bytes_eq (get tags.POSS_DUP_FLAG m.text) (Some (codes "Y")))
     then Some close_reason.MSG_SEQ_NUM_TOO_LOW
     else then_some ((m.number == due) && bytes_eq (kind m.text) (msg_types.LOGOUT ∷ []))
     close_reason.LOGOUT)
 
-abbrev mutual
-  -- a place is live if no earlier place is closing
-  pub live : List Numbered → ℕ → Bool
-  live ms zero = true
-  live ms (suc p) =
-      let due = due_after ms (last_accepted_before ms p) in
-      live ms p && is_none (option_and_then (closing ms p due) (slice_get ms p))
-
-  -- the last accepted place before a place
-  pub last_accepted_before : List Numbered → ℕ → Option ℕ
-  last_accepted_before ms zero = None
-  last_accepted_before ms (suc p) =
-      let due = due_after ms (last_accepted_before ms p) in
-      if live ms p && option_map_or (is_accepted ms p due) (slice_get ms p) false
-      then Some p
-      else last_accepted_before ms p
-
--- the number due at a place
+-- the number due at a place: the first number, and then the one after the last accepted message before the place
 abbrev pub due : List Numbered → ℕ → ℕ
-due ms p = due_after ms (last_accepted_before ms p)
+due ms zero = FIRST_MSG_SEQ_NUM
+due ms (suc p) = option_map_or (λ m. if is_accepted ms p (due ms p) m
+    then due_after_accepted m.number (meaning_of_message m.text m.number)
+    else due ms p) (slice_get ms p) (due ms p)
 
--- whether a message between the last accepted place and this one has a number above the due one
+-- a place is live if no earlier place is closing
+abbrev pub live : List Numbered → ℕ → Bool
+live ms zero = true
+live ms (suc p) = live ms p && is_none (option_and_then (closing ms p (due ms p)) (slice_get ms p))
+
+-- a gap is open at a place: a message behind the last accepted one has a number above the due one
 abbrev pub has_open_gap : List Numbered → ℕ → Bool
-has_open_gap ms p =
-    let after_last = option_map_or suc (last_accepted_before ms p) 0 in
-    list_any (λ m. nat_lt (due ms p) m.number) (drop after_last (take p ms))
+has_open_gap ms zero = false
+has_open_gap ms (suc p) = option_map_or (λ m. not (is_accepted ms p (due ms p) m)
+    && (has_open_gap ms p || nat_lt (due ms p) m.number)) (slice_get ms p) false
 
 -- the event of a live place that doesn't close: a Logon, what an accepted message gives, or a gap that is not open yet
 abbrev pub event_of : List Numbered → ℕ → Numbered → Option Event
@@ -93,3 +77,9 @@ event ms p m =
 -- the events of the places in order
 abbrev pub message_events : List Numbered → List Event
 message_events ms = filter_map (λ place. event ms place.0 place.1) (enumerate_from 0 ms)
+
+-- ---- words that the headline does not rest on
+
+-- the Logon of the session: that of the first message, where it is a lawful one
+abbrev pub session_logon : List Numbered → Option Logon
+session_logon ms = option_and_then (λ m. logon_of m.text m.number) (slice_get ms 0)

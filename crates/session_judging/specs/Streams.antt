@@ -1,15 +1,17 @@
 -- What the bytes of a stream say.
-use Rattle.std.specs.Prelude.{ℕ, Bool, List, [], ◌∷◌, ◌++◌, length, filter_map, if◌then◌else◌}
+use Rattle.std.specs.Prelude.{ℕ, Bool, List, [], ◌∷◌, ◌++◌, length, filter_map, option_map, if◌then◌else◌}
 use Rattle.spread_rules.specs.declared.codes.close_reason.TheConstants.{STREAM_ENDED}
 use Rattle.spread_rules.specs.declared.event.Event.{Event}
 use Rattle.spread_rules.specs.declared.event.Event.TheVariants as variant
 use Rattle.fix_frames.specs.Frames.{frames}
+use Rattle.fix_frames.specs.Messages.{number}
 use Rattle.session_judging.specs.View.{Numbered, numbered}
 use Rattle.session_judging.specs.Places.{live, message_events}
 
 -- the messages of a stream: the frames whose number can be read
 abbrev pub messages : List ℕ → List Numbered
-messages stream = filter_map numbered (frames stream)
+messages stream =
+    filter_map (λ m. option_map (λ n. record { number = n; text = m }) (number m)) (frames stream)
 
 -- the events of a stream
 abbrev pub events : List ℕ → List Event
@@ -24,7 +26,7 @@ abbrev pub whole : List ℕ → List Event
 whole stream =
     events stream ++ (if stays_open stream then variant.Close STREAM_ENDED ∷ [] else [])
 
--- ---- the same of frames: words of the code alone
+-- ---- the same of frames: words that the headline does not rest on
 
 abbrev pub events_of : List (List ℕ) → List Event
 events_of fs = message_events (filter_map numbered fs)

@@ -1,39 +1,32 @@
 -- What a session reads in a message.
-use Rattle.std.specs.Prelude.{ℕ, ◌+◌, Bool, ◌&&◌, not, ◌==◌, List, [], ◌∷◌, Option, Some, None, option_map, option_and_then, is_ok, Result, Ok, Err, if◌then◌else◌, codes}
+use Rattle.std.specs.Prelude.{ℕ, ◌+◌, Bool, ◌&&◌, not, ◌==◌, List, [], ◌∷◌, Option, Some, None, option_map, Result, Ok, Err, if◌then◌else◌, codes}
 use Rattle.std.specs.Option.{option_eq}
+use Rattle.std.specs.Result.{result_ok}
 use Rattle.std.specs.Str.{bytes_eq}
-use Rattle.host_base.specs.Ids.{id_of}
 use Rattle.host_base.specs.declared.limits.TheConstants.{FIRST_MSG_SEQ_NUM}
 use Rattle.spread_rules.specs.declared.event.Event.{Event}
 use Rattle.spread_rules.specs.declared.event.Event.TheVariants as events
 use Rattle.fix_frames.specs.declared.msg_types.TheConstants as msg_types
 use Rattle.fix_frames.specs.declared.tags.TheConstants as tags
-use Rattle.fix_frames.specs.Messages.{get, kind, number, given_number}
+use Rattle.fix_values.specs.Values.{number_in}
+use Rattle.fix_frames.specs.Messages.{get, kind, number}
 use Rattle.kind_table.specs.declared.table.Meaning.{Meaning}
 use Rattle.kind_table.specs.declared.table.Meaning.TheVariants.{Gives, Fills}
-use Rattle.kind_table.specs.Table.{value_at, meaning_of_message}
+use Rattle.kind_table.specs.Table.{◌>>=◌, value_at, id_at, choice_at, read_at, meaning_of_message}
 use Rattle.session_judging.specs.declared.session.Logon.{Logon}
-
-infixl 10 ◌>>=◌
-abbrev pub ◌>>=◌ : {A B : Type 0} → Option A → (A → Option B) → Option B
-x >>= f = option_and_then f x
 
 -- ---- the Logon
 
--- a Logon with the first number, a sending time, and no encryption
-abbrev pub is_opening : List ℕ → ℕ → Bool
-is_opening m n =
-    bytes_eq (kind m) (msg_types.LOGON ∷ []) && (n == FIRST_MSG_SEQ_NUM)
-    && is_ok (value_at tags.SENDING_TIME m)
-    && option_eq bytes_eq (get tags.ENCRYPT_METHOD m) (Some (codes "0"))
-
--- what a lawful Logon says
+-- what a lawful Logon says: it has the first number and a SendingTime, and asks for no encryption
 unfoldable pub logon_of : List ℕ → ℕ → Option Logon
-logon_of m n = if not (is_opening m n) then None else do
-  client ← get tags.SENDER_COMP_ID m >>= id_of
-  host ← get tags.TARGET_COMP_ID m >>= id_of
-  beat ← given_number tags.HEART_BT_INT m
-  Some (record { client = client; host = host; beat = beat })
+logon_of m n = if not (bytes_eq (kind m) (msg_types.LOGON ∷ []) && (n == FIRST_MSG_SEQ_NUM))
+    then None else result_ok do
+      stamp ← value_at tags.SENDING_TIME m
+      method ← choice_at (codes "0") tags.ENCRYPT_METHOD m
+      client ← id_at tags.SENDER_COMP_ID m
+      host ← id_at tags.TARGET_COMP_ID m
+      beat ← read_at number_in tags.HEART_BT_INT m
+      Ok (record { client = client; host = host; beat = beat })
 
 -- ---- a later message
 
@@ -48,29 +41,21 @@ abbrev pub due_after_accepted : ℕ → Result Meaning ℕ → ℕ
 due_after_accepted n (Ok (Fills next)) = next
 due_after_accepted n _ = n + 1
 
--- PossDupFlag says that it may be a duplicate
-abbrev pub is_duplicate : List ℕ → Bool
-is_duplicate m = option_eq bytes_eq (get tags.POSS_DUP_FLAG m) (Some (codes "Y"))
-
 -- ---- messages with their numbers
 
 pub record Numbered : Type 0 where
   pub number : ℕ
   pub text : List ℕ
 
+-- ---- words that the headline does not rest on
+
 -- a frame and its number, where that can be read
 abbrev pub numbered : List ℕ → Option Numbered
 numbered m = option_map (λ n. record { number = n; text = m }) (number m)
 
--- ---- words of the code alone
-
 -- it stands, and is this text
 abbrev pub is_same_text : Option (List ℕ) → List ℕ → Bool
 is_same_text found text = option_eq bytes_eq found (Some text)
-
--- the id that a tag has
-abbrev pub given_id : ℕ → List ℕ → Option (List ℕ)
-given_id tag m = get tag m >>= id_of
 
 -- the message is from this client, to this host
 abbrev pub is_between : Numbered → List ℕ → List ℕ → Bool

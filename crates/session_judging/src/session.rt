@@ -4,7 +4,8 @@ ghost use Rattle.fix_frames.specs.Messages.{get, kind, number, given_number};
 ghost use Rattle.fix_frames.specs.declared.msg_types.TheConstants as msg_types;
 ghost use Rattle.fix_frames.specs.declared.tags.TheConstants as tags;
 ghost use Rattle.kind_table.specs.Table.{meaning_of_message};
-ghost use Rattle.session_judging.specs.View.{is_same_text, given_id, is_opening, logon_of, view_with, event_of_accepted, due_after_accepted};
+ghost use Rattle.session_judging.specs.View.{is_same_text, logon_of, view_with, event_of_accepted, due_after_accepted};
+ghost use Rattle.session_judging.specs.code.Openings.{given_id, is_opening};
 ghost use Rattle.session_judging.specs.declared.session.Session.{Session};
 ghost use Rattle.session_judging.specs.declared.session.Running.{Running};
 ghost use Rattle.session_judging.specs.code.Changes.{changed, judgement_in, judgement_of};
@@ -191,7 +192,7 @@ fn is_opening(message: &Message, number: u32) -> bool
 }
 
 /// The Logon that opens a session, where the message is one.
-#[tactic(auto, unfolding(crate::specs::View::logon_of))]
+#[tactic(auto, unfolding(crate::specs::code::Openings::logon_by_parts))]
 fn logon_of(message: &Message, number: u32) -> Option<Logon>
     ensures { result ≡ logon_of message.now.frame.now number }
 {

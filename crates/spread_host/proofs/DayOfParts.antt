@@ -11,25 +11,27 @@ use Rattle.spread_report.specs.Messages.{IsRow, messages_to}
 use Rattle.spread_report.specs.Sessions.{bytes_of}
 use Rattle.day_apply.specs.Applied.{outgoing_bytes, applied_entries}
 use Rattle.day_text.specs.DayText.{AreShown}
-use Rattle.spread_host.specs.Headline.{HasFills, BoughtIsSold, PaidIsReceived, IsAlwaysQuiet, IsDayOf}
-use Rattle.spread_host.proofs.SixteenTexts.{all_texts, all_rows}
+use Rattle.spread_host.specs.Headline.{HasOutgoing, BoughtIsSold, PaidIsReceived, IsAlwaysQuiet, IsDayOf}
+use Rattle.spread_host.proofs.SixteenTexts.{all_texts, read_back_of}
 use Rattle.spread_host.proofs.FillsShown.{shown_of}
 use Rattle.spread_host.proofs.LawfulJournals.{JournalHolds, fills_hold}
 
 pub record DayHolds {A : Type 0} (rules : Rules) (stamp : List ℕ) (journal : List Entry) (fills : List Fill) (out : List (Vec ℕ A)) : Type 0 where
+  pub outgoing : HasOutgoing rules stamp journal out
   pub bought_is_sold : BoughtIsSold fills
   pub paid_is_received : PaidIsReceived fills
   pub quiet : IsAlwaysQuiet rules journal
-  pub day : IsDayOf rules stamp journal fills out
+  pub day : IsDayOf rules stamp journal fills
 
 pub day_holds : {A : Type 0} (rules : Rules) (stamp : List ℕ) (journal : List Entry) (fills : List Fill) (out : List (Vec ℕ A)) → IsRules rules → IsLawful journal
-    → All (IsFillInRange rules) (meaning_of_journal rules journal).fills → HasFills rules journal fills → length out ≡ SESSIONS
+    → All (IsFillInRange rules) (meaning_of_journal rules journal).fills → fills ≡ (meaning_of_journal rules journal).fills → length out ≡ SESSIONS
     → ((s : ℕ) → s < SESSIONS → bytes_of out s ≡ outgoing_bytes rules stamp journal s)
     → ((s : ℕ) → s < SESSIONS → IsRow (messages_to rules stamp (applied_entries rules journal) s) (bytes_of out s))
     → DayHolds rules stamp journal fills out
 day_holds rules stamp journal fills out rule lawful range are lists bytes whole =
     let holds : JournalHolds rules journal fills = fills_hold rules journal fills lawful are in
     record {
+      outgoing = all_texts out rules stamp journal lists bytes;
       bought_is_sold = holds.bought_is_sold;
       paid_is_received = holds.paid_is_received;
       quiet = holds.quiet;
@@ -38,9 +40,6 @@ day_holds rules stamp journal fills out rule lawful range are lists bytes whole 
         limits = holds.limits;
         totals = holds.totals;
         shown = subst (λ (fs : List Fill). AreShown rules fs) (sym are) (shown_of rules (meaning_of_journal rules journal).fills range);
-        lists = lists;
-        whole_frames = whole;
-        texts = all_texts out rules stamp journal lists bytes;
-        rows = all_rows out (messages_to rules stamp (applied_entries rules journal)) lists whole;
+        whole_frames = λ s low. read_back_of (messages_to rules stamp (applied_entries rules journal) s) (bytes_of out s) (whole s low);
       };
     }

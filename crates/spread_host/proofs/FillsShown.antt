@@ -7,12 +7,7 @@ use Rattle.month_totals.specs.Totals.{IsSummable}
 use Rattle.day_text.specs.DayText.{AreShown}
 
 summable_of : (rules : Rules) (f : Fill) → IsFillInRange rules f → IsSummable f
-summable_of rules f r = record {
-  quantity = r.quantity;
-  price = r.price;
-  near = r.near;
-  far = r.far;
-}
+summable_of rules f r = (r.quantity, r.price, r.near, r.far)
 
 pub shown_of : (rules : Rules) (fills : List Fill) → All (IsFillInRange rules) fills → AreShown rules fills
 shown_of rules fills fits = record {

@@ -9,7 +9,9 @@ use Rattle.spread_rules.specs.Meaning.{JournalState, meaning_of, after_entry, no
 use Rattle.spread_rulebook.specs.Rulebook.{Rules}
 use Rattle.spread_report.specs.EntryMessages.{ExecutionReport, report_step, entry_reports, OutgoingStep, logged_on, numbered, gap_fill}
 use Rattle.spread_report.specs.Outgoing.{AppliedEntry, steps_texts, entry_steps, session_steps, outbound_before_logon}
+use Rattle.spread_report.specs.Messages.{messages_to}
 use Rattle.day_apply.specs.Applied.{applied_entries_from, outgoing_bytes}
+use Rattle.day_apply.proofs.OneByOne.{entries_are}
 
 -- ---- messages, which bring no CompIDs
 
@@ -59,4 +61,6 @@ texts_silent stamp n (numbered kind fields ∷ cs) are = texts_silent stamp n cs
 texts_silent stamp n (gap_fill first last ∷ cs) are = texts_silent stamp n cs are.1
 
 pub silent : (rules : Rules) (stamp : List ℕ) (journal : List Entry) (s : ℕ) → restricted s journal ≡ [] → outgoing_bytes rules stamp journal s ≡ []
-silent rules stamp journal s none = ap concat (texts_silent stamp 1 (session_steps rules (applied_entries_from rules no_entries 1 journal) s) (all_are rules s no_entries 1 journal none))
+silent rules stamp journal s none =
+    ap (λ (ws : List AppliedEntry). concat (messages_to rules stamp ws s)) (entries_are rules journal)
+    ∙ ap concat (texts_silent stamp 1 (session_steps rules (applied_entries_from rules no_entries 1 journal) s) (all_are rules s no_entries 1 journal none))

@@ -37,7 +37,7 @@ pub fn day_of<A: Allocator + Copy>(
     ensures paid_is_received { IfOk result (λ day. PaidIsReceived day.fills.items) }
     ensures quiet { IfOk result (λ day. IsAlwaysQuiet rulebook.now day.journal.items) }
     ensures day { IfOk result (λ day.
-        IsDayOf rulebook.now stamp day.journal.items day.fills.items day.out.items) }
+        IsDayOf rulebook.now stamp day.journal.items day.fills.items) }
     ensures fault { IfErr result (IsApplyFault rulebook.now journal.items) }
 {
     // Cites the ranges of a journal's fills, and that a rulebook is lawful.

@@ -1,11 +1,12 @@
 //! A recorded day in one thread: day lines in, the day's text out.
-ghost use Rattle.std.specs.Prelude.{◌≡◌, ◌<◌, ◌⊎◌, ◌+◌, ◌≢◌, IfOk, IfErr, IfSome, OnOk, IsErrOf, length, true, false};
+ghost use Rattle.std.specs.Io.KnownBytes.{Appends, IsAtEnd};
+ghost use Rattle.std.specs.Prelude.{All, ◌≡◌, ◌<◌, ◌⊎◌, ◌+◌, ◌≢◌, IfOk, IfErr, IfSome, OnOk, IsErrOf, length, true, false};
 ghost use Rattle.host_base.specs.declared.limits.TheConstants.{MAX_INPUT_BYTES};
 ghost use Rattle.host_base.specs.Ends.{TakesAtMost};
 ghost use Rattle.day_input.specs.declared.reading.TheConstants.{CHUNK_BYTES};
-ghost use Rattle.spread_journal.specs.Lawful.{HasText};
+ghost use Rattle.journal_parts.specs.JournalText.{HasByteIds};
 ghost use Rattle.spread_host.specs.Headline.{IsJournalOfText, HasFills, HasOutgoing, BoughtIsSold, PaidIsReceived, IsAlwaysQuiet, IsDayOf};
-ghost use Rattle.spread_host.specs.Days.{IsReadWhole, IsWritten, IsReplayFault, IsPartOut, text_of_day};
+ghost use Rattle.spread_host.specs.Days.{IsReplayFault, IsPartOut, text_of_day};
 ghost use Rattle.spread_host.specs.declared.fault.HostFault.{HostFault};
 
 use crate::day::{day_of, write_day};
@@ -33,7 +34,8 @@ pub fn replay<S: Source, K: Sink, A: Allocator + Copy>(
     requires sink_works { K.has_failed sink.old ≡ false }
 
     // All was read, and the reader did not fail.
-    ensures read_whole { OnOk result (IsReadWhole (S.left source.new) (S.has_failed source.new)) }
+    ensures read_whole { OnOk result
+        (IsAtEnd (S.left source.new) × (S.has_failed source.new ≡ false)) }
 
     // The headline, over the journal of the bytes read.
     ensures journal { IfOk result (λ day. IfSome (S.left source.old) (λ input.
@@ -47,13 +49,14 @@ pub fn replay<S: Source, K: Sink, A: Allocator + Copy>(
 
     // What else is true of the day.
     ensures day { IfOk result (λ day.
-        IsDayOf rulebook.now stamp day.journal.items day.fills.items day.out.items) }
-    // The journal has a text that is read again: law `read_back` of spread_journal.
-    ensures has_text { IfOk result (λ day. HasText day.journal.items) }
+        IsDayOf rulebook.now stamp day.journal.items day.fills.items) }
+    // Ids are of bytes: so the journal has a text that is read again, law `read_back` of spread_journal.
+    ensures byte_ids { IfOk result (λ day. All (λ e. HasByteIds e.event) day.journal.items) }
 
     // What was written, and nothing else.
-    ensures written { IfOk result (λ day. IsWritten (K.written sink.old) (K.written sink.new)
-        (K.has_failed sink.new) (text_of_day journal_only rulebook.now stamp day.journal.items)) }
+    ensures written { IfOk result (λ day. (K.has_failed sink.new ≡ false)
+        × Appends (K.written sink.old) (K.written sink.new)
+        (text_of_day journal_only rulebook.now stamp day.journal.items)) }
 
     // When each fault comes, and what is out then.
     ensures read { IsErrOf result HostFault.Read → (S.has_failed source.new ≡ true)

@@ -1,9 +1,9 @@
 //! A day in threads: one for each session, one that matches, one for each session's writer, and the sequencer in the
 //! caller's.
-ghost use Rattle.std.specs.Prelude.{◌≡◌, ◌<◌, ◌≤◌, ℕ, [], length, IfOk, IfErr, OnOk};
-ghost use Rattle.host_base.specs.declared.limits.TheConstants.{SESSIONS};
-ghost use Rattle.day_threads.specs.Limits.{IsWithinLimits};
-ghost use Rattle.spread_report.specs.Sessions.{bytes_of};
+ghost use Rattle.std.specs.Prelude.{◌≡◌, ◌<◌, ◌≤◌, ℕ, [], length, slice_index_or, IfOk, IfErr, OnOk};
+ghost use Rattle.host_base.specs.declared.limits.TheConstants.{SESSIONS, MAX_RING, MAX_JOURNAL_ENTRIES};
+ghost use Rattle.day_text.specs.DayText.{texts_of};
+ghost use Rattle.stage_rings.specs.Faults.{Between};
 ghost use Rattle.spread_host.specs.Headline.{IsJournalOfStreams, HasFills, HasOutgoing, BoughtIsSold, PaidIsReceived, IsAlwaysQuiet, IsDayOf};
 ghost use Rattle.spread_host.specs.LiveDays.{IsRunDayFault};
 
@@ -46,12 +46,12 @@ pub fn run_day<R: Threads + Wait + Sync, G: Gate, A: Allocator + Copy + Send>(
 
     // What else is true of the day.
     ensures day { IfOk result (λ day.
-        IsDayOf rulebook.now stamp day.journal.items day.fills.items day.out.items) }
-    ensures limits { OnOk result
-        (IsWithinLimits (length streams.items) caps.ring caps.journal) }
+        IsDayOf rulebook.now stamp day.journal.items day.fills.items) }
+    ensures limits { OnOk result (Between 1 SESSIONS (length streams.items)
+        × Between 1 MAX_RING caps.ring × (caps.journal ≤ MAX_JOURNAL_ENTRIES)) }
     ensures size { IfOk result (λ day. length day.journal.items ≤ caps.journal) }
     ensures no_stream { IfOk result (λ day. (s : ℕ) → s < SESSIONS → length streams.items ≤ s
-        → bytes_of day.out.items s ≡ []) }
+        → slice_index_or (texts_of day.out.items) s [] ≡ []) }
 
     // When each fault comes; JournalFull, where the streams have more events than the journal has room for.
     ensures fault { IfErr result (IsRunDayFault rulebook.now streams.items caps.ring caps.journal) }

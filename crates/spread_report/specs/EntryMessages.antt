@@ -1,11 +1,12 @@
 -- Which messages an entry sends, field by field: execution reports, to the sessions of the orders that it speaks of, and
 -- to its own session OrderCancelRejects and session messages.
-use Rattle.std.specs.Prelude.{ℕ, ◌-◌, ◌==◌, ℤ, if◌then◌else◌, List, [], ◌∷◌, ◌++◌, codes, Option, Some, None}
+use Rattle.std.specs.Prelude.{ℕ, ◌-◌, ◌==◌, if◌then◌else◌, List, [], ◌∷◌, ◌++◌, map, codes, Option, Some, None}
 use Rattle.std.specs.List.{flat_map}
 use Rattle.fix_frames.specs.declared.msg_types.TheConstants as msg_types
 use Rattle.fix_frames.specs.declared.tags.TheConstants as tags
 use Rattle.fix_wire.specs.declared.writer.Field.{Field}
 use Rattle.fix_wire.specs.declared.writer.Value.TheVariants.{Text, Number, Price, Pair}
+use Rattle.fix_wire.specs.Layout.{field}
 use Rattle.spread_rules.specs.declared.codes.close_reason.TheConstants as close_reason
 use Rattle.spread_rules.specs.declared.codes.ord_status.TheConstants as status
 use Rattle.spread_rules.specs.declared.order.Order.{Order}
@@ -19,13 +20,11 @@ use Rattle.spread_rules.specs.declared.event.Event.TheVariants.{Logon, New, Canc
 use Rattle.spread_rules.specs.declared.outcome.Outcome.{Outcome}
 use Rattle.spread_rules.specs.declared.outcome.Outcome.TheVariants as outcomes
 use Rattle.spread_rulebook.specs.Rulebook.{Rules, symbol_of}
-use Rattle.spread_rules.specs.Legs.{other_side}
+use Rattle.spread_rules.specs.Legs.{legs_of}
 use Rattle.spread_report.specs.declared.outbound.CompIds.{CompIds}
-use Rattle.report_bodies.specs.declared.codes.TheConstants.{ENCRYPT_METHOD_NONE, EXEC_TRANS_TYPE_NEW, CXL_REJ_RESPONSE_TO_CANCEL, CXL_REJ_RESPONSE_TO_REPLACE}
-use Rattle.report_bodies.specs.declared.codes.MultiLegReportingType.{MultiLegReportingType}
-use Rattle.report_bodies.specs.declared.codes.MultiLegReportingType.TheVariants.{SingleSecurity, IndividualLeg, MultiLegSecurity}
-use Rattle.report_bodies.specs.Codes.{side_code, multi_leg_code}
-use Rattle.report_bodies.specs.Fields.{field, optional_field}
+use Rattle.report_bodies.specs.declared.codes.TheConstants.{ENCRYPT_METHOD_NONE, EXEC_TRANS_TYPE_NEW, CXL_REJ_RESPONSE_TO_CANCEL, CXL_REJ_RESPONSE_TO_REPLACE, SINGLE_SECURITY, INDIVIDUAL_LEG, MULTI_LEG_SECURITY}
+use Rattle.report_bodies.specs.Codes.{side_code}
+use Rattle.report_bodies.specs.Fields.{optional_field}
 
 -- A step of what a session is sent: its Logon gives it the CompIDs that its messages bear from there on; a message
 -- bears the session's next number and uses it; a gap fill uses none.
@@ -36,13 +35,8 @@ pub data OutgoingStep : Type 0 where
 
 -- ---- execution reports
 
--- What a fill's report tells of the trade.
-pub record ReportedTrade : Type 0 where
-  pub last_shares : ℕ
-  pub last_px : ℤ
-  pub multi_leg : MultiLegReportingType
-
--- An execution report: the session that it goes to, and what it tells.
+-- An execution report: the session that it goes to, and what it tells. A report on a fill tells of the whole fill, or of
+-- one leg of it.
 pub record ExecutionReport : Type 0 where
   pub to : ℕ
   pub order_id : ℕ
@@ -53,7 +47,7 @@ pub record ExecutionReport : Type 0 where
   pub symbol : List ℕ
   pub side : Side
   pub order_qty : ℕ
-  pub traded : Option ReportedTrade
+  pub traded : Option (record { multi_leg : ℕ; fill : Fill })
   pub leaves_qty : ℕ
   pub cum_qty : ℕ
 
@@ -65,22 +59,21 @@ report_step place (number, r) =
     numbered msg_types.EXECUTION_REPORT
     (field tags.ORDER_ID (Number r.order_id)
     ∷ field tags.CL_ORD_ID (Text r.cl_ord_id)
-    ∷ optional_field tags.ORIG_CL_ORD_ID Text r.orig_cl_ord_id
+    ∷ optional_field tags.ORIG_CL_ORD_ID r.orig_cl_ord_id Text
     ++ field tags.EXEC_ID (Pair place number)
     ∷ field tags.EXEC_TRANS_TYPE (Number EXEC_TRANS_TYPE_NEW)
     ∷ field tags.EXEC_TYPE (Number r.ord_status)
     ∷ field tags.ORD_STATUS (Number r.ord_status)
-    ∷ optional_field tags.ORD_REJ_REASON Number r.ord_rej_reason
+    ∷ optional_field tags.ORD_REJ_REASON r.ord_rej_reason Number
     ++ field tags.SYMBOL (Text r.symbol)
     ∷ field tags.SIDE (Number (side_code r.side))
     ∷ field tags.ORDER_QTY (Number r.order_qty)
-    ∷ optional_field tags.LAST_SHARES (λ (t : ReportedTrade). Number t.last_shares) r.traded
-    ++ optional_field tags.LAST_PX (λ (t : ReportedTrade). Price t.last_px) r.traded
+    ∷ optional_field tags.LAST_SHARES r.traded (λ t. Number t.fill.quantity)
+    ++ optional_field tags.LAST_PX r.traded (λ t. Price t.fill.price)
     ++ field tags.LEAVES_QTY (Number r.leaves_qty)
     ∷ field tags.CUM_QTY (Number r.cum_qty)
     ∷ field tags.AVG_PX (Number 0)
-    ∷ optional_field tags.MULTI_LEG_REPORTING_TYPE
-    (λ (t : ReportedTrade). Number (multi_leg_code t.multi_leg)) r.traded)
+    ∷ optional_field tags.MULTI_LEG_REPORTING_TYPE r.traded (λ t. Number t.multi_leg))
 
 -- A report to that session on the order of that place, with its id, symbol, side, quantity and status. Nothing of it is
 -- filled, and nothing is left.
@@ -119,26 +112,23 @@ amended_report rules session id original o ord_status =
       cum_qty = o.quantity - o.leaves;
     }
 
--- a report on a fill, to the session of the filled order: the symbol, side and price of the part that it tells
-abbrev pub fill_report : Fill → List ℕ → Side → ℤ → MultiLegReportingType → ExecutionReport
-fill_report f symbol side price multi_leg =
+-- a report on a fill, or on a leg of one, to the session of the filled order
+abbrev pub fill_report : Rules → ℕ → Fill → ExecutionReport
+fill_report rules multi_leg f =
+    let symbol = symbol_of rules f.instrument in
     let ord_status = if f.leaves == 0 then status.FILLED else status.PARTIALLY_FILLED in
-    record (plain_report f.session f.order f.id symbol side f.total ord_status) {
-      traded = Some (record { last_shares = f.quantity; last_px = price; multi_leg = multi_leg });
+    record (plain_report f.session f.order f.id symbol f.side f.total ord_status) {
+      traded = Some (record { multi_leg = multi_leg; fill = f });
       leaves_qty = f.leaves;
       cum_qty = f.total - f.leaves;
     }
 
--- The reports on a fill of that instrument: one of an outright; of a spread the spread, then its near month on the
--- order's side and its far month on the other.
+-- the reports on a fill of that instrument: one of an outright; of a spread one of the spread, then one of each leg
 abbrev pub fill_reports : Rules → Fill → Instrument → List ExecutionReport
-fill_reports rules f (Outright m) =
-    fill_report f (symbol_of rules f.instrument) f.side f.price SingleSecurity ∷ []
+fill_reports rules f (Outright m) = fill_report rules SINGLE_SECURITY f ∷ []
 fill_reports rules f (Spread i j) =
-    fill_report f (symbol_of rules f.instrument) f.side f.price MultiLegSecurity
-    ∷ fill_report f (symbol_of rules (Outright i)) f.side f.near IndividualLeg
-    ∷ fill_report f (symbol_of rules (Outright j)) (other_side f.side) f.far IndividualLeg
-    ∷ []
+    fill_report rules MULTI_LEG_SECURITY f
+    ∷ map (fill_report rules INDIVIDUAL_LEG) (legs_of (Spread i j) f)
 
 abbrev pub fills_reports : Rules → List Fill → List ExecutionReport
 fills_reports rules fills = flat_map (λ f. fill_reports rules f f.instrument) fills
@@ -192,10 +182,8 @@ close_steps reason =
 abbrev pub event_steps : Event → Outcome → List OutgoingStep
 event_steps (Logon client host beat) outcome =
     logged_on (record { client = client; host = host })
-    ∷ numbered msg_types.LOGON
-    (field tags.ENCRYPT_METHOD (Number ENCRYPT_METHOD_NONE)
-    ∷ field tags.HEART_BT_INT (Number beat) ∷ [])
-    ∷ []
+    ∷ numbered msg_types.LOGON (field tags.ENCRYPT_METHOD (Number ENCRYPT_METHOD_NONE)
+    ∷ field tags.HEART_BT_INT (Number beat) ∷ []) ∷ []
 event_steps (Cancel id original) (outcomes.CancelRefused reason place ord_status) =
     order_cancel_reject CXL_REJ_RESPONSE_TO_CANCEL id original reason place ord_status ∷ []
 event_steps (Replace original t) (outcomes.CancelRefused reason place ord_status) =

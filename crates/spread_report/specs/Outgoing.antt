@@ -3,7 +3,7 @@ use Rattle.std.specs.Prelude.{ℕ, ◌+◌, ◌==◌, nat_lt, Bool, true, false,
 use Rattle.std.specs.List.{flat_map, enumerate_from}
 use Rattle.std.specs.Option.{is_some}
 use Rattle.host_base.specs.declared.limits.TheConstants.{MAX_MSG_SEQ_NUM}
-use Rattle.fix_wire.specs.Layout.{message_text}
+use Rattle.fix_wire.specs.Layout.{field, message_text}
 use Rattle.fix_frames.specs.declared.msg_types.TheConstants as msg_types
 use Rattle.fix_frames.specs.declared.tags.TheConstants as tags
 use Rattle.fix_wire.specs.declared.writer.Head.{Head}
@@ -15,7 +15,6 @@ use Rattle.spread_rulebook.specs.Rulebook.{Rules}
 use Rattle.spread_report.specs.declared.outbound.OutboundSession.{OutboundSession}
 use Rattle.spread_report.specs.declared.outbound.CompIds.{CompIds}
 use Rattle.spread_report.specs.EntryMessages.{OutgoingStep, logged_on, numbered, gap_fill, ExecutionReport, report_step, entry_reports, event_steps}
-use Rattle.report_bodies.specs.Fields.{field}
 
 -- ---- one step of a session
 
@@ -81,13 +80,15 @@ entry_steps rules s w =
 abbrev pub session_steps : Rules → List AppliedEntry → ℕ → List OutgoingStep
 session_steps rules applied s = flat_map (entry_steps rules s) applied
 
--- before its Logon, with this next number
-abbrev pub outbound_before_logon : ℕ → OutboundSession
-outbound_before_logon next = record { next = next; comp_ids = None }
-
 -- A message that session s is sent over a journal would bear a number above the limit: the number that the session would
 -- use next is more than one above it.
 abbrev pub spends_numbers : Rules → List AppliedEntry → ℕ → Bool
 spends_numbers rules applied s =
-    let after = fold after_step (outbound_before_logon 1) (session_steps rules applied s) in
-    nat_lt (MAX_MSG_SEQ_NUM + 1) after.next
+    let steps = session_steps rules applied s in
+    nat_lt (MAX_MSG_SEQ_NUM + 1) (fold after_step (record { next = 1; comp_ids = None }) steps).next
+
+-- ---- words that the headline does not rest on
+
+-- before its Logon, with this next number
+abbrev pub outbound_before_logon : ℕ → OutboundSession
+outbound_before_logon next = record { next = next; comp_ids = None }

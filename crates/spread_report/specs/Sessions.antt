@@ -11,7 +11,7 @@ use Rattle.spread_report.specs.code.PerSession.{entry_spends}
 abbrev pub bytes_of : {A : Type 0} → List (Vec ℕ A) → ℕ → List ℕ
 bytes_of {A} lists s = slice_index_or (map (λ (v : Vec ℕ A). v.items) lists) s []
 
--- ---- words of the code alone
+-- ---- words that the headline does not rest on
 
 -- the texts of the sessions' lists
 abbrev pub texts_of : {A : Type 0} → List (Vec ℕ A) → List (List ℕ)

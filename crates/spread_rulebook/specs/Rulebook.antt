@@ -4,7 +4,7 @@ use Rattle.std.specs.Prelude.{◌≡◌, ℕ, ◌<◌, ◌≤◌, ◌+◌, ◌*�
 use Rattle.std.specs.List.{find, list_all, range_with_len}
 use Rattle.std.specs.Str.{bytes_eq}
 use Rattle.host_base.specs.declared.bytes.TheConstants.{HYPHEN_MINUS}
-use Rattle.host_base.specs.declared.limits.TheConstants as limits
+use Rattle.host_base.specs.declared.limits.TheConstants.{MAX_MONTHS, MAX_NAME_LENGTH, MAX_TICK}
 use Rattle.spread_rulebook.specs.declared.instrument.Instrument.{Instrument}
 use Rattle.spread_rulebook.specs.declared.instrument.Instrument.TheVariants.{Outright, Spread}
 use Rattle.spread_rulebook.specs.Prices.{IsOrderPrice}
@@ -27,8 +27,7 @@ references_of rules = map (λ m. m.reference) rules.months
 -- whether the pair of these months takes part in implied trading: one that was not switched does; the switches are in a
 -- row, those of each near month in order of the far one
 abbrev pub implied : Rules → ℕ → ℕ → Bool
-implied rules near far =
-    unwrap_or (get_or rules.switches (near * limits.MAX_MONTHS + far) None) true
+implied rules near far = unwrap_or (get_or rules.switches (near * MAX_MONTHS + far) None) true
 
 -- ---- what a rulebook may say
 
@@ -40,7 +39,7 @@ is_name_byte b =
 -- the name of a month: letters and digits
 pub record IsName (name : List ℕ) : Type 0 where
   pub some : 1 ≤ length name
-  pub most : length name ≤ limits.MAX_NAME_LENGTH
+  pub most : length name ≤ MAX_NAME_LENGTH
   pub letters : list_all is_name_byte name ≡ true
 
 -- a month's reference price: within the limits of prices, and a multiple of the tick
@@ -55,13 +54,13 @@ pub record IsMonth (tick : ℤ) (m : Month) : Type 0 where
 -- at least one hundredth
 pub record IsTick (tick : ℤ) : Type 0 where
   pub low : pos 1 ≤ℤ tick
-  pub high : tick ≤ℤ limits.MAX_TICK
+  pub high : tick ≤ℤ MAX_TICK
 
 -- a tick, at least one month and no more than a rulebook may have, and no name twice
 pub record IsRules (rules : Rules) : Type 0 where
   pub tick : IsTick rules.tick
   pub some : 1 ≤ month_count rules
-  pub most : month_count rules ≤ limits.MAX_MONTHS
+  pub most : month_count rules ≤ MAX_MONTHS
   pub months : All (IsMonth rules.tick) rules.months
   pub names :
       (i j : ℕ) → i < month_count rules → j < month_count rules
@@ -72,14 +71,14 @@ pub record IsRules (rules : Rules) : Type 0 where
 -- every month, and every pair of months, the near one first
 abbrev pub instruments_of : Rules → List Instrument
 instruments_of rules =
-    let months = range_with_len 0 (month_count rules) in
+    let months = range_with_len 0 (length rules.months) in
     map Outright months
     ++ flat_map (λ far. map (λ near. Spread near far) (range_with_len 0 far)) months
 
 -- the same, of one instrument
 abbrev pub IsListed : Rules → Instrument → Type 0
-IsListed rules (Outright m) = m < month_count rules
-IsListed rules (Spread i j) = (i < j) × (j < month_count rules)
+IsListed rules (Outright m) = m < length rules.months
+IsListed rules (Spread i j) = (i < j) × (j < length rules.months)
 
 -- ---- symbols
 
@@ -93,11 +92,11 @@ symbol_of rules (Spread i j) =
 abbrev pub find_symbol : Rules → List ℕ → Option Instrument
 find_symbol rules symbol = find (λ i. bytes_eq (symbol_of rules i) symbol) (instruments_of rules)
 
--- ---- words of the code alone
+-- ---- words that the headline does not rest on
 
 -- which switch is that of a pair, the near month first
 abbrev pub switch_number : ℕ → ℕ → ℕ
-switch_number near far = near * limits.MAX_MONTHS + far
+switch_number near far = near * MAX_MONTHS + far
 
 -- how a pair was switched, none where it was not
 abbrev pub switch_of : List (Option Bool) → ℕ → ℕ → Option Bool

@@ -8,14 +8,13 @@ done o = o.quantity - o.leaves
 
 -- an order under a new id and with a new quantity, what is filled included
 abbrev pub with_quantity : List ℕ → ℕ → Order → Order
-with_quantity id quantity o =
-    record o { id = id; quantity = quantity; leaves = quantity - done o }
+with_quantity id quantity o = record o { id = id; quantity = quantity; leaves = quantity - done o }
 
 -- the order of that place is changed so
 abbrev pub with_changed : ℕ → (Order → Order) → List Order → List Order
 with_changed place change xs = map (λ o. if o.place == place then change o else o) xs
 
--- ---- words of the code alone
+-- ---- words that the headline does not rest on
 
 -- the order of that place is amended
 abbrev pub amended : ℕ → List ℕ → ℕ → List Order → List Order

@@ -9,7 +9,6 @@ use Rattle.spread_rules.specs.declared.order.Order.{Order}
 use Rattle.spread_rules.specs.declared.candidate.Counterparty.{Counterparty}
 use Rattle.spread_rules.specs.declared.candidate.Counterparty.TheVariants.{Direct, Implied}
 use Rattle.spread_rules.specs.declared.candidate.Candidate.{Candidate}
-use Rattle.spread_rules.specs.code.Cases.{offered_if}
 use Rattle.spread_rules.specs.Candidates.{implied_price, cost, is_within_limit, price_of, candidate_of, better_by, AllStandIn, rank_cmp, Pairs, all_on, takes_part, IsEligible}
 use Rattle.spread_rulebook.specs.Instruments.{month_of}
 use Rattle.spread_rules.specs.Quiet.{Rests}
@@ -18,19 +17,8 @@ use Rattle.order_books.specs.Queues.{IsFront}
 use Rattle.spread_rules.specs.Legs.{other_side}
 use Rattle.candidate_search.specs.code.Best.{IsFair, CoversOne, CoversTwo}
 use Rattle.candidate_search.proofs.fronts.PairCost.{implied_price_sum, implied_price_again, within_cost, behind, rank_after, pair_le, pair_same, so_again}
-use Rattle.spread_rules.proofs.clearings.BoughtIsSold.{on_price, so_is}
-use Rattle.spread_rules.proofs.ranks.PairsSwitched.{all_take_part}
-
--- what has a price takes part
-pub was_on : (b : Bool) (r : Option ℤ) (p : ℤ) → offered_if b r ≡ Some p → b ≡ true
-was_on true r p h = refl
-was_on false None p h = cc
-was_on false (Some q) p h = cc
-
-pub on_again : (b : Bool) (r : Option ℤ) (q : ℤ) → b ≡ true → r ≡ Some q → offered_if b r ≡ Some q
-on_again true None q h k = cc
-on_again true (Some x) q h k = k
-on_again false r q h k = cc
+use Rattle.spread_rules.proofs.clearings.BoughtIsSold.{so_is}
+use Rattle.spread_rules.proofs.ranks.PairsSwitched.{priced, part_of, priced_again}
 
 module _ (on : Pairs) where
   -- a front is no worse than another order of its queue, and no later at one price
@@ -42,14 +30,14 @@ module _ (on : Pairs) where
       Rests xs of side f → Rests xs and and_side s → Rests xs of side a → Rests xs and and_side b → price_of on n (Implied a b) ≡ Some price → (q : ℤ) × (price_of on n (Implied f s) ≡ Some q)
   fronts_meet n xs of side and and_side f s a b price hf hs ha hb e =
       let t : implied_price n.side n.instrument side of and_side and a.price b.price ≡ Some price =
-      rw (← ha.side_is, ← ha.instrument_is, ← hb.side_is, ← hb.instrument_is) (on_price _ _ price e) in
+      rw (← ha.side_is, ← ha.instrument_is, ← hb.side_is, ← hb.instrument_is) (priced on n a b price e) in
       let r = implied_price_again n.side n.instrument side of and_side and a.price b.price price f.price s.price t in
-      (r.0, on_again _ _ r.0 (subst (λ (i : Instrument). takes_part on n.instrument i ≡ true) (ha.instrument_is ∙ sym hf.instrument_is) (was_on _ _ price e)) (rw (hf.side_is, hf.instrument_is, hs.side_is, hs.instrument_is) r.1))
+      (r.0, priced_again on n f s r.0 (subst (λ (i : Instrument). takes_part on n.instrument i ≡ true) (ha.instrument_is ∙ sym hf.instrument_is) (part_of on n a b price e)) (rw (hf.side_is, hf.instrument_is, hs.side_is, hs.instrument_is) r.1))
 
   pub pair_cost : (n : Order) (xs : List Order) (of : Instrument) (side : Side) (and : Instrument) (and_side : Side) (a b : Order) (price : ℤ) →
       Rests xs of side a → Rests xs and and_side b → price_of on n (Implied a b) ≡ Some price → cost n.side price ≡ cost (other_side side) a.price +ℤ cost (other_side and_side) b.price
   pair_cost n xs of side and and_side a b price ha hb e =
-      implied_price_sum n.side n.instrument side of and_side and a.price b.price price (rw (← ha.side_is, ← ha.instrument_is, ← hb.side_is, ← hb.instrument_is) (on_price _ _ price e))
+      implied_price_sum n.side n.instrument side of and_side and a.price b.price price (rw (← ha.side_is, ← ha.instrument_is, ← hb.side_is, ← hb.instrument_is) (priced on n a b price e))
 
   module _ {O : Type 0} (before : O → O → Bool) (order : IsStrictWeakOrder before) where
     chosen_left : (o p q : O) (b : Bool) → before p o ≡ b → before q o ≡ false → IsSomeAnd (cond b (Some p) (Some o)) (λ x. before q x ≡ false)
@@ -128,7 +116,7 @@ module _ (on : Pairs) where
   -- ---- as where all pairs take part
 
   eligible_anyway : (n : Order) (xs : List Order) (a b : Order) (price : ℤ) → IsEligible on n xs (record { price = price; counterparty = Implied a b }) → IsEligible all_on n xs (record { price = price; counterparty = Implied a b })
-  eligible_anyway n xs a b price e = record { stands = e.stands; meets = on_again _ _ price (all_take_part n.instrument a.instrument) (on_price _ _ price e.meets); within = e.within }
+  eligible_anyway n xs a b price e = record { stands = e.stands; meets = priced on n a b price e.meets; within = e.within }
 
   -- what beats each pair where all take part beats each one that does
   pub covers_anyway : (n : Order) (xs : List Order) (of : Instrument) (side : Side) (and : Instrument) (and_side : Side) (best : Option Candidate) → CoversTwo all_on n xs of side and and_side best → CoversTwo on n xs of side and and_side best

@@ -22,14 +22,15 @@ use Rattle.spread_rulebook.specs.Instruments.{month_of}
 use Rattle.spread_rulebook.specs.Prices.{IsOrderPrice, IsLegPrice}
 use Rattle.spread_rules.specs.Legs.{other_side}
 use Rattle.spread_rules.proofs.ranks.PlainIsLeast.{ranks}
-use Rattle.spread_rules.proofs.clearings.BoughtIsSold.{on_price, is_less, is_not_less, so_true}
+use Rattle.spread_rules.proofs.clearings.BoughtIsSold.{is_less, is_not_less, so_true}
+use Rattle.spread_rules.proofs.ranks.PairsSwitched.{priced, part_of, priced_again}
 use Rattle.candidate_search.specs.Listed.{IsNearBeforeFar, IsNearFirst}
 use Rattle.order_books.specs.declared.pair.PairCost.{PairCost}
 use Rattle.candidate_search.specs.code.Best.{Beats, CoversTwo, CoversBelow}
 use Rattle.order_books.specs.Pairs.{spread_of, spread_side, is_pair_on, cost_of_pair, IsPair, HasFronts, IsNoCheaper, IsCheapest}
 use Rattle.candidate_search.specs.code.Cheapest.{HasFront, CostsOfFronts, cheaper_of}
 use Rattle.candidate_search.proofs.fronts.PairCost.{within_cost, after_cost, pair_le}
-use Rattle.candidate_search.proofs.fronts.BeatAnyPair.{front_best, pair_cost, on_again, was_on}
+use Rattle.candidate_search.proofs.fronts.BeatAnyPair.{front_best, pair_cost}
 use Rattle.candidate_search.proofs.fronts.Suffice.{less_or_same}
 use Rattle.candidate_search.proofs.fronts.Levels.{front_of_level}
 use Rattle.order_books.specs.Queues.{IsFrontLevel}
@@ -126,10 +127,10 @@ module _ (on : Pairs) where
       IsEligible on n xs (record { price = price; counterparty = Implied a b }) → month_of b.instrument ≡ k → IsPair on xs n.side m k a b
   eligible_pair n m k xs a b price is near e at =
       let shape = month_pair n.side m k a.side a.instrument b.side b.instrument a.price b.price price
-      (subst (λ (i : Instrument). implied_price n.side i a.side a.instrument b.side b.instrument a.price b.price ≡ Some price) is (on_price _ _ price e.meets))
+      (subst (λ (i : Instrument). implied_price n.side i a.side a.instrument b.side b.instrument a.price b.price ≡ Some price) is (priced on n a b price e.meets))
       ((All-contains IsNearFirst xs a near e.stands.0).near_before_far) at in
       record {
-        on = sym (pair_takes_part n m k a.instrument is shape.of) ∙ was_on _ _ price e.meets;
+        on = sym (pair_takes_part n m k a.instrument is shape.of) ∙ part_of on n a b price e.meets;
         first = record { stands = e.stands.0; instrument_is = shape.of; side_is = shape.sided };
         second = record { stands = e.stands.1; instrument_is = shape.and; side_is = shape.and_on };
       }
@@ -138,7 +139,7 @@ module _ (on : Pairs) where
   pub fronts_price : (n : Order) (m k : ℕ) (xs : List Order) (a b : Order) → n.instrument ≡ Outright m → IsPair on xs n.side m k a b → (q : ℤ) × (price_of on n (Implied a b) ≡ Some q)
   fronts_price n m k xs a b is p =
       let r = queues_meet n.side m k a.price b.price in
-      (r.0, on_again _ _ r.0 (pair_takes_part n m k a.instrument is p.first.instrument_is ∙ p.on) (rw (is, p.first.side_is, p.first.instrument_is, p.second.side_is, p.second.instrument_is) r.1))
+      (r.0, priced_again on n a b r.0 (pair_takes_part n m k a.instrument is p.first.instrument_is ∙ p.on) (rw (is, p.first.side_is, p.first.instrument_is, p.second.side_is, p.second.instrument_is) r.1))
 
   pub price_costs : (n : Order) (m k : ℕ) (xs : List Order) (a b : Order) (price : ℤ) → IsPair on xs n.side m k a b → price_of on n (Implied a b) ≡ Some price → cost n.side price ≡ cost_of_pair n.side m k a b
   price_costs n m k xs a b price p e = pair_cost on n xs (spread_of m k) (spread_side n.side m k) (Outright k) (other_side n.side) a b price p.first p.second e

@@ -7,6 +7,7 @@ use super::read_again;
 use super::reported::first_fills;
 use crate::expect::holds;
 use crate::rules::three_months;
+use day_apply::laws::one_by_one;
 use day_apply::{AppliedEntries, apply_journal, fills_of_journal};
 use spread_books::Book;
 use spread_rules::{Entry, Fill, Rulebook};
@@ -101,4 +102,9 @@ fn first_trade_applied(rt: HostRuntime) {
 #[test]
 fn resting(rt: HostRuntime) {
     expect_applied(&rt, rt.alloc(), &DIRECT_FIRST);
+}
+
+#[test]
+fn laws_are_called() {
+    one_by_one();
 }

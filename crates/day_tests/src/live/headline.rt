@@ -4,14 +4,16 @@ ghost use Rattle.host_base.specs.declared.limits.TheConstants.{SESSIONS};
 ghost use Rattle.fix_frames.specs.Frames.{IsFrameRow};
 ghost use Rattle.spread_rules.specs.Journal.{IsLawful, restricted};
 ghost use Rattle.spread_rules.specs.Legs.{bought, sold, paid, received};
-ghost use Rattle.spread_rules.specs.Meaning.{meaning_of_journal, filled};
+ghost use Rattle.spread_rules.specs.Meaning.{filled};
 ghost use Rattle.spread_rules.specs.Quiet.{IsQuiet};
 ghost use Rattle.spread_rulebook.specs.Rulebook.{implied};
 ghost use Rattle.spread_rules.specs.declared.fill.Fill.{Fill};
 ghost use Rattle.spread_match.specs.Sound.{KeepsOrder};
+ghost use Rattle.std.specs.List.{flat_map};
+ghost use Rattle.spread_report.specs.Outgoing.{AppliedEntry};
 ghost use Rattle.spread_report.specs.Messages.{IsRow, messages_to};
 ghost use Rattle.spread_report.specs.Sessions.{bytes_of};
-ghost use Rattle.day_apply.specs.Applied.{outgoing_bytes, applied_entries};
+ghost use Rattle.day_apply.specs.Applied.{outgoing_bytes, applied_entries, applied_journal};
 ghost use Rattle.day_text.specs.DayText.{AreShown, texts_of};
 ghost use Rattle.session_threads.specs.Streams.{whole_at, all_events};
 ghost use Rattle.spread_host.specs.Days.{texts_below};
@@ -41,7 +43,8 @@ pub fn day_of_streams<R: Threads + Wait + Sync, G: Gate, A: Allocator + Copy + S
     ensures size { IfOk result (λ day. length day.journal.items ≤ caps.journal) }
     ensures lawful { IfOk result (λ day. IsLawful day.journal.items) }
     ensures fills { IfOk result (λ day.
-        day.fills.items ≡ (meaning_of_journal rulebook.now day.journal.items).fills) }
+        day.fills.items ≡ flat_map (λ (w : AppliedEntry). w.fills)
+        (applied_entries rulebook.now day.journal.items)) }
     ensures outgoing { IfOk result (λ day. (s : ℕ) → s < SESSIONS
         → bytes_of day.out.items s ≡ outgoing_bytes rulebook.now stamp day.journal.items s) }
     ensures whole_frames { IfOk result (λ day. (s : ℕ) → s < SESSIONS
@@ -60,7 +63,7 @@ pub fn day_of_streams<R: Threads + Wait + Sync, G: Gate, A: Allocator + Copy + S
         (month : ℕ) → paid month day.fills.items ≡ received month day.fills.items) }
     ensures quiet { IfOk result (λ day. (n : ℕ)
         → IsQuiet (implied rulebook.now)
-        (meaning_of_journal rulebook.now (take n day.journal.items)).orders) }
+        (applied_journal rulebook.now (take n day.journal.items)).orders) }
     ensures limits { IfOk result (λ day.
         (f : Fill) → Contains day.fills.items f → KeepsOrder day.journal.items f) }
     ensures totals { IfOk result (λ day.

@@ -1,5 +1,6 @@
 //! The laws, and the numbers of the faults.
 use crate::expect::holds;
+use day_apply::laws::numbers_spent;
 use spread_report::DeskFault;
 use spread_report::laws::{read_back, running};
 
@@ -8,6 +9,7 @@ use spread_report::laws::{read_back, running};
 fn laws_hold() {
     read_back();
     running();
+    numbers_spent();
 }
 
 #[test]

@@ -10,7 +10,7 @@ use Rattle.spread_rules.specs.declared.candidate.Counterparty.{Counterparty}
 use Rattle.spread_rules.specs.declared.candidate.Counterparty.TheVariants.{Implied}
 use Rattle.spread_rules.specs.code.Cases.{price_if, offered_if, better_of}
 use Rattle.spread_rules.specs.Candidates.{Pairs, all_on, implied_price, takes_part, candidate_of, candidate_at}
-use Rattle.spread_rules.proofs.ranks.PairsSwitched.{candidate_on, candidate_off}
+use Rattle.spread_rules.proofs.ranks.PairsSwitched.{candidate_on, candidate_off, price_switched}
 use Rattle.explained_turns.specs.code.Search.{may_be_first, next_step, only_behind}
 
 no_price : (a b : Bool) (price : ℤ) → a ≡ false → price_if (a && b) price ≡ None
@@ -81,7 +81,7 @@ module _ (on : Pairs) where
 
   -- an order that may not be the first of two makes no pair
   pub no_pair : (n a b : Order) → may_be_first n.side n.instrument a.side a.instrument ≡ false → candidate_of on n (Implied a b) ≡ None
-  no_pair n a b h = ap (candidate_at n (Implied a b)) (off_none (takes_part on n.instrument a.instrument) (implied_price n.side n.instrument a.side a.instrument b.side b.instrument a.price b.price) (not_first n.side n.instrument a.side a.instrument b.side b.instrument a.price b.price h))
+  no_pair n a b h = ap (candidate_at n (Implied a b)) (price_switched on n a b ∙ off_none (takes_part on n.instrument a.instrument) (implied_price n.side n.instrument a.side a.instrument b.side b.instrument a.price b.price) (not_first n.side n.instrument a.side a.instrument b.side b.instrument a.price b.price h))
 
   none_at : (n a b : Order) (t : Bool) → takes_part on n.instrument a.instrument ≡ t → candidate_of all_on n (Implied a b) ≡ None → candidate_of on n (Implied a b) ≡ None
   none_at n a b true t h = candidate_on on n a b t ∙ h

@@ -7,9 +7,10 @@ use Rattle.spread_rules.specs.declared.order.Order.{Order}
 use Rattle.spread_rules.specs.declared.candidate.Counterparty.{Counterparty}
 use Rattle.spread_rules.specs.declared.candidate.Counterparty.TheVariants.{Direct, Implied}
 use Rattle.spread_rules.specs.code.Cases.{with_less_left}
-use Rattle.spread_rules.specs.Candidates.{Pairs, HasOrderPrice}
-use Rattle.spread_rules.specs.Clearing.{Trading, after_fill, after_match, begin, clear, members, next_candidate, reduced, removed, turn, turns}
+use Rattle.spread_rules.specs.Candidates.{Pairs, HasOrderPrice, members}
+use Rattle.spread_rules.specs.Clearing.{Trading, after_fill, after_match, begin, clear, next_candidate, reduced, removed, turn, turns}
 use Rattle.spread_rulebook.specs.Rulebook.{Rules, implied, references_of}
+use Rattle.spread_rules.proofs.clearings.ClearIsTurns.{clear_is}
 use Rattle.spread_rules.proofs.clearings.TurnsEnd.{enough, one_end}
 use Rattle.explained_turns.specs.declared.turn.Turn.{Turn}
 use Rattle.explained_turns.specs.Explained.{AreTurns, IsTurn, after_turns}
@@ -86,7 +87,8 @@ module _ (rules : Rules) where
   told n xs ts each none = record {
     each = each;
     last = none;
-    cleared = one_end (implied rules) (references_of rules) (length ts) (length xs) (begin n xs) none (enough (implied rules) (references_of rules) (length xs) (begin n xs) (omega arith));
+    cleared = one_end (implied rules) (references_of rules) (length ts) (length xs) (begin n xs) none (enough (implied rules) (references_of rules) (length xs) (begin n xs) (omega arith))
+        ∙ sym (clear_is (implied rules) (references_of rules) n xs);
   }
 
   -- where there is no next

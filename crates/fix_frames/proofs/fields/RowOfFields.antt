@@ -143,7 +143,7 @@ pub not_digits : (text : List ℕ) (i p : ℕ) → is_ascii_digit (get_or text i
 not_digits text i p e l m =
     let len = length-take-le p text (omega arith) in
     let t = take p text in
-    third_false (leb 1 (length t)) (leb (length t) 9) (list_all is_ascii_digit t) (not (eqb (get_or t 0 0) 48)) (list_all_at is_ascii_digit (take p text) i 0 (omega (arith, len)) (ap is_ascii_digit (get_or-take p text i 0 l) ∙ e))
+    second_false (leb 1 (length t)) (list_all is_ascii_digit t) (leb (length t) 9) (not (eqb (get_or t 0 0) 48)) (list_all_at is_ascii_digit (take p text) i 0 (omega (arith, len)) (ap is_ascii_digit (get_or-take p text i 0 l) ∙ e))
 
 -- no front of more than nine bytes is a tag
 pub too_long : (text : List ℕ) (p : ℕ) → 9 < p → p < length text → is_tag (take p text) ≡ false
@@ -151,7 +151,7 @@ too_long text p l m =
     let len = length-take-le p text (omega arith) in
     let more : leb (length (take p text)) 9 ≡ false = grind (arith, nat_tests) in
     let t = take p text in
-    second_false (leb 1 (length t)) (leb (length t) 9) (list_all is_ascii_digit t) (not (eqb (get_or t 0 0) 48)) more
+    third_false (leb 1 (length t)) (list_all is_ascii_digit t) (leb (length t) 9) (not (eqb (get_or t 0 0) 48)) more
 
 -- a field of what stands before the first byte 1 is the first field of a body
 pub first_field_found : (body : List ℕ) (end : ℕ) (f : TagValue) → end ≡ position_or_len is_soh body → end < length body → Some f ≡ field_of_text (take end body) →

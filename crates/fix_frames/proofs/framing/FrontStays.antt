@@ -13,9 +13,10 @@ use Rattle.std.proofs.lemmas.Bool.Decides.{nat_tests}
 use Rattle.fix_frames.specs.declared.frame.FrameHeader.{FrameHeader}
 use Rattle.fix_frames.specs.Texts.{stripped, is_cut_short, is_soh}
 use Rattle.fix_values.specs.Digits.{number_of}
-use Rattle.fix_frames.specs.Frames.{begin_text, header, header_after, header_with, is_body_length, is_length_open, is_unfinished, is_intact, is_body, body_at, intact_length, frame_length, frame_at, may_begin}
+use Rattle.fix_frames.specs.Frames.{begin_text, header, header_after, header_with, is_body_length, is_length_open, is_unfinished, is_intact, is_intact_by_size, is_body, body_at, intact_length, frame_length, frame_at, may_begin}
 use Rattle.fix_frames.proofs.fields.RowOfFields.{place_within}
 use Rattle.fix_frames.proofs.texts.HeaderAtTheFront.{header_is, front_is}
+use Rattle.fix_frames.proofs.framing.IntactFrame.{intact_is}
 
 pub some_when : {A : Type 0} (b : Bool) (x y : A) → then_some b x ≡ Some y → (b ≡ true) × (x ≡ y)
 some_when true x y e = (refl, same_Some x y e)
@@ -85,17 +86,17 @@ header_at_stays k rest more l =
 pub not_a_length : (digits : List ℕ) → (8 < length digits) ⊎ (list_all is_ascii_digit digits ≡ false) → is_body_length digits ≡ false
 not_a_length digits (inl many) =
     let few : leb (length digits) 8 ≡ false = grind (arith, nat_tests) in
-    rw few (by_test (leb 1 (length digits)))
-  where
-    by_test : (v : Bool) → (v && false && list_all is_ascii_digit digits && leb 5 (number_of digits) && leb (number_of digits) 4096) ≡ false
-    by_test true = refl
-    by_test false = refl
-not_a_length digits (inr bad) = rw bad (by_tests (leb 1 (length digits)) (leb (length digits) 8))
+    rw few (by_tests (leb 1 (length digits)) (list_all is_ascii_digit digits))
   where
     by_tests : (v w : Bool) → (v && w && false && leb 5 (number_of digits) && leb (number_of digits) 4096) ≡ false
     by_tests true true = refl
     by_tests true false = refl
     by_tests false w = refl
+not_a_length digits (inr bad) = rw bad (by_test (leb 1 (length digits)))
+  where
+    by_test : (v : Bool) → (v && false && leb (length digits) 8 && leb 5 (number_of digits) && leb (number_of digits) 4096) ≡ false
+    by_test true = refl
+    by_test false = refl
 
 take_over : (k : ℕ) (rest more : List ℕ) → length rest ≤ k → take k (rest ++ more) ≡ rest ++ take (k - length rest) more
 take_over k [] more l = ap (λ n. take n more) (omega arith)
@@ -178,8 +179,8 @@ tail_stays text more k fits =
     ap (λ t. take 7 t) (drop-append-le k text more (omega arith))
     ∙ take-append-le 7 (drop k text) more (omega (arith, length-drop k text))
 
-pub intact_stays : (text more : List ℕ) (c : FrameHeader) → frame_length c ≤ length text → is_intact (text ++ more) c ≡ is_intact text c
-intact_stays text more c fits =
+sized_stays : (text more : List ℕ) (c : FrameHeader) → frame_length c ≤ length text → is_intact_by_size (text ++ more) c ≡ is_intact_by_size text c
+sized_stays text more c fits =
     let here : leb (frame_length c) (length text) ≡ true = grind (arith, nat_tests) in
     let len = length-append text more in
     let there : leb (frame_length c) (length (text ++ more)) ≡ true = grind (arith, nat_tests) in
@@ -187,6 +188,9 @@ intact_stays text more c fits =
     let tail = tail_stays text more (c.body_start + c.body_length) (omega arith) in
     let front = take-append-le (c.body_start + c.body_length) text more (omega arith) in
     rw (there, body, tail, front, here)
+
+pub intact_stays : (text more : List ℕ) (c : FrameHeader) → frame_length c ≤ length text → is_intact (text ++ more) c ≡ is_intact text c
+intact_stays text more c fits = intact_is (text ++ more) c ∙ sized_stays text more c fits ∙ sym (intact_is text c)
 
 intact_none : (text : List ℕ) (c : FrameHeader) → intact_length text c ≡ None → is_intact text c ≡ false
 intact_none text c e = by_test (is_intact text c) e
@@ -200,7 +204,8 @@ pub frame_parts : {P : Type 0} (text : List ℕ) (n : ℕ) → frame_at text ≡
 frame_parts text n e then =
     option_and_then_some (intact_length text) (header text) n e (λ c claims keeps.
     let p = some_when (is_intact text c) (frame_length c) n keeps in
-    let fits = and_parts (leb (frame_length c) (length text)) (is_body (body_at text c)) (and_parts _ _ p.0).0 in
+    let sized : is_intact_by_size text c ≡ true = sym (intact_is text c) ∙ p.0 in
+    let fits = and_parts (leb (frame_length c) (length text)) (is_body (body_at text c)) (and_parts _ _ sized).0 in
     then c claims p.0 p.1 (leb-true (frame_length c) (length text) fits.0))
 
 -- a frame that stands stays, whatever follows
@@ -326,8 +331,8 @@ header_bound k rest c e =
     let tests = and_parts (ltb k (length rest)) (is_body_length (take k rest)) p.0 in
     let digits = take k rest in
     let len = length-take-le k rest (omega (arith, header_within k rest c e)) in
-    let five = and_parts (leb 1 (length digits) && leb (length digits) 8 && list_all is_ascii_digit digits && leb 5 (number_of digits)) (leb (number_of digits) 4096) tests.1 in
-    let few : k ≤ 8 = omega (arith, len, leb-true (length digits) 8 (and_parts (leb 1 (length digits)) (leb (length digits) 8) (and_parts _ _ (and_parts _ _ five.0).0).0).1) in
+    let five = and_parts (leb 1 (length digits) && list_all is_ascii_digit digits && leb (length digits) 8 && leb 5 (number_of digits)) (leb (number_of digits) 4096) tests.1 in
+    let few : k ≤ 8 = omega (arith, len, leb-true (length digits) 8 (and_parts (leb 1 (length digits) && list_all is_ascii_digit digits) (leb (length digits) 8) (and_parts _ _ five.0).0).1) in
     let size : number_of digits ≤ 4096 = leb-true (number_of digits) 4096 five.1 in
     subst (λ x. frame_length x ≤ 4124) p.1 (omega (arith, few, size))
 

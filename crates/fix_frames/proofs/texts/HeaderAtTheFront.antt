@@ -1,5 +1,5 @@
 -- The header of a text, and what may still become one, byte by byte.
-use Rattle.std.proofs.Common.{◌≡◌, ℕ, suc, ◌+◌, Bool, true, false, cond, ◌&&◌, ◌||◌, not, ◌==◌, nat_eq, eqb, ltb, leb, List, [], ◌∷◌, ◌++◌, length, take, drop, Option, Some, None, option_and_then, refl, sym, ap, ◌∙◌, arith, length-append}
+use Rattle.std.proofs.Common.{◌≡◌, ℕ, suc, ◌+◌, ◌<◌, Bool, true, false, cond, ◌&&◌, ◌||◌, not, ◌==◌, nat_eq, eqb, ltb, leb, List, [], ◌∷◌, ◌++◌, length, take, drop, Option, Some, None, option_and_then, refl, sym, ap, ◌∙◌, arith, length-append}
 use Rattle.std.specs.Bool.{then_some}
 use Rattle.std.specs.Char.{is_ascii_digit}
 use Rattle.std.specs.List.{list_all, position_or_len, before_first, starts_with}
@@ -11,10 +11,12 @@ use Rattle.std.proofs.lemmas.Option.{cond_some}
 use Rattle.fix_values.specs.Digits.{number_of}
 use Rattle.fix_frames.specs.declared.frame.FrameHeader.{FrameHeader}
 use Rattle.fix_frames.specs.Texts.{stripped, is_cut_short, is_soh}
-use Rattle.fix_frames.specs.Frames.{begin_text, header, header_after, is_body_length, is_length_open, is_front_open, is_unfinished, intact_length}
+use Rattle.fix_frames.specs.declared.frame.Scan.TheVariants.{Incomplete}
+use Rattle.fix_frames.specs.Frames.{begin_text, header, header_after, is_body_length, is_length_open, is_front_open, is_unfinished, is_intact, is_body, body_at, frame_length, intact_length}
 use Rattle.fix_frames.specs.code.Scans.{is_header_open, scan_front, scan_with}
 use Rattle.fix_frames.proofs.texts.WordAtTheFront.{behind_is, some_where, eqb_swap, ltb_suc}
 use Rattle.fix_frames.proofs.fields.RowOfFields.{place_within}
+use Rattle.fix_frames.proofs.framing.IntactFrame.{intact_is}
 
 -- a word and then another
 starts_joined : (word text more : List ℕ) → starts_with nat_eq text (word ++ more) ≡ option_map_or (λ rest. starts_with nat_eq rest more) (stripped word text) false
@@ -99,3 +101,22 @@ pub front_without_header : (text : List ℕ) (open_ : Bool) → header text ≡ 
 front_without_header text open_ none e =
     ap (λ o. scan_with (is_front_open text || is_unfinished text o) (option_and_then (intact_length text) o)) none
     ∙ ap (λ v. scan_with (v || false) None) (front_is text ∙ e) ∙ ap (λ v. scan_with v None) (or-false open_)
+
+first_fails : (x y z : Bool) → x ≡ false → (x && y && z) ≡ false
+first_fails true y z e = cc
+first_fails false y z e = refl
+
+or_true : (x : Bool) → (x || true) ≡ true
+or_true true = refl
+or_true false = refl
+
+-- a header whose frame is cut short
+pub front_cut_short : (text : List ℕ) (h : FrameHeader) → header text ≡ Some h → length text < frame_length h → scan_front text ≡ Incomplete
+front_cut_short text h e l =
+    let short : leb (frame_length h) (length text) ≡ false = grind (arith, nat_tests) in
+    let lost : is_intact text h ≡ false = intact_is text h ∙ first_fails (leb (frame_length h) (length text)) (is_body (body_at text h)) _ short in
+    let less : ltb (length text) (frame_length h) ≡ true = grind (arith, nat_tests) in
+    ap (λ o. scan_with (is_front_open text || is_unfinished text o) (option_and_then (intact_length text) o)) e
+    ∙ (ap (λ v. scan_with (is_front_open text || v) (then_some (is_intact text h) (frame_length h))) less
+    ∙ (ap (λ v. scan_with (is_front_open text || true) (then_some v (frame_length h))) lost
+    ∙ ap (λ v. scan_with v None) (or_true (is_front_open text))))

@@ -3,7 +3,7 @@ use Rattle.std.proofs.Common.{◌≡◌, ℕ, suc, ◌<◌, Bool, true, false, c
 use Rattle.std.specs.Bool.{then_some}
 use Rattle.std.specs.List.{starts_with}
 use Rattle.std.proofs.lemmas.Bool.Decides.{nat_tests}
-use Rattle.fix_frames.specs.Texts.{strip_prefix, stripped, is_cut_short}
+use Rattle.fix_frames.specs.Texts.{stripped, is_cut_short}
 use Rattle.fix_frames.specs.Frames.{begin_text, is_length_open}
 use Rattle.fix_frames.specs.code.Scans.{is_header_open}
 
@@ -19,10 +19,6 @@ behind_is (p ∷ ps) (b ∷ bs) =
 pub some_where : {A : Type 0} (b : Bool) (x : A) → then_some b x ≡ cond b (Some x) None
 some_where true x = refl
 some_where false x = refl
-
--- the same of the word that says it at once
-pub strip_is : (word text : List ℕ) → strip_prefix word text ≡ stripped word text
-strip_is word text = some_where (starts_with nat_eq text word) (drop (length word) text) ∙ sym (behind_is word text)
 
 pub eqb_swap : (a b : ℕ) → eqb a b ≡ eqb b a
 eqb_swap a b = grind (arith, nat_tests)

@@ -12,7 +12,7 @@ use Rattle.fix_frames.specs.Frames.{frame_at}
 use Rattle.fix_frames.specs.Held.{from_first_start}
 use Rattle.fix_frames.specs.declared.table.FrameTable.{FrameTable}
 use Rattle.fix_frames.specs.code.Tabled.{IsTableOf}
-use Rattle.fix_frames.proofs.framing.FrontStays.{frame_stays}
+use Rattle.fix_frames.proofs.framing.FrontStays.{frame_stays, frame_within}
 use Rattle.fix_frames.proofs.framing.FramesHeld.{start_frame}
 use Rattle.fix_frames.proofs.fields.TableOfFields.{table_stays}
 
@@ -30,6 +30,12 @@ pub front_known : (f : Inside) (held : List ℕ) → IsKept f → held_of f ≡ 
 front_known f held kept e some =
     let known = ap frame_at (sym e) ∙ kept.known (λ none. absurd (omega (arith, none, some))) in
     sym (ap frame_at (start_frame held f.front_length known) ∙ known)
+
+-- it is there whole
+pub front_fits : (f : Inside) (held : List ℕ) → IsKept f → held_of f ≡ held → 0 < f.front_length → 0 + f.front_length ≤ length held
+front_fits f held kept e some =
+    let within = frame_within held f.front_length (ap frame_at (sym e) ∙ kept.known (λ none. absurd (omega (arith, none, some)))) in
+    omega (arith, within.1)
 
 -- and its table too
 table_put : (text held : List ℕ) (found : ℕ) (t : FrameTable) (now : List ℕ) → now ≡ held ++ text → (found ≢ 0 → frame_at held ≡ Some found) → (found ≢ 0 → IsTableOf held t) → found ≢ 0 → IsTableOf now t

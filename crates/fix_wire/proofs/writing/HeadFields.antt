@@ -6,7 +6,8 @@ use Rattle.std.proofs.lemmas.List.{append_assoc}
 use Rattle.std.proofs.lemmas.Fmt.{decimal_step, decimal_digit}
 use Rattle.fix_wire.specs.declared.writer.Head.{Head}
 use Rattle.fix_wire.specs.declared.writer.SpelledHead.{SpelledHead}
-use Rattle.fix_frames.specs.Fields.{TagValue}
+use Rattle.fix_wire.specs.declared.writer.Value.TheVariants.{Text}
+use Rattle.fix_wire.specs.declared.writer.Field as given
 use Rattle.fix_wire.specs.Layout.{field, field_text, only_if, head_fields, orig_time, SpellsHead}
 use Rattle.fix_wire.specs.Spelling.{kind_text, orig_text, spelled, spelled_head}
 use Rattle.fix_values.proofs.Appended.{step}
@@ -37,19 +38,22 @@ d12 = decimal_step 12 (omega arith) (omega arith) ∙ ap (λ t. t ++ 50 ∷ []) 
 d122 : decimal 122 ≡ 49 ∷ 50 ∷ 50 ∷ []
 d122 = decimal_step 122 (omega arith) (omega arith) ∙ ap (λ t. t ++ 50 ∷ []) d12
 
+abbrev text_field : ℕ → List ℕ → given.Field
+text_field tag text = field tag (Text text)
+
 -- one field, and what follows it
-text_of : (tag : ℕ) (digits value rest : List ℕ) → decimal tag ≡ digits → field_text (field tag value) ++ rest ≡ digits ++ 61 ∷ (value ++ 1 ∷ rest)
+text_of : (tag : ℕ) (digits value rest : List ℕ) → decimal tag ≡ digits → field_text (text_field tag value) ++ rest ≡ digits ++ 61 ∷ (value ++ 1 ∷ rest)
 text_of tag digits value rest e =
     ap (λ ds. ((ds ++ (61 ∷ value)) ++ (1 ∷ [])) ++ rest) e
     ∙ append_assoc (digits ++ 61 ∷ value) (1 ∷ []) rest
     ∙ append_assoc digits (61 ∷ value) (1 ∷ rest)
 
-abbrev fields_by : Bool → ℕ → List ℕ → List ℕ → List ℕ → List ℕ → List TagValue
+abbrev fields_by : Bool → ℕ → List ℕ → List ℕ → List ℕ → List ℕ → List given.Field
 fields_by d k n sender stamp target =
-    (field 35 (k ∷ []) ∷ field 34 n ∷ [])
-    ++ (only_if d (field 43 (89 ∷ []))
-    ++ ((field 49 sender ∷ field 52 stamp ∷ field 56 target ∷ [])
-    ++ only_if d (field 122 stamp)))
+    (text_field 35 (k ∷ []) ∷ text_field 34 n ∷ [])
+    ++ (only_if d (text_field 43 (89 ∷ []))
+    ++ ((text_field 49 sender ∷ text_field 52 stamp ∷ text_field 56 target ∷ [])
+    ++ only_if d (text_field 122 stamp)))
 
 -- the fields one after another
 abbrev line_by : Bool → ℕ → List ℕ → List ℕ → List ℕ → List ℕ → List ℕ
@@ -57,12 +61,12 @@ line_by d k n sender stamp target =
     51 ∷ 53 ∷ 61 ∷ k ∷ 1 ∷ 51 ∷ 52 ∷ 61 ∷ (n ++ (cond d (1 ∷ 52 ∷ 51 ∷ 61 ∷ 89 ∷ []) []
     ++ 1 ∷ 52 ∷ 57 ∷ 61 ∷ (sender ++ 1 ∷ 53 ∷ 50 ∷ 61 ∷ (stamp ++ 1 ∷ 53 ∷ 54 ∷ 61 ∷ (target ++ (cond d (1 ∷ 49 ∷ 50 ∷ 50 ∷ 61 ∷ stamp) [] ++ 1 ∷ []))))))
 
-line_tail : (d : Bool) (stamp : List ℕ) → 1 ∷ flat_map field_text (only_if d (field 122 stamp)) ≡ cond d (1 ∷ 49 ∷ 50 ∷ 50 ∷ 61 ∷ stamp) [] ++ 1 ∷ []
+line_tail : (d : Bool) (stamp : List ℕ) → 1 ∷ flat_map field_text (only_if d (text_field 122 stamp)) ≡ cond d (1 ∷ 49 ∷ 50 ∷ 50 ∷ 61 ∷ stamp) [] ++ 1 ∷ []
 line_tail true stamp = ap (λ t. 1 ∷ t) (text_of 122 (49 ∷ 50 ∷ 50 ∷ []) stamp [] d122)
 line_tail false stamp = refl
 
 line_ids : (d : Bool) (sender stamp target : List ℕ) →
-    flat_map field_text ((field 49 sender ∷ field 52 stamp ∷ field 56 target ∷ []) ++ only_if d (field 122 stamp))
+    flat_map field_text ((text_field 49 sender ∷ text_field 52 stamp ∷ text_field 56 target ∷ []) ++ only_if d (text_field 122 stamp))
     ≡ 52 ∷ 57 ∷ 61 ∷ (sender ++ 1 ∷ 53 ∷ 50 ∷ 61 ∷ (stamp ++ 1 ∷ 53 ∷ 54 ∷ 61 ∷ (target ++ (cond d (1 ∷ 49 ∷ 50 ∷ 50 ∷ 61 ∷ stamp) [] ++ 1 ∷ []))))
 line_ids d sender stamp target =
     text_of 49 (52 ∷ 57 ∷ []) sender _ d49
@@ -83,7 +87,7 @@ line_is false k n sender stamp target =
 
 -- ---- as they are spelled
 
-pub parties_are : (sender stamp target : List ℕ) → flat_map field_text (field 49 sender ∷ field 52 stamp ∷ field 56 target ∷ []) ≡ 52 ∷ 57 ∷ 61 ∷ (sender ++ 1 ∷ 53 ∷ 50 ∷ 61 ∷ (stamp ++ 1 ∷ 53 ∷ 54 ∷ 61 ∷ (target ++ 1 ∷ [])))
+pub parties_are : (sender stamp target : List ℕ) → flat_map field_text (text_field 49 sender ∷ text_field 52 stamp ∷ text_field 56 target ∷ []) ≡ 52 ∷ 57 ∷ 61 ∷ (sender ++ 1 ∷ 53 ∷ 50 ∷ 61 ∷ (stamp ++ 1 ∷ 53 ∷ 54 ∷ 61 ∷ (target ++ 1 ∷ [])))
 parties_are sender stamp target =
     text_of 49 (52 ∷ 57 ∷ []) sender _ d49
     ∙ ap (λ t. 52 ∷ 57 ∷ 61 ∷ (sender ++ 1 ∷ t)) (text_of 52 (53 ∷ 50 ∷ []) stamp _ d52
@@ -109,7 +113,7 @@ head_spelled l h same =
 -- the parties as the code writes them
 pub parties_written : (sender stamp target o1 o2 o3 o4 o5 o6 o7 : List ℕ) →
     o1 ≡ 52 ∷ 57 ∷ 61 ∷ [] → o2 ≡ o1 ++ sender → o3 ≡ o2 ++ (1 ∷ 53 ∷ 50 ∷ 61 ∷ []) → o4 ≡ o3 ++ stamp → o5 ≡ o4 ++ (1 ∷ 53 ∷ 54 ∷ 61 ∷ []) → o6 ≡ o5 ++ target → o7 ≡ o6 ++ (1 ∷ []) →
-    o7 ≡ flat_map field_text (field 49 sender ∷ field 52 stamp ∷ field 56 target ∷ [])
+    o7 ≡ flat_map field_text (text_field 49 sender ∷ text_field 52 stamp ∷ text_field 56 target ∷ [])
 parties_written sender stamp target o1 o2 o3 o4 o5 o6 o7 e1 e2 e3 e4 e5 e6 e7 =
     step [] o6 o7 _ _ e7 (step [] o5 o6 _ _ e6 (step [] o4 o5 _ _ e5 (step [] o3 o4 _ _ e4 (step [] o2 o3 _ _ e3 (step [] o1 o2 _ _ e2 e1)))))
     ∙ nested sender stamp target

@@ -70,7 +70,7 @@ field_with_is s =
         drop_suc (d ∷ ds) v = drop_suc ds v
 
 digits_of_tag : (ds : List ℕ) → is_tag ds ≡ true → list_all is_ascii_digit ds ≡ true
-digits_of_tag ds e = (and_parts _ _ (and_parts _ _ e).0).1
+digits_of_tag ds e = (and_parts _ _ (and_parts _ _ (and_parts _ _ e).0).0).1
 
 pub field_is : (s : Spelled) → field_of_text (text_of s) ≡ Some (field_in s)
 field_is s = ap (λ k. field_with k (text_of s)) (place_at s.digits s.value (digits_of_tag s.digits s.tag)) ∙ field_with_is s

@@ -21,7 +21,7 @@ use Rattle.fix_wire.specs.declared.writer.SpelledHead.{SpelledHead}
 use Rattle.fix_frames.specs.Texts.{is_soh}
 use Rattle.fix_values.specs.Digits.{number_after, number_of, two_digits}
 use Rattle.fix_frames.specs.Fields.{TagValue, is_tag, fields_of_body}
-use Rattle.fix_frames.specs.Frames.{begin_text, header, header_after, header_with, is_body_length, is_body, is_intact, body_at, frame_length, intact_length, frame_at, frames, checksum_field}
+use Rattle.fix_frames.specs.Frames.{begin_text, header, header_after, header_with, is_body_length, is_body, is_intact, is_intact_by_size, body_at, frame_length, intact_length, frame_at, frames, checksum_field}
 use Rattle.fix_frames.specs.Messages.{fields}
 use Rattle.host_base.specs.Ids.{is_plain}
 use Rattle.fix_wire.specs.Layout.{field, field_text, only_if, head_fields, field_of_given, all_fields, body_text, summed_text, frame_text, message_text, value_text, FitsTypes, FitsValue, FitsValueOf, FitsTags, FitsField, FitsHead, FitsMessage, IsReadBack, SpellsHead}
@@ -29,28 +29,21 @@ use Rattle.fix_wire.specs.Spelling.{spelled_body}
 use Rattle.fix_wire.proofs.writing.HeadFields.{head_spelled}
 use Rattle.fix_wire.proofs.writing.SpelledRow as spelled
 use Rattle.fix_frames.proofs.framing.FramesHeld.{scan_frame}
+use Rattle.fix_frames.proofs.framing.IntactFrame.{intact_is}
 use Rattle.fix_frames.proofs.texts.HeaderAtTheFront.{header_is}
 
 -- ---- the body as one list of fields
 
-pub flat_map_two : (xs ys : List TagValue) → flat_map field_text (xs ++ ys) ≡ flat_map field_text xs ++ flat_map field_text ys
+pub flat_map_two : (xs ys : List given.Field) → flat_map field_text (xs ++ ys) ≡ flat_map field_text xs ++ flat_map field_text ys
 flat_map_two [] ys = refl
 flat_map_two (x ∷ xs) ys = ap (λ t. field_text x ++ t) (flat_map_two xs ys) ∙ sym (append_assoc (field_text x) (flat_map field_text xs) (flat_map field_text ys))
-
-flat_map_given : (fs : List given.Field) → flat_map field_text (map field_of_given fs) ≡ flat_map (λ f. field_text (field_of_given f)) fs
-flat_map_given [] = refl
-flat_map_given (f ∷ fs) = ap (λ t. field_text (field_of_given f) ++ t) (flat_map_given fs)
-
-pub body_is : (h : Head) (fs : List given.Field) → flat_map field_text (head_fields h) ++ flat_map (λ f. field_text (field_of_given f)) fs ≡ body_text h fs
-body_is h fs = ap (λ t. flat_map field_text (head_fields h) ++ t) (sym (flat_map_given fs)) ∙ sym (flat_map_two (head_fields h) (map field_of_given fs))
 
 -- ---- fields one after another
 
 pub fields_more : (before : List ℕ) (fs : List given.Field) (i : ℕ) (f : given.Field) → i < length fs → f ≡ get_or fs i f →
-    (before ++ flat_map (λ f. field_text (field_of_given f)) (take i fs)) ++ field_text (field_of_given f) ≡ before ++ flat_map (λ f. field_text (field_of_given f)) (take (i + 1) fs)
+    (before ++ flat_map field_text (take i fs)) ++ field_text f ≡ before ++ flat_map field_text (take (i + 1) fs)
 fields_more before fs i f l e =
-    let g = λ (x : given.Field). field_text (field_of_given x) in
-    flat_map_more g before (take i fs) f ∙ ap (λ t. before ++ flat_map g t) (sym (take_more fs i f l ∙ ap (λ x. take i fs ++ x ∷ []) (sym e)))
+    flat_map_more field_text before (take i fs) f ∙ ap (λ t. before ++ flat_map field_text t) (sym (take_more fs i f l ∙ ap (λ x. take i fs ++ x ∷ []) (sym e)))
 
 -- what holds of each of the first, and of the next, holds of one more
 pub all_more : (P : given.Field → Type 0) (fs : List given.Field) (i : ℕ) (f : given.Field) → i < length fs → f ≡ get_or fs i f → AllByRecursion P (take i fs) → P f → AllByRecursion P (take (i + 1) fs)
@@ -71,7 +64,7 @@ frame_closed body start o o3 o4 begins written e4 =
 
 -- what was spelled is the body of that message
 pub body_spelled : (l : SpelledHead) (h : Head) (fs : List given.Field) → SpellsHead l h → spelled_body l fs ≡ body_text h fs
-body_spelled l h fs same = ap (λ t. t ++ flat_map (λ f. field_text (field_of_given f)) fs) (head_spelled l h same) ∙ body_is h fs
+body_spelled l h fs same = ap (λ t. t ++ flat_map field_text fs) (head_spelled l h same) ∙ sym (flat_map_two (head_fields h) fs)
 
 pub types_spelled : (l : SpelledHead) (h : Head) → SpellsHead l h → l.number < 2 ^ 64 → FitsTypes h
 types_spelled l h same range = (subst (λ n. n < 2 ^ 64) same.number range, same.parties.sender_plain, same.parties.target_plain, same.parties.stamp_plain)
@@ -139,19 +132,24 @@ abbrev spelled_all : (fs : List TagValue) → AllByRecursion Fits fs → List sp
 spelled_all [] h = []
 spelled_all (f ∷ fs) h = spelled_of f h.0 ∷ spelled_all fs h.1
 
-texts_same : (fs : List TagValue) (h : AllByRecursion Fits fs) → flat_map spelled.ended (spelled_all fs h) ≡ flat_map field_text fs
+texts_same : (fs : List given.Field) (h : AllByRecursion Fits (map field_of_given fs)) → flat_map spelled.ended (spelled_all (map field_of_given fs) h) ≡ flat_map field_text fs
 texts_same [] h = refl
 texts_same (f ∷ fs) h = ap (λ t. field_text f ++ t) (texts_same fs h.1)
+
+abbrev tag_value : ℕ → List ℕ → TagValue
+tag_value tag value = record { tag = tag; value = value }
 
 fields_same : (fs : List TagValue) (h : AllByRecursion Fits fs) → spelled.map_fields (spelled_all fs h) ≡ fs
 fields_same [] h = refl
 fields_same (f ∷ fs) h =
-    ap (λ n. field n f.value ∷ spelled.map_fields (spelled_all fs h.1)) (decimal_number f.tag (omega (arith, h.0.high)))
+    ap (λ n. tag_value n f.value ∷ spelled.map_fields (spelled_all fs h.1)) (decimal_number f.tag (omega (arith, h.0.high)))
     ∙ ap (λ t. f ∷ t) (fields_same fs h.1)
 
--- a row of spelled fields is read as these fields
-pub row_written : (fs : List TagValue) → AllByRecursion Fits fs → fields_of_body (flat_map field_text fs) ≡ Some fs
-row_written fs h = ap fields_of_body (sym (texts_same fs h)) ∙ spelled.row_spelled (spelled_all fs h) ∙ ap Some (fields_same fs h)
+-- a row of written fields is read as these fields
+pub row_written : (fs : List given.Field) → AllByRecursion Fits (map field_of_given fs) → fields_of_body (flat_map field_text fs) ≡ Some (map field_of_given fs)
+row_written fs h =
+    ap fields_of_body (sym (texts_same fs h)) ∙ spelled.row_spelled (spelled_all (map field_of_given fs) h)
+    ∙ ap Some (fields_same (map field_of_given fs) h)
 
 -- ---- values
 
@@ -179,7 +177,7 @@ value_plain (Price z) h = by_sign (int_lt z (pos 0))
 
 -- ---- all fields of a message
 
-all_two : (xs ys : List TagValue) → AllByRecursion Fits xs → AllByRecursion Fits ys → AllByRecursion Fits (xs ++ ys)
+all_two : (xs ys : List given.Field) → AllByRecursion FitsField xs → AllByRecursion FitsField ys → AllByRecursion FitsField (xs ++ ys)
 all_two [] ys h g = g
 all_two (x ∷ xs) ys h g = (h.0, all_two xs ys h.1 g)
 
@@ -187,28 +185,28 @@ given_fit : (fs : List given.Field) → AllByRecursion FitsField fs → AllByRec
 given_fit [] h = tt
 given_fit (f ∷ fs) h = (record { low = h.0.0; high = h.0.1; plain = value_plain f.value h.0.2 }, given_fit fs h.1)
 
-only_fit : (d : Bool) (f : TagValue) → Fits f → AllByRecursion Fits (only_if d f)
+only_fit : (d : Bool) (f : given.Field) → FitsField f → AllByRecursion FitsField (only_if d f)
 only_fit true f h = (h, tt)
 only_fit false f h = tt
 
-small_tag : (t : ℕ) (v : List ℕ) → 1 ≤ t → t < 1000 → is_plain v ≡ true → Fits (field t v)
-small_tag t v low high plain = record { low = low; high = omega (arith, high); plain = plain }
+small_tag : (t : ℕ) (v : Value) → 1 ≤ t → t < 1000 → FitsValue v → FitsField (field t v)
+small_tag t v low high fits = (low, omega (arith, high), fits)
 
 kind_plain : (k : ℕ) → k ≢ 1 → is_plain (k ∷ []) ≡ true
 kind_plain k h = and_from (not (eqb k 1)) true (grind (arith, nat_tests)) refl
 
-head_fit : (h : Head) → FitsHead h → AllByRecursion Fits (head_fields h)
+head_fit : (h : Head) → FitsHead h → AllByRecursion FitsField (head_fields h)
 head_fit h (kind, (number, sender, target, stamp)) = (
-  small_tag 35 (h.kind ∷ []) (omega arith) (omega arith) (kind_plain h.kind kind),
+  small_tag 35 (Text (h.kind ∷ [])) (omega arith) (omega arith) (kind_plain h.kind kind),
   (
-    small_tag 34 (decimal h.number) (omega arith) (omega arith) (decimal_plain h.number number),
-    all_two (only_if h.duplicate (field 43 (89 ∷ []))) _ (only_fit h.duplicate (field 43 (89 ∷ [])) (small_tag 43 (89 ∷ []) (omega arith) (omega arith) refl)) (
-      small_tag 49 h.sender (omega arith) (omega arith) sender,
+    small_tag 34 (Number h.number) (omega arith) (omega arith) number,
+    all_two (only_if h.duplicate (field 43 (Text (89 ∷ [])))) _ (only_fit h.duplicate (field 43 (Text (89 ∷ []))) (small_tag 43 (Text (89 ∷ [])) (omega arith) (omega arith) refl)) (
+      small_tag 49 (Text h.sender) (omega arith) (omega arith) sender,
       (
-        small_tag 52 h.stamp (omega arith) (omega arith) stamp,
+        small_tag 52 (Text h.stamp) (omega arith) (omega arith) stamp,
         (
-          small_tag 56 h.target (omega arith) (omega arith) target,
-          only_fit h.duplicate (field 122 h.stamp) (small_tag 122 h.stamp (omega arith) (omega arith) stamp),
+          small_tag 56 (Text h.target) (omega arith) (omega arith) target,
+          only_fit h.duplicate (field 122 (Text h.stamp)) (small_tag 122 (Text h.stamp) (omega arith) (omega arith) stamp),
         ),
       ),
     ),
@@ -216,7 +214,7 @@ head_fit h (kind, (number, sender, target, stamp)) = (
 )
 
 all_fit : (h : Head) (fs : List given.Field) → FitsHead h → AllByRecursion FitsField fs → AllByRecursion Fits (all_fields h fs)
-all_fit h fs head rest = all_two (head_fields h) (map field_of_given fs) (head_fit h head) (given_fit fs rest)
+all_fit h fs head rest = given_fit (head_fields h ++ fs) (all_two (head_fields h) fs (head_fit h head) rest)
 
 -- ---- the body
 
@@ -224,13 +222,13 @@ thirty_five : decimal 35 ≡ 51 ∷ 53 ∷ []
 thirty_five = decimal_step 35 (omega arith) (omega arith) ∙ ap (λ t. t ++ 53 ∷ []) (decimal_digit 3 (omega arith))
 
 abbrev body_rest : Head → List given.Field → List ℕ
-body_rest h fs = flat_map field_text (drop 1 (all_fields h fs))
+body_rest h fs = flat_map field_text (drop 1 (head_fields h ++ fs))
 
 body_front : (h : Head) (fs : List given.Field) → body_text h fs ≡ 51 ∷ 53 ∷ 61 ∷ h.kind ∷ 1 ∷ body_rest h fs
 body_front h fs = ap (λ ds. ((ds ++ (61 ∷ h.kind ∷ [])) ++ (1 ∷ [])) ++ body_rest h fs) thirty_five
 
 pub body_row : (h : Head) (fs : List given.Field) → FitsMessage h fs → fields_of_body (body_text h fs) ≡ Some (all_fields h fs)
-body_row h fs fits = row_written (all_fields h fs) (all_fit h fs fits.0 fits.1)
+body_row h fs fits = row_written (head_fields h ++ fs) (all_fit h fs fits.0 fits.1)
 
 body_lawful : (h : Head) (fs : List given.Field) → FitsMessage h fs → is_body (body_text h fs) ≡ true
 body_lawful h fs fits =
@@ -310,7 +308,8 @@ intact_plain front t body c size tail at lawful =
     let behind_it = drop_at front t (c.body_start + c.body_length) size in
     let sums : bytes_eq (take 7 (drop (c.body_start + c.body_length) (front ++ t))) (checksum_field (sum (take (c.body_start + c.body_length) (front ++ t)) % 256)) ≡ true =
     bytes_same _ _ (ap (take 7) (behind_it ∙ tail) ∙ ap (λ x. checksum_field (sum x % 256)) (sym before)) in
-    and_from _ _ (and_from _ _ fits (ap is_body at ∙ lawful)) sums
+    let sized : is_intact_by_size (front ++ t) c ≡ true = and_from _ _ (and_from _ _ fits (ap is_body at ∙ lawful)) sums in
+    intact_is (front ++ t) c ∙ sized
 
 framed_kept : (ds body : List ℕ) → is_body body ≡ true → is_intact (framed ds body) (header_of ds body) ≡ true
 framed_kept ds body lawful =

@@ -32,9 +32,13 @@ abbrev pub ticket_behind : Result OrderTexts ℕ → Result Ticket ℕ
 ticket_behind (Ok o) = Ok (ticket_of o)
 ticket_behind (Err e) = Err e
 
+-- what is read of a message, SendingTime first
+abbrev pub stamped : {A : Type 0} → List ℕ → Result A ℕ → Result A ℕ
+stamped m read = value_at tags.SENDING_TIME m >>= λ stamp. read
+
 -- a Heartbeat, and a Reject
 abbrev pub passed_over : List ℕ → Result Meaning ℕ
-passed_over m = value_at tags.SENDING_TIME m >>= λ stamp. Ok Nothing
+passed_over m = stamped m (Ok Nothing)
 
 -- whether an order is immediate
 abbrev pub is_immediate_at : List ℕ → Result Bool ℕ

@@ -8,6 +8,7 @@ use Rattle.spread_rules.specs.code.Cases.{with_less_left}
 use Rattle.spread_rules.specs.Candidates.{least_left, HasOrderPrice, Pairs, PlacesDiffer}
 use Rattle.spread_rules.specs.Clearing.{Trading, next_candidate, turn, turns, after_match, begin, clear, removed, reduced}
 use Rattle.spread_rulebook.proofs.lists.Membership.{in_head, in_tail}
+use Rattle.spread_rules.proofs.clearings.ClearIsTurns.{clear_is}
 use Rattle.spread_rules.proofs.clearings.TurnsEnd.{keeps_turns}
 use Rattle.candidate_search.specs.Listed.{IsNearFirst, IsInMonths}
 use Rattle.order_clearing.specs.Tradable.{IsTradable}
@@ -179,16 +180,27 @@ module _ (on : Pairs) where
   turns_most references zero s = omega arith
   turns_most references (suc k) s = let a = turns_most references k (turn on references s) in let b = traded_most references s (next_candidate on s) in omega arith
 
+  -- ---- what clearing keeps of them
+
+  pub clear_all : (P : Order → Type 0) → ((o : Order) (k : ℕ) → P o → P (record o { leaves = k })) → (references : List ℤ) (n : Order) (xs : List Order) → All P xs → All P (clear on references n xs).orders
+  clear_all P keep references n xs h = subst (λ (s : Trading). All P s.orders) (sym (clear_is on references n xs)) (turns_all P keep references (length xs) (begin n xs) h)
+
+  pub clear_most : (references : List ℤ) (n : Order) (xs : List Order) → (clear on references n xs).new.leaves ≤ n.leaves
+  clear_most references n xs = subst (λ (s : Trading). s.new.leaves ≤ n.leaves) (sym (clear_is on references n xs)) (turns_most references (length xs) (begin n xs))
+
+  pub clear_keeps : (references : List ℤ) (n : Order) (xs : List Order) → (clear on references n xs).new ≡ record n { leaves = (clear on references n xs).new.leaves }
+  clear_keeps references n xs = subst (λ (s : Trading). s.new ≡ record n { leaves = s.new.leaves }) (sym (clear_is on references n xs)) (keeps_turns on references (length xs) (begin n xs)).new
+
   pub settled_is : (references : List ℤ) (immediate : Bool) (own : Order) (xs : List Order) → All (λ o. o.place < own.place) xs →
       orders_after_trading immediate own (clear on references own xs).new.leaves ((clear on references own xs).orders ++ own ∷ []) ≡ resting immediate (clear on references own xs)
   settled_is references immediate own xs h =
       settled_at immediate own (clear on references own xs) ((clear on references own xs).new.leaves == 0 || immediate) ((clear on references own xs).new.leaves == own.leaves) refl
-      (turns_all (λ (o : Order). o.place < own.place) (λ o k l. l) references (length xs) (begin own xs) h)
-      (keeps_turns on references (length xs) (begin own xs)).new
-      (turns_most references (length xs) (begin own xs))
+      (clear_all (λ (o : Order). o.place < own.place) (λ o k l. l) references own xs h)
+      (clear_keeps references own xs)
+      (clear_most references own xs)
 
   pub newest_after : (references : List ℤ) (own : Order) (xs book : List Order) → All (λ o. o.place < own.place) xs → book ≡ (clear on references own xs).orders ++ own ∷ [] → IsNewest own book
-  newest_after references own xs book h e = record { rest = (clear on references own xs).orders; ends = e; below = turns_all (λ (o : Order). o.place < own.place) (λ o k l. l) references (length xs) (begin own xs) h }
+  newest_after references own xs book h e = record { rest = (clear on references own xs).orders; ends = e; below = clear_all (λ (o : Order). o.place < own.place) (λ o k l. l) references own xs h }
 
   pub clear_same : (r s : List ℤ) (n m : Order) (ys xs : List Order) → r ≡ s → n ≡ m → ys ≡ xs → clear on r n ys ≡ clear on s m xs
   clear_same r s n m ys xs e f k = ap (λ (z : List ℤ). clear on z n ys) e ∙ (ap (λ (z : Order). clear on s z ys) f ∙ ap (λ (z : List Order). clear on s m z) k)

@@ -3,8 +3,8 @@ use Rattle.std.proofs.Common.{◌≡◌, ℕ, ℤ, List, [], ◌∷◌, ◌++◌
 use Rattle.spread_rules.specs.declared.order.Order.{Order}
 use Rattle.spread_rules.specs.declared.fill.Fill.{Fill}
 use Rattle.spread_rules.specs.declared.candidate.Candidate.{Candidate}
-use Rattle.spread_rules.specs.Candidates.{least_left}
-use Rattle.spread_rules.specs.Clearing.{fill_of, fills_of, leg_prices, members}
+use Rattle.spread_rules.specs.Candidates.{least_left, members}
+use Rattle.spread_rules.specs.Clearing.{fill_of, fills_of, leg_prices}
 
 -- the new order's fill, then one for each member
 abbrev fills_with : Order → ℤ → ℕ → ℤ × ℤ → List Order → List Fill

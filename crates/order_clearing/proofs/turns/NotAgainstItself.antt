@@ -14,7 +14,8 @@ use Rattle.spread_rules.specs.code.Cases.{with_less_left}
 use Rattle.spread_rules.specs.Candidates.{implied_price, are_opposite, price_of, IsEligible, AllStandIn, PlacesDiffer, IsBest, Pairs}
 use Rattle.spread_rules.specs.Clearing.{removed, reduced}
 use Rattle.order_clearing.specs.code.Turns.{AreApart}
-use Rattle.spread_rules.proofs.clearings.BoughtIsSold.{on_price, so_true}
+use Rattle.spread_rules.proofs.clearings.BoughtIsSold.{so_true}
+use Rattle.spread_rules.proofs.ranks.PairsSwitched.{priced}
 use Rattle.order_clearing.proofs.turns.StaysAfterAFill.{other_place}
 
 not_first : (s : Side) (I : Instrument) (sb : Side) (B : Instrument) (x y p : ℤ) → implied_price s I s I sb B x y ≡ Some p → ⊥
@@ -102,7 +103,7 @@ module _ (on : Pairs) where
       let i : a.instrument ≡ n.instrument = sym (ap (λ (w : Order). w.instrument) e) ∙ l.instrument in
       not_first n.side n.instrument b.side b.instrument a.price b.price p
       (subst (λ (x : Side). implied_price n.side n.instrument x n.instrument b.side b.instrument a.price b.price ≡ Some p) s
-      (subst (λ (x : Instrument). implied_price n.side n.instrument a.side x b.side b.instrument a.price b.price ≡ Some p) i (on_price _ _ p h)))
+      (subst (λ (x : Instrument). implied_price n.side n.instrument a.side x b.side b.instrument a.price b.price ≡ Some p) i (priced on n a b p h)))
 
   pub own_second : (n own a b : Order) (p : ℤ) → IsLike n own → own ≡ b → price_of on n (Implied a b) ≡ Some p → ⊥
   own_second n own a b p l e h =
@@ -110,7 +111,7 @@ module _ (on : Pairs) where
       let i : b.instrument ≡ n.instrument = sym (ap (λ (w : Order). w.instrument) e) ∙ l.instrument in
       not_second n.side n.instrument a.side a.instrument a.price b.price p
       (subst (λ (x : Side). implied_price n.side n.instrument a.side a.instrument x n.instrument a.price b.price ≡ Some p) s
-      (subst (λ (x : Instrument). implied_price n.side n.instrument a.side a.instrument b.side x a.price b.price ≡ Some p) i (on_price _ _ p h)))
+      (subst (λ (x : Instrument). implied_price n.side n.instrument a.side a.instrument b.side x a.price b.price ≡ Some p) i (priced on n a b p h)))
 
   -- whoever is a candidate is one of the others
   among_others : (n own : Order) (xs : List Order) (p : Counterparty) (price : ℤ) → IsLike n own → price_of on n p ≡ Some price → AllStandIn (xs ++ own ∷ []) p → AllStandIn xs p
@@ -136,4 +137,4 @@ module _ (on : Pairs) where
   are_apart n xs (Implied a b) price d c h = λ e.
       let same = d a b c.0 c.1 e in
       not_both n.side n.instrument a.side a.instrument a.price b.price price
-      (subst (λ (o : Order). implied_price n.side n.instrument a.side a.instrument o.side o.instrument a.price b.price ≡ Some price) (sym same) (on_price _ _ price h))
+      (subst (λ (o : Order). implied_price n.side n.instrument a.side a.instrument o.side o.instrument a.price b.price ≡ Some price) (sym same) (priced on n a b price h))

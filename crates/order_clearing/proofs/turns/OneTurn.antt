@@ -7,8 +7,8 @@ use Rattle.spread_rules.specs.declared.fill.Fill.{Fill}
 use Rattle.spread_rules.specs.declared.candidate.Candidate.{Candidate}
 use Rattle.spread_rules.specs.declared.candidate.Counterparty.{Counterparty}
 use Rattle.spread_rules.specs.declared.candidate.Counterparty.TheVariants.{Direct, Implied}
-use Rattle.spread_rules.specs.Candidates.{IsLeast, AllStandIn, least_left, IsBest, Pairs}
-use Rattle.spread_rules.specs.Clearing.{Trading, next_candidate, turns, after_match, begin, clear, fills_of, after_fill, members}
+use Rattle.spread_rules.specs.Candidates.{IsLeast, AllStandIn, least_left, IsBest, Pairs, members}
+use Rattle.spread_rules.specs.Clearing.{Trading, next_candidate, turns, after_match, begin, clear, fills_of, after_fill}
 use Rattle.order_clearing.specs.Tradable.{IsTradable}
 use Rattle.order_clearing.specs.code.Turns.{IsAfter}
 use Rattle.order_clearing.proofs.turns.NotAgainstItself.{best_of_others}

@@ -7,9 +7,10 @@ use Rattle.spread_rules.specs.declared.candidate.Candidate.{Candidate}
 use Rattle.spread_rules.specs.declared.candidate.Counterparty.{Counterparty}
 use Rattle.spread_rules.specs.declared.candidate.Counterparty.TheVariants.{Direct, Implied}
 use Rattle.spread_rules.specs.code.Cases.{with_less_left}
-use Rattle.spread_rules.specs.Candidates.{price_of, AllStandIn, least_left, least_candidate, counterparties, HasOrderPrice, Pairs, PlacesDiffer, IsBest}
-use Rattle.spread_rules.specs.Clearing.{Trading, next_candidate, turn, turns, begin, clear, after_fill, removed, reduced, members}
+use Rattle.spread_rules.specs.Candidates.{price_of, AllStandIn, least_left, least_candidate, counterparties, HasOrderPrice, Pairs, PlacesDiffer, IsBest, members}
+use Rattle.spread_rules.specs.Clearing.{Trading, next_candidate, turn, turns, begin, clear, after_fill, removed, reduced}
 use Rattle.spread_rules.proofs.ranks.LeastIsOne.{best_is_first}
+use Rattle.spread_rules.proofs.clearings.ClearIsTurns.{clear_is}
 use Rattle.spread_rules.proofs.clearings.TurnsEnd.{enough, one_end, keeps_turns}
 use Rattle.candidate_search.specs.Listed.{IsNearFirst, IsInMonths}
 use Rattle.order_clearing.specs.Tradable.{IsTradable}
@@ -112,7 +113,7 @@ module _ (on : Pairs) where
 
   -- where there is no next, the clearing is done
   pub cleared_at : (references : List ℤ) (k : ℕ) (own : Order) (rest : List Order) → next_candidate on (turns on references k (begin own rest)) ≡ None → turns on references k (begin own rest) ≡ clear on references own rest
-  cleared_at references k own rest h = one_end on references k (length rest) (begin own rest) h (enough on references (length rest) (begin own rest) (omega arith))
+  cleared_at references k own rest h = one_end on references k (length rest) (begin own rest) h (enough on references (length rest) (begin own rest) (omega arith)) ∙ sym (clear_is on references own rest)
 
   spent : (s : Trading) (b : Bool) → (s.new.leaves == 0) ≡ b → s.new.leaves ≤ 0 → cond b None (least_candidate on s.new (counterparties s.orders)) ≡ None
   spent s true e h = refl

@@ -24,10 +24,12 @@ use Rattle.session_judging.specs.declared.session.State.TheVariants as states
 use Rattle.session_judging.specs.declared.session.Session.{Session}
 use Rattle.session_judging.specs.declared.session.Verdict.{Verdict}
 use Rattle.kind_table.specs.Table.{meaning_of_message}
-use Rattle.session_judging.specs.View.{◌>>=◌, Numbered, is_between, is_opening, given_id, logon_of, event_of_accepted, due_after_accepted, view_with, numbered, next_due, event_given, logon_in, is_logout, repeats}
+use Rattle.session_judging.specs.code.Openings.{◌>>=◌, is_opening, given_id, logon_by_parts}
+use Rattle.session_judging.specs.View.{Numbered, is_between, logon_of, event_of_accepted, due_after_accepted, view_with, numbered, next_due, event_given, logon_in, is_logout, repeats}
 use Rattle.session_judging.specs.Steps.{new_session, running, closed, verdict_of, logon_event, closes, opens, step_below, step_above, step_due, step_running, step_at, step_or_stay, judge, event_in, events_said, session_after, events_at_end}
 use Rattle.kind_table.proofs.TableInRange.{Holds, IsGiven, FitsMeaning, meaning_holds}
 use Rattle.session_judging.proofs.events.StateOfPlaces.{cons_two}
+use Rattle.session_judging.proofs.events.OpeningInParts.{logon_is}
 
 abbrev pub May : {A : Type 0} → (A → Type 0) → Option A → Type 0
 May P None = Unit {0}
@@ -80,9 +82,9 @@ read_holds text = by_test (is_number text)
 beat_holds : (m : List ℕ) → May (λ x. x ≤ 999999999) (given_number 108 m)
 beat_holds m = chained (λ t. Unit {0}) (λ x. x ≤ 999999999) (get 108 m) _ (any_text (get 108 m)) (λ t h. read_holds t)
 
-logon_holds : (m : List ℕ) (n : ℕ) → May FitsLogon (logon_of m n)
-unfolding logon_of
-logon_holds m n = by_test (is_opening m n)
+parts_hold : (m : List ℕ) (n : ℕ) → May FitsLogon (logon_by_parts m n)
+unfolding logon_by_parts
+parts_hold m n = by_test (is_opening m n)
   where
     by_test : (v : Bool) → May FitsLogon (if not v then None else (given_id 49 m >>= λ client. given_id 56 m >>= λ host. given_number 108 m >>= λ beat. Some (record { client = client; host = host; beat = beat })))
     by_test false = tt
@@ -90,6 +92,9 @@ logon_holds m n = by_test (is_opening m n)
         chained (λ id. is_id id ≡ true) FitsLogon (given_id 49 m) _ (id_in_holds 49 m) (λ client is_client.
         chained (λ id. is_id id ≡ true) FitsLogon (given_id 56 m) _ (id_in_holds 56 m) (λ host is_host.
         chained (λ x. x ≤ 999999999) FitsLogon (given_number 108 m) _ (beat_holds m) (λ beat short. (is_client, is_host, short))))
+
+logon_holds : (m : List ℕ) (n : ℕ) → May FitsLogon (logon_of m n)
+logon_holds m n = subst (May FitsLogon) (sym (logon_is m n)) (parts_hold m n)
 
 event_holds : (n : ℕ) (r : Result Meaning ℕ) → IsNumber n → Holds (FitsMeaning n) r → May IsGiven (event_of_accepted n r)
 event_holds n (Ok Nothing) num h = tt

@@ -1,5 +1,5 @@
 -- After a lawful Logon the number 2 is due.
-use Rattle.std.proofs.Common.{◌≡◌, ℕ, ◌+◌, Bool, true, false, List, [], ◌∷◌, Some, None, option_map, refl, ap, ◌∙◌, arith}
+use Rattle.std.proofs.Common.{◌≡◌, ℕ, ◌+◌, Bool, true, false, List, [], ◌∷◌, Some, None, option_map, refl, sym, ap, ◌∙◌, arith}
 use Rattle.std.specs.Str.{bytes_eq}
 use Rattle.std.proofs.lemmas.Bool.{and_parts}
 use Rattle.std.proofs.lemmas.Bool.Decides.{nat_tests}
@@ -11,16 +11,21 @@ use Rattle.kind_table.proofs.KindOfBytes.{meaning_is}
 use Rattle.session_judging.specs.declared.session.Logon.{Logon}
 use Rattle.session_judging.specs.declared.session.State.TheVariants as states
 use Rattle.session_judging.specs.declared.session.Session.{Session}
-use Rattle.session_judging.specs.View.{is_opening, logon_of, due_after_accepted, view_with}
+use Rattle.session_judging.specs.View.{logon_of, due_after_accepted, view_with}
+use Rattle.session_judging.specs.code.Openings.{is_opening, logon_by_parts}
+use Rattle.session_judging.proofs.events.OpeningInParts.{logon_is}
 use Rattle.session_judging.specs.Steps.{judge, opens, step_at, step_or_stay}
 
-pub opening_of : (m : List ℕ) (n : ℕ) (l : Logon) → logon_of m n ≡ Some l → is_opening m n ≡ true
-unfolding logon_of
-opening_of m n l e = by_test (is_opening m n) refl
+opening_by_parts : (m : List ℕ) (n : ℕ) (l : Logon) → logon_by_parts m n ≡ Some l → is_opening m n ≡ true
+unfolding logon_by_parts
+opening_by_parts m n l e = by_test (is_opening m n) refl
   where
     by_test : (v : Bool) → is_opening m n ≡ v → v ≡ true
     by_test true h = refl
     by_test false h = let none : None ≡ Some l = rw h at e in cc
+
+pub opening_of : (m : List ℕ) (n : ℕ) (l : Logon) → logon_of m n ≡ Some l → is_opening m n ≡ true
+opening_of m n l e = opening_by_parts m n l (sym (logon_is m n) ∙ e)
 
 same_bytes : (xs ys : List ℕ) → bytes_eq xs ys ≡ true → xs ≡ ys
 same_bytes xs ys e = (bytes_eq-Decides xs ys).0 e

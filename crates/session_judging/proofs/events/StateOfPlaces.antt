@@ -1,28 +1,22 @@
 -- A session's state is what the places before it make of it.
-use Rattle.std.proofs.Common.{◌≡◌, ℕ, zero, suc, ◌+◌, ◌<◌, ◌≤◌, Bool, true, false, cond, ◌&&◌, ◌||◌, not, eqb, ltb, List, [], ◌∷◌, ◌++◌, Option, Some, None, is_some, option_map, length, take, drop, refl, sym, ap, ◌∙◌, subst, arith, add-one, ◌⊎◌, inl, inr}
+use Rattle.std.proofs.Common.{◌≡◌, ℕ, zero, suc, ◌+◌, ◌<◌, ◌≤◌, Bool, true, false, cond, ◌&&◌, ◌||◌, not, eqb, ltb, List, [], ◌∷◌, ◌++◌, Option, Some, None, is_some, option_map, length, drop, refl, sym, ap, ◌∙◌, subst, arith, add-one, ◌⊎◌, inl, inr}
 use Rattle.std.specs.Prelude.{slice_get, filter_map, option_and_then}
 use Rattle.std.specs.Bool.{then_some}
 use Rattle.std.specs.Option.{option_map_or, option_or}
-use Rattle.std.specs.List.{list_any, cons_option, enumerate_from}
+use Rattle.std.specs.List.{cons_option, enumerate_from}
 use Rattle.std.proofs.lemmas.Bool.{false≢true, cases_lt, and_parts}
 use Rattle.std.proofs.Math.Bool.{or-false}
 use Rattle.std.proofs.lemmas.Bool.Decides.{nat_tests}
-use Rattle.std.proofs.lemmas.Option.{same_Some, slice_get_within}
-use Rattle.std.proofs.lemmas.List.{drop-append-le, length-take-le, drop_all, length-take}
-use Rattle.std.proofs.lemmas.List.Folds.{list_any-append}
+use Rattle.std.proofs.lemmas.Option.{same_Some}
 use Rattle.spread_rules.specs.declared.event.Event.{Event}
 use Rattle.spread_rules.specs.declared.event.Event.TheVariants as variant
 use Rattle.session_judging.specs.declared.session.Logon.{Logon}
 use Rattle.session_judging.specs.declared.session.Session.{Session}
 use Rattle.session_judging.specs.View.{Numbered, is_between, numbered, next_due, event_given, logon_in, is_logout, repeats}
-use Rattle.session_judging.specs.Places.{session_logon, due_after, closing, is_accepted, live, last_accepted_before, due, has_open_gap, event, message_events}
+use Rattle.session_judging.specs.Places.{session_logon, closing, is_accepted, live, due, has_open_gap, event, message_events}
 use Rattle.session_judging.specs.Streams.{whole_of}
 use Rattle.session_judging.specs.Steps as steps
 use Rattle.session_judging.specs.Steps.{step, judge, event_in, events_said, session_after, events_at_end, new_session, closed}
-
--- the place after it, or the first
-abbrev place_after : Option ℕ → ℕ
-place_after last = option_map_or suc last 0
 
 -- a live message after the first, by the session's Logon: it is accepted; why it closes the session
 abbrev is_next : Option Logon → ℕ → Numbered → Bool
@@ -33,15 +27,16 @@ closing_later o due m =
     cond (not (option_map_or (λ l. is_between m l.client l.host) o false)) (Some 4)
     (cond (ltb m.number due && not (repeats m)) (Some 2) (then_some (eqb m.number due && (is_logout m)) 1))
 
--- the message at a place: it closes the session, it is accepted
+-- the message at a place: it closes the session
 abbrev closes_at : List Numbered → ℕ → ℕ → Option Numbered → Bool
 closes_at ms p due o = is_some (option_and_then (closing ms p due) o)
 
-abbrev accepts_at : List Numbered → ℕ → ℕ → Option Numbered → Bool
-accepts_at ms p due o = option_map_or (is_accepted ms p due) o false
+-- the number due after it, and whether a gap is open then
+abbrev due_next : List Numbered → ℕ → ℕ → Option Numbered → ℕ
+due_next ms p d o = option_map_or (λ m. cond (is_accepted ms p d m) (next_due m) d) o d
 
-abbrev next_after : Option Numbered → ℕ
-next_after o = option_map_or (λ m. (next_due m)) o 1
+abbrev open_next : List Numbered → ℕ → ℕ → Bool → Option Numbered → Bool
+open_next ms p d a o = option_map_or (λ m. not (is_accepted ms p d m) && (a || ltb d m.number)) o false
 
 -- the events of the places from p on
 abbrev events_from : List Numbered → ℕ → List Numbered → List Event
@@ -138,28 +133,6 @@ opened_some m ms zero e = by_opens (logon_in m) refl
     by_opens None h = absurd (false≢true (simp h at e))
 opened_some m ms (suc p) e = opened_some m ms p (and_parts _ _ e).0
 
-last_below : (ms : List Numbered) (p : ℕ) → place_after (last_accepted_before ms p) ≤ p
-last_below ms zero = omega arith
-last_below ms (suc p) = by_test (last_below ms p) (live ms p && accepts_at ms p (due ms p) (slice_get ms p))
-  where
-    by_test : place_after (last_accepted_before ms p) ≤ p → (v : Bool) → place_after (cond v (Some p) (last_accepted_before ms p)) ≤ suc p
-    by_test ih true = omega arith
-    by_test ih false = omega arith
-
-take_one_more : (ms : List Numbered) (q : ℕ) (m : Numbered) → slice_get ms q ≡ Some m → take (suc q) ms ≡ take q ms ++ m ∷ []
-take_one_more [] q m e = cc
-take_one_more (x ∷ ms) zero m e = ap (λ y. y ∷ []) (same_Some _ _ e)
-take_one_more (x ∷ ms) (suc q) m e = ap (λ t. x ∷ t) (take_one_more ms q m e)
-
-asked_more : (ms : List Numbered) (q d f : ℕ) (m : Numbered) → slice_get ms q ≡ Some m → f ≤ q →
-    list_any (λ x. ltb d x.number) (drop f (take (suc q) ms)) ≡ (list_any (λ x. ltb d x.number) (drop f (take q ms)) || ltb d m.number)
-asked_more ms q d f m e l =
-    let within = slice_get_within ms q m e in
-    ap (λ t. list_any (λ x. ltb d x.number) (drop f t)) (take_one_more ms q m e)
-    ∙ ap (λ t. list_any (λ x. ltb d x.number) t) (drop-append-le f (take q ms) (m ∷ []) (omega (arith, length-take-le q ms (omega arith))))
-    ∙ list_any-append (λ x. ltb d x.number) (drop f (take q ms)) (m ∷ [])
-    ∙ ap (λ x. list_any (λ y. ltb d y.number) (drop f (take q ms)) || x) (or-false (ltb d m.number))
-
 later_step : (x : Numbered) (xs : List Numbered) (p : ℕ) (m : Numbered) → slice_get xs p ≡ Some m → says (state_at (x ∷ xs) (suc p)) m ≡ (event (x ∷ xs) (suc p) m, state_at (x ∷ xs) (suc (suc p)))
 later_step x xs p m get = by_live (live (x ∷ xs) (suc p)) refl
   where
@@ -181,21 +154,14 @@ later_step x xs p m get = by_live (live (x ∷ xs) (suc p)) refl
         let then : state_at ms (suc q) ≡ cond l (runs parties d2 a2) closed = ap (λ h. cond l (runs_or h d2 a2) closed) op in
         let lives : l ≡ not (is_some (closing_later (Some parties) d m)) =
         ap (λ v. v && not (closes_at ms q d (slice_get ms q))) e ∙ ap (λ g. not (closes_at ms q d g)) get ∙ ap (λ h. not (is_some (closing_later h d m))) op in
-        let last_is : last_accepted_before ms (suc q) ≡ cond (is_next (Some parties) d m) (Some q) (last_accepted_before ms q) =
-        ap (λ v. cond (v && accepts_at ms q d (slice_get ms q)) (Some q) (last_accepted_before ms q)) e
-        ∙ ap (λ g. cond (accepts_at ms q d g) (Some q) (last_accepted_before ms q)) get ∙ ap (λ h. cond (is_next h d m) (Some q) (last_accepted_before ms q)) op in
+        let next_is : d2 ≡ cond (is_next (Some parties) d m) (next_due m) d =
+        ap (λ g. due_next ms q d g) get ∙ ap (λ h. cond (is_next h d m) (next_due m) d) op in
+        let open_is : a2 ≡ (not (is_next (Some parties) d m) && (a || ltb d m.number)) =
+        ap (λ g. open_next ms q d a g) get ∙ ap (λ h. not (is_next h d m) && (a || ltb d m.number)) op in
         let taken : is_next (Some parties) d m ≡ true → (d2 ≡ (next_due m)) × (a2 ≡ false) = λ t.
-        let la : last_accepted_before ms (suc q) ≡ Some q = last_is ∙ ap (λ v. cond v (Some q) (last_accepted_before ms q)) t in
-        let none : drop (suc q) (take (suc q) ms) ≡ [] = drop_all (suc q) (take (suc q) ms) (omega (arith, length-take (suc q) ms)) in (
-          ap (λ t. due_after ms t) la ∙ ap (λ g. next_after g) get,
-          ap (λ t. list_any (λ y. ltb d2 y.number) (drop (place_after t) (take (suc q) ms))) la ∙ ap (λ t. list_any (λ y. ltb d2 y.number) t) none,
-        ) in
+        (next_is ∙ ap (λ v. cond v (next_due m) d) t, open_is ∙ ap (λ v. not v && (a || ltb d m.number)) t) in
         let passed : is_next (Some parties) d m ≡ false → (d2 ≡ d) × (a2 ≡ (a || ltb d m.number)) = λ f.
-        let la : last_accepted_before ms (suc q) ≡ last_accepted_before ms q = last_is ∙ ap (λ v. cond v (Some q) (last_accepted_before ms q)) f in (
-          ap (λ t. due_after ms t) la,
-          ap (λ t. list_any (λ y. ltb (due_after ms t) y.number) (drop (place_after t) (take (suc q) ms))) la
-              ∙ asked_more ms q d (place_after (last_accepted_before ms q)) m get (last_below ms q),
-        ) in
+        (next_is ∙ ap (λ v. cond v (next_due m) d) f, open_is ∙ ap (λ v. not v && (a || ltb d m.number)) f) in
         ap (λ s. says s m) state ∙ step_is parties d a m l d2 a2 lives taken passed
         ∙ ap (λ v. (v, cond l (runs parties d2 a2) closed)) (sym placed_is) ∙ ap (λ s. (event ms q m, s)) (sym then)
 

@@ -14,15 +14,14 @@ use Rattle.spread_rules.specs.declared.candidate.Counterparty.TheVariants.{Impli
 use Rattle.spread_rules.specs.Candidates.{Pairs, all_on, takes_part, price_of, implied_price, candidate_of, candidate_at, is_within_limit, is_before, IsEligible}
 use Rattle.spread_rules.specs.Legs.{other_side}
 use Rattle.spread_rules.specs.Quiet.{Rests}
-use Rattle.spread_rules.proofs.clearings.BoughtIsSold.{on_price}
 use Rattle.candidate_search.specs.Listed.{IsInMonths}
 use Rattle.spread_books.specs.Quotes.{pair_at, IsImplied, IsLeastImplied, IsQuote, AreQuotable}
 use Rattle.order_books.specs.declared.pair.PairCost.{PairCost}
 use Rattle.candidate_search.specs.code.Best.{Beats, CoversTwo}
 use Rattle.order_books.specs.Pairs.{spread_of, spread_side, IsCheapest}
 use Rattle.spread_books.specs.code.PairQuote.{AreFrontsOf, IsQuoteOfFronts}
-use Rattle.spread_rules.proofs.ranks.PairsSwitched.{price_on}
-use Rattle.candidate_search.proofs.fronts.BeatAnyPair.{fronts_beat, was_on}
+use Rattle.spread_rules.proofs.ranks.PairsSwitched.{price_on, priced, part_of}
+use Rattle.candidate_search.proofs.fronts.BeatAnyPair.{fronts_beat}
 use Rattle.candidate_search.proofs.fronts.MonthPairs.{cheapest_beats, none_beats, fronts_price}
 use Rattle.candidate_search.proofs.fronts.Suffice.{month_below, spread_pair}
 
@@ -123,7 +122,7 @@ module _ (on : Pairs) where
   pair_rests : (n : Order) (xs : List Order) (i j : ℕ) (a b : Order) (price : ℤ) → n.instrument ≡ Spread i j → IsImplied on n xs a b price → RestsAsPair xs i j n.side a b
   pair_rests n xs i j a b price is p =
       let shape = spread_pair on i j n.side a.side a.instrument b.side b.instrument a.price b.price price
-      (subst (λ (u : Instrument). implied_price n.side u a.side a.instrument b.side b.instrument a.price b.price ≡ Some price) is (on_price _ _ price p.meet)) in
+      (subst (λ (u : Instrument). implied_price n.side u a.side a.instrument b.side b.instrument a.price b.price ≡ Some price) is (priced on n a b price p.meet)) in
       record {
         first = record { stands = p.stand.0; instrument_is = shape.of; side_is = shape.sided };
         second = record { stands = p.stand.1; instrument_is = shape.and; side_is = shape.and_on };
@@ -151,6 +150,6 @@ module _ (on : Pairs) where
   -- a spread whose pair takes no part
   pub quote_off : (xs : List Order) (i j : ℕ) (side : Side) → on i j ≡ false → IsQuote on xs (Spread i j) side None
   quote_off xs i j side off n is at a b price p =
-      let part : takes_part on n.instrument a.instrument ≡ true = was_on _ _ price p.meet in
+      let part : takes_part on n.instrument a.instrument ≡ true = part_of on n a b price p.meet in
       let here : on i j ≡ true = ap (λ (k : Instrument). takes_part on k a.instrument) (sym is) ∙ part in
       (let no : true ≡ false = sym here ∙ off in cc)

@@ -1,7 +1,9 @@
 -- what a fill does to what was filled
-use Rattle.std.proofs.Common.{◌≡◌, ◌≢◌, ℕ, zero, suc, ◌==◌, ◌+◌, ◌-◌, ◌<◌, ◌≤◌, ℤ, Bool, true, false, not, cond, List, [], ◌∷◌, ◌++◌, fold, Contains, Option, Some, None, refl, subst, sym, ap, ◌∙◌, arith, inl, inr, append_assoc}
+use Rattle.std.proofs.Common.{◌≡◌, ◌≢◌, ℕ, zero, suc, ◌==◌, ◌+◌, ◌-◌, ◌<◌, ◌≤◌, ℤ, Bool, true, false, not, cond, List, [], ◌∷◌, ◌++◌, fold, Contains, Option, Some, None, refl, subst, sym, ap, ◌∙◌, arith, inl, inr, append_assoc, append-nil, filter}
+use Rattle.std.specs.List.{sum_by}
 use Rattle.std.proofs.lemmas.Bool.Decides.{nat_tests}
-use Rattle.std.proofs.lemmas.List.Elements.{Contains-push_cases}
+use Rattle.std.proofs.lemmas.List.Elements.{Contains-push_cases, filter-append}
+use Rattle.std.proofs.lemmas.List.Sums.{sum_by_push}
 use Rattle.std.proofs.lemmas.Int.{ints}
 use Rattle.spread_rules.specs.declared.order.Side.{Side}
 use Rattle.spread_rules.specs.declared.order.Side.TheVariants.{Buy, Sell}
@@ -11,8 +13,8 @@ use Rattle.spread_rules.specs.declared.candidate.Candidate.{Candidate}
 use Rattle.spread_rules.specs.declared.candidate.Counterparty.{Counterparty}
 use Rattle.spread_rules.specs.declared.candidate.Counterparty.TheVariants.{Direct, Implied}
 use Rattle.spread_rules.specs.code.Cases.{with_less_left}
-use Rattle.spread_rules.specs.Candidates.{least_left, AllStandIn, is_within_limit, PlacesDiffer, Pairs}
-use Rattle.spread_rules.specs.Clearing.{Trading, next_candidate, turn, turns, after_match, after_fill, removed, reduced, fills_of, fill_of, members, leg_prices}
+use Rattle.spread_rules.specs.Candidates.{least_left, AllStandIn, is_within_limit, PlacesDiffer, Pairs, members}
+use Rattle.spread_rules.specs.Clearing.{Trading, next_candidate, turn, turns, after_match, after_fill, removed, reduced, fills_of, fill_of, leg_prices}
 use Rattle.spread_rulebook.proofs.lists.Membership.{in_cons_cases, not_in_nil, from_map}
 use Rattle.spread_rules.proofs.clearings.TurnsEnd.{members_rest, next_meets, next_left, next_least, from_filter, less_place}
 use Rattle.order_clearing.specs.Tradable.{IsTradable}
@@ -25,9 +27,16 @@ use Rattle.order_clearing.proofs.turns.StaysAfterAFill.{still_there, still_diffe
 use Rattle.order_statuses.proofs.status_rows.MarkedRows.{same_number}
 use Rattle.spread_rules.specs.Meaning.{PastTicket, filled}
 
+filled_one : (gs : List Fill) (f : Fill) (b : Bool) → sum_by (λ g. g.quantity) (gs ++ cond b (f ∷ []) []) ≡ sum_by (λ g. g.quantity) gs + cond b f.quantity 0
+filled_one gs f true = sum_by_push (λ (g : Fill). g.quantity) gs f
+filled_one gs f false =
+    let none : sum_by (λ (g : Fill). g.quantity) gs ≡ sum_by (λ (g : Fill). g.quantity) gs + 0 = omega arith in
+    ap (sum_by (λ (g : Fill). g.quantity)) (append-nil gs) ∙ none
+
 pub filled_push : (place : ℕ) (fs : List Fill) (f : Fill) → filled place (fs ++ f ∷ []) ≡ filled place fs + cond (f.order == place) f.quantity 0
-filled_push place [] f = omega arith
-filled_push place (g ∷ fs) f = omega (arith, filled_push place fs f)
+filled_push place fs f =
+    ap (sum_by (λ (g : Fill). g.quantity)) (filter-append (λ (g : Fill). g.order == place) fs (f ∷ []))
+    ∙ filled_one (filter (λ (g : Fill). g.order == place) fs) f (f.order == place)
 
 pub test_same : (a b : ℕ) → a ≡ b → (a == b) ≡ true
 test_same a b h = grind (arith, nat_tests)

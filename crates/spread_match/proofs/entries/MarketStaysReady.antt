@@ -16,7 +16,8 @@ use Rattle.spread_rules.specs.Clearing.{Trading, next_candidate, turn, turns, af
 use Rattle.spread_rulebook.specs.Prices.{IsOrderPrice}
 use Rattle.spread_rules.specs.Meaning.{EntryMeaning, cancel_means, has_id, is_own, is_refused, moved_to, new_means, order_of, original_of, outcome_of, place_left, refusal_or_instrument, replace_means, resting, ticket_of}
 use Rattle.spread_rulebook.specs.Rulebook.{Rules, month_count, references_of, find_symbol, implied}
-use Rattle.spread_rules.proofs.clearings.TurnsEnd.{keeps_turns, members_rest, next_meets}
+use Rattle.spread_rules.proofs.clearings.ClearIsTurns.{clear_is}
+use Rattle.spread_rules.proofs.clearings.TurnsEnd.{members_rest, next_meets}
 use Rattle.market_state.specs.State.{MarketState}
 use Rattle.candidate_search.specs.Listed.{IsNearFirst, IsInMonths}
 use Rattle.order_clearing.specs.Tradable.{IsTradable}
@@ -27,7 +28,7 @@ use Rattle.order_statuses.proofs.status_rows.MarkedRows.{KeepsName, has_id_kept,
 use Rattle.order_statuses.proofs.status_rows.MarksOfEntries.{fill_keeps, replace_keeps}
 use Rattle.order_clearing.proofs.turns.NotAgainstItself.{are_apart}
 use Rattle.order_clearing.proofs.turns.StaysTradable.{still_tradable}
-use Rattle.market_state.proofs.entries.NewOrder.{turns_all, below_new, none_earlier, taken_is}
+use Rattle.market_state.proofs.entries.NewOrder.{clear_all, clear_keeps, below_new, none_earlier, taken_is}
 use Rattle.market_state.proofs.entries.NamedInstrument.{listed_found, near_of, months_of}
 use Rattle.market_state.proofs.entries.MayRest.{MayRest, moved_rests, removed_tradable}
 use Rattle.spread_match.proofs.entries.PastStaysSound.{later_all, new_rests, rests_all, rest_tradable}
@@ -55,11 +56,12 @@ record AreReady (months : ℕ) (xs : List Order) (last : ℕ) : Type 0 where
 cleared_ready : (on : Pairs) (references : List ℤ) (months : ℕ) (xs : List Order) (last place : ℕ) (n : Order) (immediate : Bool) → last < place → n.place ≡ place → AreReady months xs last → MayRest months n → AreReady months (resting immediate (clear on references n xs)) place
 cleared_ready on references months xs last place n immediate l placed r rests =
     let d = clear on references n xs in
-    let below : All (λ o. o.place < place) d.orders = turns_all on (λ (o : Order). o.place < place) (λ o k h. h) references (length xs) (begin n xs) (below_new xs last place r.below l) in
-    let new : d.new ≡ record n { leaves = d.new.leaves } = (keeps_turns on references (length xs) (begin n xs)).new in
+    let below : All (λ o. o.place < place) d.orders = clear_all on (λ (o : Order). o.place < place) (λ o k h. h) references n xs (below_new xs last place r.below l) in
+    let new : d.new ≡ record n { leaves = d.new.leaves } = clear_keeps on references n xs in
+    let still : IsTradable months d.orders = subst (λ (t : Trading). IsTradable months t.orders) (sym (clear_is on references n xs)) (turns_tradable on references months (length xs) (begin n xs) r.tradable) in
     let at : place ≡ d.new.place = sym placed ∙ sym (ap (λ (o : Order). o.place) new) in
     record {
-      tradable = rest_tradable months d immediate (d.new.leaves == 0) refl (turns_tradable on references months (length xs) (begin n xs) r.tradable) (subst (λ (k : ℕ). All (λ (o : Order). o.place < k) d.orders) at below)
+      tradable = rest_tradable months d immediate (d.new.leaves == 0) refl still (subst (λ (k : ℕ). All (λ (o : Order). o.place < k) d.orders) at below)
           (subst HasOrderPrice (sym new) (let k = rests.small in record { low = k.low; high = k.high })) (subst IsNearFirst (sym new) (let k = rests.listed in record { near_before_far = k.near_before_far }))
           (subst (λ (o : Order). IsInMonths months o.instrument) (sym new) rests.within);
       below = λ k e lt. rests_all (λ (o : Order). o.place ≤ place) d immediate (λ o c. let a = All-contains (λ (w : Order). w.place < place) d.orders o below c in omega arith) (omega arith) (d.new.leaves == 0 || immediate)
@@ -174,8 +176,8 @@ traded_come : (on : Pairs) (references : List ℤ) (n : Order) (xs : List Order)
     All (λ o. P o.session o.id o.place) (resting immediate (clear on references n xs))
 traded_come on references n xs immediate P h own =
     let d = clear on references n xs in
-    let all : All (λ o. P o.session o.id o.place) d.orders = turns_all on (λ (o : Order). P o.session o.id o.place) (λ o k w. w) references (length xs) (begin n xs) h in
-    let new : d.new ≡ record n { leaves = d.new.leaves } = (keeps_turns on references (length xs) (begin n xs)).new in
+    let all : All (λ o. P o.session o.id o.place) d.orders = clear_all on (λ (o : Order). P o.session o.id o.place) (λ o k w. w) references n xs h in
+    let new : d.new ≡ record n { leaves = d.new.leaves } = clear_keeps on references n xs in
     λ k e lt. rests_all (λ (o : Order). P o.session o.id o.place) d immediate (λ o c. All-contains (λ (w : Order). P w.session w.id w.place) d.orders o all c) (subst (λ (o : Order). P o.session o.id o.place) (sym new) own) (d.new.leaves == 0 || immediate)
     (get_or (resting immediate d) k e) (Contains-get_or (resting immediate d) k e lt)
 

@@ -1,5 +1,6 @@
 -- one entry more: the past stays sound, and what is kept of it stays what it gives
-use Rattle.std.proofs.Common.{◌≡◌, ℕ, ◌==◌, ◌<◌, ◌≤◌, ℤ, Bool, true, false, not, ◌||◌, cond, List, [], ◌∷◌, ◌++◌, length, get_or, Contains, All, Option, Some, None, Result, Ok, Err, refl, subst, sym, ap, ◌∙◌, arith, inl, inr, append-nil}
+use Rattle.std.proofs.Common.{◌≡◌, ℕ, ◌==◌, ◌<◌, ◌≤◌, ℤ, Bool, true, false, not, ◌||◌, cond, List, [], ◌∷◌, ◌++◌, length, get_or, Contains, All, Option, Some, None, Result, Ok, Err, refl, subst, sym, ap, ◌∙◌, arith, inl, inr, append-nil, filter}
+use Rattle.std.specs.List.{sum_by}
 use Rattle.std.proofs.lemmas.Bool.Decides.{nat_tests}
 use Rattle.std.proofs.lemmas.List.Elements.{All-contains, Contains-push_cases, Contains-append_cases, Contains-append_left, Contains-push, Contains-get_or}
 use Rattle.std.specs.List.{find}
@@ -10,7 +11,8 @@ use Rattle.spread_rules.specs.code.Cases.{keeping_means}
 use Rattle.spread_rules.specs.Candidates.{HasOrderPrice, Pairs}
 use Rattle.spread_rules.specs.Clearing.{Trading, begin, clear, removed}
 use Rattle.spread_rulebook.proofs.lists.Membership.{in_head, in_tail, not_in_nil}
-use Rattle.spread_rules.proofs.clearings.TurnsEnd.{keeps_turns, from_filter}
+use Rattle.spread_rules.proofs.clearings.ClearIsTurns.{clear_is}
+use Rattle.spread_rules.proofs.clearings.TurnsEnd.{from_filter}
 use Rattle.spread_rules.specs.declared.outcome.OrderStatus.{OrderStatus}
 use Rattle.spread_rules.specs.declared.event.Ticket.{Ticket}
 use Rattle.spread_rules.specs.declared.event.Entry.{Entry}
@@ -27,7 +29,7 @@ use Rattle.spread_match.specs.Sound.{HasEntry, IsCounted, IsEntryApplied, IsName
 use Rattle.spread_match.proofs.entries.FillsCounted.{IsRunning, running}
 use Rattle.market_state.proofs.entries.NamedInstrument.{listed_found, near_of, months_of}
 use Rattle.spread_rulebook.specs.Prices.{IsOrderPrice}
-use Rattle.market_state.proofs.entries.NewOrder.{tradable_more, turns_all, taken_is, below_new}
+use Rattle.market_state.proofs.entries.NewOrder.{tradable_more, clear_all, clear_keeps, taken_is, below_new}
 use Rattle.spread_rules.specs.Meaning.{EntryMeaning, JournalState, PastTicket, cancel_means, filled, has_id, is_own, is_refused, meaning_of, meaning_with, moved_to, new_means, order_of, original_of, refusal_or_instrument, replace_means, resting, statuses_of, ticket_of, with_meaning}
 use Rattle.spread_rules.specs.Amended.{amended, done, with_quantity}
 use Rattle.market_state.proofs.entries.FoundStands.{find_stands}
@@ -122,9 +124,8 @@ filled_none place [] h = refl
 filled_none place (f ∷ fs) h =
     let a = h f (in_head f fs) in
     let e : (f.order == place) ≡ false = grind (arith, nat_tests) in
-    let u : cond (f.order == place) f.quantity 0 ≡ 0 = ap (λ (b : Bool). cond b f.quantity 0) e in
-    let v = filled_none place fs (λ g c. h g (in_tail f fs g c)) in
-    omega (arith, u, v)
+    let others = filter (λ (g : Fill). g.order == place) fs in
+    ap (λ (b : Bool). sum_by (λ (g : Fill). g.quantity) (cond b (f ∷ others) others)) e ∙ filled_none place fs (λ g c. h g (in_tail f fs g c))
 
 -- a ticket of that place asks for that order, of which no more is left than it has
 pub record AsksFor (place : ℕ) (p : PastTicket) (n : Order) : Type 0 where
@@ -189,10 +190,10 @@ cleared_sound : (pairs : Pairs) (references : List ℤ) (months : ℕ) (past : J
 cleared_sound pairs references months past last place p n xs immediate l a r s own tr on =
     let d = clear pairs references n xs in
     let ps = past.entered ++ p ∷ [] in
-    let run : IsRunning months ps past.fills d = running pairs references months ps past.fills (length xs) (begin n xs) (started months past last place p n xs l a s tr on) in
+    let run : IsRunning months ps past.fills d = subst (IsRunning months ps past.fills) (sym (clear_is pairs references n xs)) (running pairs references months ps past.fills (length xs) (begin n xs) (started months past last place p n xs l a s tr on)) in
     let earlier : All (λ o. o.place ≤ last) xs = λ k d lt. All-contains (λ (o : Order). o.place ≤ last) past.orders (get_or xs k d) s.orders_before (on (get_or xs k d) (Contains-get_or xs k d lt)) in
-    let below : All (λ o. o.place < place) d.orders = turns_all pairs (λ (o : Order). o.place < place) (λ o k h. h) references (length xs) (begin n xs) (below_new xs last place earlier l) in
-    let new : d.new ≡ record n { leaves = d.new.leaves } = (keeps_turns pairs references (length xs) (begin n xs)).new in
+    let below : All (λ o. o.place < place) d.orders = clear_all pairs (λ (o : Order). o.place < place) (λ o k h. h) references n xs (below_new xs last place earlier l) in
+    let new : d.new ≡ record n { leaves = d.new.leaves } = clear_keeps pairs references n xs in
     let at : place ≡ d.new.place = sym a.placed ∙ sym (ap (λ (o : Order). o.place) new) in
     record {
       tradable = rest_tradable months d immediate (d.new.leaves == 0) refl run.tradable (subst (λ (k : ℕ). All (λ (o : Order). o.place < k) d.orders) at below)

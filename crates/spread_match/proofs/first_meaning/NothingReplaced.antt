@@ -13,7 +13,7 @@ use Rattle.spread_rules.specs.declared.event.Event.TheVariants.{Logon, New, Canc
 use Rattle.spread_rules.specs.declared.outcome.Outcome.{Outcome}
 use Rattle.spread_rules.specs.declared.outcome.Outcome.TheVariants.{Rested, Filled, Ended, Refused}
 use Rattle.spread_rules.specs.declared.outcome.OrderStatus.{OrderStatus}
-use Rattle.spread_rules.specs.Clearing.{begin, clear, removed}
+use Rattle.spread_rules.specs.Clearing.{Trading, begin, clear, removed}
 use Rattle.spread_rules.specs.Meaning.{JournalState, PastTicket, after_entry, cancel_means, filled, has_id, is_own, is_refused, meaning_of, new_means, no_entries, order_of, outcome_of, place_left, refusal_or_instrument, resting, statuses_of, with_meaning}
 use Rattle.spread_rules.specs.FirstMeaning.{is_replace, is_refused as was_refused}
 use Rattle.spread_rulebook.specs.Rulebook.{Rules, find_symbol, month_count, references_of, implied}
@@ -24,6 +24,7 @@ use Rattle.spread_match.proofs.entries.PastStaysSound.{filled_none, new_asks, re
 use Rattle.spread_match.proofs.first_meaning.FilledWhole.{AreExact, IsExact, IsMarked, IsTicketOf, exact_turns}
 use Rattle.spread_match.proofs.entries.StatusesOfThePast.{not_named, not_named_at, unused}
 use Rattle.spread_rules.specs.Candidates.{Pairs}
+use Rattle.spread_rules.proofs.clearings.ClearIsTurns.{clear_is}
 use Rattle.spread_rules.proofs.clearings.TurnsEnd.{from_filter}
 
 -- the ticket of a New entry, which was traded or refused
@@ -142,8 +143,9 @@ traded_first on references months past last place session t i l some none s x =
     let p : PastTicket = record { place = place; session = session; original = None; ticket = t; outcome = outcome } in
     let ps = past.entered ++ p ∷ [] in
     let done : AreExact ps past.fills d.new d.orders d.fills =
-    exact_turns on references months ps past.fills (length past.orders) (begin n past.orders) (started months past last place p n past.orders l (new_asks place session t i outcome) s s.tradable (λ o c. c))
-    (started_exact months past last place session t i outcome l some none s x) in
+    subst (λ (u : Trading). AreExact ps past.fills u.new u.orders u.fills) (sym (clear_is on references n past.orders))
+    (exact_turns on references months ps past.fills (length past.orders) (begin n past.orders) (started months past last place p n past.orders l (new_asks place session t i outcome) s s.tradable (λ o c. c))
+    (started_exact months past last place session t i outcome l some none s x)) in
     record {
       exact = rests_all (IsExact ps (past.fills ++ d.fills)) d t.immediate done.each done.own (d.new.leaves == 0 || t.immediate);
       marked = done.marked;

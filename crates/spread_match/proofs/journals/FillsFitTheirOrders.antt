@@ -1,5 +1,5 @@
 -- each fill of a journal is of an order of the rulebook, and keeps the ranges of quantities and prices
-use Rattle.std.proofs.Common.{◌≡◌, ℕ, zero, suc, ◌<◌, ◌≤◌, ◌+◌, ◌==◌, nat_lt, ℤ, pos, neg_ℤ, ◌≤ℤ◌, ◌+ℤ◌, ◌-ℤ◌, Bool, true, false, cond, not, ◌||◌, List, [], ◌∷◌, ◌++◌, length, get_or, Contains, All, Option, Some, None, Result, Ok, Err, refl, subst, arith, inl, inr}
+use Rattle.std.proofs.Common.{◌≡◌, ℕ, zero, suc, ◌<◌, ◌≤◌, ◌+◌, ◌==◌, nat_lt, ℤ, pos, neg_ℤ, ◌≤ℤ◌, ◌+ℤ◌, ◌-ℤ◌, Bool, true, false, cond, not, ◌||◌, List, [], ◌∷◌, ◌++◌, length, get_or, Contains, All, Option, Some, None, Result, Ok, Err, refl, subst, sym, arith, inl, inr}
 use Rattle.std.proofs.lemmas.Int.{ints}
 use Rattle.std.proofs.lemmas.List.Elements.{All-contains, All-filter, Contains-append_cases, Contains-get_or}
 use Rattle.std.specs.List.{find}
@@ -18,15 +18,17 @@ use Rattle.spread_rules.specs.declared.event.Event.TheVariants.{Logon, New, Canc
 use Rattle.spread_rules.specs.declared.event.Ticket.{Ticket}
 use Rattle.spread_rules.specs.declared.outcome.OrderStatus.{OrderStatus}
 use Rattle.spread_rules.specs.code.Cases.{leg_prices_of_single, leg_prices_of_pair}
-use Rattle.spread_rules.specs.Candidates.{takes_part, implied_price, price_of, least_left, AllStandIn}
+use Rattle.spread_rules.specs.Candidates.{implied_price, price_of, least_left, AllStandIn}
 use Rattle.spread_rulebook.specs.Instruments.{month_of}
 use Rattle.spread_rulebook.specs.Prices.{IsLegPrice, IsOrderPrice}
 use Rattle.spread_rules.specs.Clearing.{Trading, next_candidate, turn, turns, after_match, begin, clear, removed, fills_of, fill_of, leg_prices, leg_prices_of_fill}
 use Rattle.spread_rules.specs.Meaning.{EntryMeaning, JournalState, PastTicket, after_entries, after_entry, cancel_means, has_id, is_own, meaning_of, meaning_of_journal, moved_to, new_means, no_entries, order_of, refusal_or_instrument, replace_means, resting, statuses_of}
 use Rattle.spread_rulebook.specs.Rulebook.{Rules, IsRules, IsListed, month_count, references_of, find_symbol, implied}
 use Rattle.spread_rulebook.proofs.lists.Membership.{in_cons_cases, in_head, in_tail, not_in_nil}
+use Rattle.spread_rules.proofs.clearings.ClearIsTurns.{clear_is}
 use Rattle.spread_rules.proofs.clearings.TurnsEnd.{members_rest, next_meets, from_filter}
-use Rattle.spread_rules.proofs.clearings.BoughtIsSold.{legs_of_pair, legs_of_single, on_price, so_is}
+use Rattle.spread_rules.proofs.clearings.BoughtIsSold.{legs_of_pair, legs_of_single, so_is}
+use Rattle.spread_rules.proofs.ranks.PairsSwitched.{priced}
 use Rattle.spread_match.specs.Sound.{IsSound, IsCounted, IsFillWithinLimits}
 use Rattle.market_state.specs.Trade.{IsPriced, ArePriced}
 use Rattle.order_clearing.specs.Tradable.{IsTradable}
@@ -134,7 +136,7 @@ turn_fits rules n (Implied a b) price lawful own less_own meets xs stands fits l
     let j = fits b stands.1 in
     let wa = less_each a stands.0 in
     let wb = less_each b stands.1 in
-    let small : IsLegPrice price = implied_fits n.side n.instrument a.side a.instrument b.side b.instrument a.price b.price price k.low k.high j.low j.high (on_price (takes_part (implied rules) n.instrument a.instrument) _ price meets) in
+    let small : IsLegPrice price = implied_fits n.side n.instrument a.side a.instrument b.side b.instrument a.price b.price price k.low k.high j.low j.high (priced (implied rules) n a b price meets) in
     let sa = wider a.price k.low k.high in
     let sb = wider b.price j.low j.high in
     let legs = leg_prices (references_of rules) n.instrument price (Implied a b) in
@@ -191,7 +193,8 @@ cleared_fits : (rules : Rules) (past : JournalState) (last place : ℕ) (p : Pas
     PastFits rules (resting immediate (clear (implied rules) (references_of rules) n xs)) (clear (implied rules) (references_of rules) n xs).fills
 cleared_fits rules past last place p n xs immediate lawful l a s t on h own =
     let d = clear (implied rules) (references_of rules) n xs in
-    let all : AllFit rules d = turns_fits rules _ past.fills (length xs) (begin n xs) lawful (started (month_count rules) past last place p n xs l a s t on) (record { own = own; each = h; fills = λ f c. absurd (not_in_nil f c) }) in
+    let turned : AllFit rules (turns (implied rules) (references_of rules) (length xs) (begin n xs)) = turns_fits rules _ past.fills (length xs) (begin n xs) lawful (started (month_count rules) past last place p n xs l a s t on) (record { own = own; each = h; fills = λ f c. absurd (not_in_nil f c) }) in
+    let all : AllFit rules d = subst (AllFit rules) (sym (clear_is (implied rules) (references_of rules) n xs)) turned in
     record {
       orders = λ k z lt. rests_all (FitsOrder rules) d immediate (λ o c. All-contains (FitsOrder rules) d.orders o all.each c) all.own (d.new.leaves == 0 || immediate) (get_or (resting immediate d) k z) (Contains-get_or (resting immediate d) k z lt);
       fills = all.fills;

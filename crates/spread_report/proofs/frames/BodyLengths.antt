@@ -1,6 +1,5 @@
 -- The body of a message with at most 18 fields has at most 4,096 bytes.
-use Rattle.std.proofs.Common.{◌≡◌, ℕ, ◌+◌, ◌*◌, ◌/◌, ◌%◌, ◌<◌, ◌≤◌, ◌^◌, Bool, true, false, if◌then◌else◌, List, [], ◌∷◌, ◌++◌, map, length, ◌∙◌, arith, length-append}
-use Rattle.std.proofs.lemmas.List.{length-map}
+use Rattle.std.proofs.Common.{◌≡◌, ℕ, ◌+◌, ◌*◌, ◌/◌, ◌%◌, ◌<◌, ◌≤◌, ◌^◌, Bool, true, false, if◌then◌else◌, List, [], ◌∷◌, ◌++◌, length, ◌∙◌, arith, length-append}
 use Rattle.std.specs.Prelude.{ℤ, pos, unsigned_abs, decimal, int_lt}
 use Rattle.std.specs.List.{flat_map, AllByRecursion}
 use Rattle.std.proofs.lemmas.Fmt.{length-decimal-le}
@@ -8,15 +7,14 @@ use Rattle.fix_wire.specs.declared.writer.Value.{Value}
 use Rattle.fix_wire.specs.declared.writer.Value.TheVariants.{Text, Number, Price, Pair}
 use Rattle.fix_wire.specs.declared.writer.Field as given
 use Rattle.fix_wire.specs.declared.writer.Head.{Head}
-use Rattle.fix_frames.specs.Fields.{TagValue}
 use Rattle.fix_values.specs.Digits.{two_digits}
-use Rattle.fix_wire.specs.Layout.{value_text, field_text, field, only_if, head_fields, field_of_given, all_fields, body_text, FitsValue, FitsField}
+use Rattle.fix_wire.specs.Layout.{value_text, field_text, field, only_if, head_fields, body_text, FitsValue, FitsField}
 use Rattle.fix_values.specs.Values.{price_text}
 
 -- a value of at most 41 bytes
-pub record IsShort (f : TagValue) : Type 0 where
+pub record IsShort (f : given.Field) : Type 0 where
   pub tag : f.tag < 1000000000
-  pub value : length f.value ≤ 41
+  pub value : length (value_text f.value) ≤ 41
 
 decimal_short : (n : ℕ) → n < 2 ^ 64 → length (decimal n) ≤ 20
 decimal_short n h = length-decimal-le 20 n (omega arith) (omega (arith, h)) h
@@ -24,13 +22,13 @@ decimal_short n h = length-decimal-le 20 n (omega arith) (omega (arith, h)) h
 tag_short : (n : ℕ) → n < 1000000000 → length (decimal n) ≤ 9
 tag_short n h = length-decimal-le 9 n (omega arith) (omega (arith, h)) (omega (arith, h))
 
-text_short : (f : TagValue) → IsShort f → length (field_text f) ≤ 52
+text_short : (f : given.Field) → IsShort f → length (field_text f) ≤ 52
 text_short f s =
-    let a : length (field_text f) ≡ length (decimal f.tag ++ (61 ∷ f.value)) + 1 = length-append (decimal f.tag ++ (61 ∷ f.value)) (1 ∷ []) in
-    let b : length (decimal f.tag ++ (61 ∷ f.value)) ≡ length (decimal f.tag) + (length f.value + 1) = length-append (decimal f.tag) (61 ∷ f.value) ∙ omega arith in
+    let a : length (field_text f) ≡ length (decimal f.tag ++ (61 ∷ value_text f.value)) + 1 = length-append (decimal f.tag ++ (61 ∷ value_text f.value)) (1 ∷ []) in
+    let b : length (decimal f.tag ++ (61 ∷ value_text f.value)) ≡ length (decimal f.tag) + (length (value_text f.value) + 1) = length-append (decimal f.tag) (61 ∷ value_text f.value) ∙ omega arith in
     omega (arith, a, b, tag_short f.tag s.tag, s.value)
 
-row_short : (fs : List TagValue) → AllByRecursion IsShort fs → length (flat_map field_text fs) ≤ 52 * length fs
+row_short : (fs : List given.Field) → AllByRecursion IsShort fs → length (flat_map field_text fs) ≤ 52 * length fs
 row_short [] s = omega arith
 row_short (f ∷ fs) s = omega (arith, length-append (field_text f) (flat_map field_text fs), text_short f s.0, row_short fs s.1)
 
@@ -71,11 +69,11 @@ pub fields_fit : (fs : List given.Field) → AllByRecursion FitsReport fs → Al
 fields_fit [] a = tt
 fields_fit (f ∷ fs) a = (a.0.fits, fields_fit fs a.1)
 
-fields_short : (fs : List given.Field) → AllByRecursion FitsReport fs → AllByRecursion IsShort (map field_of_given fs)
+fields_short : (fs : List given.Field) → AllByRecursion FitsReport fs → AllByRecursion IsShort fs
 fields_short [] a = tt
 fields_short (f ∷ fs) a = (record { tag = a.0.fits.1; value = value_short f.value a.0.fits.2 a.0.short }, fields_short fs a.1)
 
-all_append : (fs gs : List TagValue) → AllByRecursion IsShort fs → AllByRecursion IsShort gs → AllByRecursion IsShort (fs ++ gs)
+all_append : (fs gs : List given.Field) → AllByRecursion IsShort fs → AllByRecursion IsShort gs → AllByRecursion IsShort (fs ++ gs)
 all_append [] gs a b = b
 all_append (f ∷ fs) gs a b = (a.0, all_append fs gs a.1 b)
 
@@ -86,34 +84,33 @@ pub record IsShortHead (h : Head) : Type 0 where
   pub target : length h.target ≤ 32
   pub stamp : length h.stamp ≤ 32
 
-only_short : (d : Bool) (f : TagValue) → IsShort f → AllByRecursion IsShort (only_if d f)
+only_short : (d : Bool) (f : given.Field) → IsShort f → AllByRecursion IsShort (only_if d f)
 only_short true f s = (s, tt)
 only_short false f s = tt
 
-only_length : (d : Bool) (f : TagValue) → length (only_if d f) ≤ 1
+only_length : (d : Bool) (f : given.Field) → length (only_if d f) ≤ 1
 only_length true f = omega arith
 only_length false f = omega arith
 
 head_short : (h : Head) → IsShortHead h → AllByRecursion IsShort (head_fields h)
 head_short h s =
-    all_append (field 35 (h.kind ∷ []) ∷ field 34 (decimal h.number) ∷ []) (only_if h.duplicate (field 43 (89 ∷ [])) ++ ((field 49 h.sender ∷ field 52 h.stamp ∷ field 56 h.target ∷ []) ++ only_if h.duplicate (field 122 h.stamp)))
+    all_append (field 35 (Text (h.kind ∷ [])) ∷ field 34 (Number h.number) ∷ []) (only_if h.duplicate (field 43 (Text (89 ∷ []))) ++ ((field 49 (Text h.sender) ∷ field 52 (Text h.stamp) ∷ field 56 (Text h.target) ∷ []) ++ only_if h.duplicate (field 122 (Text h.stamp))))
     (record { tag = omega arith; value = omega arith }, (record { tag = omega arith; value = omega (arith, decimal_short h.number s.number) }, tt))
-    (all_append (only_if h.duplicate (field 43 (89 ∷ []))) ((field 49 h.sender ∷ field 52 h.stamp ∷ field 56 h.target ∷ []) ++ only_if h.duplicate (field 122 h.stamp))
-    (only_short h.duplicate (field 43 (89 ∷ [])) (record { tag = omega arith; value = omega arith }))
-    (all_append (field 49 h.sender ∷ field 52 h.stamp ∷ field 56 h.target ∷ []) (only_if h.duplicate (field 122 h.stamp))
+    (all_append (only_if h.duplicate (field 43 (Text (89 ∷ [])))) ((field 49 (Text h.sender) ∷ field 52 (Text h.stamp) ∷ field 56 (Text h.target) ∷ []) ++ only_if h.duplicate (field 122 (Text h.stamp)))
+    (only_short h.duplicate (field 43 (Text (89 ∷ []))) (record { tag = omega arith; value = omega arith }))
+    (all_append (field 49 (Text h.sender) ∷ field 52 (Text h.stamp) ∷ field 56 (Text h.target) ∷ []) (only_if h.duplicate (field 122 (Text h.stamp)))
     (record { tag = omega arith; value = omega (arith, s.sender) }, (record { tag = omega arith; value = omega (arith, s.stamp) }, (record { tag = omega arith; value = omega (arith, s.target) }, tt)))
-    (only_short h.duplicate (field 122 h.stamp) (record { tag = omega arith; value = omega (arith, s.stamp) }))))
+    (only_short h.duplicate (field 122 (Text h.stamp)) (record { tag = omega arith; value = omega (arith, s.stamp) }))))
 
 head_length : (h : Head) → length (head_fields h) ≤ 7
 head_length h =
-    let a = only_length h.duplicate (field 43 (89 ∷ [])) in
-    let b = only_length h.duplicate (field 122 h.stamp) in
-    let c = length-append (only_if h.duplicate (field 43 (89 ∷ []))) ((field 49 h.sender ∷ field 52 h.stamp ∷ field 56 h.target ∷ []) ++ only_if h.duplicate (field 122 h.stamp)) in
+    let a = only_length h.duplicate (field 43 (Text (89 ∷ []))) in
+    let b = only_length h.duplicate (field 122 (Text h.stamp)) in
+    let c = length-append (only_if h.duplicate (field 43 (Text (89 ∷ [])))) ((field 49 (Text h.sender) ∷ field 52 (Text h.stamp) ∷ field 56 (Text h.target) ∷ []) ++ only_if h.duplicate (field 122 (Text h.stamp))) in
     omega (arith, a, b, c)
 
 pub body_short : (h : Head) (fs : List given.Field) → IsShortHead h → AllByRecursion FitsReport fs → length fs ≤ 18 → length (body_text h fs) ≤ 4096
 body_short h fs s a few =
-    let all : AllByRecursion IsShort (all_fields h fs) = all_append (head_fields h) (map field_of_given fs) (head_short h s) (fields_short fs a) in
-    let n : length (all_fields h fs) ≡ length (head_fields h) + length (map field_of_given fs) = length-append (head_fields h) (map field_of_given fs) in
-    let m : length (map field_of_given fs) ≡ length fs = length-map fs field_of_given in
-    omega (arith, row_short (all_fields h fs) all, n, m, few, head_length h)
+    let all : AllByRecursion IsShort (head_fields h ++ fs) = all_append (head_fields h) fs (head_short h s) (fields_short fs a) in
+    let n : length (head_fields h ++ fs) ≡ length (head_fields h) + length fs = length-append (head_fields h) fs in
+    omega (arith, row_short (head_fields h ++ fs) all, n, few, head_length h)

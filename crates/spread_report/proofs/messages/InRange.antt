@@ -7,7 +7,7 @@ use Rattle.std.proofs.lemmas.Bool.Decides.{nat_tests}
 use Rattle.fix_wire.specs.declared.writer.Field.{Field}
 use Rattle.host_base.specs.Ids.{is_id, is_plain}
 use Rattle.spread_rulebook.specs.Rulebook.{Rules, IsListed, month_count, names_of, symbol_of}
-use Rattle.spread_rules.specs.Journal.{FitsEvent, FitsTicket}
+use Rattle.spread_rules.specs.Journal.{FitsEvent, FitsTicket, is_reject_reason}
 use Rattle.spread_rules.specs.Legs.{other_side}
 use Rattle.spread_rules.specs.declared.order.Order.{Order}
 use Rattle.spread_rules.specs.declared.order.Side.{Side}
@@ -20,15 +20,14 @@ use Rattle.spread_rules.specs.declared.event.Event.{Event}
 use Rattle.spread_rules.specs.declared.event.Event.TheVariants.{Logon, New, Cancel, Replace, TestReply, Gap, Resend, Reject, Close}
 use Rattle.spread_rules.specs.declared.outcome.Outcome.{Outcome}
 use Rattle.spread_rules.specs.declared.outcome.Outcome.TheVariants.{Rested, Filled, Ended, Cancelled, Replaced, Refused, CancelRefused, Session}
-use Rattle.spread_report.specs.EntryMessages.{OutgoingStep, logged_on, numbered, gap_fill, ReportedTrade, ExecutionReport, new_report, fill_report, fill_reports, fills_reports, entry_reports, order_cancel_reject, close_steps, event_steps}
+use Rattle.spread_report.specs.EntryMessages.{OutgoingStep, logged_on, numbered, gap_fill, ExecutionReport, new_report, fill_report, fill_reports, fills_reports, entry_reports, order_cancel_reject, close_steps, event_steps}
 use Rattle.spread_report.specs.code.Addressed.{AddressedStep, report, reports_from, steps_to, entry_messages}
 use Rattle.spread_report.specs.code.Reports.{rejected_report, ended_report, cancelled_report, replaced_report, report_count, reports_of, place_field}
 use Rattle.spread_report.proofs.messages.OneFillMore.{reports_length}
-use Rattle.report_bodies.specs.Fields.{field, text_field, number_field, price_field, pair_field}
+use Rattle.report_bodies.specs.Fields.{text_field, number_field, price_field, pair_field}
+use Rattle.fix_wire.specs.Layout.{field}
 use Rattle.fix_wire.specs.declared.writer.Value.TheVariants.{Text, Number}
-use Rattle.report_bodies.specs.Codes.{side_code, multi_leg_code}
-use Rattle.report_bodies.specs.declared.codes.MultiLegReportingType.{MultiLegReportingType}
-use Rattle.report_bodies.specs.declared.codes.MultiLegReportingType.TheVariants.{SingleSecurity, IndividualLeg, MultiLegSecurity}
+use Rattle.report_bodies.specs.Codes.{side_code}
 use Rattle.spread_report.specs.Outgoing.{AppliedEntry}
 use Rattle.spread_report.specs.Ranges.{AreNames, FillInRange, OutcomeInRange, EntryInRange}
 use Rattle.spread_report.proofs.frames.BodyLengths.{FitsReport}
@@ -79,9 +78,12 @@ abbrev OptionalNumber : Option ℕ → Type 0
 OptionalNumber None = Unit {0}
 OptionalNumber (Some n) = n < 2 ^ 64
 
-abbrev TradedFits : Option ReportedTrade → Type 0
+abbrev Traded : Type 0
+Traded = record { multi_leg : ℕ; fill : Fill }
+
+abbrev TradedFits : Option Traded → Type 0
 TradedFits None = Unit {0}
-TradedFits (Some t) = (t.last_shares < 2 ^ 64) × (unsigned_abs t.last_px < 2 ^ 64)
+TradedFits (Some t) = (t.fill.quantity < 2 ^ 64) × (unsigned_abs t.fill.price < 2 ^ 64) × (t.multi_leg < 2 ^ 64)
 
 record ReportFits (r : ExecutionReport) : Type 0 where
   order : r.order_id < 2 ^ 64
@@ -94,11 +96,6 @@ record ReportFits (r : ExecutionReport) : Type 0 where
   traded : TradedFits r.traded
   leaves : r.leaves_qty < 2 ^ 64
   filled : r.cum_qty < 2 ^ 64
-
-legs_small : (l : MultiLegReportingType) → multi_leg_code l < 2 ^ 64
-legs_small SingleSecurity = omega arith
-legs_small IndividualLeg = omega arith
-legs_small MultiLegSecurity = omega arith
 
 -- a field that may be there
 abbrev OptionFits : Option Field → Type 0
@@ -125,26 +122,26 @@ reason_fits : (o : Option ℕ) → OptionalNumber o → OptionFits (option_map (
 reason_fits None h = tt
 reason_fits (Some n) h = number_fits 103 n (omega arith) (omega arith) h
 
-abbrev shares_of : Option ReportedTrade → Option Field
-shares_of o = option_map (λ (t : ReportedTrade). number_field 32 t.last_shares) o
+abbrev shares_of : Option Traded → Option Field
+shares_of o = option_map (λ (t : Traded). number_field 32 t.fill.quantity) o
 
-abbrev px_of : Option ReportedTrade → Option Field
-px_of o = option_map (λ (t : ReportedTrade). price_field 31 t.last_px) o
+abbrev px_of : Option Traded → Option Field
+px_of o = option_map (λ (t : Traded). price_field 31 t.fill.price) o
 
-abbrev legs_of : Option ReportedTrade → Option Field
-legs_of o = option_map (λ (t : ReportedTrade). number_field 442 (multi_leg_code t.multi_leg)) o
+abbrev legs_of : Option Traded → Option Field
+legs_of o = option_map (λ (t : Traded). number_field 442 t.multi_leg) o
 
-shares_fit : (o : Option ReportedTrade) → TradedFits o → OptionFits (shares_of o)
+shares_fit : (o : Option Traded) → TradedFits o → OptionFits (shares_of o)
 shares_fit None h = tt
-shares_fit (Some t) h = number_fits 32 t.last_shares (omega arith) (omega arith) h.0
+shares_fit (Some t) h = number_fits 32 t.fill.quantity (omega arith) (omega arith) h.0
 
-px_fits : (o : Option ReportedTrade) → TradedFits o → OptionFits (px_of o)
+px_fits : (o : Option Traded) → TradedFits o → OptionFits (px_of o)
 px_fits None h = tt
-px_fits (Some t) h = price_fits 31 t.last_px (omega arith) (omega arith) h.1
+px_fits (Some t) h = price_fits 31 t.fill.price (omega arith) (omega arith) h.1
 
-legs_fit : (o : Option ReportedTrade) → OptionFits (legs_of o)
-legs_fit None = tt
-legs_fit (Some t) = number_fits 442 (multi_leg_code t.multi_leg) (omega arith) (omega arith) (legs_small t.multi_leg)
+legs_fit : (o : Option Traded) → TradedFits o → OptionFits (legs_of o)
+legs_fit None h = tt
+legs_fit (Some t) h = number_fits 442 t.multi_leg (omega arith) (omega arith) h.2
 
 side_small : (s : Side) → side_code s < 2 ^ 64
 side_small Buy = omega arith
@@ -191,7 +188,7 @@ module _ (place index : ℕ) (r : ExecutionReport) where
       ) in
       let left_fits : AllByRecursion FitsReport left_part = (
         number_fits 151 r.leaves_qty (omega arith) (omega arith) h.leaves,
-        (number_fits 14 r.cum_qty (omega arith) (omega arith) h.filled, (number_fits 6 0 (omega arith) (omega arith) (omega arith), option_fits (legs_of r.traded) (legs_fit r.traded))),
+        (number_fits 14 r.cum_qty (omega arith) (omega arith) h.filled, (number_fits 6 0 (omega arith) (omega arith) (omega arith), option_fits (legs_of r.traded) (legs_fit r.traded h.traded))),
       ) in
       fields_both (id_part ++ status_part ++ order_part ++ px_part) left_part
       (fields_both (id_part ++ status_part ++ order_part) px_part (fields_both (id_part ++ status_part) order_part (fields_both id_part status_part id_fits status_fits) order_fits) (option_fits (px_of r.traded) (px_fits r.traded h.traded)))
@@ -241,28 +238,42 @@ module _ (rules : Rules) (names : AreNames rules) where
   status_small true = omega arith
   status_small false = omega arith
 
-  fill_fits : (f : Fill) (symbol : List ℕ) (side : Side) (z : ℤ) (legs : MultiLegReportingType) → FillInRange rules f → is_id symbol ≡ true → unsigned_abs z < 2 ^ 64
-      → ReportFits (fill_report f symbol side z legs)
-  fill_fits f symbol side z legs h s hz = record {
+  fill_fits : (multi_leg : ℕ) (f : Fill) → multi_leg < 2 ^ 64 → FillInRange rules f → ReportFits (fill_report rules multi_leg f)
+  fill_fits multi_leg f small h = record {
     order = h.order;
     id = h.id;
     original = tt;
     status = status_small (f.leaves == 0);
     reason = tt;
-    symbol = s;
+    symbol = symbol_fits f.instrument h.listed;
     quantity = h.total;
-    traded = (h.quantity, hz);
+    traded = (h.quantity, h.price, small);
     leaves = h.leaves;
     filled = omega (arith, h.total);
   }
 
+  -- a leg of a fill in range
+  leg_in_range : (f : Fill) (i : Instrument) (side : Side) (price : ℤ) → FillInRange rules f → IsListed rules i → unsigned_abs price < 2 ^ 64
+      → FillInRange rules (record f { instrument = i; side = side; price = price })
+  leg_in_range f i side price h listed small = record {
+    listed = listed;
+    order = h.order;
+    id = h.id;
+    quantity = h.quantity;
+    total = h.total;
+    leaves = h.leaves;
+    price = small;
+    near = h.near;
+    far = h.far;
+  }
+
   reports_fit : (k : Instrument) (f : Fill) → IsListed rules k → FillInRange rules f → AllByRecursion ReportFits (fill_reports rules f k)
-  reports_fit (Outright m) f listed h = (fill_fits f (symbol_of rules f.instrument) f.side f.price SingleSecurity h (symbol_fits f.instrument h.listed) h.price, tt)
+  reports_fit (Outright m) f listed h = (fill_fits 1 f (omega arith) h, tt)
   reports_fit (Spread a b) f listed h = (
-    fill_fits f (symbol_of rules f.instrument) f.side f.price MultiLegSecurity h (symbol_fits f.instrument h.listed) h.price,
+    fill_fits 3 f (omega arith) h,
     (
-      fill_fits f (symbol_of rules (Outright a)) f.side f.near IndividualLeg h (symbol_fits (Outright a) (near_listed a b listed)) h.near,
-      (fill_fits f (symbol_of rules (Outright b)) (other_side f.side) f.far IndividualLeg h (symbol_fits (Outright b) listed.1) h.far, tt),
+      fill_fits 2 (record f { instrument = Outright a; price = f.near }) (omega arith) (leg_in_range f (Outright a) f.side f.near h (near_listed a b listed) h.near),
+      (fill_fits 2 (record f { instrument = Outright b; side = other_side f.side; price = f.far }) (omega arith) (leg_in_range f (Outright b) (other_side f.side) f.far h listed.1 h.far), tt),
     ),
   )
 
@@ -467,7 +478,7 @@ module _ (rules : Rules) (names : AreNames rules) where
         ]
       ]
 
-  small_reason : (r : ℕ) → (r == 1 || r == 4 || r == 5 || r == 6 || r == 11) ≡ true → r < 2 ^ 64
+  small_reason : (r : ℕ) → is_reject_reason r ≡ true → r < 2 ^ 64
   small_reason r e = grind (arith, nat_tests)
 
   steps_fit : (v : Event) (outcome : Outcome) → FitsEvent v → OutcomeInRange rules outcome → AllByRecursion FitsStep (event_steps v outcome)

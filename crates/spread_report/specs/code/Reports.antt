@@ -1,11 +1,13 @@
 -- The reports and the session messages that the desk writes, one by one.
 -- Words of the code alone.
-use Rattle.std.specs.Prelude.{ℕ, ◌+◌, ◌-◌, ◌==◌, nat_le, nat_lt, ◌&&◌, ◌||◌, Bool, if◌then◌else◌, List, [], ◌∷◌, codes, Some}
+use Rattle.std.specs.Prelude.{ℕ, ℤ, ◌+◌, ◌-◌, ◌==◌, nat_le, nat_lt, ◌&&◌, ◌||◌, Bool, if◌then◌else◌, List, [], ◌∷◌, codes, Some}
 use Rattle.fix_frames.specs.declared.tags.TheConstants as tags
 use Rattle.fix_wire.specs.declared.writer.Field.{Field}
 use Rattle.fix_wire.specs.declared.writer.Value.TheVariants.{Text, Number}
+use Rattle.fix_wire.specs.Layout.{field}
 use Rattle.spread_rules.specs.declared.codes.ord_status.TheConstants as code
 use Rattle.spread_rules.specs.declared.order.Order.{Order}
+use Rattle.spread_rules.specs.declared.order.Side.{Side}
 use Rattle.spread_rulebook.specs.declared.instrument.Instrument.{Instrument}
 use Rattle.spread_rulebook.specs.declared.instrument.Instrument.TheVariants.{Outright, Spread}
 use Rattle.spread_rules.specs.declared.fill.Fill.{Fill}
@@ -13,11 +15,13 @@ use Rattle.spread_rules.specs.declared.event.Ticket.{Ticket}
 use Rattle.spread_rulebook.specs.Rulebook.{Rules, symbol_of}
 use Rattle.spread_rules.specs.Legs.{other_side}
 use Rattle.report_bodies.specs.declared.codes.TheConstants.{ENCRYPT_METHOD_NONE}
+use Rattle.report_bodies.specs.declared.codes.MultiLegReportingType.{MultiLegReportingType}
 use Rattle.report_bodies.specs.declared.codes.MultiLegReportingType.TheVariants.{IndividualLeg}
+use Rattle.report_bodies.specs.Codes.{multi_leg_code}
 use Rattle.report_bodies.specs.declared.codes.OrdStatus.{OrdStatus}
 use Rattle.report_bodies.specs.declared.codes.OrdStatus.TheVariants as status
-use Rattle.report_bodies.specs.Fields.{field, text_field, number_field}
-use Rattle.spread_report.specs.EntryMessages.{ExecutionReport, plain_report, order_report, fill_report}
+use Rattle.report_bodies.specs.Fields.{text_field, number_field}
+use Rattle.spread_report.specs.EntryMessages.{ExecutionReport, plain_report, order_report}
 
 -- 1 to 9 digits
 abbrev pub has_tag : Field → Bool
@@ -56,11 +60,21 @@ replaced_report symbol session id original o =
 abbrev pub fill_status : ℕ → OrdStatus
 fill_status leaves = if leaves == 0 then status.Filled else status.PartiallyFilled
 
+-- one report of a fill: the symbol, side and price of the part that it tells
+abbrev pub part_report : Fill → List ℕ → Side → ℤ → MultiLegReportingType → ExecutionReport
+part_report f symbol side price multi_leg =
+    let ord_status = if f.leaves == 0 then code.FILLED else code.PARTIALLY_FILLED in
+    record (plain_report f.session f.order f.id symbol side f.total ord_status) {
+      traded = Some (record { multi_leg = multi_leg_code multi_leg; fill = record f { price = price } });
+      leaves_qty = f.leaves;
+      cum_qty = f.total - f.leaves;
+    }
+
 -- the reports of a spread's legs: the near month on the order's side, the far month on the other
 abbrev pub leg_reports : ℕ → ℕ → Rules → Fill → List ExecutionReport
 leg_reports i j rules f =
-    fill_report f (symbol_of rules (Outright i)) f.side f.near IndividualLeg
-    ∷ fill_report f (symbol_of rules (Outright j)) (other_side f.side) f.far IndividualLeg
+    part_report f (symbol_of rules (Outright i)) f.side f.near IndividualLeg
+    ∷ part_report f (symbol_of rules (Outright j)) (other_side f.side) f.far IndividualLeg
     ∷ []
 
 -- how many reports a fill has

@@ -7,8 +7,8 @@ ghost use Rattle.spread_rules.specs.declared.fill.Fill.{Fill};
 ghost use Rattle.spread_rules.specs.Ranges.{FitFills, FitsFill};
 ghost use Rattle.spread_report.specs.code.Sending.{Sends};
 ghost use Rattle.spread_report.specs.code.Addressed.{report, reports_from};
-ghost use Rattle.spread_report.specs.code.Reports.{rejected_report, ended_report, cancelled_report, replaced_report, leg_reports, reports_of, fill_status, report_count};
-ghost use Rattle.spread_report.specs.EntryMessages.{new_report, fill_report, fill_reports, fills_reports};
+ghost use Rattle.spread_report.specs.code.Reports.{rejected_report, ended_report, cancelled_report, replaced_report, part_report, leg_reports, reports_of, fill_status, report_count};
+ghost use Rattle.spread_report.specs.EntryMessages.{new_report, fill_reports, fills_reports};
 
 use super::Desk;
 use super::entry::{CancelRequest, NewOrder};
@@ -218,7 +218,7 @@ impl Desk {
         requires left { fill.now.leaves ≤ fill.now.total }
         requires price { FitsSigned w64 part.now.price }
         ensures { Sends self.old self.new lists.old lists.new
-            (report exec_id.place exec_id.index (fill_report fill.now part.now.symbol.now
+            (report exec_id.place exec_id.index (part_report fill.now part.now.symbol.now
             part.now.side part.now.price part.now.multi_leg) ∷ []) result }
     {
         let filled = fill.total - fill.leaves;

@@ -11,7 +11,7 @@ use Rattle.spread_rulebook.specs.declared.instrument.Instrument.{Instrument}
 use Rattle.spread_rulebook.specs.declared.instrument.Instrument.TheVariants.{Outright, Spread}
 use Rattle.spread_rulebook.specs.Instruments.{month_of}
 use Rattle.spread_rules.specs.declared.fill.Fill.{Fill}
-use Rattle.spread_rules.specs.Legs.{Leg, is_side, legs_of, money_of, bought, sold, paid, received, legs_by, legs_in, legs, quantities, money}
+use Rattle.spread_rules.specs.Legs.{Leg, is_side, legs_of, bought, sold, paid, received, legs_by, legs_in, legs, quantities, money_of_legs}
 
 -- ---- the legs
 
@@ -44,6 +44,9 @@ lots_by side month (l ∷ ls) = by (is_on side month l) (lots_by side month ls)
 
 -- ---- money
 
+abbrev money_of : List Fill → ℤ
+money_of ls = fold (λ sum l. sum +ℤ (pos l.quantity *ℤ l.price)) (pos 0) ls
+
 from_any : (ls : List Fill) (z : ℤ) → fold (λ sum l. sum +ℤ (pos l.quantity *ℤ l.price)) z ls ≡ z +ℤ money_of ls
 from_any [] z = omega (arith, ints)
 from_any (l ∷ ls) z =
@@ -51,11 +54,11 @@ from_any (l ∷ ls) z =
     let there = from_any ls (pos 0 +ℤ (pos l.quantity *ℤ l.price)) in
     omega (arith, ints, here, there)
 
-money_by : (side : Side) (month : ℕ) (ls : List Fill) → money_of (filter (is_on side month) ls) ≡ money side month (map to_leg ls)
+money_by : (side : Side) (month : ℕ) (ls : List Fill) → money_of (filter (is_on side month) ls) ≡ money_of_legs side month (map to_leg ls)
 money_by side month [] = refl
 money_by side month (l ∷ ls) = by (is_on side month l) (money_by side month ls)
   where
-    by : (b : Bool) → money_of (filter (is_on side month) ls) ≡ money side month (map to_leg ls) → money_of (cond b (l ∷ filter (is_on side month) ls) (filter (is_on side month) ls)) ≡ (if b then pos l.quantity *ℤ l.price else pos 0) +ℤ money side month (map to_leg ls)
+    by : (b : Bool) → money_of (filter (is_on side month) ls) ≡ money_of_legs side month (map to_leg ls) → money_of (cond b (l ∷ filter (is_on side month) ls) (filter (is_on side month) ls)) ≡ (if b then pos l.quantity *ℤ l.price else pos 0) +ℤ money_of_legs side month (map to_leg ls)
     by true rest =
         let first = from_any (filter (is_on side month) ls) (pos 0 +ℤ (pos l.quantity *ℤ l.price)) in
         omega (arith, ints, first, rest)
@@ -72,8 +75,8 @@ bought_is month fills = lots_by Buy month (all_legs fills) ∙ ap (quantities Bu
 pub sold_is : (month : ℕ) (fills : List Fill) → sold month fills ≡ quantities Sell month (legs fills)
 sold_is month fills = lots_by Sell month (all_legs fills) ∙ ap (quantities Sell month) (all_fills fills)
 
-pub paid_is : (month : ℕ) (fills : List Fill) → paid month fills ≡ money Buy month (legs fills)
-paid_is month fills = money_by Buy month (all_legs fills) ∙ ap (money Buy month) (all_fills fills)
+pub paid_is : (month : ℕ) (fills : List Fill) → paid month fills ≡ money_of_legs Buy month (legs fills)
+paid_is month fills = money_by Buy month (all_legs fills) ∙ ap (money_of_legs Buy month) (all_fills fills)
 
-pub received_is : (month : ℕ) (fills : List Fill) → received month fills ≡ money Sell month (legs fills)
-received_is month fills = money_by Sell month (all_legs fills) ∙ ap (money Sell month) (all_fills fills)
+pub received_is : (month : ℕ) (fills : List Fill) → received month fills ≡ money_of_legs Sell month (legs fills)
+received_is month fills = money_by Sell month (all_legs fills) ∙ ap (money_of_legs Sell month) (all_fills fills)

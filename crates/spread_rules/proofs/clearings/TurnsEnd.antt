@@ -6,8 +6,8 @@ use Rattle.spread_rules.specs.declared.candidate.Candidate.{Candidate}
 use Rattle.spread_rules.specs.declared.candidate.Counterparty.{Counterparty}
 use Rattle.spread_rules.specs.declared.candidate.Counterparty.TheVariants.{Direct, Implied}
 use Rattle.spread_rules.specs.code.Cases.{with_less_left}
-use Rattle.spread_rules.specs.Candidates.{IsLeast, least_candidate, counterparties, least_left, AllStandIn, price_of}
-use Rattle.spread_rules.specs.Clearing.{Trading, next_candidate, turn, turns, after_match, after_fill, removed, reduced, members}
+use Rattle.spread_rules.specs.Candidates.{IsLeast, least_candidate, counterparties, least_left, AllStandIn, price_of, members}
+use Rattle.spread_rules.specs.Clearing.{Trading, next_candidate, turn, turns, after_match, after_fill, removed, reduced}
 use Rattle.spread_rules.specs.Quiet.{IsQuiet}
 use Rattle.spread_rulebook.proofs.lists.Membership.{not_in_nil, in_head, in_tail, in_cons_cases, from_map, in_map}
 use Rattle.spread_rules.proofs.ranks.PlainIsLeast.{first_is_least}
@@ -174,7 +174,7 @@ module _ (on : Pairs) where
   first_shorter : (q : ℕ) (xs ys : List Order) (b : Order) (t : Bool) → length ys < length xs → length (cond t (removed b.place ys) (reduced b.place q ys)) < length xs
   first_shorter q xs ys b t h = let k = fill_length q ys b t in omega arith
 
-  which : (k x y : ℕ) (b : Bool) → (x == min k (min x y)) ≡ b → min k (min x y) < k → ((x == min k (min x y)) ≡ true) ⊎ ((y == min k (min x y)) ≡ true)
+  which : (k x y : ℕ) (b : Bool) → (x == min (min k x) y) ≡ b → min (min k x) y < k → ((x == min (min k x) y) ≡ true) ⊎ ((y == min (min k x) y) ≡ true)
   which k x y true e h = inl e
   which k x y false e h = inr (grind (arith, nat_tests))
 
@@ -183,7 +183,7 @@ module _ (on : Pairs) where
       let e : (a.leaves == min n.leaves a.leaves) ≡ true = grind (arith, nat_tests) in
       spent_shorter (min n.leaves a.leaves) xs a (a.leaves == min n.leaves a.leaves) e (record { order = a; stands = c; at = refl })
   turn_shorter n xs (Implied a b) c h =
-      let q = min n.leaves (min a.leaves b.leaves) in
+      let q = min (min n.leaves a.leaves) b.leaves in
       let ys = after_fill q xs a in
       elim (which n.leaves a.leaves b.leaves (a.leaves == q) refl h) [
         | inl e ↦ first_shorter q xs ys b (b.leaves == q) (spent_shorter q xs a (a.leaves == q) e (record { order = a; stands = c.0; at = refl }))

@@ -14,7 +14,7 @@ use Rattle.spread_rules.specs.declared.candidate.Counterparty.{Counterparty}
 use Rattle.spread_rules.specs.declared.event.Ticket.{Ticket}
 use Rattle.spread_rules.specs.declared.outcome.Outcome.TheVariants.{Replaced}
 use Rattle.spread_rules.specs.Amended.{with_quantity, amended}
-use Rattle.spread_rules.specs.Candidates.{Pairs, takes_part, implied_price, candidate_of, is_before, better_by}
+use Rattle.spread_rules.specs.Candidates.{Pairs, price_of_three, candidate_of, is_before, better_by}
 use Rattle.spread_rules.specs.Clearing.{Trading}
 use Rattle.spread_rules.specs.Legs.{Leg, is_side}
 use Rattle.spread_rules.specs.Meaning.{EntryMeaning, outcome_of, traded, untraded, replace_means}
@@ -35,9 +35,8 @@ level_of o = record { instrument = o.instrument; side = o.side; price = o.price 
 
 -- the price at which two orders of these levels together meet the new order
 abbrev pub price_at_levels : Pairs → Order → Level → Level → Option ℤ
-price_at_levels trades_implied n a b =
-    offered_if (takes_part trades_implied n.instrument a.instrument)
-    (implied_price n.side n.instrument a.side a.instrument b.side b.instrument a.price b.price)
+price_at_levels on n a b =
+    price_of_three on n.side n.instrument a.side a.instrument b.side b.instrument a.price b.price
 
 -- the one of two that ranks first, the earlier one at a tie
 abbrev pub better_of : Order → Option Candidate → Option Candidate → Option Candidate

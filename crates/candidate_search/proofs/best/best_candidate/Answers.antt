@@ -1,4 +1,3 @@
-use Rattle.spread_rules.proofs.clearings.BoughtIsSold.{on_price}
 use Rattle.std.proofs.Common.{◌≡◌, true, false, subst, sym, ap, ◌∙◌, Some}
 use Rattle.std.proofs.lemmas.List.Elements.{All-contains}
 use Rattle.spread_rules.specs.declared.order.Order.{Order}
@@ -7,10 +6,10 @@ use Rattle.spread_rulebook.specs.declared.instrument.Instrument.{Instrument}
 use Rattle.spread_rulebook.specs.declared.instrument.Instrument.TheVariants.{Outright}
 use Rattle.spread_rules.specs.declared.candidate.Counterparty.TheVariants.{Direct}
 use Rattle.spread_rules.specs.Candidates.{implied_price, takes_part}
+use Rattle.spread_rules.proofs.ranks.PairsSwitched.{priced, part_of}
 use Rattle.spread_rulebook.specs.Rulebook.{implied, month_count}
 use Rattle.candidate_search.specs.Listed.{IsInMonths}
 use Rattle.candidate_search.specs.code.Best.{CoversTwo}
-use Rattle.candidate_search.proofs.fronts.BeatAnyPair.{was_on}
 use Rattle.candidate_search.proofs.fronts.Suffice.{best_from, month_below, spread_pair}
 use Rattle.candidate_search.proofs.best.best_candidate.Goals as goal
 
@@ -39,7 +38,7 @@ returns-then-implied-clause-best g c =
     (λ o price s e. offers.keeps (record { price = price; counterparty = Direct o }) (c.with_direct.ensures.covers on o price s e))
     (λ a b price e.
     let shape = spread_pair on i j n.side a.side a.instrument b.side b.instrument a.price b.price price
-    (subst (λ (k : Instrument). implied_price n.side k a.side a.instrument b.side b.instrument a.price b.price ≡ Some price) c.in-Spread.is (on_price _ _ price e.meets)) in
+    (subst (λ (k : Instrument). implied_price n.side k a.side a.instrument b.side b.instrument a.price b.price ≡ Some price) c.in-Spread.is (priced on n a b price e.meets)) in
     covers a b price (record { stands = e.stands.0; instrument_is = shape.of; side_is = shape.sided }) (record { stands = e.stands.1; instrument_is = shape.and; side_is = shape.and_on }) e)
 
 pub returns-then-implied-clause-small : goal.returns-then-implied-clause-small
@@ -58,5 +57,5 @@ returns-else-implied-clause-best g c =
     best_from on n xs c.with_direct.new.best (c.with_direct.ensures.fair on)
     (c.with_direct.ensures.covers on)
     (λ a b price e.
-    let here : on c.in-Spread.near c.in-Spread.far ≡ true = ap (λ (k : Instrument). takes_part on k a.instrument) (sym c.in-Spread.is) ∙ was_on _ _ price e.meets in
+    let here : on c.in-Spread.near c.in-Spread.far ≡ true = ap (λ (k : Instrument). takes_part on k a.instrument) (sym c.in-Spread.is) ∙ part_of on n a b price e.meets in
     absurd (let no : true ≡ false = sym here ∙ (sym c.implied.ensures ∙ c.if-implied.false) in cc))

@@ -53,7 +53,7 @@ returns-then-not-all_finished g c =
       journal = refl;
       reported = refl;
       count = c.all_finished.ensures.count;
-      fault = λ ring. inr record { journal = taken c.args.matched.now.matcher; is_of = took_parts g at.After-agree-agreed; within = within_taken g at.After-saturating_add-place };
+      fault = λ ring. inr (taken c.args.matched.now.matcher, took_parts g at.After-agree-agreed, within_taken g at.After-saturating_add-place);
       whole = tt;
     }
 

@@ -1,6 +1,7 @@
 use Rattle.std.proofs.Common.{rules, ◌≡◌, [], ◌∷◌, ap, ◌∙◌}
 use Rattle.spread_rules.specs.declared.candidate.Counterparty.{Counterparty}
-use Rattle.spread_rules.specs.Clearing.{fill_of, members}
+use Rattle.spread_rules.specs.Clearing.{fill_of}
+use Rattle.spread_rules.specs.Candidates.{members}
 use Rattle.spread_rulebook.specs.Rulebook.{references_of}
 use Rattle.order_clearing.proofs.turns.FillsOfATurn.{fills_made, two_put, three_put}
 use Rattle.order_clearing.proofs.parts.turn_fills.Goals as goal

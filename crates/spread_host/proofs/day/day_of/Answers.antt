@@ -5,6 +5,7 @@ use Rattle.spread_report.specs.Messages.{IsRow, messages_to}
 use Rattle.spread_report.specs.Sessions.{bytes_of}
 use Rattle.day_apply.specs.Applied.{outgoing_bytes, applied_entries}
 use Rattle.spread_host.proofs.DayOfParts.{DayHolds, day_holds}
+use Rattle.spread_host.proofs.LawfulJournals.{has_fills}
 use Rattle.spread_host.proofs.day.day_of.Goals as goal
 use Rattle.spread_host.proofs.day.day_of.Goals.{In_ok-applied}
 
@@ -22,9 +23,13 @@ holds g c =
     (λ s h. made.out s h ∙ ap (λ (es : List Entry). outgoing_bytes rules stamp es s) same)
     (λ s h. subst (λ (es : List Entry). IsRow (messages_to rules stamp (applied_entries rules es) s) (bytes_of out s)) same (made.whole s h))
 
+pub returns-clause-fills : goal.returns-clause-fills
+returns-clause-fills g c =
+    has_fills c.args.rulebook.now c.args.journal.items c.in_ok-applied.applied.fills.items
+    (c.in_ok-applied.ensures.fills ∙ ap (λ (es : List Entry). (meaning_of_journal c.args.rulebook.now es).fills) c.deref.ensures.value)
+
 pub returns-clause-outgoing : goal.returns-clause-outgoing
-returns-clause-outgoing g c s h =
-    c.in_ok-applied.ensures.out s h ∙ ap (λ (es : List Entry). outgoing_bytes c.args.rulebook.now c.args.stamp es s) c.deref.ensures.value
+returns-clause-outgoing g c = (holds g c).outgoing
 
 pub returns-clause-bought_is_sold : goal.returns-clause-bought_is_sold
 returns-clause-bought_is_sold g c = (holds g c).bought_is_sold

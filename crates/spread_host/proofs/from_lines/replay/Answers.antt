@@ -1,4 +1,4 @@
-use Rattle.std.proofs.Common.{ℕ, List, sym, subst}
+use Rattle.std.proofs.Common.{ℕ, List, sym, subst, arith}
 use Rattle.std.specs.Prelude.{IsErrOf}
 use Rattle.std.specs.Io.KnownBytes.{Appends}
 use Rattle.std.proofs.lemmas.Option.{IfSome_then}
@@ -10,10 +10,24 @@ use Rattle.spread_host.specs.Days.{IsPartOut}
 use Rattle.spread_host.specs.Headline.{IsJournalOfText}
 use Rattle.spread_host.specs.declared.fault.HostFault.TheVariants as faults
 use Rattle.spread_host.proofs.LawfulJournals.{text_is, if_some_both}
+use Rattle.spread_host.proofs.SixteenTexts.{sessions_sent}
 use Rattle.spread_host.proofs.from_lines.replay.Goals as goal
 
 pub day_of-requires : goal.day_of-requires
 day_of-requires g c = c.in_ok-journal.ensures.lawful
+
+pub write_day-requires-clause-lists : goal.write_day-requires-clause-lists
+write_day-requires-clause-lists g c =
+    let day = c.in_ok-day.day in
+    let each = sessions_sent c.args.rulebook.now c.args.stamp day.journal.items day.fills.items day.out.items c.in_ok-day.ensures.outgoing c.in_ok-day.ensures.day in
+    let count = each.lists in
+    omega (arith, count)
+
+pub write_day-requires-clause-rows : goal.write_day-requires-clause-rows
+write_day-requires-clause-rows g c =
+    let day = c.in_ok-day.day in
+    let each = sessions_sent c.args.rulebook.now c.args.stamp day.journal.items day.fills.items day.out.items c.in_ok-day.ensures.outgoing c.in_ok-day.ensures.day in
+    each.rows
 
 pub returns-clause-journal : goal.returns-clause-journal
 returns-clause-journal g c =
@@ -25,11 +39,8 @@ returns-clause-journal g c =
 pub returns-clause-written : goal.returns-clause-written
 returns-clause-written g c =
     let told = g.K.Sink.written in
-    let text = text_is c.args.journal_only c.args.rulebook.now c.args.stamp c.in_ok-day.day.journal.items _ _ c.in_ok-day.ensures.fills c.in_ok-day.ensures.day.texts in
-    record {
-      appended = subst (λ (t : List ℕ). Appends (told c.args.sink.now) (told c.write_day.new.sink) t) text c.in_ok-write_day.ensures.ok;
-      sound = c.in_ok-write_day.ensures.sound;
-    }
+    let text = text_is c.args.journal_only c.args.rulebook.now c.args.stamp c.in_ok-day.day.journal.items _ _ c.in_ok-day.ensures.fills c.in_ok-day.ensures.outgoing in
+    (c.in_ok-write_day.ensures.sound, subst (λ (t : List ℕ). Appends (told c.args.sink.now) (told c.write_day.new.sink) t) text c.in_ok-write_day.ensures.ok)
 
 pub returns-in_err-write_day-clause-write : goal.returns-in_err-write_day-clause-write
 returns-in_err-write_day-clause-write g c e =
@@ -42,7 +53,7 @@ returns-in_err-write_day-clause-write g c e =
     let w = c.write_day.ensures.write wrote in
     let rules = c.args.rulebook.now in
     let journal = c.in_ok-day.day.journal.items in
-    let text = text_is c.args.journal_only rules c.args.stamp journal _ _ c.in_ok-day.ensures.fills c.in_ok-day.ensures.day.texts in (
+    let text = text_is c.args.journal_only rules c.args.stamp journal _ _ c.in_ok-day.ensures.fills c.in_ok-day.ensures.outgoing in (
       w.0,
       IfSome_then (g.S.Source.left c.args.source.now) {P = λ (input : List ℕ). IsJournalOf input c.in_ok-journal.journal.items} {Q = λ (input : List ℕ). IsPartOut c.args.journal_only rules c.args.stamp input (told c.args.sink.now) (told c.write_day.new.sink)} c.in_ok-journal.ensures.journal
           (λ input entries. record {
@@ -52,8 +63,5 @@ returns-in_err-write_day-clause-write g c e =
           }),
     )
 
-pub returns-clause-has_text : goal.returns-clause-has_text
-returns-clause-has_text g c = record {
-  lawful = c.in_ok-day.ensures.day.lawful;
-  bytes = c.in_ok-write_day.ensures.bytes;
-}
+pub returns-clause-byte_ids : goal.returns-clause-byte_ids
+returns-clause-byte_ids g c = c.in_ok-write_day.ensures.bytes

@@ -2,6 +2,7 @@ use Rattle.std.proofs.Common.{◌∙◌}
 use Rattle.gate_link.proofs.links.PartOfASession.{row_past}
 use Rattle.session_threads.specs.Streams.{whole_stream}
 use Rattle.spread_host.proofs.DayOfParts.{DayHolds, day_holds}
+use Rattle.spread_host.proofs.LawfulJournals.{has_fills}
 use Rattle.spread_host.proofs.SessionsWithoutEntries.{silent}
 use Rattle.spread_host.proofs.from_sessions.run_day.Goals as goal
 use Rattle.spread_host.proofs.from_sessions.run_day.Goals.{In_ok-journal}
@@ -13,6 +14,14 @@ holds g c =
     let rules = c.args.rulebook.now in
     day_holds rules c.args.stamp day.journal.items day.applied.fills.items day.applied.out.items c.months.ensures.lawful e.lawful
     (c.ranges-2.ensures.fills rules day.journal.items c.months.ensures.lawful e.lawful.fits) e.day.fills e.day.lists e.day.out e.day.whole
+
+pub returns-clause-fills : goal.returns-clause-fills
+returns-clause-fills g c =
+    let day = c.in_ok-journal.field-0 in
+    has_fills c.args.rulebook.now day.journal.items day.applied.fills.items c.in_ok-journal.ensures.day.fills
+
+pub returns-clause-outgoing : goal.returns-clause-outgoing
+returns-clause-outgoing g c = (holds g c).outgoing
 
 pub returns-clause-bought_is_sold : goal.returns-clause-bought_is_sold
 returns-clause-bought_is_sold g c = (holds g c).bought_is_sold

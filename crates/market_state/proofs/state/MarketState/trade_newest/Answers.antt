@@ -1,14 +1,14 @@
 use Rattle.std.proofs.Common.{◌≡◌, ◌<◌, ◌≤◌, ◌+◌, ◌*◌, min, List, All, ◌++◌, ◌∷◌, [], length, sym, subst, ap, ◌∙◌}
 use Rattle.std.specs.Vec.{vec_len, vec_capacity}
 use Rattle.spread_rules.specs.declared.order.Order.{Order}
-use Rattle.spread_rules.specs.Clearing.{clear, removed, begin}
+use Rattle.spread_rules.specs.Clearing.{clear, removed}
 use Rattle.spread_rules.specs.Meaning.{resting}
 use Rattle.spread_rulebook.specs.Rulebook.{month_count, references_of, implied}
 use Rattle.market_state.specs.State.{MarketState}
 use Rattle.order_clearing.specs.Tradable.{IsTradable}
 use Rattle.market_state.specs.code.StateAfter.{orders_after_trading}
 use Rattle.order_clearing.specs.code.Turns.{IsNewest}
-use Rattle.market_state.proofs.entries.NewOrder.{newest_after, removed_newest, settled_is, turns_most}
+use Rattle.market_state.proofs.entries.NewOrder.{newest_after, removed_newest, settled_is, clear_most}
 use Rattle.market_state.proofs.state.MarketState.trade_newest.Goals as goal
 
 -- the others
@@ -49,7 +49,7 @@ pub rest_or_remove-requires-clause-most : goal.rest_or_remove-requires-clause-mo
 rest_or_remove-requires-clause-most g c =
     let n = c.args.order.now in
     let rest = removed n.place (g.B.Book.orders c.self.inside.book) in
-    subst (λ (o : Order). o.leaves ≤ n.leaves) (sym c.trade-left.ensures.left) (turns_most (implied c.args.rules.now) (references_of c.args.rules.now) (length rest) (begin n rest))
+    subst (λ (o : Order). o.leaves ≤ n.leaves) (sym c.trade-left.ensures.left) (clear_most (implied c.args.rules.now) (references_of c.args.rules.now) n rest)
 
 pub returns-clause-orders : goal.returns-clause-orders
 returns-clause-orders g c =

@@ -3,9 +3,9 @@ use Rattle.std.specs.Int.{w64}
 use Rattle.std.proofs.lemmas.Int.{to_z-of_z}
 use Rattle.spread_rulebook.specs.declared.instrument.Instrument.{Instrument}
 use Rattle.spread_rulebook.specs.declared.instrument.Instrument.TheVariants.{Outright, Spread}
-use Rattle.spread_report.specs.EntryMessages.{fill_report, fill_reports}
+use Rattle.spread_report.specs.EntryMessages.{fill_reports}
 use Rattle.spread_report.specs.code.Addressed.{report, reports_from}
-use Rattle.spread_report.specs.code.Reports.{leg_reports}
+use Rattle.spread_report.specs.code.Reports.{part_report, leg_reports}
 use Rattle.report_bodies.specs.declared.codes.MultiLegReportingType.TheVariants.{MultiLegSecurity}
 use Rattle.spread_rulebook.specs.Rulebook.{symbol_of}
 use Rattle.spread_report.proofs.messages.MoreMessages.{sends_after, sends_same}
@@ -27,7 +27,7 @@ returns-in_ok-fill_part-in-Spread g c =
     let one = rw (c.symbol_of-symbol.ensures, c.price_of-in-Spread.ensures.value, to_z-of_z w64 f.price c.price_of-in-Spread.ensures.fits) at c.in_ok-fill_part-in-Spread.ensures in
     let two = rw c.next.ensures at c.fill_legs.ensures in
     let all = sends_after c.args.self.now c.fill_part-in-Spread.new.self c.fill_legs.new.self c.args.lists.now c.fill_part-in-Spread.new.lists c.fill_legs.new.lists
-    (report id.place id.index (fill_report f (symbol_of c.args.rules.now f.instrument) f.side f.price MultiLegSecurity) ∷ [])
+    (report id.place id.index (part_report f (symbol_of c.args.rules.now f.instrument) f.side f.price MultiLegSecurity) ∷ [])
     (reports_from id.place (id.index + 1) (leg_reports c.in-Spread.near c.in-Spread.far c.args.rules.now f)) tt c.fill_legs.result one two in
     sends_same c.args.self.now c.fill_legs.new.self c.args.lists.now c.fill_legs.new.lists
     (reports (Spread c.in-Spread.near c.in-Spread.far)) (reports f.instrument) c.fill_legs.result (ap reports (sym c.in-Spread.is)) all
