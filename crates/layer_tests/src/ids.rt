@@ -86,13 +86,6 @@ fn row_of<A: Allocator + Copy>(table: &IdTable<A>, keys: &[IdKey], n: usize) -> 
     table.find(&Keys { keys }, &numbered(n))
 }
 
-/// Whether the row before that one stands, if there is one.
-fn row_before_stands<A: Allocator + Copy>(table: &IdTable<A>, keys: &[IdKey], n: usize) -> bool
-    requires { IsTableOf table.now keys.now }
-{
-    n == 0 || row_of(table, keys, n - 1) == Some(n - 1)
-}
-
 /// Each of so many numbers stands at its row.
 fn rows_stand<A: Allocator + Copy>(
     rt: &impl Abort,
@@ -123,7 +116,6 @@ fn note_numbers<A: Allocator + Copy>(
             Ok(used) => used,
             Err(NoMemory) => {
                 holds(rt, row_of(table, keys, n).is_none());
-                holds(rt, row_before_stands(table, keys, n));
                 note_number(rt, table, keys, n)
             }
         };
@@ -172,61 +164,18 @@ fn room_for_ids(rt: HostRuntime) {
     holds(&rt, row_of(&table, &keys, 1_100).is_none());
 }
 
-/// Notes the key of the next row, and again once it is known.
-fn note_known<A: Allocator + Copy>(
-    rt: &impl Abort,
-    table: &mut IdTable<A>,
-    keys: &mut Vec<IdKey, A>,
-    n: usize,
-)
-    requires { IsTableOf table.old keys.old.items }
-    ensures { IsTableOf table.new keys.new.items }
-{
-    holds(rt, !note_number(rt, table, keys, n));
-    holds(rt, row_of(table, keys, n) == Some(n));
-    holds(
-        rt,
-        note_and_take_back(table, keys, numbered(n))
-            .expect(rt, "memory")
-            .is_known(),
-    );
-    holds(rt, row_of(table, keys, n) == Some(n));
-}
-
-/// Notes the key of the next row, takes it back, and notes it again. Answers how it was noted first.
-fn note_again<A: Allocator + Copy>(
-    rt: &impl Abort,
-    table: &mut IdTable<A>,
-    keys: &mut Vec<IdKey, A>,
-    n: usize,
-) -> Noted
-    requires { IsTableOf table.old keys.old.items }
-    ensures { IsTableOf table.new keys.new.items }
-{
-    let noted = note_and_take_back(table, keys, numbered(n)).expect(rt, "memory");
-    holds(rt, row_of(table, keys, n).is_none());
-    holds(rt, row_before_stands(table, keys, n));
-    note_known(rt, table, keys, n);
-    noted
-}
-
-/// Each key is taken back once, those in lines and those behind them.
+/// A key that was noted and taken back is not found, and one that was known before stays.
 #[test]
 fn ids_are_taken_back(rt: HostRuntime) {
     let mut table = IdTable::new(rt.alloc());
     let mut keys = Vec::new(rt.alloc());
-    let mut in_lines = 0usize;
-    let mut behind = 0usize;
-    for n in 0..8_190 {
-        match note_again(&rt, &mut table, &mut keys, n) {
-            Noted::Known => holds(&rt, false),
-            Noted::InLine { line: _, at: _ } => in_lines = in_lines.wrapping_add(1),
-            Noted::Behind => behind = behind.wrapping_add(1),
-        }
+    note_numbers(&rt, &mut table, &mut keys, 300);
+    for n in 250..350usize {
+        let noted = note_and_take_back(&mut table, &keys, numbered(n)).expect(&rt, "memory");
+        holds(&rt, noted.is_known() == (n < 300));
     }
-    holds(&rt, in_lines > 7_500);
-    holds(&rt, behind > 0);
-    rows_stand(&rt, &table, &keys, 8_190);
+    rows_stand(&rt, &table, &keys, 300);
+    holds(&rt, row_of(&table, &keys, 310).is_none());
 }
 
 #[test]

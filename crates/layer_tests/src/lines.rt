@@ -8,34 +8,14 @@ use day_lines::{DayReader, LinesFault};
 use host_base::{FromReader, TestSource};
 use spread_rules::{Entry, Event};
 use std::alloc::Global;
-use std::io;
 use std::io::Read;
 use std::process::Abort;
 use test_support::Refusing;
 
-/// A reader that gives at most so many bytes at a time.
-#[derive(Drop)]
-struct Trickle {
-    left: &'static [u8],
-    most: usize,
-}
-
-impl Read for Trickle {
-    fn read(&mut self, buf: &mut [u8]) -> io::Result<usize> {
-        let count = buf.len().min(self.most).min(self.left.len());
-        let (now, later) = self.left.split_at(count);
-        buf[..count].copy_from_slice(now);
-        self.left = later;
-        Ok(count)
-    }
-}
-
-/// How many bytes come at a time.
-const SIZES: &[usize] = &[1, 2, 3, 64];
-
-/// What day lines give that come so many bytes at a time.
-fn read_by(alloc: Global, lines: &'static [u8], most: usize) -> Result<Vec<Entry>, LinesFault> {
-    let mut source = FromReader::new(Trickle { left: lines, most });
+/// What day lines give of which so many bytes come first, and then the others.
+fn read_cut(alloc: Global, lines: &[u8], cut: usize) -> Result<Vec<Entry>, LinesFault> {
+    let (first, rest) = lines.split_at(cut.min(lines.len()));
+    let mut source = FromReader::new(first.chain(rest));
     read_day_lines(alloc, &mut source)
 }
 
@@ -57,8 +37,8 @@ const SESSIONS: &[(&[u8], &[u8])] = &[
 fn sessions_of_lines(rt: HostRuntime) {
     day_journal();
     for (lines, sessions) in SESSIONS {
-        for most in SIZES {
-            let journal = read_by(rt.alloc(), lines, *most).expect(&rt, "day lines");
+        for cut in 0..=lines.len() {
+            let journal = read_cut(rt.alloc(), lines, cut).expect(&rt, "day lines");
             expect_closes(&rt, &journal, sessions);
         }
     }
@@ -120,8 +100,8 @@ const BAD_LINES: &[(&[u8], u64)] = &[
 #[test]
 fn bad_day_lines(rt: HostRuntime) {
     for (lines, line) in BAD_LINES {
-        for most in SIZES {
-            let fault = read_by(rt.alloc(), lines, *most).err();
+        for cut in 0..=lines.len() {
+            let fault = read_cut(rt.alloc(), lines, cut).err();
             holds(&rt, fault == Some(LinesFault::BadLine(*line)));
         }
     }
@@ -197,13 +177,11 @@ fn too_many_bytes(rt: HostRuntime) {
 fn lines_with_memory_refused(rt: HostRuntime) {
     for number in 1..100u64 {
         let heap = Refusing::new(rt.alloc(), number);
-        let mut source = FromReader::new(Trickle {
-            left: b"0:a\n# a line that is kept while it comes\n15:b",
-            most: 2,
-        });
+        let first = b"0:a\n# a line that is kept".as_slice();
+        let mut source = FromReader::new(first.chain(b" while it comes\n15:b".as_slice()));
         match read_day_lines(&heap, &mut source) {
             Ok(journal) => {
-                let is_whole = (journal.len() == 2) & (number > 4);
+                let is_whole = (journal.len() == 2) & (number > 1);
                 holds(&rt, is_whole & !heap.has_refused());
                 return;
             }

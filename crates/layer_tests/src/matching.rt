@@ -6,13 +6,12 @@ ghost use Rattle.market_state.specs.Trade.{IsPriced};
 use crate::expect::holds;
 use spread_books::Book;
 use spread_match::Market;
-use spread_rules::{Entry, Event, Fill, Instrument, Order, Outcome, Rulebook, Side, Ticket};
+use spread_rules::{Entry, Event, Fill, Instrument, Outcome, Rulebook, Side, Ticket};
 use std::alloc::Global;
 use std::process::Abort;
 use test_support::id;
 
 mod cases;
-mod every_book;
 mod market;
 mod memory_refused;
 mod pairs;
@@ -93,24 +92,6 @@ fn cancel(name: &[u8], original: &[u8]) -> Entry {
     }
 }
 
-/// A request that a day order take the place of the original one.
-fn replace(
-    original: &[u8],
-    name: &[u8],
-    symbol: &[u8],
-    side: Side,
-    quantity: u32,
-    price: i64,
-) -> Entry {
-    Entry {
-        session: 0,
-        event: Event::Replace {
-            original: id(original),
-            ticket: ticket(name, symbol, side, quantity, price),
-        },
-    }
-}
-
 fn logon() -> Entry {
     Entry {
         session: 0,
@@ -169,12 +150,4 @@ fn apply_all<B: Book>(
         let _ = applied(rt, market, n as u64 + 1, &journal[n], &mut fills);
     }
     fills
-}
-
-/// The resting orders of a book, behind these.
-fn append_resting<B: Book>(rt: &impl Abort, orders: &mut Vec<Order>, book: &B) {
-    for n in 0..book.len() {
-        let order = book.walk(n).expect(rt, "a resting order");
-        orders.push(order).expect(rt, "memory");
-    }
 }

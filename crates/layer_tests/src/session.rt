@@ -11,7 +11,6 @@ mod kinds;
 mod laws;
 mod numbering;
 mod reader;
-mod streams;
 mod table;
 
 const LOGON: &str = "35=A|34=1|49=C1|52=S|56=HOST|98=0|108=30|";

@@ -1,16 +1,14 @@
-//! The pair of fronts that costs the least: at hand, and searched for.
+//! The pair of fronts that costs the least: kept in a table, and searched for.
 ghost use Rattle.std.specs.Prelude.{◌≡◌, true, Some, All, slice_get};
 ghost use Rattle.spread_rules.specs.declared.order.Order.{Order};
 ghost use Rattle.spread_rules.specs.Candidates.{HasOrderPrice};
 ghost use Rattle.candidate_search.specs.Listed.{IsInMonths};
 
-use super::checked::{add, remove};
+use super::checked::add;
 use crate::expect::holds;
 use candidate_search::{MonthPairs, cheapest_pair, front_cost, is_pair_on, spreads_with};
-use host_base::NoMemory;
 use host_base::limits::MAX_PRICE;
 use quote_tables::{Change, FrontCosts, QuoteTable, is_all_on};
-use quoted_books::QuotedBook;
 use spread_books::{Book, ListBook, PairCost};
 use spread_rules::Side::{Buy, Sell};
 use spread_rules::{Instrument, Order, Rulebook, Side};
@@ -60,48 +58,6 @@ fn sell(place: u64, instrument: Instrument, price: i64) -> Order {
         quantity: 5,
         leaves: 5,
     }
-}
-
-/// Whether the pair that a buyer of the first month meets costs that, at hand and searched for.
-fn costs(book: &QuotedBook<'_, Global>, cost: i64, other_month: u64) -> bool {
-    let pairs = MonthPairs {
-        rules: book.rules(),
-        months: 3,
-    };
-    match book.known_pair(Buy, 0) {
-        None => false,
-        Some(known) => {
-            are_priced(book)
-                && is_pair(known, cost, other_month)
-                && is_pair(cheapest_pair(book, &pairs, Buy, 0), cost, other_month)
-        }
-    }
-}
-
-/// Adds a seller of the spread of the first month and each later one, and a seller of that later month.
-fn add_offers<B: Book>(book: &mut B) -> Result<(), NoMemory> {
-    add(book, sell(1, Instrument::Spread(0, 1), 100))?;
-    add(book, sell(2, Instrument::Outright(1), 9900))?;
-    add(book, sell(3, Instrument::Spread(0, 2), 150))?;
-    add(book, sell(4, Instrument::Outright(2), 9800))?;
-    Ok(())
-}
-
-// 150 and 9800 are 9950; without the last order 100 and 9900 are 10000.
-fn expect_cheapest(rt: &impl Abort, book: &mut QuotedBook<'_, Global>) {
-    holds(rt, add_offers(book).is_ok());
-    holds(rt, book.is_all_on() && book.count() == 4);
-    holds(rt, costs(book, 9950, 2));
-    holds(rt, remove(book, 3));
-    holds(rt, costs(book, 10000, 1));
-    holds(rt, book.known_pair(Buy, 3).is_none());
-}
-
-#[test]
-fn cheapest_of_two_months(rt: HostRuntime) {
-    let rules = Rulebook::read(THREE_MONTHS).expect(&rt, "a rulebook");
-    let mut book = QuotedBook::new(rt.alloc(), &rules).expect(&rt, "memory");
-    expect_cheapest(&rt, &mut book);
 }
 
 /// Whether it is an instrument of so many months.
@@ -158,6 +114,11 @@ fn costs_of_fronts_and_their_cheapest_pair(rt: HostRuntime) {
     holds(&rt, tables.fronts.outright_cell(Buy, 1) == 9900);
     let pair = tables.cheapest.known_pair(Buy, 0).expect(&rt, "a month");
     holds(&rt, is_pair(pair, 10000, 1));
+    let pairs = MonthPairs {
+        rules: &rules,
+        months: 3,
+    };
+    holds(&rt, is_pair(cheapest_pair(&book, &pairs, Buy, 0), 10000, 1));
     holds(&rt, is_all_on(&rules));
 }
 

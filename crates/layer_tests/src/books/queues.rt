@@ -1,5 +1,7 @@
 //! What every kind of book answers.
-use super::rows::Step::{Add, At, Count, Found, Front, NoFront, NoneAt, NotFound, Reduce, Remove};
+use super::rows::Step::{
+    Add, Amend, At, Count, Found, Front, NoFront, NoneAt, NotAmend, NotFound, Reduce, Remove,
+};
 use super::rows::{Lot, Row, expect_over_each};
 use spread_rules::Instrument;
 use spread_rules::Side::{Buy, Sell};
@@ -179,6 +181,43 @@ static ROWS: &[Row] = &[
             Front(Lot(3, 1, b"b", LAST_SPREAD, Sell, 10000, 5, 5)),
             NoFront(LAST_SPREAD, Buy),
             At(0, Lot(3, 1, b"b", LAST_SPREAD, Sell, 10000, 5, 5)),
+        ],
+    },
+    // Two sellers, as at places 2 and 3 of the worked journal with two replace requests.
+    // The first takes an id and a smaller quantity, and stays the front. Two of its lots are filled, so that it cannot
+    // take a quantity of two; it is amended again. Then the second one takes the id that the first one had.
+    Row {
+        name: "orders are amended in place",
+        steps: &[
+            Add(Lot(2, 0, b"a", FIRST_MONTH, Sell, 10000, 5, 5)),
+            Add(Lot(3, 0, b"b", FIRST_MONTH, Sell, 10000, 5, 5)),
+            Amend(0, b"c", 3),
+            Count(2),
+            At(0, Lot(2, 0, b"c", FIRST_MONTH, Sell, 10000, 3, 3)),
+            At(1, Lot(3, 0, b"b", FIRST_MONTH, Sell, 10000, 5, 5)),
+            Found(Lot(2, 0, b"c", FIRST_MONTH, Sell, 10000, 3, 3)),
+            Found(Lot(3, 0, b"b", FIRST_MONTH, Sell, 10000, 5, 5)),
+            NotFound(0, b"a"),
+            Front(Lot(2, 0, b"c", FIRST_MONTH, Sell, 10000, 3, 3)),
+            Reduce(0, 2),
+            NotAmend(0, b"d", 2),
+            NotAmend(0, b"b", 3),
+            Amend(0, b"d", 7),
+            Count(2),
+            At(0, Lot(2, 0, b"d", FIRST_MONTH, Sell, 10000, 7, 5)),
+            At(1, Lot(3, 0, b"b", FIRST_MONTH, Sell, 10000, 5, 5)),
+            Found(Lot(2, 0, b"d", FIRST_MONTH, Sell, 10000, 7, 5)),
+            Found(Lot(3, 0, b"b", FIRST_MONTH, Sell, 10000, 5, 5)),
+            NotFound(0, b"c"),
+            Front(Lot(2, 0, b"d", FIRST_MONTH, Sell, 10000, 7, 5)),
+            Amend(1, b"a", 4),
+            Count(2),
+            At(0, Lot(2, 0, b"d", FIRST_MONTH, Sell, 10000, 7, 5)),
+            At(1, Lot(3, 0, b"a", FIRST_MONTH, Sell, 10000, 4, 4)),
+            Found(Lot(2, 0, b"d", FIRST_MONTH, Sell, 10000, 7, 5)),
+            Found(Lot(3, 0, b"a", FIRST_MONTH, Sell, 10000, 4, 4)),
+            NotFound(0, b"b"),
+            Front(Lot(2, 0, b"d", FIRST_MONTH, Sell, 10000, 7, 5)),
         ],
     },
 ];

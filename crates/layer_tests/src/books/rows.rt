@@ -1,5 +1,6 @@
 //! Rows: steps of one book after another, and what the book must answer.
 use super::checked::{add, amend, clear, reduce, remove};
+use crate::expect::holds;
 use quoted_books::QuotedBook;
 use spread_books::{Book, FrontBook, HeapBook, IndexBook, ListBook};
 use spread_rules::{Instrument, Order, Rulebook, Side};
@@ -130,9 +131,14 @@ fn expect_rows<B: Book>(rt: &impl Abort, book: &mut B, rows: &[Row]) {
     }
 }
 
+/// All orders have left it at last, and no pair of them is kept.
 fn expect_over_quoted(rt: &impl Abort, alloc: Global, rules: &Rulebook, rows: &[Row]) {
     let mut book = QuotedBook::new(alloc, rules).expect(rt, "memory");
-    expect_rows(rt, &mut book, rows)
+    expect_rows(rt, &mut book, rows);
+    holds(rt, book.count() == 0 && book.is_all_on());
+    holds(rt, book.rules().months() == 3);
+    let pair = book.known_pair(Side::Buy, 0).expect(rt, "a month");
+    holds(rt, pair.is_none());
 }
 
 fn expect_over_index(rt: &impl Abort, alloc: Global, rules: &Rulebook, rows: &[Row]) {

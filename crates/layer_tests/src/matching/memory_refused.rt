@@ -7,10 +7,10 @@ use super::cases::Came::{Replaced, RequestRefused, Rested};
 use super::cases::Line::{Of, OfSpread};
 use super::cases::Sent::{Buy, Cancel, ReplaceBuy, ReplaceSell, Sell};
 use super::cases::{Case, Kept, Step, entry_of, expect_over_list, outcome_of};
-use super::{H6, H6_M6, M6, append_resting, is_priced, rulebook};
+use super::{H6, H6_M6, M6, is_priced, rulebook};
 use crate::expect::holds;
 use host_base::NoMemory;
-use spread_books::{Book, IndexBook, ListBook};
+use spread_books::{Book, IndexBook};
 use spread_match::Market;
 use spread_rules::{Entry, Fill, Order, Outcome, Rulebook, Side};
 use std::alloc::{Allocator, Global};
@@ -22,6 +22,14 @@ use test_support::{Refusing, THREE_MONTHS};
 struct Heaps<'h> {
     refusing: &'h Refusing<Global>,
     ample: Global,
+}
+
+/// The resting orders of a book, behind these.
+fn append_resting<B: Book>(rt: &impl Abort, orders: &mut Vec<Order>, book: &B) {
+    for n in 0..book.len() {
+        let order = book.walk(n).expect(rt, "a resting order");
+        orders.push(order).expect(rt, "memory");
+    }
 }
 
 /// The book has these resting orders.
@@ -113,8 +121,8 @@ fn expect_over_index<'r>(
     }
 }
 
-/// Whether the request of that number came over the index book. The journal comes to what it must.
-fn is_refused_over_index(
+/// Whether the request of that number came. The journal comes to what it must.
+fn is_refused(
     rt: &impl Abort,
     alloc: Global,
     rules: &Rulebook,
@@ -131,34 +139,13 @@ fn is_refused_over_index(
     refusing.has_refused()
 }
 
-/// Whether the request of that number came over the list book. The journal comes to what it must.
-fn is_refused_over_list(
-    rt: &impl Abort,
-    alloc: Global,
-    rules: &Rulebook,
-    number: u64,
-    journal: &[(Entry, Outcome)],
-    wanted: &[Fill],
-) -> bool {
-    let refusing = Refusing::new(alloc, number);
-    let heaps = Heaps {
-        refusing: &refusing,
-        ample: alloc,
-    };
-    let book = ListBook::new(&refusing);
-    expect_applied(rt, &heaps, rules, book, journal, wanted);
-    refusing.has_refused()
-}
-
-/// Each request for memory of that case is refused in turn, in a book of each kind that makes any by itself.
+/// Each request for memory of that case is refused in turn.
 fn refuse_each(rt: &impl Abort, alloc: Global, rules: &Rulebook, case: &Case) {
     let mut wanted = Vec::new(alloc);
     expect_over_list(rt, alloc, case, &mut wanted);
     let journal = entries_of(rt, alloc, case.journal);
     for number in 1..500u64 {
-        let index = is_refused_over_index(rt, alloc, rules, number, &journal, &wanted);
-        let list = is_refused_over_list(rt, alloc, rules, number, &journal, &wanted);
-        if !index && !list {
+        if !is_refused(rt, alloc, rules, number, &journal, &wanted) {
             return;
         }
     }

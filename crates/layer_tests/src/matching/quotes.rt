@@ -5,16 +5,15 @@ ghost use Rattle.market_state.specs.State.{empty_state};
 use super::cases::Came::{Cancelled, Rested, Session};
 use super::cases::Sent::{Buy, Cancel, Logon, Sell};
 use super::cases::{Case, Kept, expect_case, expect_over_list};
-use super::every_book::instrument;
 use super::pairs::H6_U6_OFF;
-use super::{H6, H6_M6, H6_U6, M6, M6_U6, U6, append_resting, applied, cancel, day, rulebook};
+use super::{H6, H6_M6, H6_U6, M6, M6_U6, U6, rulebook};
 use crate::expect::holds;
 use spread_books::{Book, IndexBook};
 use spread_match::Market;
-use spread_rules::{Choice, Entry, Fill, Instrument, Members, Order, Rulebook, Side};
+use spread_rules::{Choice, Fill, Instrument, Members, Rulebook, Side};
 use std::alloc::Global;
 use std::process::Abort;
-use test_support::{Chance, THREE_MONTHS};
+use test_support::THREE_MONTHS;
 
 /// A case, and what a buyer would get at its end by an implied quote: of each instrument the price, the place of the
 /// first order and that of the second one. Each quote is of one lot.
@@ -61,50 +60,38 @@ fn expect_quotes_of(
 enum Course<'c> {
     /// What must come of the case comes of it, and the book has the quotes at the end.
     Quoted(&'c QuoteCase),
-    /// The run of this seed, each quote behind it as the search finds it.
-    Run(u64),
     /// The case of a pair at hand, which is not at hand under these rules without it.
     AtHand(&'c Rulebook),
 }
 
-/// Takes that course in a market before its first entry. A run comes to how many quotes there were, the others to 0.
+/// Takes that course in a market before its first entry.
 fn take(
     rt: &impl Abort,
-    alloc: Global,
     market: &mut Market<'_, IndexBook<'_, Global>, Global>,
     rules: &Rulebook,
     course: Course<'_>,
     fills: &mut Vec<Fill>,
-) -> usize
+)
     requires { market.old.state ≡ empty_state }
 {
     match course {
         Course::Quoted(quoted) => {
             expect_case(rt, market, &quoted.case, fills);
             expect_quotes_of(rt, market, quoted.quotes);
-            0
         }
-        Course::Run(seed) => quotes_behind(rt, alloc, market, &mut Chance::new(seed), fills),
         Course::AtHand(without) => {
             expect_case(rt, market, &AT_HAND, fills);
             holds(rt, at_hand(market, rules) == Some(Some((9500, 0))));
             holds(rt, at_hand(market, without) == None);
-            0
         }
     }
 }
 
 /// The same in a market over the index book.
-fn take_over_index(
-    rt: &impl Abort,
-    alloc: Global,
-    rules: &Rulebook,
-    course: Course<'_>,
-    fills: &mut Vec<Fill>,
-) -> usize {
+fn take_over_index(rt: &impl Abort, alloc: Global, rules: &Rulebook, course: Course<'_>) {
     let book = IndexBook::new(alloc, rules).expect(rt, "memory");
     let mut market = Market::new(alloc, rules, book);
-    take(rt, alloc, &mut market, rules, course, fills)
+    take(rt, &mut market, rules, course, &mut Vec::new(alloc))
 }
 
 /// The cases over the list book, and with their quotes over the index book.
@@ -112,8 +99,7 @@ pub(super) fn expect_quotes(rt: &impl Abort, alloc: Global, cases: &[QuoteCase])
     for quoted in cases {
         let rules = rulebook(rt, quoted.case.rulebook, quoted.case.name);
         expect_over_list(rt, alloc, &quoted.case, &mut Vec::new(alloc));
-        let course = Course::Quoted(quoted);
-        let _ = take_over_index(rt, alloc, &rules, course, &mut Vec::new(alloc));
+        take_over_index(rt, alloc, &rules, Course::Quoted(quoted));
     }
 }
 
@@ -228,195 +214,5 @@ fn at_hand<B: Book>(
 fn pair_at_hand(rt: HostRuntime) {
     let rules = rulebook(&rt, THREE_MONTHS, "a rulebook");
     let without = rulebook(&rt, H6_U6_OFF, "a rulebook");
-    let course = Course::AtHand(&without);
-    let mut fills = Vec::new(rt.alloc());
-    let _ = take_over_index(&rt, rt.alloc(), &rules, course, &mut fills);
-}
-
-/// What two orders together cost an order of that instrument and side, a case for each line of the rule.
-fn implied_price(instrument: Instrument, side: Side, a: &Order, b: &Order) -> Option<i64> {
-    let is_first_opposite = a.side != side;
-    let is_second_opposite = b.side != side;
-    match (instrument, a.instrument, b.instrument) {
-        (Instrument::Outright(m), Instrument::Spread(i, j), Instrument::Outright(k)) => {
-            if m == i && k == j && is_first_opposite && is_second_opposite {
-                Some(a.price.wrapping_add(b.price))
-            } else if m == j && k == i && !is_first_opposite && is_second_opposite {
-                Some(b.price.wrapping_sub(a.price))
-            } else {
-                None
-            }
-        }
-        (Instrument::Spread(i, j), Instrument::Outright(k), Instrument::Outright(l)) => {
-            if k == i && l == j && is_first_opposite && !is_second_opposite {
-                Some(a.price.wrapping_sub(b.price))
-            } else {
-                None
-            }
-        }
-        _ => None,
-    }
-}
-
-/// What it costs, the other month, and the places.
-type Standing = (i64, u8, u64, u64);
-
-fn standing(side: Side, price: i64, a: &Order, b: &Order) -> Standing {
-    let cost = match side {
-        Side::Buy => price,
-        Side::Sell => price.wrapping_neg(),
-    };
-    (cost, b.instrument.far_month(), a.place, b.place)
-}
-
-/// The quote by a search over all pairs of resting orders.
-fn searched(orders: &[Order], instrument: Instrument, side: Side) -> Option<Choice> {
-    let mut best: Option<(Standing, Choice)> = None;
-    for a in orders {
-        for b in orders {
-            best = with_pair(best, a, b, instrument, side);
-        }
-    }
-    match best {
-        None => None,
-        Some((_, choice)) => Some(choice),
-    }
-}
-
-/// The better one of what was found and these two orders.
-fn with_pair(
-    best: Option<(Standing, Choice)>,
-    a: &Order,
-    b: &Order,
-    instrument: Instrument,
-    side: Side,
-) -> Option<(Standing, Choice)> {
-    let Some(price) = implied_price(instrument, side, a, b) else {
-        return best;
-    };
-    let found = standing(side, price, a, b);
-    if let Some((held, _)) = best {
-        if held <= found {
-            return best;
-        }
-    }
-    let choice = Choice {
-        price,
-        quantity: a.leaves.min(b.leaves),
-        members: Members::Implied(a.place, b.place),
-    };
-    Some((found, choice))
-}
-
-/// The price that is so far from the reference that an order of that side seldom trades.
-fn price_away(reference: i64, side: Side, away: i64) -> i64 {
-    match side {
-        Side::Buy => reference.wrapping_sub(away),
-        Side::Sell => reference.wrapping_add(away),
-    }
-}
-
-/// A letter of eight.
-fn letter(chance: &mut Chance) -> u8 {
-    b"abcdefgh"[chance.below(8)]
-}
-
-/// An order that seldom trades, or a cancel.
-fn chosen_entry(chance: &mut Chance) -> Entry {
-    let name = [letter(chance), letter(chance)];
-    if chance.below(3) == 0 {
-        return cancel(b"x", &name);
-    }
-    let (symbol, reference) = instrument(chance);
-    let away = 10 + chance.below(8) as i64;
-    let quantity = 1 + chance.below(5) as u32;
-    let side = if chance.below(2) == 0 {
-        Side::Buy
-    } else {
-        Side::Sell
-    };
-    day(
-        &name,
-        symbol,
-        side,
-        quantity,
-        price_away(reference, side, away),
-    )
-}
-
-const INSTRUMENTS: &[Instrument] = &[
-    Instrument::Outright(0),
-    Instrument::Outright(1),
-    Instrument::Outright(2),
-    Instrument::Spread(0, 1),
-    Instrument::Spread(0, 2),
-    Instrument::Spread(1, 2),
-];
-
-/// 1 where there is a quote, 0 where there is none. It is as the search finds it.
-fn compare_one(
-    rt: &impl Abort,
-    market: &Market<'_, IndexBook<'_, Global>, Global>,
-    orders: &[Order],
-    instrument: Instrument,
-    side: Side,
-) -> usize {
-    let quote = quote_of(market, instrument, side);
-    holds(rt, quote == searched(orders, instrument, side));
-    usize::from(quote.is_some())
-}
-
-/// How many quotes there are over these resting orders, each of them as the search finds it.
-fn compare(
-    rt: &impl Abort,
-    market: &Market<'_, IndexBook<'_, Global>, Global>,
-    orders: &[Order],
-) -> usize {
-    let mut quotes = 0usize;
-    for instrument in INSTRUMENTS {
-        let bought = compare_one(rt, market, orders, *instrument, Side::Buy);
-        let sold = compare_one(rt, market, orders, *instrument, Side::Sell);
-        quotes = quotes.wrapping_add(bought).wrapping_add(sold);
-    }
-    quotes
-}
-
-/// The same over the market's own resting orders.
-fn compare_all(
-    rt: &impl Abort,
-    alloc: Global,
-    market: &Market<'_, IndexBook<'_, Global>, Global>,
-) -> usize {
-    let mut orders = Vec::new(alloc);
-    append_resting(rt, &mut orders, market.book());
-    compare(rt, market, &orders)
-}
-
-/// How many quotes there are behind the entries of a run in that market, each of them as the search finds it.
-fn quotes_behind(
-    rt: &impl Abort,
-    alloc: Global,
-    market: &mut Market<'_, IndexBook<'_, Global>, Global>,
-    chance: &mut Chance,
-    fills: &mut Vec<Fill>,
-) -> usize
-    requires { market.old.state ≡ empty_state }
-{
-    let mut quotes = 0usize;
-    for place in 1..100u64 {
-        let entry = chosen_entry(chance);
-        let _ = applied(rt, market, place, &entry, fills);
-        quotes = quotes.wrapping_add(compare_all(rt, alloc, market));
-    }
-    quotes
-}
-
-#[test]
-fn as_a_search_finds_them(rt: HostRuntime) {
-    let rules = rulebook(&rt, THREE_MONTHS, "a rulebook");
-    for seed in 0..8 {
-        let mut fills = Vec::new(rt.alloc());
-        let quotes = take_over_index(&rt, rt.alloc(), &rules, Course::Run(seed), &mut fills);
-        holds(&rt, quotes > 200);
-    }
+    take_over_index(&rt, rt.alloc(), &rules, Course::AtHand(&without));
 }
