@@ -19,7 +19,9 @@ use std::time::CpuClock;
 fn read_inputs(alloc: Global, rules: &[u8], text: &[u8]) -> Result<(Rulebook, Vec<Entry>), Fault>
     ensures { IfOk result (λ inputs. All FitsEntry inputs.1.items) }
 {
-    let rulebook = Rulebook::read(rules).map_err(|_| Fault::Input)?;
+    let Ok(rulebook) = Rulebook::read(rules) else {
+        return Err(Fault::Input);
+    };
     let journal = read_journal(alloc, text)?;
     Ok((rulebook, journal))
 }
@@ -121,7 +123,7 @@ fn match_runs(
     rt: &(impl CpuClock + AllocGlobal),
     rulebook: &Rulebook,
     journal: &[Entry],
-) -> Result<Measured, NoMemory>
+) -> Result<Measured, Fault>
     requires { All FitsEntry journal.now }
 {
     let mut fills = 0;
@@ -147,7 +149,7 @@ pub fn time_match(
     text: &[u8],
 ) -> Result<Measured, Fault> {
     let (rulebook, journal) = read_inputs(rt.alloc(), rules, text)?;
-    Ok(match_runs(rt, &rulebook, &journal)?)
+    match_runs(rt, &rulebook, &journal)
 }
 
 /// Writes some times what the sessions of an applied journal are sent: the least time of a run. The lists of one run
@@ -202,8 +204,10 @@ fn time_messages_over<B: Book + Drop>(
         fills: Vec::new(rt.alloc()),
         outcomes: Vec::new(rt.alloc()),
     };
-    apply_each(&mut market, journal, &mut applied)?;
-    time_messages(rt, rulebook, journal, &applied)
+    match apply_each(&mut market, journal, &mut applied) {
+        Ok(()) => time_messages(rt, rulebook, journal, &applied),
+        Err(NoMemory) => Err(Fault::NoMemory),
+    }
 }
 
 /// Writes what the sessions of a journal are sent, which is applied over the book that the host has.

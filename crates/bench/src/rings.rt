@@ -140,18 +140,25 @@ fn send_and_take<R: Threads + Sync>(
     );
 }
 
-/// How many nanoseconds it takes, by the clock.
+/// Sends and takes the streams once, by the clock: they hold so many messages.
 fn time_sending<R: Clock + Threads + Sync>(
     rt: &R,
     gateways: &mut [Gateway<Global>],
     sequencer: &mut Sequencer<Global>,
     streams: &[Vec<u8>],
+    messages: u64,
     at_once: AtOnce,
-) -> Result<u64, Fault> {
+) -> Result<Measured, Fault> {
     let start = Instant::now(rt)?;
     send_and_take(rt, gateways, sequencer, streams, at_once);
     let used = start.elapsed(rt)?;
-    Ok(u64::try_from(used.as_nanos()).unwrap_or(u64::MAX))
+    Ok(Measured {
+        phase: at_once.phase(),
+        count: messages,
+        unit: "messages",
+        nanos: u64::try_from(used.as_nanos()).unwrap_or(u64::MAX),
+        beside: Beside::Count(sequencer.journal().len() as u64, "entries"),
+    })
 }
 
 /// Messages of streams in two threads, by the clock: one frames, judges and sends, the other takes.
@@ -164,18 +171,12 @@ pub fn time_threads<R: Clock + AllocGlobal + Threads + Sync>(
     let Ok((mut gateways, mut sequencer)) = link(rt.alloc(), streams.len(), 256, 1_000_000) else {
         return Err(Fault::NoMemory);
     };
-    let used = time_sending(
+    time_sending(
         rt,
         gateways.as_mut_slice(),
         &mut sequencer,
         streams,
+        messages,
         at_once,
-    )?;
-    Ok(Measured {
-        phase: at_once.phase(),
-        count: messages,
-        unit: "messages",
-        nanos: used,
-        beside: Beside::Count(sequencer.journal().len() as u64, "entries"),
-    })
+    )
 }

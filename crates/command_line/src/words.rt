@@ -69,22 +69,35 @@ impl From<Error> for Refused {
     }
 }
 
+/// What the value of a word is.
+#[derive(Clone, Copy)]
+enum Value {
+    Text,
+    /// Any number of 32 bits: what is too small or too large for the host is its own fault line.
+    Number,
+}
+
+/// How a word is given.
+#[derive(Clone, Copy)]
+enum Form {
+    Needed(Value),
+    /// One text or more.
+    List,
+    /// An option, whose value has this name in the help.
+    Option {
+        value: Value,
+        value_name: &'static str,
+        default: &'static str,
+    },
+    Flag,
+}
+
 /// A word that a command asks for, or an option of it.
 #[derive(Clone, Copy)]
-enum Word {
-    File {
-        name: &'static str,
-        help: &'static str,
-    },
-    Sessions,
-    Place,
-    Stamp,
-    Number {
-        name: &'static str,
-        default: &'static str,
-        help: &'static str,
-    },
-    JournalOnly,
+struct Word {
+    name: &'static str,
+    help: &'static str,
+    form: Form,
 }
 
 /// A command: its name, what its help says it does, and its words in their order.
@@ -94,43 +107,82 @@ struct CommandText {
     words: &'static [Word],
 }
 
-const RULES: Word = Word::File {
+const RULES: Word = Word {
     name: "RULES",
     help: "The rulebook: a line `tick N`, then a line `month NAME REFERENCE` for each month in order of expiry",
+    form: Form::Needed(Value::Text),
 };
 
-const JOURNAL: Word = Word::File {
+const SESSIONS: Word = Word {
+    name: "SESSION",
+    help: "A file of raw bytes for each session, session 0 first",
+    form: Form::List,
+};
+
+const JOURNAL: Word = Word {
     name: "JOURNAL",
     help: "A journal text, as `replay` writes it",
+    form: Form::Needed(Value::Text),
 };
 
-const CLAIM: Word = Word::File {
+const CLAIM: Word = Word {
     name: "CLAIM",
     help: "The lines of fills and month totals that somebody claims, as `check` writes them",
+    form: Form::Needed(Value::Text),
 };
 
-const RING: Word = Word::Number {
+const PLACE: Word = Word {
+    name: "PLACE",
+    help: "The entry's place in the journal, counted from 1",
+    form: Form::Needed(Value::Number),
+};
+
+const STAMP: Word = Word {
+    name: "stamp",
+    help: "The sending time that outgoing messages bear, 1 to 32 bytes",
+    form: Form::Option {
+        value: Value::Text,
+        value_name: "TEXT",
+        default: "20260105-14:30:00",
+    },
+};
+
+const RING: Word = Word {
     name: "ring",
-    default: "256",
     help: "How many items each ring between two threads has room for, 1 to 4096",
+    form: Form::Option {
+        value: Value::Number,
+        value_name: "N",
+        default: "256",
+    },
 };
 
-const ENTRIES: Word = Word::Number {
+const ENTRIES: Word = Word {
     name: "entries",
-    default: "100000",
     help: "How many entries the journal has room for, at most 1000000",
+    form: Form::Option {
+        value: Value::Number,
+        value_name: "N",
+        default: "100000",
+    },
+};
+
+const JOURNAL_ONLY: Word = Word {
+    name: "journal-only",
+    help: "Write the journal text alone",
+    form: Form::Flag,
 };
 
 static COMMANDS: &[CommandText] = &[
     CommandText {
         name: "replay",
         about: "Reads day lines from standard input, and writes the journal, fills, outgoing messages and month totals",
-        words: &[RULES, Word::Stamp, Word::JournalOnly],
+        words: &[RULES, STAMP, JOURNAL_ONLY],
     },
     CommandText {
         name: "live",
         about: "Runs a thread for each session's file, and writes what `replay` writes",
-        words: &[RULES, Word::Sessions, Word::Stamp, RING, ENTRIES],
+        words: &[RULES, SESSIONS, STAMP, RING, ENTRIES],
     },
     CommandText {
         name: "check",
@@ -145,7 +197,7 @@ static COMMANDS: &[CommandText] = &[
     CommandText {
         name: "explain",
         about: "Says in words why an entry of a journal came to what it came to",
-        words: &[RULES, JOURNAL, Word::Place],
+        words: &[RULES, JOURNAL, PLACE],
     },
     CommandText {
         name: "draw",
@@ -154,50 +206,33 @@ static COMMANDS: &[CommandText] = &[
     },
 ];
 
-/// Any number of 32 bits: what is too small or too large for the host is its own fault line.
-fn number_parser<'a>() -> ValueParser<'a> {
-    ValueParser::unsigned(0, 4_294_967_295)
+fn parser_of<'a>(value: Value) -> ValueParser<'a> {
+    match value {
+        Value::Text => ValueParser::string(),
+        Value::Number => ValueParser::unsigned(0, 4_294_967_295),
+    }
 }
 
 /// A word as the parser takes it.
 fn word_of<'a>(alloc: Global, word: Word) -> Arg<'a> {
-    match word {
-        Word::File { name, help } => Arg::new(alloc, name)
+    let arg = Arg::new(alloc, word.name).help(word.help);
+    match word.form {
+        Form::Needed(value) => arg
             .required(true)
-            .help(help)
+            .value_parser(parser_of(value))
             .action(ArgAction::Set),
-        Word::Sessions => Arg::new(alloc, "SESSION")
-            .required(true)
-            .num_args(1..)
-            .help("A file of raw bytes for each session, session 0 first")
-            .action(ArgAction::Append),
-        Word::Place => Arg::new(alloc, "PLACE")
-            .required(true)
-            .help("The entry's place in the journal, counted from 1")
-            .value_parser(number_parser())
-            .action(ArgAction::Set),
-        Word::Stamp => Arg::new(alloc, "stamp")
-            .long("stamp")
-            .value_name("TEXT")
-            .help("The sending time that outgoing messages bear, 1 to 32 bytes")
-            .default_value("20260105-14:30:00")
-            .value_parser(ValueParser::string())
-            .action(ArgAction::Set),
-        Word::Number {
-            name,
+        Form::List => arg.required(true).num_args(1..).action(ArgAction::Append),
+        Form::Option {
+            value,
+            value_name,
             default,
-            help,
-        } => Arg::new(alloc, name)
-            .long(name)
-            .value_name("N")
-            .help(help)
+        } => arg
+            .long(word.name)
+            .value_name(value_name)
             .default_value(default)
-            .value_parser(number_parser())
+            .value_parser(parser_of(value))
             .action(ArgAction::Set),
-        Word::JournalOnly => Arg::new(alloc, "journal-only")
-            .long("journal-only")
-            .help("Write the journal text alone")
-            .action(ArgAction::SetTrue),
+        Form::Flag => arg.long(word.name).action(ArgAction::SetTrue),
     }
 }
 
@@ -232,24 +267,26 @@ fn number_of(found: &ArgMatches, name: &str) -> u32 {
     found.get_one(name).unwrap_or(0)
 }
 
-/// A journal text, and what is done with it.
-fn journal_request<'a>(found: &ArgMatches<'a>, task: Task<'a>) -> Request<'a> {
+/// What this command does with a journal text.
+fn task_of<'a>(command: &str, found: &ArgMatches<'a>) -> Task<'a> {
+    match command {
+        "check" => Task::Check,
+        "audit" => Task::Audit {
+            claim: text_of(found, "CLAIM"),
+        },
+        "explain" => Task::Explain {
+            place: number_of(found, "PLACE"),
+        },
+        _ => Task::Draw,
+    }
+}
+
+/// A journal text, and what this command does with it.
+fn journal_request<'a>(command: &str, found: &ArgMatches<'a>) -> Request<'a> {
     Request::Journal {
         rules: text_of(found, "RULES"),
         journal: text_of(found, "JOURNAL"),
-        task,
-    }
-}
-
-fn audit_of<'a>(found: &ArgMatches<'a>) -> Task<'a> {
-    Task::Audit {
-        claim: text_of(found, "CLAIM"),
-    }
-}
-
-fn explain_of<'a>(found: &ArgMatches<'a>) -> Task<'a> {
-    Task::Explain {
-        place: number_of(found, "PLACE"),
+        task: task_of(command, found),
     }
 }
 
@@ -275,12 +312,9 @@ fn replay_request<'a>(found: &ArgMatches<'a>) -> Request<'a> {
 /// What the parser found.
 fn request_of<'a>(alloc: Global, matches: &ArgMatches<'a>) -> Result<Request<'a>, AllocError> {
     match matches.subcommand() {
-        Some(("check", found)) => Ok(journal_request(found, Task::Check)),
-        Some(("audit", found)) => Ok(journal_request(found, audit_of(found))),
-        Some(("explain", found)) => Ok(journal_request(found, explain_of(found))),
-        Some(("draw", found)) => Ok(journal_request(found, Task::Draw)),
+        Some(("replay", found)) => Ok(replay_request(found)),
         Some(("live", found)) => live_request(alloc, found),
-        Some((_, found)) => Ok(replay_request(found)),
+        Some((command, found)) => Ok(journal_request(command, found)),
         // The parser has asked for a command by now.
         None => Err(AllocError),
     }
@@ -289,7 +323,9 @@ fn request_of<'a>(alloc: Global, matches: &ArgMatches<'a>) -> Result<Request<'a>
 /// What these words ask for; the first is the program's name.
 pub fn read_words<'a>(alloc: Global, words: &'a [String]) -> Result<Request<'a>, Refused> {
     let matches = exchange_command(alloc)?.try_get_matches_from(words)?;
-    Ok(request_of(alloc, &matches)?)
+    let request = request_of(alloc, &matches);
+    drop(matches);
+    Ok(request?)
 }
 
 /// Why the program's words could not be taken over from the system.
@@ -298,7 +334,9 @@ fn refusal_of(alloc: Global, error: &io::Error) -> Result<Refused, AllocError> {
         io::ErrorKind::InvalidData => {
             let mut command = exchange_command(alloc)?;
             let text = "invalid UTF-8 was detected in one or more arguments";
-            Ok(Refused::Words(command.error(ErrorKind::InvalidValue, text)?))
+            let error = command.error(ErrorKind::InvalidValue, text);
+            drop(command);
+            Ok(Refused::Words(error?))
         }
         _ => Ok(Refused::NoMemory),
     }
