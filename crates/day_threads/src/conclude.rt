@@ -153,18 +153,19 @@ pub(crate) fn conclude<A: Allocator + Copy>(
     let mut sequenced = sequenced;
     let mut matched = matched;
     let mut written = written;
-    if let Some(fault) = fault_of(
+    let fault = fault_of(
         &mut sequenced,
         &mut matched,
         written.as_mut_slice(),
         streams,
         room,
-    ) {
-        return Err(fault);
-    }
+    );
     let Sequenced { journal, .. } = sequenced;
     let Matched { posted, .. } = matched;
     let FillsAndMessages { fills, out } = posted.reported.into_parts();
+    if let Some(fault) = fault {
+        return Err(fault);
+    }
     let out = with_written(out, written);
     Ok(SessionsDay {
         journal,

@@ -1,7 +1,10 @@
 //! The matching thread: it takes the journal's entries from a ring, applies them, and gives what they send to the
 //! writers.
-ghost use Rattle.std.specs.Prelude.{◌≡◌, IfSome};
-ghost use Rattle.day_threads.specs.code.Matching.{HasMatched, IsUnfed};
+ghost use Rattle.std.specs.Prelude.{◌≡◌, ◌≤◌, IfSome, length};
+ghost use Rattle.day_apply.specs.Sending.{sending_rules, stamp_of};
+ghost use Rattle.day_threads.specs.code.Matching.{HasMatched, IsUnfed, MatchEnds};
+ghost use Rattle.entry_posting.specs.code.Posting.{SamePosters};
+ghost use Rattle.stage_rings.specs.Feeding.{SameMatcher, taken};
 
 use entry_posting::{MatchEnd, PostedEntries, end_each, match_one};
 use sequencer_turns::{found, rest};
@@ -36,27 +39,31 @@ impl<'r, A: Allocator + Copy> Promise<Matched<'r, A>> for MatchPromise<'r, A> {
 }
 
 /// Applies the entries as they come, and gives what each of them sends to the writers before it takes the next, until
-/// the end mark is taken, the flag is set, or one cannot be applied: then it sets the flag.
-pub fn match_all<'r, R: Wait, G: Gate, A: Allocator + Copy>(
+/// the end mark is taken, the flag is set, or one cannot be applied: then it sets the flag. Answers how many were applied
+/// and given to the writers, and how it ended.
+fn match_all<R: Wait, G: Gate, A: Allocator + Copy>(
     rt: &R,
     gate: &G,
     stop: &AtomicBool,
-    matcher: Matcher<A>,
-    posted: PostedEntries<'r, A>,
-) -> Matched<'r, A>
-    requires { IsUnfed matcher posted }
-    ensures { HasMatched matcher posted.entry result }
+    matcher: &mut Matcher<A>,
+    posted: &mut PostedEntries<'_, A>,
+) -> (u64, MatchEnd)
+    requires { IsUnfed matcher.old posted.old }
+    ensures ring { SameMatcher matcher.old matcher.new }
+    ensures writers { SamePosters posted.old.posters.items posted.new.posters.items }
+    ensures rules { sending_rules posted.new.reported ≡ sending_rules posted.old.reported }
+    ensures stamp { stamp_of posted.new.reported ≡ stamp_of posted.old.reported }
+    ensures few { result.0 ≤ length (taken matcher.new) }
+    ensures ends { MatchEnds result.1 (taken matcher.new) posted.new }
 {
-    let mut matcher = matcher;
-    let mut posted = posted;
     let mut worked = 0u64;
     let mut looks = 0u32;
     for _ in rt.forever() {
         if stop.load(Ordering::SeqCst) {
-            return ended(matcher, posted, worked, MatchEnd::Stopped);
+            return (worked, MatchEnd::Stopped);
         }
         match matcher.take() {
-            Taken::Entry(entry) => match match_one(rt, stop, &mut posted, &entry) {
+            Taken::Entry(entry) => match match_one(rt, stop, posted, &entry) {
                 MatchEnd::Whole => {
                     looks = found(looks);
                     worked = posted.reported.count();
@@ -64,34 +71,17 @@ pub fn match_all<'r, R: Wait, G: Gate, A: Allocator + Copy>(
                 }
                 end => {
                     stop.store(true, Ordering::SeqCst);
-                    return ended(matcher, posted, worked, end);
+                    return (worked, end);
                 }
             },
             Taken::Empty => looks = rest(rt, looks),
             Taken::Ended => {
                 end_each(rt, stop, posted.posters.as_mut_slice());
-                return ended(matcher, posted, worked, MatchEnd::Whole);
+                return (worked, MatchEnd::Whole);
             }
         }
     }
     unreachable!()
-}
-
-fn ended<'r, A: Allocator + Copy>(
-    matcher: Matcher<A>,
-    posted: PostedEntries<'r, A>,
-    worked: u64,
-    end: MatchEnd,
-) -> Matched<'r, A>
-    ensures { (result.matcher ≡ matcher) × (result.posted ≡ posted.entry)
-        × (result.worked ≡ worked) × (result.end ≡ end) }
-{
-    Matched {
-        matcher,
-        posted,
-        worked,
-        end,
-    }
 }
 
 /// The matching thread of the scope.
@@ -116,7 +106,17 @@ pub fn start_matching<'s, E, R: Wait + Threads + Sync, G: Gate, A: Allocator + C
         move || -> Matched<A>
             requires { IsUnfed matcher posted }
             ensures { HasMatched matcher posted.entry result }
-        { match_all(rt, gate, stop, matcher, posted) },
+        {
+            let mut matcher = matcher;
+            let mut posted = posted;
+            let (worked, end) = match_all(rt, gate, stop, &mut matcher, &mut posted);
+            Matched {
+                matcher,
+                posted,
+                worked,
+                end,
+            }
+        },
     );
     started.ok()
 }

@@ -11,8 +11,7 @@ use Rattle.day_apply.proofs.HandedOn.{behind_length}
 use Rattle.session_threads.specs.code.Writing.{written_at}
 use Rattle.session_threads.specs.declared.writing.Written.{Written}
 use Rattle.day_threads.specs.Streams.{IsDayOfSessions}
-use Rattle.day_threads.specs.code.Concluding.{IsWhole}
-use Rattle.entry_posting.specs.code.Posting.{posted_at}
+use Rattle.entry_posting.specs.code.Posting.{HasPosted, posted_at}
 use Rattle.day_threads.specs.declared.fault.ThreadsFault.{ThreadsFault}
 use Rattle.day_threads.proofs.CollectedBytes.{collected}
 use Rattle.day_threads.proofs.conclude.conclude.Goals as goal
@@ -22,38 +21,34 @@ none_found : {P : Type 0} (o : Option ThreadsFault) → ((f : ThreadsFault) → 
 none_found None other h = h
 none_found (Some f) other h = absurd (other f refl)
 
--- nothing went wrong
-all_whole : (g : _) (c : After-into_parts-fills g) → IsWhole c.args.streams.now.value.items c.args.sequenced.journal.items c.args.matched.posted c.fault_of.new.written
-all_whole g c = none_found c.fault_of.result c.in_default.not-Some c.fault_of.ensures.whole
-
 -- there are as many texts as sessions
-sixteen : (g : _) (c : After-into_parts-fills g) → vec_len c.into_parts-fills.result.out ≡ 16
-sixteen g c =
+sixteen : (g : _) (c : After-into_parts-fills g) → HasPosted c.args.sequenced.journal.items c.args.matched.posted → vec_len c.into_parts-fills.result.out ≡ 16
+sixteen g c had =
     let p = c.args.matched.posted in
     let texts = p.reported.texts in
-    let had = (all_whole g c).posted in
     let n : length texts ≡ 16 = sym (behind_length (posted_at p.posters.items) texts) ∙ had.reported.sent.count in
     let out = c.into_parts-fills.result.out in
-    let kept = c.into_parts-fills.ensures.texts ∙ ap (λ r. r.texts) c.fault_of.ensures.reported in
+    let kept = c.into_parts-fills.ensures.texts ∙ ap (λ r. r.texts) c.fault_of-fault.ensures.reported in
     omega (arith, out.ok.0, texts_length out.items, ap length kept, n)
 
 pub with_written-out-requires : goal.with_written-out-requires
 with_written-out-requires g c =
-    omega (arith, sixteen g (goal.at.with_written-out-requires g c).After-into_parts-fills, c.requires.few_writers, c.args.written.ok.0)
+    let all = none_found c.fault_of-fault.result c.in_default.not-Some c.fault_of-fault.ensures.whole in
+    omega (arith, sixteen g (goal.at.with_written-out-requires g c).After-into_parts-fills all.posted, c.requires.few_writers, c.args.written.ok.0)
 
 pub returns-clause-day : goal.returns-clause-day
 returns-clause-day g c =
-    let all = all_whole g (goal.at.returns-clause-day g c).After-into_parts-fills in
+    let all = none_found c.fault_of-fault.result c.in_default.not-Some c.fault_of-fault.ensures.whole in
     let p = c.args.matched.posted in
     let rules = sending_rules p.reported in
     let stamp = stamp_of p.reported in
     let journal = c.args.sequenced.journal.items in
-    let ws = c.fault_of.new.written in
-    let items : (with_items c.args.written ws).items ≡ ws = with_items_is c.args.written ws (c.fault_of.ensures.count ∙ c.as_mut_slice.ensures.len) in
-    let n : vec_len c.args.written ≡ length p.posters.items = omega (arith, c.args.written.ok.0, all.count, c.fault_of.ensures.count, c.as_mut_slice.ensures.len) in
+    let ws = c.fault_of-fault.new.written in
+    let items : (with_items c.args.written ws).items ≡ ws = with_items_is c.args.written ws (c.fault_of-fault.ensures.count ∙ c.as_mut_slice.ensures.len) in
+    let n : vec_len c.args.written ≡ length p.posters.items = omega (arith, c.args.written.ok.0, all.count, c.fault_of-fault.ensures.count, c.as_mut_slice.ensures.len) in
     let out = c.with_written-out.result in
     let made = c.with_written-out.ensures in
-    let kept = c.into_parts-fills.ensures.texts ∙ ap (λ r. r.texts) c.fault_of.ensures.reported in
+    let kept = c.into_parts-fills.ensures.texts ∙ ap (λ r. r.texts) c.fault_of-fault.ensures.reported in
     let sent : (s : ℕ) → s < 16 → bytes_of out.items s ≡ outgoing_bytes rules stamp journal s =
     collected journal p (λ s. bytes_of out.items s) all.posted
     (λ s low.
@@ -62,11 +57,11 @@ returns-clause-day g c =
     ∙ (ap (λ (xs : List (Written g.row.A.Denot)). written_at xs s) items
     ∙ all.written s (omega (arith, low, all.count))))
     (λ s past. made.others s (omega (arith, past, n)) ∙ ap (λ (ts : List (List ℕ)). session_text ts s) kept) in
-    subst (λ j. IsDayOfSessions rules stamp c.args.streams.now.value.items record { journal = j; applied = record { fills = c.into_parts-fills.result.fills; out = out } }) (sym c.fault_of.ensures.journal)
+    subst (λ j. IsDayOfSessions rules stamp c.args.streams.now.value.items record { journal = j; applied = record { fills = c.into_parts-fills.result.fills; out = out } }) (sym c.fault_of-fault.ensures.journal)
     record {
       parts = all.parts;
-      fills = c.into_parts-fills.ensures.fills ∙ (ap (λ r. r.applied.fills) c.fault_of.ensures.reported ∙ all.posted.reported.applied.fills);
-      lists = omega (arith, out.ok.0, made.count, sixteen g (goal.at.returns-clause-day g c).After-into_parts-fills);
+      fills = c.into_parts-fills.ensures.fills ∙ (ap (λ r. r.applied.fills) c.fault_of-fault.ensures.reported ∙ all.posted.reported.applied.fills);
+      lists = omega (arith, out.ok.0, made.count, sixteen g (goal.at.returns-clause-day g c).After-into_parts-fills all.posted);
       out = sent;
       whole = λ s h. subst (IsRow (messages_to rules stamp (applied_entries rules journal) s)) (sym (sent s h)) (all.posted.reported.sent.row s h);
     }

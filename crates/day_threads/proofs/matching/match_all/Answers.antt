@@ -6,19 +6,18 @@ use Rattle.stage_rings.specs.Feeding.{taken, SameMatcher}
 use Rattle.stage_rings.specs.declared.post.Poster.{Poster}
 use Rattle.day_threads.specs.code.Matching.{MatchEnds}
 use Rattle.entry_posting.specs.code.Posting.{HasPosted, SamePosters, posted_at}
-use Rattle.entry_posting.specs.declared.step.MatchEnd.TheVariants.{Whole, Stopped}
 use Rattle.entry_posting.specs.declared.posting.PostedEntries.{PostedEntries}
 use Rattle.entry_posting.proofs.Posters.{same_posters_trans}
 use Rattle.entry_posting.proofs.OneEntryMore.{posted_still}
-use Rattle.day_threads.proofs.RingEnds.{has_matched, same_matcher_trans, step_ends}
+use Rattle.day_threads.proofs.RingEnds.{same_matcher_trans, step_ends}
 use Rattle.day_threads.proofs.matching.match_all.Goals as goal
 use Rattle.day_threads.proofs.matching.match_all.Goals.{After-take, After-match_one}
 
-ring : (g : _) (c : After-take g) → SameMatcher c.args.matcher c.take.new.self
-ring g c = same_matcher_trans c.args.matcher c.loop.matcher c.take.new.self c.loop.invariant.ring c.take.ensures.ring
+ring : (g : _) (c : After-take g) → SameMatcher c.args.matcher.now c.take.new.self
+ring g c = same_matcher_trans c.args.matcher.now c.loop.matcher c.take.new.self c.loop.invariant.ring c.take.ensures.ring
 
-writers : (g : _) (c : After-match_one g) → SamePosters c.args.posted.posters.items c.match_one.new.posted.posters.items
-writers g c = same_posters_trans c.args.posted.posters.items c.loop.posted.posters.items c.match_one.new.posted.posters.items c.loop.invariant.writers c.match_one.ensures.writers
+writers : (g : _) (c : After-match_one g) → SamePosters c.args.posted.now.posters.items c.match_one.new.posted.posters.items
+writers g c = same_posters_trans c.args.posted.now.posters.items c.loop.posted.posters.items c.match_one.new.posted.posters.items c.loop.invariant.writers c.match_one.ensures.writers
 
 pub loop-preserved-in-Whole : goal.loop-preserved-in-Whole
 loop-preserved-in-Whole g c =
@@ -43,16 +42,19 @@ returns-in_default g c =
     let was = c.loop.invariant in
     let es = taken c.loop.matcher in
     let ends = step_ends c.match_one.result es c.in-Entry.entry c.loop.posted c.match_one.new.posted c.match_one.ensures.rules c.match_one.ensures.step was.posted in
-    has_matched c.args.matcher c.take.new.self c.args.posted c.match_one.new.posted c.loop.worked c.match_one.result c.ended-in_default.result c.ended-in_default.ensures
-    (ring g (goal.at.returns-in_default g c).After-take) (writers g (goal.at.returns-in_default g c).After-match_one)
-    (c.match_one.ensures.rules ∙ was.rules) (c.match_one.ensures.stamp ∙ was.stamp)
-    (omega (arith, was.few, ap length took.1, length-append es (c.in-Entry.entry ∷ [])))
-    (subst (λ (xs : List Entry). MatchEnds c.match_one.result xs c.match_one.new.posted) (sym took.1) ends)
+    record {
+      ring = ring g (goal.at.returns-in_default g c).After-take;
+      writers = writers g (goal.at.returns-in_default g c).After-match_one;
+      rules = c.match_one.ensures.rules ∙ was.rules;
+      stamp = c.match_one.ensures.stamp ∙ was.stamp;
+      few = omega (arith, was.few, ap length took.1, length-append es (c.in-Entry.entry ∷ []));
+      ends = subst (λ (xs : List Entry). MatchEnds c.match_one.result xs c.match_one.new.posted) (sym took.1) ends;
+    }
 
 pub returns-then-load : goal.returns-then-load
 returns-then-load g c =
     let was = c.loop.invariant in
-    has_matched c.args.matcher c.loop.matcher c.args.posted c.loop.posted c.loop.worked Stopped c.ended.result c.ended.ensures was.ring was.writers was.rules was.stamp was.few tt
+    record { ring = was.ring; writers = was.writers; rules = was.rules; stamp = was.stamp; few = was.few; ends = tt }
 
 pub returns-in-Ended : goal.returns-in-Ended
 returns-in-Ended g c =
@@ -64,11 +66,16 @@ returns-in-Ended g c =
     let value = c.as_mut_slice.ensures.value in
     let is : (with_items old new).items ≡ new = with_items_is old new (c.end_each.ensures.rings.0 ∙ c.as_mut_slice.ensures.len) in
     let same : SamePosters old.items new = subst (λ (ps : List (Poster g.row.A.Denot)). SamePosters ps new) value c.end_each.ensures.rings in
-    let all : SamePosters c.args.posted.posters.items (with_items old new).items =
-    subst (SamePosters c.args.posted.posters.items) (sym is) (same_posters_trans c.args.posted.posters.items old.items new was.writers same) in
+    let all : SamePosters c.args.posted.now.posters.items (with_items old new).items =
+    subst (SamePosters c.args.posted.now.posters.items) (sym is) (same_posters_trans c.args.posted.now.posters.items old.items new was.writers same) in
     let now : HasPosted (taken c.loop.matcher) p =
     posted_still (taken c.loop.matcher) c.loop.posted p was.posted refl (ap length is ∙ same.0)
     (λ s. ap (λ (ps : List (Poster g.row.A.Denot)). posted_at ps s) is ∙ (c.end_each.ensures.posted s ∙ ap (λ (ps : List (Poster g.row.A.Denot)). posted_at ps s) value)) in
-    has_matched c.args.matcher c.take.new.self c.args.posted p c.loop.worked Whole c.ended-in-Ended.result c.ended-in-Ended.ensures
-    (ring g (goal.at.returns-in-Ended g c).After-take) all was.rules was.stamp
-    (omega (arith, was.few, ap length took.0)) (subst (λ (es : List Entry). HasPosted es p) (sym took.0) now)
+    record {
+      ring = ring g (goal.at.returns-in-Ended g c).After-take;
+      writers = all;
+      rules = was.rules;
+      stamp = was.stamp;
+      few = omega (arith, was.few, ap length took.0);
+      ends = subst (λ (es : List Entry). HasPosted es p) (sym took.0) now;
+    }
