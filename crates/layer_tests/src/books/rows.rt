@@ -131,14 +131,18 @@ fn expect_rows<B: Book>(rt: &impl Abort, book: &mut B, rows: &[Row]) {
     }
 }
 
-/// All orders have left it at last, and no pair of them is kept.
-fn expect_over_quoted(rt: &impl Abort, alloc: Global, rules: &Rulebook, rows: &[Row]) {
-    let mut book = QuotedBook::new(alloc, rules).expect(rt, "memory");
-    expect_rows(rt, &mut book, rows);
+/// A new book has no orders, and no pair of them.
+fn expect_new(rt: &impl Abort, book: &QuotedBook<'_, Global>) {
     holds(rt, book.count() == 0 && book.is_all_on());
     holds(rt, book.rules().months() == 3);
     let pair = book.known_pair(Side::Buy, 0).expect(rt, "a month");
     holds(rt, pair.is_none());
+}
+
+fn expect_over_quoted(rt: &impl Abort, alloc: Global, rules: &Rulebook, rows: &[Row]) {
+    let mut book = QuotedBook::new(alloc, rules).expect(rt, "memory");
+    expect_new(rt, &book);
+    expect_rows(rt, &mut book, rows)
 }
 
 fn expect_over_index(rt: &impl Abort, alloc: Global, rules: &Rulebook, rows: &[Row]) {

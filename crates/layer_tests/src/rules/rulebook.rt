@@ -170,6 +170,8 @@ fn twenty_four_months(rt: HostRuntime) -> Result<(), Fail> {
             holds(&rt, rules.implied(near, far) == !off);
         }
     }
-    holds(&rt, rules.find(b"w-x") == Some(Instrument::Spread(22, 23)));
+    let last = Instrument::Spread(22, 23);
+    holds(&rt, rules.find(b"w-x") == Some(last));
+    holds(&rt, last.far_month() == 23);
     Ok(())
 }
