@@ -164,18 +164,24 @@ fn room_for_ids(rt: HostRuntime) {
     holds(&rt, row_of(&table, &keys, 1_100).is_none());
 }
 
-/// A key that was noted and taken back is not found, and one that was known before stays.
+/// A key that was noted and taken back is not found, until it is noted again. Most keys stand in lines.
 #[test]
 fn ids_are_taken_back(rt: HostRuntime) {
     let mut table = IdTable::new(rt.alloc());
     let mut keys = Vec::new(rt.alloc());
-    note_numbers(&rt, &mut table, &mut keys, 300);
-    for n in 250..350usize {
+    let mut in_lines = 0usize;
+    for n in 0..8_190 {
         let noted = note_and_take_back(&mut table, &keys, numbered(n)).expect(&rt, "memory");
-        holds(&rt, noted.is_known() == (n < 300));
+        if matches!(noted, Noted::InLine { line: _, at: _ }) {
+            in_lines = in_lines.wrapping_add(1);
+        }
+        holds(&rt, row_of(&table, &keys, n).is_none());
+        holds(&rt, !note_number(&rt, &mut table, &mut keys, n));
     }
-    rows_stand(&rt, &table, &keys, 300);
-    holds(&rt, row_of(&table, &keys, 310).is_none());
+    holds(&rt, in_lines > 7_500);
+    let known = note_and_take_back(&mut table, &keys, numbered(17)).expect(&rt, "memory");
+    holds(&rt, known.is_known());
+    rows_stand(&rt, &table, &keys, 8_190);
 }
 
 #[test]
