@@ -21,8 +21,8 @@ pub fn numbers_spent()
         → spends_numbers rules (applied_entries rules (take (place - 1) journal)) s ≡ false }
 {}
 
-/// A journal applied entry by entry, each with all entries before it, leaves the orders and makes the fills of the state that
-/// the calls of a market keep.
+/// A journal applied entry by entry, each with all entries before it, leaves the orders and makes the fills of the state
+/// that the calls of a market keep.
 pub fn one_by_one()
     ensures orders { (rules : Rules) (journal : List Entry)
         → (applied_journal rules journal).orders ≡ (meaning_of_journal rules journal).orders }

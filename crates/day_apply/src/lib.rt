@@ -9,5 +9,5 @@ mod report;
 
 pub use apply::AppliedEntries;
 pub use fault::ApplyFault;
-pub use journal::{apply_journal, fills_of_journal};
+pub use journal::{apply_entries, apply_journal, fills_of_journal};
 pub use report::{FillsAndMessages, ReportedEntries};

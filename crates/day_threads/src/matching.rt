@@ -39,8 +39,8 @@ impl<'r, A: Allocator + Copy> Promise<Matched<'r, A>> for MatchPromise<'r, A> {
 }
 
 /// Applies the entries as they come, and gives what each of them sends to the writers before it takes the next, until
-/// the end mark is taken, the flag is set, or one cannot be applied: then it sets the flag. Answers how many were applied
-/// and given to the writers, and how it ended.
+/// the end mark is taken, the flag is set, or one cannot be applied: then it sets the flag. Answers how many were
+/// applied and given to the writers, and how it ended.
 fn match_all<R: Wait, G: Gate, A: Allocator + Copy>(
     rt: &R,
     gate: &G,

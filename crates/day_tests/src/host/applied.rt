@@ -8,7 +8,7 @@ use super::reported::first_fills;
 use crate::expect::holds;
 use crate::rules::three_months;
 use day_apply::laws::one_by_one;
-use day_apply::{AppliedEntries, apply_journal, fills_of_journal};
+use day_apply::{AppliedEntries, apply_entries, apply_journal, fills_of_journal};
 use spread_books::Book;
 use spread_rules::{Entry, Fill, Rulebook};
 use std::alloc::Global;
@@ -72,7 +72,7 @@ fn apply_all(
     applied.into_fills()
 }
 
-/// A whole journal has the same fills, and sixteen lists of bytes.
+/// The journal applied at once has the same fills; with what it sends, sixteen lists of bytes.
 fn expect_whole(rt: &impl Abort, alloc: Global, rules: &Rulebook, journal: &[Entry], fills: &[Fill])
     requires { All FitsEntry journal.now }
 {
@@ -81,6 +81,9 @@ fn expect_whole(rt: &impl Abort, alloc: Global, rules: &Rulebook, journal: &[Ent
     holds(rt, whole.out.len() == 16);
     let alone = fills_of_journal(alloc, rules, journal).expect(rt, "memory");
     holds(rt, alone.as_slice() == fills);
+    let mut applied = AppliedEntries::new(alloc, rules).expect(rt, "memory");
+    apply_entries(&mut applied, journal).expect(rt, "memory");
+    holds(rt, applied.into_fills().as_slice() == fills);
 }
 
 /// The fills of the journal.
