@@ -7,8 +7,6 @@ mod base;
 #[cfg(test)]
 mod books;
 #[cfg(test)]
-mod day;
-#[cfg(test)]
 mod expect;
 #[cfg(test)]
 mod ids;

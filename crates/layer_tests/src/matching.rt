@@ -9,7 +9,7 @@ use spread_match::Market;
 use spread_rules::{Entry, Event, Fill, Instrument, Outcome, Rulebook, Side, Ticket};
 use std::alloc::Global;
 use std::process::Abort;
-use test_support::id;
+use test_support::{first_logon, id};
 
 mod cases;
 mod market;
@@ -95,11 +95,7 @@ fn cancel(name: &[u8], original: &[u8]) -> Entry {
 fn logon() -> Entry {
     Entry {
         session: 0,
-        event: Event::Logon {
-            client: id(b"C1"),
-            host: id(b"HOST"),
-            beat: 30,
-        },
+        event: first_logon(),
     }
 }
 

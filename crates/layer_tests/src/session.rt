@@ -5,7 +5,7 @@ use fix_wire::Message;
 use spread_rules::{Event, Side, Ticket};
 use std::alloc::Allocator;
 use std::process::Abort;
-use test_support::id;
+use test_support::{first_logon, id};
 
 mod kinds;
 mod laws;
@@ -73,18 +73,10 @@ fn ticket_of(order: &Order) -> Ticket {
     }
 }
 
-fn logon() -> Event {
-    Event::Logon {
-        client: id(b"C1"),
-        host: id(b"HOST"),
-        beat: 30,
-    }
-}
-
 fn verdict_of(says: &Says) -> Verdict {
     let event = match says {
         Says::Nothing => return Verdict::Nothing,
-        Says::Logon => logon(),
+        Says::Logon => first_logon(),
         Says::New(order) => Event::New(ticket_of(order)),
         Says::Replace(original, order) => Event::Replace {
             original: id(original),

@@ -1,12 +1,19 @@
-//! What tests share: an allocator that refuses one request, ends that fail, choices by seed, and the worked examples' samples.
+//! What tests share, and the benchmark with them: an allocator that refuses one request, ends that fail, choices by seed,
+//! the worked examples' samples, and what a call requires, looked at.
 #![tactic(auto)]
 
 mod chance;
+mod events;
+mod messages;
+mod ranges;
 mod refusing;
 mod samples;
 
 pub use chance::Chance;
+pub use events::{first_logon, first_order};
 pub use host_base::{TestSink, TestSource};
+pub use messages::{FIRST_BUY, FIRST_LOGON, FIRST_LOGOUT, FIRST_MESSAGES, FIRST_SELL};
+pub use ranges::{fit_fills, fits_outcome};
 pub use refusing::Refusing;
 pub use samples::{
     FIRST_TRADE, FIRST_TRADE_JOURNAL, FIRST_TRADE_LINES, FIRST_TRADE_SENT, FIRST_TRADE_TEXT,

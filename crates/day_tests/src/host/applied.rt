@@ -7,7 +7,7 @@ use super::read_again;
 use super::reported::first_fills;
 use crate::expect::holds;
 use crate::rules::three_months;
-use day_apply::laws::one_by_one;
+use day_apply::laws::{numbers_spent, one_by_one};
 use day_apply::{AppliedEntries, apply_entries, apply_journal, fills_of_journal};
 use spread_books::Book;
 use spread_rules::{Entry, Fill, Rulebook};
@@ -109,5 +109,6 @@ fn resting(rt: HostRuntime) {
 
 #[test]
 fn laws_are_called() {
+    numbers_spent();
     one_by_one();
 }

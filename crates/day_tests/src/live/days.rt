@@ -2,7 +2,6 @@
 ghost use Rattle.day_text.specs.DayText.{AreShown};
 
 use crate::expect::holds;
-use crate::live::first_trade::{logon, order};
 use crate::live::headline::day_of_streams;
 use crate::live::watch::{Meeting, Point, Watch};
 use crate::rules::three_months;
@@ -16,7 +15,9 @@ use std::alloc::{AllocError, Allocator, Global};
 use std::process::Abort;
 use std::sync::Wait;
 use std::thread::Threads;
-use test_support::{FIRST_TRADE, FIRST_TRADE_SENT, id, is_first_sent, stamp};
+use test_support::{
+    FIRST_LOGON, FIRST_TRADE, FIRST_TRADE_SENT, first_logon, first_order, id, is_first_sent, stamp,
+};
 
 pub const USUAL: Caps = Caps {
     ring: 256,
@@ -49,9 +50,9 @@ pub fn streams_of<A: Allocator + Copy>(
 /// The events of the first trade's stream.
 fn first_trade() -> [Event; 4] {
     [
-        logon(),
-        order(b"a", Side::Sell),
-        order(b"b", Side::Buy),
+        first_logon(),
+        first_order(b"a", Side::Sell),
+        first_order(b"b", Side::Buy),
         Event::Close { reason: 1 },
     ]
 }
@@ -425,12 +426,9 @@ fn each_message_once(rt: HostRuntime) {
     expect_part(&rt, rt.alloc(), &day.journal, 0, &first_trade());
 }
 
-const LOGON: &[u8] =
-    b"8=FIX.4.2\x019=57\x0135=A\x0134=1\x0149=C1\x0152=20260105-14:30:00\x0156=HOST\x0198=0\x01108=30\x0110=220\x01";
-
 /// A Logon, then as many TestRequests, as one session's bytes.
 fn test_requests(rt: &impl Abort, alloc: Global, count: u32) -> Vec<u8> {
-    let mut stream = Vec::from_slice(alloc, LOGON).expect(rt, "memory");
+    let mut stream = Vec::from_slice(alloc, FIRST_LOGON).expect(rt, "memory");
     let fields = [Field {
         tag: tags::TEST_REQ_ID,
         value: Value::Text(id(b"T")),
@@ -493,7 +491,7 @@ fn each_message_once_over_a_full_ring(rt: HostRuntime) {
 /// The events of a Logon and so many TestRequests.
 fn said_by_requests(rt: &impl Abort, alloc: Global, count: u32) -> Vec<Event> {
     let mut events = Vec::new(alloc);
-    events.push(logon()).expect(rt, "memory");
+    events.push(first_logon()).expect(rt, "memory");
     for _ in 0..count {
         let event = Event::TestReply { text: id(b"T") };
         events.push(event).expect(rt, "memory");

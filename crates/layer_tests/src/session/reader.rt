@@ -3,7 +3,6 @@ ghost use Rattle.std.specs.Prelude.{◌<◌};
 
 use super::Says::{Close, Logon, Nothing};
 use super::{BUY, FIRST_TRADE_SAYS, SELL, Says, expect_said};
-use crate::day;
 use crate::expect::holds;
 use fix_session::{Reader, Session, Verdict, read_pieces};
 use fix_wire::{Framer, Message};
@@ -11,7 +10,7 @@ use session_judging::{count_messages, judge_ahead};
 use spread_rules::{Entry, Event};
 use std::alloc::Allocator;
 use std::process::Abort;
-use test_support::FIRST_TRADE;
+use test_support::{FIRST_MESSAGES, FIRST_TRADE};
 
 /// What is done with a reader, and what it answers.
 enum Step {
@@ -170,12 +169,10 @@ fn entries_of_a_text(rt: HostRuntime) {
     }
 }
 
-const DAY: [&[u8]; 4] = [day::LOGON, day::SELL, day::BUY, day::LOGOUT];
-
 fn expect_day<A: Allocator>(rt: &impl Abort, messages: &[Vec<u8, A>]) {
     holds(rt, messages.len() == 4);
     for place in 0..4usize {
-        holds(rt, messages[place].as_slice() == DAY[place]);
+        holds(rt, messages[place].as_slice() == FIRST_MESSAGES[place]);
     }
 }
 
@@ -220,7 +217,7 @@ fn messages_of_a_framer(rt: HostRuntime) {
 fn changes_of_a_session(rt: HostRuntime) {
     let mut session = Session::new();
     for place in 0..4usize {
-        let message = Message::whole(DAY[place]).expect(&rt, "a message");
+        let message = Message::whole(FIRST_MESSAGES[place]).expect(&rt, "a message");
         let mut verdict = Verdict::Nothing;
         let change = session.judged(&message, &mut verdict);
         session.change(&verdict, change);

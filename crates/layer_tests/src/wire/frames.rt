@@ -1,10 +1,9 @@
 //! Frames of streams, cut and garbled.
-use crate::day::{BUY, LOGON, LOGOUT, SELL};
 use crate::expect::holds;
 use fix_wire::{FrameTable, Framer, Look, Message, Next};
 use std::alloc::Allocator;
 use std::process::Abort;
-use test_support::FIRST_TRADE;
+use test_support::{FIRST_BUY, FIRST_LOGON, FIRST_LOGOUT, FIRST_MESSAGES, FIRST_SELL, FIRST_TRADE};
 
 /// A part of a stream: bytes, or that many letters x.
 enum Part {
@@ -73,7 +72,7 @@ fn a_stream_cut_anywhere(rt: HostRuntime) {
     holds(&rt, FIRST_TRADE.len() == 400);
     for cut in 0..=400usize {
         let pieces = [&FIRST_TRADE[..cut], &FIRST_TRADE[cut..]];
-        expect_frames(&rt, &pieces, DAY);
+        expect_frames(&rt, &pieces, &FIRST_MESSAGES);
     }
 }
 
@@ -84,8 +83,6 @@ enum Frames {
 }
 
 use Frames::{These, Whole};
-
-const DAY: &[&[u8]] = &[LOGON, SELL, BUY, LOGOUT];
 
 struct StreamCase {
     name: &'static str,
@@ -99,7 +96,7 @@ static STREAMS: &[StreamCase] = &[
         name: "a day",
         stream: &[Bytes(FIRST_TRADE)],
         length: 400,
-        frames: These(DAY),
+        frames: These(&FIRST_MESSAGES),
     },
     StreamCase {
         name: "a frame of 4,000 bytes of body with a wrong CheckSum, and a day",
@@ -110,7 +107,7 @@ static STREAMS: &[StreamCase] = &[
             Bytes(FIRST_TRADE),
         ],
         length: 4424,
-        frames: These(DAY),
+        frames: These(&FIRST_MESSAGES),
     },
     StreamCase {
         name: "the same, whose body is a byte short of its BodyLength",
@@ -121,13 +118,13 @@ static STREAMS: &[StreamCase] = &[
             Bytes(FIRST_TRADE),
         ],
         length: 4423,
-        frames: These(DAY),
+        frames: These(&FIRST_MESSAGES),
     },
     StreamCase {
         name: "a header whose body would end within the day",
         stream: &[Bytes(b"8=FIX.4.2\x019=200\x01"), Bytes(FIRST_TRADE)],
         length: 416,
-        frames: These(DAY),
+        frames: These(&FIRST_MESSAGES),
     },
     StreamCase {
         name: "a header that waits for more than the day",
@@ -143,7 +140,7 @@ static STREAMS: &[StreamCase] = &[
             Bytes(b"10=000\x01"),
         ],
         length: 431,
-        frames: These(DAY),
+        frames: These(&FIRST_MESSAGES),
     },
     StreamCase {
         name: "frames within a lawful frame",
@@ -154,15 +151,15 @@ static STREAMS: &[StreamCase] = &[
     StreamCase {
         name: "a CheckSum of two digits",
         stream: &[
-            Bytes(LOGON),
+            Bytes(FIRST_LOGON),
             Bytes(
                 b"8=FIX.4.2\x019=104\x0135=D\x0134=2\x0149=C1\x0152=20260105-14:30:00\x0156=HOST\x0111=a\x0121=1\x0155=H6\x0154=2\x0160=20260105-14:30:00\x0138=5\x0140=2\x0144=100\x0110=68\x01",
             ),
-            Bytes(BUY),
-            Bytes(LOGOUT),
+            Bytes(FIRST_BUY),
+            Bytes(FIRST_LOGOUT),
         ],
         length: 399,
-        frames: These(&[LOGON, BUY, LOGOUT]),
+        frames: These(&[FIRST_LOGON, FIRST_BUY, FIRST_LOGOUT]),
     },
     StreamCase {
         name: "the least frame",
@@ -249,11 +246,11 @@ enum Step {
 
 const A_FULL_BUFFER: &[Step] = &[
     Step::Pass(false),
-    Step::Put(&[Letters(8113), Bytes(LOGON)], 8192),
-    Step::Put(&[Bytes(LOGON)], 0),
-    Step::Next(Some(LOGON)),
+    Step::Put(&[Letters(8113), Bytes(FIRST_LOGON)], 8192),
+    Step::Put(&[Bytes(FIRST_LOGON)], 0),
+    Step::Next(Some(FIRST_LOGON)),
     Step::Held(79),
-    Step::Put(&[Bytes(SELL)], 127),
+    Step::Put(&[Bytes(FIRST_SELL)], 127),
     Step::Pass(true),
     Step::Pass(true),
     Step::Next(None),
@@ -262,13 +259,21 @@ const A_FULL_BUFFER: &[Step] = &[
 ];
 
 const LOOKED_AT_FROM_A_PLACE: &[Step] = &[
-    Step::Put(&[Bytes(b"xx"), Bytes(LOGON), Bytes(SELL), Bytes(BUY)], 335),
+    Step::Put(
+        &[
+            Bytes(b"xx"),
+            Bytes(FIRST_LOGON),
+            Bytes(FIRST_SELL),
+            Bytes(FIRST_BUY),
+        ],
+        335,
+    ),
     Step::Held(335),
-    Step::Look(0, Some((LOGON, 81))),
-    Step::Look(2, Some((LOGON, 81))),
-    Step::Look(3, Some((SELL, 208))),
-    Step::Look(81, Some((SELL, 208))),
-    Step::Look(208, Some((BUY, 335))),
+    Step::Look(0, Some((FIRST_LOGON, 81))),
+    Step::Look(2, Some((FIRST_LOGON, 81))),
+    Step::Look(3, Some((FIRST_SELL, 208))),
+    Step::Look(81, Some((FIRST_SELL, 208))),
+    Step::Look(208, Some((FIRST_BUY, 335))),
     Step::Look(335, None),
     Step::Held(335),
 ];

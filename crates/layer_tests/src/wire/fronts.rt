@@ -1,21 +1,21 @@
 //! What stands at the front of a text, and its CheckSum.
-use crate::day::SELL;
 use crate::expect::holds;
 use fix_frames::{
     BEGIN_TEXT, FrameTable, Message, Scan, checksum, checksum_digits, next_begin, scan_front,
 };
+use test_support::FIRST_SELL;
 
 /// A lawful frame in front, what may begin one, and neither.
 #[test]
 fn fronts_of_texts(rt: HostRuntime) {
     let mut table = FrameTable::empty();
-    let is_cut = matches!(scan_front(&SELL[..20], &mut table), Scan::Incomplete);
+    let is_cut = matches!(scan_front(&FIRST_SELL[..20], &mut table), Scan::Incomplete);
     let is_begin = matches!(scan_front(&BEGIN_TEXT, &mut table), Scan::Incomplete);
     let is_garbled = matches!(scan_front(b"9=5", &mut table), Scan::Garbled);
     holds(&rt, is_cut & is_begin & is_garbled);
-    match scan_front(SELL, &mut table) {
-        Scan::Frame(n) if n == SELL.len() => {
-            let sell = Message::of_frame(SELL, &table);
+    match scan_front(FIRST_SELL, &mut table) {
+        Scan::Frame(n) if n == FIRST_SELL.len() => {
+            let sell = Message::of_frame(FIRST_SELL, &table);
             let is_order = sell.kind() == b"D".as_slice();
             holds(&rt, is_order & (sell.get(55) == Some(b"H6".as_slice())));
         }
@@ -29,7 +29,7 @@ fn sums_of_texts(rt: HostRuntime) {
     holds(&rt, checksum(b"") == 0);
     holds(&rt, checksum(b"abc") == 38);
     holds(&rt, checksum_digits(38) == *b"10=038\x01");
-    let (text, trailer) = SELL.split_at(SELL.len() - 7);
+    let (text, trailer) = FIRST_SELL.split_at(FIRST_SELL.len() - 7);
     holds(&rt, checksum_digits(checksum(text)).as_slice() == trailer);
 }
 

@@ -2,9 +2,9 @@
 ghost use Rattle.fix_frames.specs.Frames.{IsFrameRow};
 
 use super::writing::REPORT;
-use crate::day::{LOGON, SELL};
 use crate::expect::{holds, holds_for};
 use fix_wire::{Message, first_of_row, read_price};
+use test_support::{FIRST_LOGON, FIRST_SELL};
 
 struct MessageCase {
     name: &'static str,
@@ -20,7 +20,7 @@ struct MessageCase {
 static MESSAGES: &[MessageCase] = &[
     MessageCase {
         name: "a sell order",
-        frame: SELL,
+        frame: FIRST_SELL,
         kind: b"D",
         number: 2,
         price: Some(10_000),
@@ -105,7 +105,7 @@ fn two_frames() -> &'static [u8]
 /// A frame without its first byte, nothing, and two frames are no message.
 #[test]
 fn no_whole_message(rt: HostRuntime) {
-    holds(&rt, Message::whole(&SELL[1..]).is_none());
+    holds(&rt, Message::whole(&FIRST_SELL[1..]).is_none());
     holds(&rt, Message::whole(b"").is_none());
     holds(&rt, Message::whole(two_frames()).is_none());
 }
@@ -113,8 +113,8 @@ fn no_whole_message(rt: HostRuntime) {
 #[test]
 fn rows_of_frames(rt: HostRuntime) {
     let (first, rest) = first_of_row(two_frames()).expect(&rt, "a frame");
-    holds(&rt, first == LOGON);
+    holds(&rt, first == FIRST_LOGON);
     let (second, end) = first_of_row(rest).expect(&rt, "a second frame");
-    holds(&rt, second == SELL);
+    holds(&rt, second == FIRST_SELL);
     holds(&rt, first_of_row(end).is_none());
 }
