@@ -1,4 +1,5 @@
 //! The table of ids: each that was noted is found at its first row, and no other one.
+ghost use Rattle.std.specs.Prelude.{[]};
 ghost use Rattle.row_index.specs.Tables.{IsTableOf};
 
 use crate::expect::holds;
@@ -38,9 +39,9 @@ fn numbered(n: usize) -> IdKey {
 }
 
 /// One row more. Answers whether one before it has its session and id.
-fn note_next<A: Allocator + Copy>(
+fn note_next<A: Allocator + Copy, B: Allocator>(
     table: &mut IdTable<A>,
-    keys: &mut Vec<IdKey, A>,
+    keys: &mut Vec<IdKey, B>,
     key: IdKey,
 ) -> Result<bool, NoMemory>
     requires { IsTableOf table.old keys.old.items }
@@ -162,6 +163,54 @@ fn room_for_ids(rt: HostRuntime) {
         .expect(&rt, "memory");
     rows_stand(&rt, &table, &keys, 1_100);
     holds(&rt, row_of(&table, &keys, 1_100).is_none());
+}
+
+/// So many rows more. Answers whether all were new.
+fn are_noted<A: Allocator + Copy, B: Allocator>(
+    table: &mut IdTable<A>,
+    keys: &mut Vec<IdKey, B>,
+    count: usize,
+) -> Result<bool, NoMemory>
+    requires { IsTableOf table.old keys.old.items }
+{
+    for n in 0..count {
+        if note_next(table, keys, numbered(n))? {
+            return Ok(false);
+        }
+    }
+    Ok(true)
+}
+
+/// Where lines for a thousand keys were made, three hundred take no memory: the second request would be refused.
+#[test]
+fn room_is_made_beforehand(rt: HostRuntime) {
+    let heap = Refusing::new(rt.alloc(), 2);
+    let mut table = IdTable::new(&heap);
+    let mut keys = Vec::new(rt.alloc());
+    table
+        .reserve(&Keys { keys: &keys }, 1_000)
+        .expect(&rt, "memory");
+    holds(&rt, are_noted(&mut table, &mut keys, 300) == Ok(true));
+    holds(&rt, !heap.has_refused());
+}
+
+/// So many keys, each taken back before the next one comes.
+fn come_and_go<A: Allocator + Copy>(table: &mut IdTable<A>, count: usize) -> Result<(), NoMemory>
+    requires { IsTableOf table.old [] }
+{
+    for n in 0..count {
+        note_and_take_back(table, &[], numbered(n))?;
+    }
+    Ok(())
+}
+
+/// A key that is taken back leaves its room to the next: however many come and go, no second request is made.
+#[test]
+fn room_is_left(rt: HostRuntime) {
+    let heap = Refusing::new(rt.alloc(), 2);
+    let mut table = IdTable::new(&heap);
+    come_and_go(&mut table, 2_000).expect(&rt, "memory");
+    holds(&rt, !heap.has_refused());
 }
 
 /// A key that was noted and taken back is not found, until it is noted again. Most keys stand in lines.

@@ -97,7 +97,8 @@ impl<A: Allocator + Copy> FrontTable<A> {
 
     /// Whether it has no slot.
     pub fn is_empty(&self) -> bool
-        ensures { result ≡ true → self.now ≡ [] }
+        ensures yes { result ≡ true → self.now ≡ [] }
+        ensures no { self.now ≡ [] → result ≡ true }
     {
         self.slots.is_empty()
     }

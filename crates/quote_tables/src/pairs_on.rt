@@ -8,7 +8,8 @@ use spread_rules::Rulebook;
 
 /// Whether each pair with that near month takes part.
 fn is_row_on(rules: &Rulebook, near: u8) -> bool
-    ensures { result ≡ true → IsRowOn (implied rules.now) near }
+    ensures yes { result ≡ true → IsRowOn (implied rules.now) near }
+    ensures no { IsRowOn (implied rules.now) near → result ≡ true }
 {
     for far in 0..MAX_MONTHS {
         if !rules.implied(near, far) {
@@ -20,7 +21,8 @@ fn is_row_on(rules: &Rulebook, near: u8) -> bool
 
 /// Whether each pair takes part.
 pub fn is_all_on(rules: &Rulebook) -> bool
-    ensures { result ≡ true → AreAllOn (implied rules.now) }
+    ensures yes { result ≡ true → AreAllOn (implied rules.now) }
+    ensures no { AreAllOn (implied rules.now) → result ≡ true }
 {
     for near in 0..MAX_MONTHS {
         if !is_row_on(rules, near) {

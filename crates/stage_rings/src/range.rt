@@ -12,14 +12,16 @@ use spread_rules::{Entry, Event, Ticket};
 
 /// Every id is one.
 fn is_id(id: &Id) -> bool
-    ensures { OnTrue result (is_id id.now ≡ true) }
+    ensures yes { OnTrue result (is_id id.now ≡ true) }
+    ensures no { is_id id.now ≡ true → result ≡ true }
 {
     // Cites what an id is.
     !id.bytes().is_empty()
 }
 
 fn fits_ticket(ticket: &Ticket) -> bool
-    ensures { OnTrue result (FitsTicket ticket.now) }
+    ensures yes { OnTrue result (FitsTicket ticket.now) }
+    ensures no { FitsTicket ticket.now → result ≡ true }
 {
     is_id(&ticket.id)
         && is_id(&ticket.symbol)
@@ -29,13 +31,15 @@ fn fits_ticket(ticket: &Ticket) -> bool
 }
 
 fn is_number(number: u32) -> bool
-    ensures { OnTrue result (IsNumber number) }
+    ensures yes { OnTrue result (IsNumber number) }
+    ensures no { IsNumber number → result ≡ true }
 {
     1 <= number && number <= MAX_MSG_SEQ_NUM
 }
 
 fn is_reject_reason(reason: u8) -> bool
-    ensures { OnTrue result (is_reject_reason reason ≡ true) }
+    ensures yes { OnTrue result (is_reject_reason reason ≡ true) }
+    ensures no { is_reject_reason reason ≡ true → result ≡ true }
 {
     reason == reject::REQUIRED_TAG_MISSING
         || reason == reject::TAG_WITHOUT_VALUE
@@ -45,7 +49,8 @@ fn is_reject_reason(reason: u8) -> bool
 }
 
 fn fits_event(event: &Event) -> bool
-    ensures { OnTrue result (FitsEvent event.now) }
+    ensures yes { OnTrue result (FitsEvent event.now) }
+    ensures no { FitsEvent event.now → result ≡ true }
 {
     match event {
         Event::Logon { client, host, beat } => is_id(client) && is_id(host) && *beat <= MAX_NUMBER,
@@ -66,7 +71,8 @@ fn fits_event(event: &Event) -> bool
 
 /// Whether the entry is in range.
 pub fn fits_entry(entry: &Entry) -> bool
-    ensures { OnTrue result (FitsEntry entry.now) }
+    ensures yes { OnTrue result (FitsEntry entry.now) }
+    ensures no { FitsEntry entry.now → result ≡ true }
 {
     usize::from(entry.session) < SESSIONS && fits_event(&entry.event)
 }
