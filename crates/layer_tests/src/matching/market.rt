@@ -4,13 +4,14 @@ ghost use Rattle.market_state.specs.State.{empty_state};
 
 use super::{H6_M6, applied, buy, rulebook, sell};
 use crate::expect::holds;
+use host_base::NoMemory;
 use spread_books::ListBook;
 use spread_match::Market;
 use spread_match::laws::{lawful, ranges, without_replace};
 use spread_rules::{Choice, Entry, Fill, Members, Order, Outcome, Side};
 use std::alloc::Global;
 use std::process::Abort;
-use test_support::{THREE_MONTHS, id};
+use test_support::{Refusing, THREE_MONTHS, id};
 
 /// The entry of that place comes to rest.
 fn expect_rested(
@@ -67,6 +68,16 @@ fn best_and_apply(rt: HostRuntime) {
     let rules = rulebook(&rt, THREE_MONTHS, "a rulebook");
     let mut market = Market::new(rt.alloc(), &rules, ListBook::new(rt.alloc()));
     expect_best(&rt, &mut market, &mut Vec::new(rt.alloc()));
+}
+
+/// Room for a thousand orders is asked for at once: where the first request is refused, none was made.
+#[test]
+fn room_is_asked_for(rt: HostRuntime) {
+    let rules = rulebook(&rt, THREE_MONTHS, "a rulebook");
+    let heap = Refusing::new(rt.alloc(), 1);
+    let mut market = Market::new(&heap, &rules, ListBook::new(rt.alloc()));
+    holds(&rt, market.reserve(1_000) == Err(NoMemory));
+    holds(&rt, market.reserve(1_000) == Ok(()));
 }
 
 #[test]
