@@ -54,10 +54,10 @@ fn note_next<A: Allocator + Copy, B: Allocator>(
 }
 
 /// One row of that number more. Answers whether one before it has its session and id.
-fn note_number<A: Allocator + Copy>(
+fn note_number<A: Allocator + Copy, B: Allocator>(
     rt: &impl Abort,
     table: &mut IdTable<A>,
-    keys: &mut Vec<IdKey, A>,
+    keys: &mut Vec<IdKey, B>,
     n: usize,
 ) -> bool
     requires { IsTableOf table.old keys.old.items }
@@ -103,10 +103,10 @@ fn rows_stand<A: Allocator + Copy>(
 
 /// Rows of the numbers up to there, which stand at those rows then. A request for memory that is refused leaves all as
 /// it was.
-fn note_numbers<A: Allocator + Copy>(
+fn note_numbers<A: Allocator + Copy, B: Allocator>(
     rt: &impl Abort,
     table: &mut IdTable<A>,
-    keys: &mut Vec<IdKey, A>,
+    keys: &mut Vec<IdKey, B>,
     count: usize,
 )
     requires { IsTableOf table.old keys.old.items }
@@ -165,22 +165,6 @@ fn room_for_ids(rt: HostRuntime) {
     holds(&rt, row_of(&table, &keys, 1_100).is_none());
 }
 
-/// So many rows more. Answers whether all were new.
-fn are_noted<A: Allocator + Copy, B: Allocator>(
-    table: &mut IdTable<A>,
-    keys: &mut Vec<IdKey, B>,
-    count: usize,
-) -> Result<bool, NoMemory>
-    requires { IsTableOf table.old keys.old.items }
-{
-    for n in 0..count {
-        if note_next(table, keys, numbered(n))? {
-            return Ok(false);
-        }
-    }
-    Ok(true)
-}
-
 /// Where lines for a thousand keys were made, three hundred take no memory: the second request would be refused.
 #[test]
 fn room_is_made_beforehand(rt: HostRuntime) {
@@ -190,18 +174,8 @@ fn room_is_made_beforehand(rt: HostRuntime) {
     table
         .reserve(&Keys { keys: &keys }, 1_000)
         .expect(&rt, "memory");
-    holds(&rt, are_noted(&mut table, &mut keys, 300) == Ok(true));
+    note_numbers(&rt, &mut table, &mut keys, 300);
     holds(&rt, !heap.has_refused());
-}
-
-/// So many keys, each taken back before the next one comes.
-fn come_and_go<A: Allocator + Copy>(table: &mut IdTable<A>, count: usize) -> Result<(), NoMemory>
-    requires { IsTableOf table.old [] }
-{
-    for n in 0..count {
-        note_and_take_back(table, &[], numbered(n))?;
-    }
-    Ok(())
 }
 
 /// A key that is taken back leaves its room to the next: however many come and go, no second request is made.
@@ -209,7 +183,9 @@ fn come_and_go<A: Allocator + Copy>(table: &mut IdTable<A>, count: usize) -> Res
 fn room_is_left(rt: HostRuntime) {
     let heap = Refusing::new(rt.alloc(), 2);
     let mut table = IdTable::new(&heap);
-    come_and_go(&mut table, 2_000).expect(&rt, "memory");
+    for n in 0..2_000 {
+        note_and_take_back(&mut table, &[], numbered(n)).expect(&rt, "memory");
+    }
     holds(&rt, !heap.has_refused());
 }
 

@@ -1,5 +1,5 @@
 //! The best prices of queues, to be read with no look-up.
-ghost use Rattle.std.specs.Prelude.{◌≡◌, [], None, OnOk, OnErr, replicate, true};
+ghost use Rattle.std.specs.Prelude.{◌≡◌, ◌↔◌, [], None, OnOk, OnErr, replicate, IsTrue};
 ghost use Rattle.order_tables.specs.declared.front_table.TheConstants.{SLOTS};
 ghost use Rattle.order_tables.specs.FrontTable.{slot_of, known_price, with_known_price, best_price_of, level_at};
 
@@ -97,8 +97,7 @@ impl<A: Allocator + Copy> FrontTable<A> {
 
     /// Whether it has no slot.
     pub fn is_empty(&self) -> bool
-        ensures yes { result ≡ true → self.now ≡ [] }
-        ensures no { self.now ≡ [] → result ≡ true }
+        ensures { IsTrue result ↔ (self.now ≡ []) }
     {
         self.slots.is_empty()
     }

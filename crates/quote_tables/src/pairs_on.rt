@@ -1,5 +1,5 @@
 //! Whether each pair of months takes part in implied trading.
-ghost use Rattle.std.specs.Prelude.{◌≡◌, true};
+ghost use Rattle.std.specs.Prelude.{◌↔◌, IsTrue};
 ghost use Rattle.spread_rulebook.specs.Rulebook.{implied};
 ghost use Rattle.quote_tables.specs.code.PairsOn.{IsRowOn, AreAllOn};
 
@@ -8,8 +8,7 @@ use spread_rules::Rulebook;
 
 /// Whether each pair with that near month takes part.
 fn is_row_on(rules: &Rulebook, near: u8) -> bool
-    ensures yes { result ≡ true → IsRowOn (implied rules.now) near }
-    ensures no { IsRowOn (implied rules.now) near → result ≡ true }
+    ensures { IsTrue result ↔ IsRowOn (implied rules.now) near }
 {
     for far in 0..MAX_MONTHS {
         if !rules.implied(near, far) {
@@ -21,8 +20,7 @@ fn is_row_on(rules: &Rulebook, near: u8) -> bool
 
 /// Whether each pair takes part.
 pub fn is_all_on(rules: &Rulebook) -> bool
-    ensures yes { result ≡ true → AreAllOn (implied rules.now) }
-    ensures no { AreAllOn (implied rules.now) → result ≡ true }
+    ensures { IsTrue result ↔ AreAllOn (implied rules.now) }
 {
     for near in 0..MAX_MONTHS {
         if !is_row_on(rules, near) {

@@ -1,7 +1,6 @@
 //! Whether an entry is in the ranges of a journal's entries: what is known of it in the thread that sent it is known no
 //! more in the thread that takes it from a ring.
-ghost use Rattle.std.specs.Bool.{OnTrue};
-ghost use Rattle.std.specs.Prelude.{◌≡◌, true};
+ghost use Rattle.std.specs.Prelude.{◌≡◌, ◌↔◌, true, IsTrue};
 ghost use Rattle.host_base.specs.Ids.{is_id};
 ghost use Rattle.spread_rules.specs.Journal.{FitsEntry, FitsEvent, FitsTicket, IsNumber, is_reject_reason};
 
@@ -12,16 +11,14 @@ use spread_rules::{Entry, Event, Ticket};
 
 /// Every id is one.
 fn is_id(id: &Id) -> bool
-    ensures yes { OnTrue result (is_id id.now ≡ true) }
-    ensures no { is_id id.now ≡ true → result ≡ true }
+    ensures { IsTrue result ↔ (is_id id.now ≡ true) }
 {
     // Cites what an id is.
     !id.bytes().is_empty()
 }
 
 fn fits_ticket(ticket: &Ticket) -> bool
-    ensures yes { OnTrue result (FitsTicket ticket.now) }
-    ensures no { FitsTicket ticket.now → result ≡ true }
+    ensures { IsTrue result ↔ FitsTicket ticket.now }
 {
     is_id(&ticket.id)
         && is_id(&ticket.symbol)
@@ -31,15 +28,13 @@ fn fits_ticket(ticket: &Ticket) -> bool
 }
 
 fn is_number(number: u32) -> bool
-    ensures yes { OnTrue result (IsNumber number) }
-    ensures no { IsNumber number → result ≡ true }
+    ensures { IsTrue result ↔ IsNumber number }
 {
     1 <= number && number <= MAX_MSG_SEQ_NUM
 }
 
 fn is_reject_reason(reason: u8) -> bool
-    ensures yes { OnTrue result (is_reject_reason reason ≡ true) }
-    ensures no { is_reject_reason reason ≡ true → result ≡ true }
+    ensures { IsTrue result ↔ (is_reject_reason reason ≡ true) }
 {
     reason == reject::REQUIRED_TAG_MISSING
         || reason == reject::TAG_WITHOUT_VALUE
@@ -49,8 +44,7 @@ fn is_reject_reason(reason: u8) -> bool
 }
 
 fn fits_event(event: &Event) -> bool
-    ensures yes { OnTrue result (FitsEvent event.now) }
-    ensures no { FitsEvent event.now → result ≡ true }
+    ensures { IsTrue result ↔ FitsEvent event.now }
 {
     match event {
         Event::Logon { client, host, beat } => is_id(client) && is_id(host) && *beat <= MAX_NUMBER,
@@ -71,8 +65,7 @@ fn fits_event(event: &Event) -> bool
 
 /// Whether the entry is in range.
 pub fn fits_entry(entry: &Entry) -> bool
-    ensures yes { OnTrue result (FitsEntry entry.now) }
-    ensures no { FitsEntry entry.now → result ≡ true }
+    ensures { IsTrue result ↔ FitsEntry entry.now }
 {
     usize::from(entry.session) < SESSIONS && fits_event(&entry.event)
 }

@@ -8,6 +8,7 @@ mod days;
 mod gateways;
 mod laws;
 mod links;
+mod range;
 mod ring_ends;
 mod slices;
 mod threads;

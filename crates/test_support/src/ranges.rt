@@ -1,15 +1,14 @@
 //! What `Desk::outgoing` requires of an outcome and of fills, looked at.
-ghost use Rattle.std.specs.Prelude.{ℕ, ◌<◌, ◌≤◌, length, slice_index_or};
-ghost use Rattle.std.specs.Bool.{OnTrue};
-ghost use Rattle.spread_rules.specs.declared.fill.Fill.{Fill};
+ghost use Rattle.std.specs.Prelude.{◌↔◌, IsTrue};
 ghost use Rattle.spread_rulebook.specs.Rulebook.{IsListed};
-ghost use Rattle.spread_rules.specs.Ranges.{FitsOutcome, FitsFill};
+ghost use Rattle.spread_rules.specs.Ranges.{FitsOutcome, FitsFill, FitFills};
 
+use host_base::limits::SESSIONS;
 use spread_rules::{Event, Fill, Instrument, Outcome, Rulebook};
 
 /// Whether the rulebook has the instrument.
 fn is_listed(rules: &Rulebook, instrument: Instrument) -> bool
-    ensures { OnTrue result (IsListed rules.now instrument) }
+    ensures { IsTrue result ↔ IsListed rules.now instrument }
 {
     match instrument {
         Instrument::Outright(month) => month < rules.months(),
@@ -18,15 +17,16 @@ fn is_listed(rules: &Rulebook, instrument: Instrument) -> bool
 }
 
 fn fits_fill(rules: &Rulebook, fill: &Fill) -> bool
-    ensures { OnTrue result (FitsFill rules.now fill.now) }
+    ensures { IsTrue result ↔ FitsFill rules.now fill.now }
 {
-    is_listed(rules, fill.instrument) && fill.session < 16 && fill.leaves <= fill.total
+    is_listed(rules, fill.instrument)
+        && usize::from(fill.session) < SESSIONS
+        && fill.leaves <= fill.total
 }
 
 /// Whether all fills are in range.
 pub fn fit_fills(rules: &Rulebook, fills: &[Fill]) -> bool
-    ensures { OnTrue result ((k : ℕ) (d : Fill) → k < length fills.now
-        → FitsFill rules.now (slice_index_or fills.now k d)) }
+    ensures { IsTrue result ↔ FitFills rules.now fills.now }
 {
     for fill in fills {
         if !fits_fill(rules, fill) {
@@ -38,7 +38,7 @@ pub fn fit_fills(rules: &Rulebook, fills: &[Fill]) -> bool
 
 /// Whether what came of an entry fits its event.
 pub fn fits_outcome(rules: &Rulebook, event: &Event, outcome: &Outcome) -> bool
-    ensures { OnTrue result (FitsOutcome rules.now event.now outcome.now) }
+    ensures { IsTrue result ↔ FitsOutcome rules.now event.now outcome.now }
 {
     match (event, outcome) {
         (Event::New(ticket), Outcome::Ended { left }) => *left <= ticket.quantity,
