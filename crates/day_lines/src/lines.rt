@@ -14,7 +14,7 @@ use std::alloc::AllocError;
 use thiserror::Error;
 
 /// Some bytes of a session's stream.
-#[derive(Clone, Copy, Debug, PartialEq, Eq)]
+#[derive(Clone, Copy, PartialEq, Eq)]
 pub struct Line<'a> {
     /// 0 to 15.
     pub session: u8,

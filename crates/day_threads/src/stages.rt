@@ -18,7 +18,7 @@ use spread_rules::Rulebook;
 use std::alloc::Allocator;
 
 /// How many events each ring takes, 1 to 4,096, and how many entries the journal, at most 1,000,000.
-#[derive(Clone, Copy, Debug, PartialEq, Eq)]
+#[derive(Clone, Copy, PartialEq, Eq)]
 pub struct Caps {
     pub ring: usize,
     pub journal: usize,

@@ -12,7 +12,7 @@ use memchr::memchr;
 pub const MAX_HUNDREDTHS: u64 = 1_000_000_000;
 
 /// Why a value isn't read: it has another form, or it is out of range.
-#[derive(Clone, Copy, Debug, PartialEq, Eq)]
+#[derive(Clone, Copy, PartialEq, Eq)]
 pub enum Unread {
     Format,
     Range,

@@ -35,7 +35,7 @@ pub struct Gateway<A: Allocator> {
 }
 
 /// What one step of a gateway did.
-#[derive(Clone, Copy, PartialEq, Eq, Debug)]
+#[derive(Clone, Copy, PartialEq, Eq)]
 pub enum Step {
     /// One event was pushed.
     Sent,
@@ -50,7 +50,7 @@ pub enum Step {
 }
 
 /// What a gateway did with several messages at once.
-#[derive(Clone, Copy, PartialEq, Eq, Debug)]
+#[derive(Clone, Copy, PartialEq, Eq)]
 pub enum Burst {
     /// So many events were pushed as one slice, and their messages passed.
     Sent(u32),

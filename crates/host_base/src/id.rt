@@ -8,7 +8,7 @@ use crate::limits::MAX_ID_LENGTH;
 use std::marker::Model;
 
 /// 1 to 32 bytes, none of them byte 1. Contracts see the list of the bytes.
-#[derive(Clone, Copy, Debug, PartialEq, Eq)]
+#[derive(Clone, Copy, PartialEq, Eq)]
 pub struct Id {
     // Zeros stand behind the id.
     bytes: [u8; MAX_ID_LENGTH],

@@ -8,7 +8,7 @@ use crate::limits::MAX_ID_LENGTH;
 
 /// Two keys are equal exactly where session and id are. In their order the ids of a session that are counted up follow one
 /// another, so that what is looked up next is near.
-#[derive(Clone, Copy, Debug, PartialEq, Eq, PartialOrd, Ord)]
+#[derive(Clone, Copy, PartialEq, Eq, PartialOrd, Ord)]
 pub struct IdKey {
     session: u8,
     // The 32 bytes that hold the id, eight in each number.

@@ -9,7 +9,7 @@ use host_base::limits::{MAX_MONTHS, MAX_ORDER_QTY};
 use spread_rules::{Fill, Instrument, Side};
 
 /// The sums of one month over all legs: quantities in lots, and money in hundredths times lots.
-#[derive(Clone, Copy, Debug, PartialEq, Eq)]
+#[derive(Clone, Copy, PartialEq, Eq)]
 pub struct MonthTotals {
     pub bought: u128,
     pub sold: u128,

@@ -19,7 +19,7 @@ use spread_rules::Event;
 use spread_rules::codes::close_reason;
 
 /// What a session says to a message.
-#[derive(Clone, Copy, Debug, PartialEq, Eq)]
+#[derive(Clone, Copy, PartialEq, Eq)]
 pub enum Verdict {
     Event(Event),
     Nothing,

@@ -3,7 +3,7 @@ ghost use Rattle.std.specs.Prelude.{◌≡◌};
 ghost use Rattle.spread_rulebook.specs.Instruments.{month_of};
 
 /// What is traded. Months are numbers from 0 in order of expiry.
-#[derive(Clone, Copy, Debug, PartialEq, Eq)]
+#[derive(Clone, Copy, PartialEq, Eq)]
 pub enum Instrument {
     /// One month.
     Outright(u8),

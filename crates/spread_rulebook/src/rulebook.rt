@@ -16,7 +16,7 @@ use host_base::{Id, cut_at};
 use std::marker::Model;
 
 /// A contract month.
-#[derive(Clone, Copy, Debug, PartialEq, Eq)]
+#[derive(Clone, Copy, PartialEq, Eq)]
 pub struct Month {
     /// 1 to 15 letters and digits.
     pub name: Id,

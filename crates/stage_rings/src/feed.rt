@@ -52,7 +52,7 @@ pub struct Matcher<A: Allocator> {
 }
 
 /// What giving did.
-#[derive(Clone, Copy, PartialEq, Eq, Debug)]
+#[derive(Clone, Copy, PartialEq, Eq)]
 pub enum Give {
     /// So many entries were pushed as one slice.
     Gave(usize),
@@ -65,7 +65,7 @@ pub enum Give {
 }
 
 /// What taking did.
-#[derive(Clone, Copy, PartialEq, Eq, Debug)]
+#[derive(Clone, Copy, PartialEq, Eq)]
 pub enum Taken {
     Entry(Entry),
     /// No item is there yet.

@@ -57,7 +57,7 @@ pub struct Writer<A: Allocator> {
 }
 
 /// What posting did.
-#[derive(Clone, Copy, PartialEq, Eq, Debug)]
+#[derive(Clone, Copy, PartialEq, Eq)]
 pub enum Post {
     /// So many bytes from the first were pushed.
     Posted(usize),
@@ -68,7 +68,7 @@ pub enum Post {
 }
 
 /// What taking did.
-#[derive(Clone, Copy, PartialEq, Eq, Debug)]
+#[derive(Clone, Copy, PartialEq, Eq)]
 pub enum Wrote {
     /// So many bytes were taken into the list.
     Bytes(usize),
