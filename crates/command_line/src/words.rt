@@ -110,7 +110,7 @@ struct CommandText {
 const RULES: Word = Word {
     name: "RULES",
     help: "The rulebook: a line `tick N`, a line `month NAME REFERENCE` for each month in order of expiry, \
-           and lines `pair NEAR FAR off`",
+           and lines `pair NEAR FAR on` or `pair NEAR FAR off`",
     form: Form::Needed(Value::Text),
 };
 

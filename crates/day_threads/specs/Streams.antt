@@ -4,8 +4,9 @@ use Rattle.host_base.specs.declared.limits.TheConstants.{SESSIONS}
 use Rattle.spread_rules.specs.Journal.{restricted}
 use Rattle.spread_rules.specs.Meaning.{meaning_of_journal}
 use Rattle.spread_rulebook.specs.Rulebook.{Rules}
-use Rattle.spread_report.specs.Messages.{IsRow, messages_to}
-use Rattle.spread_report.specs.Sessions.{bytes_of}
+use Rattle.outbound_sessions.specs.Rows.{IsRow}
+use Rattle.spread_report.specs.Messages.{messages_to}
+use Rattle.outbound_sessions.specs.Sessions.{bytes_of}
 use Rattle.day_apply.specs.Applied.{IsPlaceOf, IsSpentOf, applied_entries, outgoing_bytes}
 use Rattle.gate_link.specs.Opening.{IsRefusal}
 use Rattle.session_threads.specs.Streams.{IsBeginningOf, all_events, whole_at}

@@ -1,6 +1,6 @@
 //! A day from the joined parts of its threads.
 ghost use Rattle.std.specs.Prelude.{◌≡◌, ◌≤◌, ◌<◌, ℕ, length, true, IfOk, IfErr, IfSome, IfNone, vec_len};
-ghost use Rattle.spread_report.specs.Sessions.{bytes_of};
+ghost use Rattle.outbound_sessions.specs.Sessions.{bytes_of};
 ghost use Rattle.day_apply.specs.Sending.{sending_rules, stamp_of};
 ghost use Rattle.day_threads.specs.Streams.{IsDayOfSessions, IsThreadsFault};
 ghost use Rattle.day_threads.specs.code.Concluding.{AreJoined, IsFaultOfEnds, IsWhole};

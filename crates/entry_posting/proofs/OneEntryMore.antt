@@ -2,7 +2,7 @@
 use Rattle.std.proofs.Common.{◌≡◌, ◌∙◌, refl, sym, ap, ℕ, ◌≤◌, ◌<◌, List, [], ◌++◌, length, arith, true}
 use Rattle.spread_rules.specs.declared.event.Entry.{Entry}
 use Rattle.stage_rings.specs.declared.post.Poster.{Poster}
-use Rattle.spread_report.specs.Sessions.{session_text}
+use Rattle.outbound_sessions.specs.Sessions.{session_text}
 use Rattle.day_apply.specs.Sending.{HasReported, HasReportedBehind, Sending}
 use Rattle.day_apply.proofs.HandedOn.{behind_at, behind_length, handed_on}
 use Rattle.entry_posting.specs.code.Posting.{HasMoved, HasPosted, posted_at}

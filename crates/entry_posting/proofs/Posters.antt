@@ -1,14 +1,13 @@
 -- One poster of several was written.
 use Rattle.std.proofs.Common.{◌≡◌, ◌∙◌, sym, ap, refl, ℕ, ◌+◌, ◌<◌, ◌≤◌, false, List, [], ◌++◌, length, get_or, map, inl, inr, arith, take, drop, append_assoc, ◌-◌, append-nil}
 use Rattle.std.proofs.Math.Seq.{take-add, take-length}
-use Rattle.std.proofs.lemmas.List.{length-drop}
+use Rattle.std.proofs.lemmas.List.{length-drop, length-set, map-set, get_or-map, get_or-set_other, get_or-set_same, get_or_default, length-map}
 use Rattle.std.proofs.Math.ListN.{set}
-use Rattle.std.proofs.lemmas.List.{length-set, map-set, get_or-map, get_or-set_other, get_or-set_same, get_or_default, length-map}
 use Rattle.std.proofs.lemmas.Bool.{cases_eq}
 use Rattle.stage_rings.specs.declared.post.Poster.{Poster}
 use Rattle.stage_rings.specs.Posting.{posted, post_ended, SamePoster}
 use Rattle.gate_link.proofs.links.PartOfASession.{row_at, row_same, row_other}
-use Rattle.spread_report.specs.Sessions.{session_text}
+use Rattle.outbound_sessions.specs.Sessions.{session_text}
 use Rattle.entry_posting.specs.code.Posting.{posted_at, NoneEnded, SamePosters}
 
 pub same_poster_trans : {A : Type 0} (a b d : Poster A) → SamePoster a b → SamePoster b d → SamePoster a d

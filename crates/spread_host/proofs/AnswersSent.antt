@@ -5,8 +5,9 @@ use Rattle.std.specs.List.{All}
 use Rattle.host_base.specs.declared.limits.TheConstants.{SESSIONS}
 use Rattle.spread_rulebook.specs.Rulebook.{Rules}
 use Rattle.fix_frames.specs.Frames.{IsFrameRow}
-use Rattle.spread_report.specs.Messages.{IsRow, messages_to}
-use Rattle.spread_report.specs.Sessions.{bytes_of}
+use Rattle.outbound_sessions.specs.Rows.{IsRow}
+use Rattle.spread_report.specs.Messages.{messages_to}
+use Rattle.outbound_sessions.specs.Sessions.{bytes_of}
 use Rattle.day_apply.specs.Applied.{outgoing_bytes, applied_entries}
 use Rattle.day_text.specs.DayText.{texts_of}
 use Rattle.day_text.specs.declared.day_text.Day.{Day}

@@ -7,8 +7,9 @@ use Rattle.spread_rules.specs.Journal.{IsLawful}
 use Rattle.spread_rules.specs.Meaning.{meaning_of_journal}
 use Rattle.spread_rules.specs.Ranges.{IsFillInRange}
 use Rattle.spread_rulebook.specs.Rulebook.{Rules, IsRules}
-use Rattle.spread_report.specs.Messages.{IsRow, messages_to}
-use Rattle.spread_report.specs.Sessions.{bytes_of}
+use Rattle.outbound_sessions.specs.Rows.{IsRow}
+use Rattle.spread_report.specs.Messages.{messages_to}
+use Rattle.outbound_sessions.specs.Sessions.{bytes_of}
 use Rattle.day_apply.specs.Applied.{outgoing_bytes, applied_entries}
 use Rattle.day_text.specs.DayText.{AreShown}
 use Rattle.spread_host.specs.Headline.{HasOutgoing, BoughtIsSold, PaidIsReceived, IsAlwaysQuiet, IsDayOf}

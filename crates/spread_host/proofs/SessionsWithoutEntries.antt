@@ -7,8 +7,9 @@ use Rattle.spread_rules.specs.declared.event.Entry.{Entry}
 use Rattle.spread_rules.specs.Journal.{restricted}
 use Rattle.spread_rules.specs.Meaning.{JournalState, meaning_of, after_entry, no_entries}
 use Rattle.spread_rulebook.specs.Rulebook.{Rules}
-use Rattle.spread_report.specs.EntryMessages.{ExecutionReport, report_step, entry_reports, OutgoingStep, logged_on, numbered, gap_fill}
-use Rattle.spread_report.specs.Outgoing.{AppliedEntry, steps_texts, entry_steps, session_steps, outbound_before_logon}
+use Rattle.spread_report.specs.EntryMessages.{ExecutionReport, report_step, entry_reports}
+use Rattle.outbound_sessions.specs.Steps.{OutgoingStep, logged_on, numbered, gap_fill, steps_texts, outbound_before_logon}
+use Rattle.spread_report.specs.Outgoing.{AppliedEntry, entry_steps, session_steps}
 use Rattle.spread_report.specs.Messages.{messages_to}
 use Rattle.day_apply.specs.Applied.{applied_entries_from, outgoing_bytes}
 use Rattle.day_apply.proofs.OneByOne.{entries_are}

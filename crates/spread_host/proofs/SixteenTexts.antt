@@ -10,8 +10,9 @@ use Rattle.spread_rules.specs.declared.event.Entry.{Entry}
 use Rattle.spread_rules.specs.declared.fill.Fill.{Fill}
 use Rattle.spread_rulebook.specs.Rulebook.{Rules}
 use Rattle.fix_frames.specs.Frames.{IsFrameRow, frames}
-use Rattle.spread_report.specs.Messages.{IsRow, AreReadBack, messages_to}
-use Rattle.spread_report.specs.Sessions.{bytes_of}
+use Rattle.outbound_sessions.specs.Rows.{IsRow}
+use Rattle.spread_report.specs.Messages.{AreReadBack, messages_to}
+use Rattle.outbound_sessions.specs.Sessions.{bytes_of}
 use Rattle.day_apply.specs.Applied.{outgoing_bytes, applied_entries}
 use Rattle.day_text.specs.DayText.{texts_of}
 use Rattle.spread_host.specs.Headline.{HasOutgoing, IsDayOf}

@@ -1,4 +1,3 @@
 pub mod TakenBack
 pub mod OneEntryMore
 pub mod EntrySent
-pub mod PartiesSpelled

@@ -1,3 +1,2 @@
-pub mod FrameRows
 pub mod BodyLengths
 pub mod ReadBack

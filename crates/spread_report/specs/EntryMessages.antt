@@ -4,7 +4,6 @@ use Rattle.std.specs.Prelude.{ℕ, ◌-◌, ◌==◌, if◌then◌else◌, List,
 use Rattle.std.specs.List.{flat_map}
 use Rattle.fix_frames.specs.declared.msg_types.TheConstants as msg_types
 use Rattle.fix_frames.specs.declared.tags.TheConstants as tags
-use Rattle.fix_wire.specs.declared.writer.Field.{Field}
 use Rattle.fix_wire.specs.declared.writer.Value.TheVariants.{Text, Number, Price, Pair}
 use Rattle.fix_wire.specs.Layout.{field}
 use Rattle.spread_rules.specs.declared.codes.close_reason.TheConstants as close_reason
@@ -21,17 +20,10 @@ use Rattle.spread_rules.specs.declared.outcome.Outcome.{Outcome}
 use Rattle.spread_rules.specs.declared.outcome.Outcome.TheVariants as outcomes
 use Rattle.spread_rulebook.specs.Rulebook.{Rules, symbol_of}
 use Rattle.spread_rules.specs.Legs.{legs_of}
-use Rattle.spread_report.specs.declared.outbound.CompIds.{CompIds}
 use Rattle.report_bodies.specs.declared.codes.TheConstants.{ENCRYPT_METHOD_NONE, EXEC_TRANS_TYPE_NEW, CXL_REJ_RESPONSE_TO_CANCEL, CXL_REJ_RESPONSE_TO_REPLACE, SINGLE_SECURITY, INDIVIDUAL_LEG, MULTI_LEG_SECURITY}
 use Rattle.report_bodies.specs.Codes.{side_code}
 use Rattle.report_bodies.specs.Fields.{optional_field}
-
--- A step of what a session is sent: its Logon gives it the CompIDs that its messages bear from there on; a message
--- bears the session's next number and uses it; a gap fill uses none.
-pub data OutgoingStep : Type 0 where
-  logged_on : CompIds → OutgoingStep
-  numbered : (kind : ℕ) (fields : List Field) → OutgoingStep
-  gap_fill : (first last : ℕ) → OutgoingStep
+use Rattle.outbound_sessions.specs.Steps.{OutgoingStep, logged_on, numbered, gap_fill}
 
 -- ---- execution reports
 

@@ -1,8 +1,5 @@
 pub mod EntryMessages
 pub mod Outgoing
-pub mod Sessions
-pub mod Faults
-pub mod Desk
 pub mod Messages
 pub mod Ranges
 pub mod Running

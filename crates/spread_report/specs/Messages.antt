@@ -3,7 +3,8 @@ use Rattle.std.specs.Prelude.{◌≡◌, ℕ, List, ◌++◌, None}
 use Rattle.std.specs.List.{AllByRecursion, concat}
 use Rattle.fix_frames.specs.Frames.{IsFrame, frames}
 use Rattle.spread_rulebook.specs.Rulebook.{Rules}
-use Rattle.spread_report.specs.Outgoing.{AppliedEntry, steps_texts, session_steps}
+use Rattle.spread_report.specs.Outgoing.{AppliedEntry, session_steps}
+use Rattle.outbound_sessions.specs.Steps.{steps_texts}
 
 -- all messages that session s is sent over a journal: its first number is 1, and it has no CompIDs before its Logon
 abbrev pub messages_to : Rules → List ℕ → List AppliedEntry → ℕ → List (List ℕ)
@@ -14,11 +15,3 @@ messages_to rules stamp applied s =
 pub record AreReadBack (messages : List (List ℕ)) : Type 0 where
   pub whole : AllByRecursion IsFrame messages
   pub read : (more : List ℕ) → frames (concat messages ++ more) ≡ messages ++ frames more
-
--- ---- words that the headline does not rest on
-
--- The text is these messages one after the other, each a whole frame, and it is read back as them, whatever follows.
-pub record IsRow (messages : List (List ℕ)) (text : List ℕ) : Type 0 where
-  pub joined : concat messages ≡ text
-  pub whole : AllByRecursion IsFrame messages
-  pub read : (more : List ℕ) → frames (text ++ more) ≡ messages ++ frames more

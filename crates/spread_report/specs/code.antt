@@ -2,4 +2,4 @@
 pub mod Addressed
 pub mod Reports
 pub mod PerSession
-pub mod Sending
+pub mod DeskFields

@@ -1,95 +1,63 @@
 //! The desk: what each session is sent next.
-ghost use Rattle.std.specs.Prelude.{◌≡◌, ◌≢◌, ℕ, ◌<◌, ◌≤◌, ◌++◌, ◌∷◌, [], true, false, length, take, slice_index_or, OnOk, OnErr, IsErrOf, ◌==◌, if◌then◌else◌};
+ghost use Rattle.std.specs.Prelude.{◌≡◌, ℕ, ◌<◌, ◌≤◌, ◌++◌, ◌∷◌, ◌≢◌, [], true, false, length, OnOk, OnErr, IsErrOf};
 ghost use Rattle.std.specs.List.{list_all};
 ghost use Rattle.spread_rules.specs.Ranges.{FitsOutcome, FitFills};
-ghost use Rattle.spread_report.specs.Desk.{desk_starting, desk_at};
-ghost use Rattle.spread_report.specs.code.Sending.{Sends};
+ghost use Rattle.outbound_sessions.specs.declared.fault.DeskFault.TheVariants.{NumbersSpent};
+ghost use Rattle.outbound_sessions.specs.Rows.{IsRow};
+ghost use Rattle.outbound_sessions.specs.Sessions.{sessions_starting, sessions_at, bytes_of, outbound_at, KeepsBytes};
+ghost use Rattle.outbound_sessions.specs.Steps.{gap_fill};
+ghost use Rattle.outbound_sessions.specs.code.Addressed.{has_tag, numbered_message};
+ghost use Rattle.outbound_sessions.specs.code.Sending.{Sends};
+ghost use Rattle.spread_report.specs.Running.{RunsOut};
 ghost use Rattle.spread_report.specs.code.PerSession.{entry_bytes, entry_texts, entry_outbound, entry_spends, applied_at};
-ghost use Rattle.spread_report.specs.code.Reports.{has_tag};
-ghost use Rattle.spread_report.specs.code.Addressed.{numbered_message};
-ghost use Rattle.spread_report.specs.Messages.{IsRow};
-ghost use Rattle.spread_report.specs.Sessions.{bytes_of, outbound_at, KeepsBytes, RunsOut};
-ghost use Rattle.spread_report.specs.declared.fault.DeskFault.TheVariants.{NumbersSpent};
 
 mod admin;
 mod entry;
 mod execution_report;
-mod parties;
 
-use crate::fault::DeskFault;
-use crate::outbound::{CompIds, OutboundSession};
 use entry::AppliedEntry;
-use fix_wire::{Body, Field, FieldList, SpelledHead, SpelledParties, write_body};
+use fix_wire::{Body, Field};
 use host_base::Id;
-use host_base::limits::{MAX_MSG_SEQ_NUM, SESSIONS};
-use parties::{spell_parties, spelled_parties};
+use host_base::limits::SESSIONS;
+use outbound_sessions::{DeskFault, OutboundSessions};
 use spread_rules::{Entry, Fill, Outcome, Rulebook};
 use std::alloc::Allocator;
 use std::marker::Model;
-
-/// Room for one message of up to 18 fields.
-const MESSAGE_ROOM: usize = 1408;
 
 /// Publishes execution reports and session messages. For each of the sixteen sessions it keeps the next
 /// outgoing number, and the CompIDs of the last Logon.
 #[derive(Drop)]
 pub struct Desk {
-    stamp: Id,
-    sessions: [OutboundSession; SESSIONS],
-    // Of each session that has CompIDs, these and the stamp, as its messages bear them.
-    parties: [SpelledParties; SESSIONS],
-    // Each message is written here first.
-    room: [u8; MESSAGE_ROOM],
+    outbound: OutboundSessions,
 }
 
 impl Model for Desk {
-    ghost use Rattle.spread_report.specs.Desk.{DeskState};
-    ghost use Rattle.spread_report.specs.code.Sending.{state_of, IsDesk};
+    ghost use Rattle.outbound_sessions.specs.Sessions.{OutboundState};
+    ghost use Rattle.spread_report.specs.code.DeskFields.{outbound_of};
 
-    ghost Value = { DeskState };
+    ghost Value = { OutboundState };
 
-    ghost view = { state_of };
-
-    ghost invariant = { IsDesk };
+    ghost view = { outbound_of };
 }
 
 impl Desk {
     /// Every message bears this stamp as its SendingTime, and each session's first one bears the
     /// number 1.
     pub fn new(stamp: Id) -> Desk
-        ensures { result ≡ desk_starting stamp 1 }
+        ensures { result ≡ sessions_starting stamp 1 }
     {
-        let outbound = OutboundSession {
-            next: 1,
-            comp_ids: None,
-        };
         Desk {
-            stamp,
-            sessions: [outbound; SESSIONS],
-            parties: [spelled_parties(&outbound, &stamp); SESSIONS],
-            room: [0; MESSAGE_ROOM],
+            outbound: OutboundSessions::new(stamp),
         }
     }
 
     /// The same, each session's first message bearing this number. None where it is 0 or above the
     /// limit.
     pub fn starting(stamp: Id, next: u32) -> Option<Desk>
-        ensures { result ≡ desk_at stamp next }
+        ensures { result ≡ sessions_at stamp next }
     {
-        if 1 <= next && next <= MAX_MSG_SEQ_NUM {
-            let outbound = OutboundSession {
-                next: u64::from(next),
-                comp_ids: None,
-            };
-            Some(Desk {
-                stamp,
-                sessions: [outbound; SESSIONS],
-                parties: [spelled_parties(&outbound, &stamp); SESSIONS],
-                room: [0; MESSAGE_ROOM],
-            })
-        } else {
-            None
-        }
+        let outbound = OutboundSessions::starting(stamp, next)?;
+        Some(Desk { outbound })
     }
 
     /// Appends to each session's list exactly the messages that the entry sends it, places counting
@@ -129,9 +97,7 @@ impl Desk {
         ensures lists_kept { OnErr result (KeepsBytes lists.old lists.new) }
         ensures count { length lists.new ≡ SESSIONS }
     {
-        let lengths = lengths_of(lists);
-        let numbers = numbers_of(&self.sessions);
-        let comp_ids = self.sessions[entry.session as usize].comp_ids;
+        let mark = self.outbound.mark(lists, entry.session);
         self.note_comp_ids(entry);
         let applied = AppliedEntry {
             place,
@@ -141,9 +107,7 @@ impl Desk {
         };
         let result = self.send_entry(lists, rules, &applied);
         if result.is_err() {
-            restore(&mut self.sessions, &numbers, entry.session, comp_ids);
-            spell_parties(&mut self.parties, &self.sessions, &self.stamp);
-            cut_back(lists, &lengths);
+            self.outbound.take_back(lists, &mark);
         }
         result
     }
@@ -164,25 +128,7 @@ impl Desk {
         ensures { Sends self.old self.new lists.old lists.new
             (numbered_message session kind (B.fields body.now) ∷ []) result }
     {
-        let at = session as usize;
-        match self.sessions[at].comp_ids {
-            None => Ok(()),
-            Some(_) => {
-                let number = self.sessions[at].next;
-                if number > u64::from(MAX_MSG_SEQ_NUM) {
-                    return Err(DeskFault::NumbersSpent);
-                }
-                let head = SpelledHead {
-                    kind,
-                    number,
-                    orig_time: None,
-                    parties: &self.parties[at],
-                };
-                write_body(&mut self.room, &mut lists[at], &head, body)?;
-                self.sessions[at].next = number + 1;
-                Ok(())
-            }
-        }
+        self.outbound.send_body(lists, session, kind, body)
     }
 
     /// Sends a message of any fields.
@@ -201,82 +147,22 @@ impl Desk {
         ensures { Sends self.old self.new lists.old lists.new
             (numbered_message session kind fields.now ∷ []) result }
     {
-        self.send_body(lists, session, kind, &FieldList { fields })
+        self.outbound.send(lists, session, kind, fields)
     }
-}
 
-// ---- taking back after a refusal
-
-/// Cuts each list to its length.
-fn cut_back<A: Allocator>(lists: &mut [Vec<u8, A>], lengths: &[usize; SESSIONS])
-    requires lists { length lists.old ≡ SESSIONS }
-    ensures size { length lists.new ≡ SESSIONS }
-    ensures rows { (s : ℕ) → s < SESSIONS → bytes_of lists.new s
-        ≡ take (slice_index_or lengths.now s 0) (bytes_of lists.old s) }
-{
-    for s in 0..SESSIONS {
-        let length = lengths[s];
-        lists[s].truncate(length);
+    /// Sends a gap fill, where the asked numbers begin below the next one. It uses no number.
+    fn fill_gap<A: Allocator + Copy>(
+        &mut self,
+        lists: &mut [Vec<u8, A>],
+        session: u8,
+        first: u32,
+        last: u32,
+    ) -> Result<(), DeskFault>
+        requires lists { length lists.old ≡ SESSIONS }
+        requires session { session < SESSIONS }
+        ensures { Sends self.old self.new lists.old lists.new
+            (record { to = session; step = gap_fill first last } ∷ []) result }
+    {
+        self.outbound.fill_gap(lists, session, first, last)
     }
-}
-
-/// How long each list is.
-fn lengths_of<A: Allocator>(lists: &[Vec<u8, A>]) -> [usize; SESSIONS]
-    requires { length lists.now ≡ SESSIONS }
-    ensures { (s : ℕ) → s < SESSIONS → slice_index_or result s 0 ≡ length (bytes_of lists.now s) }
-{
-    let mut lengths = [0; SESSIONS];
-    for s in 0..SESSIONS {
-        let count = lists[s].len();
-        lengths[s] = count;
-    }
-    lengths
-}
-
-/// The next number of each session.
-fn numbers_of(sessions: &[OutboundSession; SESSIONS]) -> [u64; SESSIONS]
-    ensures { (s : ℕ) → s < SESSIONS
-        → slice_index_or result s 0 ≡ (outbound_at sessions.now s).next }
-{
-    let mut numbers = [0; SESSIONS];
-    for s in 0..SESSIONS {
-        numbers[s] = sessions[s].next;
-    }
-    numbers
-}
-
-/// Gives each session that next number.
-fn renumber(sessions: &mut [OutboundSession; SESSIONS], numbers: &[u64; SESSIONS])
-    ensures size { length sessions.new ≡ SESSIONS }
-    ensures numbered { (s : ℕ) → s < SESSIONS → outbound_at sessions.new s
-        ≡ record {
-          next = slice_index_or numbers.now s 0;
-          comp_ids = (outbound_at sessions.old s).comp_ids;
-        } }
-{
-    for s in 0..SESSIONS {
-        let comp_ids = sessions[s].comp_ids;
-        sessions[s] = OutboundSession {
-            next: numbers[s],
-            comp_ids,
-        };
-    }
-}
-
-/// Gives each session that next number, and one of them those CompIDs.
-fn restore(
-    sessions: &mut [OutboundSession; SESSIONS],
-    numbers: &[u64; SESSIONS],
-    session: u8,
-    comp_ids: Option<CompIds>,
-)
-    requires { session < SESSIONS }
-    ensures size { length sessions.new ≡ SESSIONS }
-    ensures restored { (s : ℕ) → s < SESSIONS → outbound_at sessions.new s ≡ record {
-      next = slice_index_or numbers.now s 0;
-      comp_ids = if session == s then comp_ids else (outbound_at sessions.old s).comp_ids;
-    } }
-{
-    sessions[session as usize].comp_ids = comp_ids;
-    renumber(sessions, numbers);
 }

@@ -5,12 +5,12 @@ ghost use Rattle.fix_frames.specs.Frames.{IsFrame, frames};
 ghost use Rattle.host_base.specs.declared.limits.TheConstants.{SESSIONS, MAX_MSG_SEQ_NUM};
 ghost use Rattle.host_base.specs.Ids.{is_id};
 ghost use Rattle.spread_rulebook.specs.Rulebook.{Rules};
-ghost use Rattle.spread_report.specs.Outgoing.{AppliedEntry, outbound_before_logon};
-ghost use Rattle.spread_report.specs.Messages.{IsRow};
+ghost use Rattle.spread_report.specs.Outgoing.{AppliedEntry};
+ghost use Rattle.outbound_sessions.specs.Steps.{outbound_before_logon};
+ghost use Rattle.outbound_sessions.specs.Rows.{IsRow};
 ghost use Rattle.spread_report.specs.code.PerSession.{entry_bytes, entry_texts, entry_outbound, entry_spends, outgoing_starting, messages_starting, spends_from};
-ghost use Rattle.spread_report.specs.Desk.{DeskState, desk_starting};
-ghost use Rattle.spread_report.specs.Running.{HasSent};
-ghost use Rattle.spread_report.specs.Sessions.{session_text, outbound_at, RunsOut};
+ghost use Rattle.outbound_sessions.specs.Sessions.{OutboundState, sessions_starting, session_text, outbound_at};
+ghost use Rattle.spread_report.specs.Running.{HasSent, RunsOut};
 ghost use Rattle.spread_report.specs.Ranges.{AreNames, EntryInRange};
 
 /// What a session is sent is a row of whole frames, and is read back as exactly the messages that were written.
@@ -44,9 +44,9 @@ pub fn running()
     ensures start { (rules : Rules) (stamp : List ℕ) (next : ℕ) (texts : List (List ℕ)) →
         length texts ≡ SESSIONS →
         ((s : ℕ) → s < SESSIONS → session_text texts s ≡ []) →
-        HasSent rules stamp next [] (desk_starting stamp next) texts }
+        HasSent rules stamp next [] (sessions_starting stamp next) texts }
     ensures more { (rules : Rules) (stamp : List ℕ) (next : ℕ) (applied : List AppliedEntry)
-        (w : AppliedEntry) (desk after : DeskState) (texts new : List (List ℕ)) →
+        (w : AppliedEntry) (desk after : OutboundState) (texts new : List (List ℕ)) →
         HasSent rules stamp next applied desk texts →
         after.stamp ≡ desk.stamp →
         length new ≡ SESSIONS →
@@ -62,14 +62,14 @@ pub fn running()
         (entry_bytes desk.stamp rules s (outbound_at desk.sessions s) w)) →
         HasSent rules stamp next (applied ++ w ∷ []) after new }
     ensures same { (rules : Rules) (stamp : List ℕ) (next : ℕ) (applied : List AppliedEntry)
-        (desk after : DeskState) (texts new : List (List ℕ)) →
+        (desk after : OutboundState) (texts new : List (List ℕ)) →
         HasSent rules stamp next applied desk texts →
         after ≡ desk →
         length new ≡ SESSIONS →
         ((s : ℕ) → s < SESSIONS → session_text new s ≡ session_text texts s) →
         HasSent rules stamp next applied after new }
     ensures spent { (rules : Rules) (stamp : List ℕ) (next : ℕ) (applied : List AppliedEntry)
-        (w : AppliedEntry) (desk : DeskState) (texts : List (List ℕ)) →
+        (w : AppliedEntry) (desk : OutboundState) (texts : List (List ℕ)) →
         HasSent rules stamp next applied desk texts →
         (r : RunsOut rules desk.sessions w) →
         spends_from rules r.session (outbound_before_logon next) (applied ++ w ∷ []) ≡ true }

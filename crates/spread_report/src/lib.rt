@@ -2,10 +2,7 @@
 #![tactic(auto)]
 
 mod desk;
-mod fault;
 pub mod laws;
-mod outbound;
 
 pub use desk::Desk;
-pub use fault::DeskFault;
-pub use outbound::{CompIds, OutboundSession};
+pub use outbound_sessions::{CompIds, DeskFault, OutboundSession};

@@ -3,7 +3,7 @@
 use Rattle.std.specs.Prelude.{◌≡◌, ℕ, ◌<◌, ◌≤◌, Bool, true, false, map, List, [], ◌∷◌, ◌++◌, length, slice_index_or}
 use Rattle.host_base.specs.declared.limits.TheConstants.{SESSIONS}
 use Rattle.spread_rules.specs.declared.event.Entry.{Entry}
-use Rattle.spread_report.specs.Sessions.{session_text}
+use Rattle.outbound_sessions.specs.Sessions.{session_text}
 use Rattle.gate_link.specs.Rows.{row}
 use Rattle.stage_rings.specs.Posting.{posted, post_ended, SamePoster}
 use Rattle.stage_rings.specs.declared.post.Poster.{Poster}

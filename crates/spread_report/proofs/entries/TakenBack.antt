@@ -1,91 +1,18 @@
--- What is taken back after a refusal: lists are cut to their lengths, and sessions are as before.
-use Rattle.std.proofs.Common.{◌≡◌, ◌≢◌, ℕ, ◌+◌, ◌<◌, ◌≤◌, List, [], length, get_or, take, sym, ap, ◌∙◌, inl, inr, arith, Err}
-use Rattle.std.proofs.Math.ListN.{set}
-use Rattle.std.proofs.lemmas.List.{get_or-map, get_or-set_same, get_or-set_other}
-use Rattle.spread_report.specs.declared.outbound.OutboundSession.{OutboundSession}
-use Rattle.spread_report.specs.declared.fault.DeskFault.{DeskFault}
-use Rattle.spread_report.specs.declared.fault.DeskFault.TheVariants.{NoMemory, NumbersSpent}
-use Rattle.spread_report.specs.code.Addressed.{AddressedStep}
-use Rattle.std.proofs.lemmas.Bool.{cases_eq}
+-- What happened to the sessions and their lists where an entry is refused.
+use Rattle.std.proofs.Common.{◌≡◌, ◌≢◌, ℕ, ◌<◌, List, sym, ap, ◌∙◌, Err, refl}
+use Rattle.std.specs.Prelude.{OnErr, Result, Ok}
 use Rattle.std.specs.declared.vec.Vec.{Vec}
-use Rattle.std.specs.Prelude.{OnErr, Result, Ok, ◌==◌, if◌then◌else◌, Option, refl}
-use Rattle.std.proofs.lemmas.List.{ext_get_or, get_or_default}
-use Rattle.std.proofs.lemmas.Bool.{eq-eqb, ne_eqb}
+use Rattle.std.proofs.lemmas.Bool.{ne_eqb}
 use Rattle.spread_rules.specs.declared.event.Event.{Event}
 use Rattle.spread_rules.specs.declared.event.Event.TheVariants.{Logon, New, Cancel, Replace, TestReply, Gap, Resend, Reject, Close}
-use Rattle.spread_report.specs.declared.outbound.CompIds.{CompIds}
-use Rattle.spread_report.specs.Outgoing.{outbound_before_logon}
+use Rattle.outbound_sessions.specs.declared.fault.DeskFault.{DeskFault}
+use Rattle.outbound_sessions.specs.declared.fault.DeskFault.TheVariants.{NoMemory, NumbersSpent}
+use Rattle.outbound_sessions.specs.declared.session.OutboundSession.{OutboundSession}
+use Rattle.outbound_sessions.specs.Sessions.{OutboundState, texts_of, outbound_at}
+use Rattle.outbound_sessions.specs.code.Addressed.{AddressedStep}
+use Rattle.outbound_sessions.specs.code.Sending.{OnlyAppended, SendResult}
+use Rattle.outbound_sessions.specs.code.TakingBack.{SentSince}
 use Rattle.spread_report.specs.code.PerSession.{outbound_at_entry}
-use Rattle.spread_report.specs.Desk.{DeskState}
-use Rattle.spread_report.specs.Sessions.{bytes_of, outbound_at}
-use Rattle.spread_report.specs.code.Sending.{OnlyAppended, SendResult}
-use Rattle.spread_report.proofs.messages.OneMessage.{row_same, row_other}
-
-module _ {A : Type 0} (x x₀ : List (Vec ℕ A)) (i : ℕ) (v w : Vec ℕ A) (ns : List ℕ) where
-  pub cut_more : i < length x → ((t : ℕ) → t < i → bytes_of x t ≡ take (get_or ns t 0) (bytes_of x₀ t)) → ((t : ℕ) → i ≤ t → bytes_of x t ≡ bytes_of x₀ t)
-      → v.items ≡ take (get_or ns i 0) (get_or x i w).items → (t : ℕ) → t < i + 1 → bytes_of (set x i v) t ≡ take (get_or ns t 0) (bytes_of x₀ t)
-  cut_more below cut rest items t h =
-      let there : bytes_of x i ≡ (get_or x i w).items = get_or-map (λ (u : Vec ℕ A). u.items) x i w [] below in
-      let here : bytes_of (set x i v) i ≡ take (get_or ns i 0) (bytes_of x₀ i) = row_same x i v below ∙ (items ∙ ap (λ (l : List ℕ). take (get_or ns i 0) l) (sym there ∙ rest i (omega arith))) in
-      elim (cases_eq t i) [ inl e ↦ rw e here | inr apart ↦ row_other x i v t apart ∙ cut t (omega (arith, h, apart)) ]
-
-  pub rest_more : ((t : ℕ) → i ≤ t → bytes_of x t ≡ bytes_of x₀ t) → (t : ℕ) → i + 1 ≤ t → bytes_of (set x i v) t ≡ bytes_of x₀ t
-  rest_more rest t h =
-      let apart : t ≢ i = λ e. omega (arith, h, e) in
-      row_other x i v t apart ∙ rest t (omega (arith, h))
-
-module _ {A : Type 0} (x : List (Vec ℕ A)) (i n : ℕ) (w : Vec ℕ A) (ns : List ℕ) where
-  pub lengths_more : i < length x → i < length ns → n ≡ length (get_or x i w).items → ((t : ℕ) → t < i → get_or ns t 0 ≡ length (bytes_of x t))
-      → (t : ℕ) → t < i + 1 → get_or (set ns i n) t 0 ≡ length (bytes_of x t)
-  lengths_more below there count done t h =
-      let items : bytes_of x i ≡ (get_or x i w).items = get_or-map (λ (u : Vec ℕ A). u.items) x i w [] below in
-      let here : get_or (set ns i n) i 0 ≡ length (bytes_of x i) = get_or-set_same ns i n 0 there ∙ (count ∙ ap (λ (l : List ℕ). length l) (sym items)) in
-      elim (cases_eq t i) [ inl e ↦ rw e here | inr apart ↦ get_or-set_other ns i t n 0 apart ∙ done t (omega (arith, h, apart)) ]
-
--- what was taken back is as it was
-pub appended_of : {A : Type 0} (T : Type 0) (stamp : List ℕ) (a b : List OutboundSession) (x y : List (Vec ℕ A)) (ms : List AddressedStep) (f : DeskFault) → SendResult {T = T} stamp a b x y ms (Err f) → OnlyAppended a b x y
-appended_of T stamp a b x y ms NoMemory w = w
-appended_of T stamp a b x y ms NumbersSpent w = w.0
-
-pub back_again : {A : Type 0} (a b : List OutboundSession) (x y z : List (Vec ℕ A)) (ns : List ℕ) → OnlyAppended a b x y → ((s : ℕ) → s < 16 → get_or ns s 0 ≡ length (bytes_of x s)) → ((s : ℕ) → s < 16 → bytes_of z s ≡ take (get_or ns s 0) (bytes_of y s)) → (s : ℕ) → s < 16 → bytes_of z s ≡ bytes_of x s
-back_again a b x y z ns grown lengths cut s below = cut s below ∙ (ap (λ (n : ℕ). take n (bytes_of y s)) (lengths s below) ∙ grown.begins s below)
-
--- ---- outbound states
-
-module _ (a : List OutboundSession) (i n : ℕ) (r : OutboundSession) (ns : List ℕ) where
-  pub numbers_more : i < length a → i < length ns → r ≡ get_or a i r → n ≡ r.next → ((t : ℕ) → t < i → get_or ns t 0 ≡ (outbound_at a t).next) → (t : ℕ) → t < i + 1 → get_or (set ns i n) t 0 ≡ (outbound_at a t).next
-  numbers_more below there is_r is_n done t h =
-      let line : outbound_at a i ≡ r = get_or_default a i (outbound_before_logon 1) r below ∙ sym is_r in
-      let here : get_or (set ns i n) i 0 ≡ (outbound_at a i).next = get_or-set_same ns i n 0 there ∙ (is_n ∙ ap (λ (l : OutboundSession). l.next) (sym line)) in
-      elim (cases_eq t i) [ inl e ↦ rw e here | inr apart ↦ get_or-set_other ns i t n 0 apart ∙ done t (omega (arith, h, apart)) ]
-
-abbrev pub renumbered : OutboundSession → ℕ → OutboundSession
-renumbered l n = record { next = n; comp_ids = l.comp_ids }
-
-module _ (a a₀ : List OutboundSession) (i : ℕ) (r : OutboundSession) (ns : List ℕ) where
-  pub renumber_more : i < length a → r ≡ get_or a i r → ((t : ℕ) → t < i → outbound_at a t ≡ renumbered (outbound_at a₀ t) (get_or ns t 0)) → ((t : ℕ) → i ≤ t → outbound_at a t ≡ outbound_at a₀ t)
-      → (t : ℕ) → t < i + 1 → outbound_at (set a i (renumbered r (get_or ns i 0))) t ≡ renumbered (outbound_at a₀ t) (get_or ns t 0)
-  renumber_more below is_r done rest t h =
-      let line : outbound_at a i ≡ r = get_or_default a i (outbound_before_logon 1) r below ∙ sym is_r in
-      let here : outbound_at (set a i (renumbered r (get_or ns i 0))) i ≡ renumbered (outbound_at a₀ i) (get_or ns i 0) =
-      get_or-set_same a i (renumbered r (get_or ns i 0)) (outbound_before_logon 1) below ∙ ap (λ (l : OutboundSession). renumbered l (get_or ns i 0)) (sym line ∙ rest i (omega arith)) in
-      elim (cases_eq t i) [ inl e ↦ rw e here | inr apart ↦ get_or-set_other a i t (renumbered r (get_or ns i 0)) (outbound_before_logon 1) apart ∙ done t (omega (arith, h, apart)) ]
-
-  pub others_stay : (l : OutboundSession) → ((t : ℕ) → i ≤ t → outbound_at a t ≡ outbound_at a₀ t) → (t : ℕ) → i + 1 ≤ t → outbound_at (set a i l) t ≡ outbound_at a₀ t
-  others_stay l rest t h =
-      let apart : t ≢ i = λ e. omega (arith, h, e) in
-      get_or-set_other a i t l (outbound_before_logon 1) apart ∙ rest t (omega (arith, h))
-
--- an outbound state with one session's CompIDs
-abbrev pub with_ids : List OutboundSession → List ℕ → ℕ → Option CompIds → ℕ → OutboundSession
-with_ids b ns session o s = record { next = get_or ns s 0; comp_ids = if session == s then o else (outbound_at b s).comp_ids }
-
-pub ids_set : (b : List OutboundSession) (ns : List ℕ) (session s : ℕ) (o : Option CompIds) (n : ℕ) → session < length b → renumbered (outbound_at (set b session (record { next = n; comp_ids = o })) s) (get_or ns s 0) ≡ with_ids b ns session o s
-ids_set b ns session s o n below =
-    elim (cases_eq s session) [
-      | inl e ↦ rw (e, get_or-set_same b session (record { next = n; comp_ids = o }) (outbound_before_logon 1) below, eq-eqb session session refl) refl
-      | inr apart ↦ rw (get_or-set_other b session s (record { next = n; comp_ids = o }) (outbound_before_logon 1) apart, ne_eqb session s (λ e. apart (sym e))) refl
-    ]
 
 entry_other : (s : ℕ) (l : OutboundSession) (session : ℕ) (v : Event) → session ≢ s → outbound_at_entry s l session v ≡ l
 entry_other s l session (Logon client host beat) apart = rw (ne_eqb session s apart) refl
@@ -98,35 +25,20 @@ entry_other s l session (Resend first last) apart = refl
 entry_other s l session (Reject n reason) apart = refl
 entry_other s l session (Close reason) apart = refl
 
--- the sessions are as they were before the entry
-pub sessions_back : {A : Type 0} (a k b z : List OutboundSession) (x y : List (Vec ℕ A)) (ns : List ℕ) (session : ℕ) (v : Event) (r : OutboundSession)
-    → length a ≡ 16 → length z ≡ 16 → session < 16
-    → ((s : ℕ) → s < 16 → outbound_at k s ≡ outbound_at_entry s (outbound_at a s) session v) → OnlyAppended k b x y
-    → ((s : ℕ) → s < 16 → get_or ns s 0 ≡ (outbound_at a s).next) → ((s : ℕ) → s < 16 → outbound_at z s ≡ with_ids b ns session (get_or a session r).comp_ids s) → z ≡ a
-sessions_back a k b z x y ns session v r in_a in_z below noted appended numbers restored =
-    let line : outbound_at a session ≡ get_or a session r = get_or_default a session (outbound_before_logon 1) r (rw in_a below) in
-    let each : (s : ℕ) → s < 16 → outbound_at z s ≡ outbound_at a s =
-    λ s small.
-    elim (cases_eq s session) [
-      | inl e ↦
-          restored s small
-          ∙ (rw (e, eq-eqb session session refl, sym line) (ap (λ (n : ℕ). renumbered (outbound_at a session) n) (numbers session below)))
-      | inr apart ↦
-          restored s small
-          ∙ (rw (ne_eqb session s (λ e. apart (sym e)), appended.comp_ids s small, noted s small, entry_other s (outbound_at a s) session v (λ e. apart (sym e))) (ap (λ (n : ℕ). renumbered (outbound_at a s) n) (numbers s small)))
-    ]
-    in
-    ext_get_or (outbound_before_logon 1) z a (in_z ∙ sym in_a) (λ i h. each i (omega (arith, h, in_z)))
+-- the CompIDs that the entry brings are noted, and to lists something is appended
+pub sent_since : {A : Type 0} (before noted now : OutboundState) (x y : List (Vec ℕ A)) (session : ℕ) (v : Event) → noted.stamp ≡ before.stamp → now.stamp ≡ noted.stamp
+    → ((s : ℕ) → s < 16 → outbound_at noted.sessions s ≡ outbound_at_entry s (outbound_at before.sessions s) session v) → OnlyAppended noted.sessions now.sessions x y
+    → SentSince session before now (texts_of x) (texts_of y)
+sent_since before noted now x y session v p q is_noted grown = record {
+  stamp = q ∙ p;
+  comp_ids = λ s below apart.
+      grown.comp_ids s below
+      ∙ ap (λ (l : OutboundSession). l.comp_ids) (is_noted s below ∙ entry_other s (outbound_at before.sessions s) session v (λ e. apart (sym e)));
+  begins = grown.begins;
+}
 
 -- what holds after a refusal, holds where there was one
 pub after_refusal : {A T : Type 0} (P : Type 0) (stamp : List ℕ) (a b : List OutboundSession) (x y : List (Vec ℕ A)) (ms : List AddressedStep) (r : Result T DeskFault) → SendResult stamp a b x y ms r → (OnlyAppended a b x y → P) → OnErr r P
 after_refusal P stamp a b x y ms (Ok t) w f = tt
 after_refusal P stamp a b x y ms (Err NoMemory) w f = f w
 after_refusal P stamp a b x y ms (Err NumbersSpent) w f = f w.0
-
-abbrev pub desk_of : List ℕ → List OutboundSession → DeskState
-desk_of stamp sessions = record { stamp = stamp; sessions = sessions }
-
--- a desk with the stamp and the sessions of another is that desk
-pub desk_back : (d : DeskState) (t u : List ℕ) (a z : List OutboundSession) → t ≡ u → z ≡ a → desk_of u a ≡ d → desk_of t z ≡ d
-desk_back d t u a z e f g = rw (e, f) g

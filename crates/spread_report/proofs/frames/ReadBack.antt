@@ -11,16 +11,17 @@ use Rattle.fix_frames.specs.Frames.{IsFrame}
 use Rattle.fix_wire.proofs.writing.WrittenMessage.{written_frame, read_first}
 use Rattle.host_base.specs.Ids.{is_id}
 use Rattle.spread_rulebook.specs.Rulebook.{Rules}
-use Rattle.spread_report.specs.declared.outbound.OutboundSession.{OutboundSession}
-use Rattle.spread_report.specs.declared.outbound.CompIds.{CompIds}
-use Rattle.spread_report.specs.EntryMessages.{OutgoingStep, logged_on, numbered, gap_fill}
-use Rattle.spread_report.specs.Outgoing.{AppliedEntry, head_of, step_texts, steps_texts, after_step, entry_steps, session_steps}
-use Rattle.spread_report.specs.code.Addressed.{AddressedStep, entry_messages, steps_of}
-use Rattle.spread_report.specs.code.PerSession.{is_above_limit, pass_limit, texts_from, journal_bytes, spends_from}
-use Rattle.spread_report.specs.code.Reports.{new_seq_no}
+use Rattle.outbound_sessions.specs.declared.session.OutboundSession.{OutboundSession}
+use Rattle.outbound_sessions.specs.declared.session.CompIds.{CompIds}
+use Rattle.outbound_sessions.specs.Steps.{OutgoingStep, logged_on, numbered, gap_fill, head_of, step_texts, steps_texts, after_step}
+use Rattle.spread_report.specs.Outgoing.{AppliedEntry, entry_steps, session_steps}
+use Rattle.outbound_sessions.specs.code.Addressed.{AddressedStep, steps_of, new_seq_no}
+use Rattle.spread_report.specs.code.Addressed.{entry_messages}
+use Rattle.outbound_sessions.specs.code.PerSession.{is_above_limit, pass_limit}
+use Rattle.spread_report.specs.code.PerSession.{texts_from, journal_bytes, spends_from}
 use Rattle.spread_report.proofs.messages.Steps.{entry_steps_are}
-use Rattle.spread_report.proofs.frames.FrameRows.{no_row, rows_both, message_row}
-use Rattle.spread_report.specs.Messages.{IsRow}
+use Rattle.outbound_sessions.proofs.FrameRows.{no_row, rows_both, message_row}
+use Rattle.outbound_sessions.specs.Rows.{IsRow}
 use Rattle.spread_report.specs.Ranges.{AreNames, EntryInRange}
 use Rattle.spread_report.proofs.frames.BodyLengths.{FitsReport, IsShortHead, fields_fit, body_short}
 use Rattle.spread_report.proofs.messages.InRange.{FitsStep, FitsAddressed, id_plain, id_short, entry_fits}

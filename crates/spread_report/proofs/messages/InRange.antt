@@ -1,5 +1,5 @@
 -- Every message of an entry in range is in range.
-use Rattle.std.proofs.Common.{◌≡◌, ◌≢◌, ℕ, ◌+◌, ◌*◌, ◌<◌, ◌≤◌, ◌^◌, ◌==◌, Bool, true, false, ◌&&◌, if◌then◌else◌, ◌||◌, List, [], ◌∷◌, ◌++◌, length, get_or, codes, refl, arith, Option, Some, None, length-append}
+use Rattle.std.proofs.Common.{◌≡◌, ◌≢◌, ℕ, ◌+◌, ◌*◌, ◌<◌, ◌≤◌, ◌^◌, ◌==◌, Bool, true, false, ◌&&◌, if◌then◌else◌, List, [], ◌∷◌, ◌++◌, length, get_or, codes, refl, arith, Option, Some, None, length-append}
 use Rattle.std.specs.Prelude.{ℤ, unsigned_abs, nat_le, option_map, option_to_list}
 use Rattle.std.specs.List.{AllByRecursion}
 use Rattle.std.proofs.lemmas.Bool.{leb-true, and_parts}
@@ -20,8 +20,10 @@ use Rattle.spread_rules.specs.declared.event.Event.{Event}
 use Rattle.spread_rules.specs.declared.event.Event.TheVariants.{Logon, New, Cancel, Replace, TestReply, Gap, Resend, Reject, Close}
 use Rattle.spread_rules.specs.declared.outcome.Outcome.{Outcome}
 use Rattle.spread_rules.specs.declared.outcome.Outcome.TheVariants.{Rested, Filled, Ended, Cancelled, Replaced, Refused, CancelRefused, Session}
-use Rattle.spread_report.specs.EntryMessages.{OutgoingStep, logged_on, numbered, gap_fill, ExecutionReport, new_report, fill_report, fill_reports, fills_reports, entry_reports, order_cancel_reject, close_steps, event_steps}
-use Rattle.spread_report.specs.code.Addressed.{AddressedStep, report, reports_from, steps_to, entry_messages}
+use Rattle.outbound_sessions.specs.Steps.{OutgoingStep, logged_on, numbered, gap_fill}
+use Rattle.spread_report.specs.EntryMessages.{ExecutionReport, new_report, fill_report, fill_reports, fills_reports, entry_reports, order_cancel_reject, close_steps, event_steps}
+use Rattle.outbound_sessions.specs.code.Addressed.{AddressedStep, steps_to}
+use Rattle.spread_report.specs.code.Addressed.{report, reports_from, entry_messages}
 use Rattle.spread_report.specs.code.Reports.{rejected_report, ended_report, cancelled_report, replaced_report, report_count, reports_of, place_field}
 use Rattle.spread_report.proofs.messages.OneFillMore.{reports_length}
 use Rattle.report_bodies.specs.Fields.{text_field, number_field, price_field, pair_field}

@@ -6,10 +6,11 @@ use Rattle.std.specs.Option.{is_some}
 use Rattle.std.proofs.lemmas.Bool.{cases_lt}
 use Rattle.std.proofs.lemmas.Bool.Decides.{nat_tests}
 use Rattle.spread_rulebook.specs.Rulebook.{Rules}
-use Rattle.spread_report.specs.declared.outbound.OutboundSession.{OutboundSession}
-use Rattle.spread_report.specs.EntryMessages.{OutgoingStep, logged_on, numbered, gap_fill}
-use Rattle.spread_report.specs.Outgoing.{AppliedEntry, after_step, session_steps, outbound_before_logon, spends_numbers}
-use Rattle.spread_report.specs.code.PerSession.{pass_limit, spends_from}
+use Rattle.outbound_sessions.specs.declared.session.OutboundSession.{OutboundSession}
+use Rattle.outbound_sessions.specs.Steps.{OutgoingStep, logged_on, numbered, gap_fill, after_step, outbound_before_logon}
+use Rattle.spread_report.specs.Outgoing.{AppliedEntry, session_steps, spends_numbers}
+use Rattle.outbound_sessions.specs.code.PerSession.{pass_limit}
+use Rattle.spread_report.specs.code.PerSession.{spends_from}
 
 -- with one number used
 abbrev counted : OutboundSession → OutboundSession

@@ -3,14 +3,15 @@ use Rattle.std.proofs.Common.{◌≡◌, ℕ, ◌+◌, ◌<◌, List, [], ◌∷
 use Rattle.std.proofs.lemmas.Grind.{flat_map-append}
 use Rattle.std.proofs.lemmas.List.{take_more, take-append-drop}
 use Rattle.std.specs.declared.vec.Vec.{Vec}
-use Rattle.spread_report.specs.declared.fault.DeskFault.{DeskFault}
-use Rattle.spread_report.specs.Desk.{DeskState}
-use Rattle.spread_report.specs.code.Sending.{Sends}
-use Rattle.spread_report.proofs.messages.MoreMessages.{all_sent, sends_after, sends_no_more}
+use Rattle.outbound_sessions.specs.declared.fault.DeskFault.{DeskFault}
+use Rattle.outbound_sessions.specs.Sessions.{OutboundState}
+use Rattle.outbound_sessions.specs.code.Sending.{Sends}
+use Rattle.outbound_sessions.proofs.MoreMessages.{all_sent, sends_after, sends_no_more}
 use Rattle.spread_rules.specs.declared.fill.Fill.{Fill}
 use Rattle.spread_rulebook.specs.Rulebook.{Rules}
 use Rattle.spread_report.specs.EntryMessages.{ExecutionReport, fill_reports, fills_reports}
-use Rattle.spread_report.specs.code.Addressed.{AddressedStep, report, reports_from}
+use Rattle.outbound_sessions.specs.code.Addressed.{AddressedStep}
+use Rattle.spread_report.specs.code.Addressed.{report, reports_from}
 use Rattle.spread_report.specs.code.Reports.{reports_of, report_count}
 use Rattle.spread_rulebook.specs.declared.instrument.Instrument.{Instrument}
 use Rattle.spread_rulebook.specs.declared.instrument.Instrument.TheVariants.{Outright, Spread}
@@ -73,7 +74,7 @@ fills_sent-push rules place i fs f =
 fills_sent_more : (rules : Rules) (place i : ℕ) (fs : List Fill) (k : ℕ) (d : Fill) → k < length fs → fills_sent rules place i (take (k + 1) fs) ≡ fills_sent rules place i (take k fs) ++ fill_sent rules place (i + reports_of (take k fs)) (get_or fs k d)
 fills_sent_more rules place i fs k d h = ap (λ (l : List Fill). fills_sent rules place i l) (take_more fs k d h) ∙ fills_sent-push rules place i (take k fs) (get_or fs k d)
 
-module _ {A : Type 0} (a b d : DeskState) (x y z : List (Vec ℕ A)) (rules : Rules) (place i n k : ℕ) (fs : List Fill) (f e : Fill) where
+module _ {A : Type 0} (a b d : OutboundState) (x y z : List (Vec ℕ A)) (rules : Rules) (place i n k : ℕ) (fs : List Fill) (f e : Fill) where
   next_reports : k < length fs → f ≡ get_or fs k e → n ≡ i + reports_of (take k fs)
       → fills_sent rules place i (take k fs) ++ fill_sent rules place n f ≡ fills_sent rules place i (take (k + 1) fs)
   next_reports below is_f is_n =

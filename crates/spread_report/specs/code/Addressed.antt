@@ -1,23 +1,14 @@
 -- The messages of an entry one after the other, each with the session that it goes to.
 -- Words of the code alone.
-use Rattle.std.specs.Prelude.{ℕ, ◌==◌, List, ◌++◌, map, filter}
+use Rattle.std.specs.Prelude.{ℕ, List, ◌++◌, map}
 use Rattle.std.specs.List.{enumerate_from}
-use Rattle.fix_wire.specs.declared.writer.Field.{Field}
 use Rattle.spread_rules.specs.declared.fill.Fill.{Fill}
 use Rattle.spread_rules.specs.declared.event.Event.{Event}
 use Rattle.spread_rules.specs.declared.outcome.Outcome.{Outcome}
 use Rattle.spread_rulebook.specs.Rulebook.{Rules}
-use Rattle.spread_report.specs.EntryMessages.{ExecutionReport, report_step, entry_reports, OutgoingStep, numbered, event_steps}
+use Rattle.spread_report.specs.EntryMessages.{ExecutionReport, report_step, entry_reports, event_steps}
+use Rattle.outbound_sessions.specs.code.Addressed.{AddressedStep, steps_to}
 use Rattle.spread_report.specs.Outgoing.{AppliedEntry}
-
--- A step, and the session that it is of.
-pub record AddressedStep : Type 0 where
-  pub to : ℕ
-  pub step : OutgoingStep
-
--- a message that bears the session's next number
-abbrev pub numbered_message : ℕ → ℕ → List Field → AddressedStep
-numbered_message to kind fields = record { to = to; step = numbered kind fields }
 
 -- a report of the entry of that place, with its number among the entry's reports
 abbrev pub report : ℕ → ℕ → ExecutionReport → AddressedStep
@@ -27,10 +18,6 @@ report place number r = record { to = r.to; step = report_step place (number, r)
 abbrev pub reports_from : ℕ → ℕ → List ExecutionReport → List AddressedStep
 reports_from place number rs =
     map (λ (r : ℕ × ExecutionReport). report place r.0 r.1) (enumerate_from number rs)
-
--- these steps of one session
-abbrev pub steps_to : ℕ → List OutgoingStep → List AddressedStep
-steps_to session steps = map (λ step. record { to = session; step = step }) steps
 
 -- what an event at its place sends, with its outcome and its fills
 abbrev pub event_messages : Rules → ℕ → ℕ → Event → Outcome → List Fill → List AddressedStep
@@ -42,7 +29,3 @@ event_messages rules place session event outcome fills =
 abbrev pub entry_messages : Rules → AppliedEntry → List AddressedStep
 entry_messages rules w =
     event_messages rules w.place w.entry.session w.entry.event w.outcome w.fills
-
--- those of these steps that are of session s
-abbrev pub steps_of : ℕ → List AddressedStep → List OutgoingStep
-steps_of s ms = map (λ (m : AddressedStep). m.step) (filter (λ (m : AddressedStep). m.to == s) ms)

@@ -1,9 +1,7 @@
--- What some messages, an entry, or the entries of a journal send session s, from an outbound state on.
+-- What an entry, or the entries of a journal, send session s, from an outbound state on.
 -- Words of the code alone.
-use Rattle.std.specs.Prelude.{ℕ, ◌==◌, nat_lt, ◌&&◌, ◌||◌, if◌then◌else◌, Bool, false, List, [], ◌∷◌, fold, Some}
+use Rattle.std.specs.Prelude.{ℕ, ◌==◌, if◌then◌else◌, Bool, List, [], ◌∷◌, fold, Some}
 use Rattle.std.specs.List.{concat}
-use Rattle.std.specs.Option.{is_some}
-use Rattle.host_base.specs.declared.limits.TheConstants.{MAX_MSG_SEQ_NUM}
 use Rattle.fix_frames.specs.declared.msg_types.TheConstants as msg_types
 use Rattle.spread_rules.specs.declared.fill.Fill.{Fill}
 use Rattle.spread_rules.specs.declared.event.Entry.{Entry}
@@ -11,44 +9,13 @@ use Rattle.spread_rules.specs.declared.event.Event.{Event}
 use Rattle.spread_rules.specs.declared.event.Event.TheVariants.{Logon}
 use Rattle.spread_rules.specs.declared.outcome.Outcome.{Outcome}
 use Rattle.spread_rulebook.specs.Rulebook.{Rules}
-use Rattle.spread_report.specs.declared.outbound.OutboundSession.{OutboundSession}
-use Rattle.spread_report.specs.EntryMessages.{OutgoingStep, logged_on, numbered}
-use Rattle.spread_report.specs.Outgoing.{AppliedEntry, step_texts, steps_texts, after_step, session_steps, outbound_before_logon}
-use Rattle.spread_report.specs.code.Addressed.{AddressedStep, numbered_message, event_messages, entry_messages, steps_of}
+use Rattle.outbound_sessions.specs.declared.session.OutboundSession.{OutboundSession}
+use Rattle.outbound_sessions.specs.Steps.{logged_on, steps_texts, after_step, outbound_before_logon}
+use Rattle.spread_report.specs.Outgoing.{AppliedEntry, session_steps}
+use Rattle.outbound_sessions.specs.code.Addressed.{AddressedStep, numbered_message}
+use Rattle.outbound_sessions.specs.code.PerSession.{pass_limit, texts_to, messages_bytes, outbound_after, spends}
+use Rattle.spread_report.specs.code.Addressed.{event_messages, entry_messages}
 use Rattle.spread_report.specs.code.Reports.{logon_fields}
-
--- ---- one message
-
--- the bytes of a step: those of its message, or none
-abbrev pub message_bytes : List ℕ → OutboundSession → OutgoingStep → List ℕ
-message_bytes stamp out c = concat (step_texts stamp out.comp_ids out.next c)
-
--- the message that it sends would bear a number above the greatest MsgSeqNum
-abbrev pub is_above_limit : OutboundSession → OutgoingStep → Bool
-is_above_limit out (numbered kind fields) = is_some out.comp_ids && nat_lt MAX_MSG_SEQ_NUM out.next
-is_above_limit out _ = false
-
--- one of the messages of these steps would bear a number above the limit
-abbrev pub pass_limit : OutboundSession → List OutgoingStep → Bool
-pass_limit out [] = false
-pass_limit out (c ∷ cs) = is_above_limit out c || pass_limit (after_step out c) cs
-
--- ---- some messages
-
--- the messages that these send it, and their bytes
-abbrev pub texts_to : List ℕ → ℕ → OutboundSession → List AddressedStep → List (List ℕ)
-texts_to stamp s out ms = steps_texts stamp out (steps_of s ms)
-
-abbrev pub messages_bytes : List ℕ → ℕ → OutboundSession → List AddressedStep → List ℕ
-messages_bytes stamp s out ms = concat (texts_to stamp s out ms)
-
--- its outbound state after them
-abbrev pub outbound_after : ℕ → OutboundSession → List AddressedStep → OutboundSession
-outbound_after s out ms = fold after_step out (steps_of s ms)
-
--- one of them needs a number above the limit
-abbrev pub spends : ℕ → OutboundSession → List AddressedStep → Bool
-spends s out ms = pass_limit out (steps_of s ms)
 
 -- ---- an entry
 

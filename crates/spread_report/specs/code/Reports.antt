@@ -1,6 +1,6 @@
 -- The reports and the session messages that the desk writes, one by one.
 -- Words of the code alone.
-use Rattle.std.specs.Prelude.{ℕ, ℤ, ◌+◌, ◌-◌, ◌==◌, nat_le, nat_lt, ◌&&◌, ◌||◌, Bool, if◌then◌else◌, List, [], ◌∷◌, codes, Some}
+use Rattle.std.specs.Prelude.{ℕ, ℤ, ◌+◌, ◌-◌, ◌==◌, if◌then◌else◌, List, [], ◌∷◌, codes, Some}
 use Rattle.fix_frames.specs.declared.tags.TheConstants as tags
 use Rattle.fix_wire.specs.declared.writer.Field.{Field}
 use Rattle.fix_wire.specs.declared.writer.Value.TheVariants.{Text, Number}
@@ -22,10 +22,6 @@ use Rattle.report_bodies.specs.declared.codes.OrdStatus.{OrdStatus}
 use Rattle.report_bodies.specs.declared.codes.OrdStatus.TheVariants as status
 use Rattle.report_bodies.specs.Fields.{text_field, number_field}
 use Rattle.spread_report.specs.EntryMessages.{ExecutionReport, plain_report, order_report}
-
--- 1 to 9 digits
-abbrev pub has_tag : Field → Bool
-has_tag f = nat_le 1 f.tag && nat_le f.tag 999999999
 
 -- ---- execution reports
 
@@ -112,7 +108,3 @@ resend_request_fields first =
 abbrev pub reject_fields : ℕ → ℕ → List Field
 reject_fields n reason =
     number_field tags.REF_SEQ_NUM n ∷ number_field tags.SESSION_REJECT_REASON reason ∷ []
-
--- NewSeqNo of a gap fill, where the next number is this and the last one asked for is that; 0 is no end
-abbrev pub new_seq_no : ℕ → ℕ → ℕ
-new_seq_no next last = if last == 0 || nat_lt next (last + 2) then next else last + 1

@@ -1,18 +1,18 @@
 //! The session's own messages, one method for each kind.
 ghost use Rattle.std.specs.Prelude.{◌≡◌, ◌<◌, ◌≤◌, ◌∷◌, [], length};
-ghost use Rattle.spread_report.specs.code.Sending.{Sends};
+ghost use Rattle.outbound_sessions.specs.code.Sending.{Sends};
 ghost use Rattle.fix_frames.specs.declared.msg_types.TheConstants.{HEARTBEAT, RESEND_REQUEST, REJECT, LOGON};
-ghost use Rattle.spread_report.specs.code.Addressed.{numbered_message, steps_to};
+ghost use Rattle.outbound_sessions.specs.code.Addressed.{numbered_message, steps_to};
 ghost use Rattle.spread_report.specs.code.Reports.{logon_fields, heartbeat_fields, reject_fields, resend_request_fields};
-ghost use Rattle.spread_report.specs.code.Reports as reports;
-ghost use Rattle.spread_report.specs.EntryMessages.{gap_fill, close_steps, order_cancel_reject};
+ghost use Rattle.outbound_sessions.specs.Steps.{gap_fill};
+ghost use Rattle.spread_report.specs.EntryMessages.{close_steps, order_cancel_reject};
 
 use super::Desk;
 use super::entry::{CancelRefusal, CancelRequest};
-use crate::fault::DeskFault;
-use fix_wire::{Field, Head, Value, msg_types, tags, write_message};
+use fix_wire::{Field, Value, msg_types, tags};
 use host_base::Id;
 use host_base::limits::SESSIONS;
+use outbound_sessions::DeskFault;
 use report_bodies::{ENCRYPT_METHOD_NONE, number_field, text_field};
 use spread_rules::codes::close_reason;
 use std::alloc::Allocator;
@@ -117,48 +117,6 @@ impl Desk {
         }
     }
 
-    /// Sends a gap fill, where the asked numbers begin below the next one. It uses no number.
-    pub(super) fn fill_gap<A: Allocator + Copy>(
-        &mut self,
-        lists: &mut [Vec<u8, A>],
-        session: u8,
-        first: u32,
-        last: u32,
-    ) -> Result<(), DeskFault>
-        requires lists { length lists.old ≡ SESSIONS }
-        requires session { session < SESSIONS }
-        ensures { Sends self.old self.new lists.old lists.new
-            (record { to = session; step = gap_fill first last } ∷ []) result }
-    {
-        let at = session as usize;
-        let outbound = self.sessions[at];
-        let comp_ids = outbound.comp_ids;
-        match comp_ids {
-            None => Ok(()),
-            Some(ids) => {
-                let number = u64::from(first);
-                if number >= outbound.next {
-                    return Ok(());
-                }
-                let head = Head {
-                    kind: msg_types::SEQUENCE_RESET,
-                    number,
-                    duplicate: true,
-                    sender: ids.host,
-                    target: ids.client,
-                    stamp: self.stamp,
-                };
-                let next = new_seq_no(outbound.next, u64::from(last));
-                let fields = [
-                    number_field!(tags::NEW_SEQ_NO, next),
-                    text_field!(tags::GAP_FILL_FLAG, Id::of(b"Y")),
-                ];
-                write_message(&mut lists[at], &head, &fields)?;
-                Ok(())
-            }
-        }
-    }
-
     /// Sends an OrderCancelReject, of a cancel or a replace.
     pub(super) fn cancel_reject<A: Allocator + Copy>(
         &mut self,
@@ -195,17 +153,5 @@ impl Desk {
             msg_types::ORDER_CANCEL_REJECT,
             &fields,
         )
-    }
-}
-
-/// NewSeqNo (tag 36): the number at which a gap fill lets numbering go on.
-fn new_seq_no(next: u64, last: u64) -> u64
-    requires { last ≤ 4294967295 }
-    ensures { result ≡ reports.new_seq_no next last }
-{
-    if last == 0 || next < last + 2 {
-        next
-    } else {
-        last + 1
     }
 }

@@ -3,19 +3,17 @@ ghost use Rattle.std.specs.Prelude.{◌≡◌, ℕ, ◌<◌, ◌+◌, List, ◌�
 ghost use Rattle.spread_rules.specs.declared.event.Event.TheVariants.{New, Cancel, Replace};
 ghost use Rattle.spread_rules.specs.declared.fill.Fill.{Fill};
 ghost use Rattle.spread_rules.specs.Ranges.{FitsCancel, FitsNew, FitsReplace, FitsOutcome, FitFills};
-ghost use Rattle.spread_report.specs.code.Sending.{Sends};
+ghost use Rattle.outbound_sessions.specs.code.Sending.{Sends};
 ghost use Rattle.spread_report.specs.code.PerSession.{noted_messages, outbound_at_entry};
 ghost use Rattle.spread_report.specs.code.Reports.{reports_of};
 ghost use Rattle.spread_report.specs.code.Addressed.{reports_from, event_messages};
 ghost use Rattle.spread_report.specs.EntryMessages.{new_report, fills_reports};
-ghost use Rattle.spread_report.specs.Sessions.{outbound_at};
+ghost use Rattle.outbound_sessions.specs.Sessions.{outbound_at};
 
 use super::Desk;
-use super::parties::spell_parties;
-use crate::fault::DeskFault;
-use crate::outbound::CompIds;
 use host_base::Id;
 use host_base::limits::SESSIONS;
+use outbound_sessions::{CompIds, DeskFault};
 use report_bodies::{CXL_REJ_RESPONSE_TO_CANCEL, CXL_REJ_RESPONSE_TO_REPLACE, symbol_of};
 use spread_rules::{Entry, Event, Fill, Outcome, Rulebook, Ticket};
 use std::alloc::Allocator;
@@ -71,8 +69,8 @@ impl Desk {
             (outbound_at self.old.sessions s) entry.now.session entry.now.event }
     {
         if let Event::Logon { client, host, .. } = entry.event {
-            self.sessions[entry.session as usize].comp_ids = Some(CompIds { client, host });
-            spell_parties(&mut self.parties, &self.sessions, &self.stamp);
+            self.outbound
+                .log_on(entry.session, CompIds { client, host });
         }
     }
 

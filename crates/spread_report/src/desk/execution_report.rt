@@ -5,17 +5,17 @@ ghost use Rattle.spread_rules.specs.Legs.{other_side};
 ghost use Rattle.spread_rulebook.specs.Rulebook.{month_count};
 ghost use Rattle.spread_rules.specs.declared.fill.Fill.{Fill};
 ghost use Rattle.spread_rules.specs.Ranges.{FitFills, FitsFill};
-ghost use Rattle.spread_report.specs.code.Sending.{Sends};
+ghost use Rattle.outbound_sessions.specs.code.Sending.{Sends};
 ghost use Rattle.spread_report.specs.code.Addressed.{report, reports_from};
 ghost use Rattle.spread_report.specs.code.Reports.{rejected_report, ended_report, cancelled_report, replaced_report, part_report, leg_reports, reports_of, fill_status, report_count};
 ghost use Rattle.spread_report.specs.EntryMessages.{new_report, fill_reports, fills_reports};
 
 use super::Desk;
 use super::entry::{CancelRequest, NewOrder};
-use crate::fault::DeskFault;
 use fix_wire::msg_types;
 use host_base::Id;
 use host_base::limits::SESSIONS;
+use outbound_sessions::DeskFault;
 use report_bodies::{
     CancelReport, ExecId, FillReport, MultiLegReportingType, OrdStatus, OrderReport, RejectReport,
     symbol_of,

@@ -1,4 +1,4 @@
-//! Entries at both ends of their ranges, and one beyond.
+//! Entries whose session, numbers and reason are at either end of their range, and one beyond.
 use crate::expect::holds;
 use spread_rules::{Entry, Event};
 use stage_rings::fits_entry;

@@ -2,8 +2,9 @@ use Rattle.std.proofs.Common.{◌≡◌, ◌∙◌, sym, ap, subst, ℕ, ◌<◌
 use Rattle.std.specs.Prelude.{IfNone}
 use Rattle.std.proofs.lemmas.List.{with_items_is}
 use Rattle.std.specs.Vec.{with_items}
-use Rattle.spread_report.specs.Messages.{IsRow, messages_to}
-use Rattle.spread_report.specs.Sessions.{bytes_of, session_text}
+use Rattle.outbound_sessions.specs.Rows.{IsRow}
+use Rattle.spread_report.specs.Messages.{messages_to}
+use Rattle.outbound_sessions.specs.Sessions.{bytes_of, session_text}
 use Rattle.day_apply.specs.Applied.{applied_entries, outgoing_bytes}
 use Rattle.day_apply.specs.Sending.{sending_rules, stamp_of}
 use Rattle.day_apply.proofs.EntryByEntry.{texts_length}

@@ -1,6 +1,6 @@
 use Rattle.std.proofs.Common.{◌≡◌, ◌≤◌, ◌<◌, ◌+◌, ℕ, drop, vec_len}
 use Rattle.std.specs.Vec.Iter.{into_iter_items, into_iter_len}
-use Rattle.spread_report.specs.Sessions.{bytes_of}
+use Rattle.outbound_sessions.specs.Sessions.{bytes_of}
 use Rattle.session_threads.specs.code.Writing.{written_at}
 use Rattle.day_threads.proofs.conclude.with_written.Given as goal
 

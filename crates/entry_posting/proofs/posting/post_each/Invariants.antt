@@ -1,5 +1,5 @@
 use Rattle.std.proofs.Common.{◌≡◌, ◌<◌, ◌-◌, ◌++◌, ℕ, [], length}
-use Rattle.spread_report.specs.Sessions.{session_text}
+use Rattle.outbound_sessions.specs.Sessions.{session_text}
 use Rattle.entry_posting.specs.code.Posting.{posted_at, NoneEnded, SamePosters}
 use Rattle.entry_posting.proofs.posting.post_each.Given as goal
 

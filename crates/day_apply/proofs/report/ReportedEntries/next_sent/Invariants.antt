@@ -1,5 +1,5 @@
 use Rattle.std.proofs.Common.{◌≡◌, ◌≤◌, ◌<◌, ◌-◌, ℕ, []}
-use Rattle.spread_report.specs.Sessions.{session_text}
+use Rattle.outbound_sessions.specs.Sessions.{session_text}
 use Rattle.day_apply.proofs.report.ReportedEntries.next_sent.Given as goal
 
 abbrev pub invariant-loop-session : goal.invariant-loop-session

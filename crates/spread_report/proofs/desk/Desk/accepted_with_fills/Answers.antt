@@ -1,7 +1,7 @@
 use Rattle.std.proofs.Common.{[], ◌∷◌}
 use Rattle.spread_report.specs.EntryMessages.{new_report, fills_reports}
 use Rattle.spread_report.specs.code.Addressed.{report, reports_from}
-use Rattle.spread_report.proofs.messages.MoreMessages.{sends_after}
+use Rattle.outbound_sessions.proofs.MoreMessages.{sends_after}
 use Rattle.spread_report.proofs.desk.Desk.accepted_with_fills.Goals as goal
 
 pub returns-clause-sent : goal.returns-clause-sent

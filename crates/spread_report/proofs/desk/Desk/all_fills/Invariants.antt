@@ -2,8 +2,8 @@ use Rattle.std.proofs.Common.{◌≡◌, ◌+◌, ◌*◌, ◌≤◌, take}
 use Rattle.spread_report.specs.EntryMessages.{fills_reports}
 use Rattle.spread_report.specs.code.Addressed.{reports_from}
 use Rattle.spread_report.specs.code.Reports.{reports_of}
-use Rattle.spread_report.specs.code.Sending.{Sends}
-use Rattle.spread_report.proofs.messages.MoreMessages.{all_sent}
+use Rattle.outbound_sessions.specs.code.Sending.{Sends}
+use Rattle.outbound_sessions.proofs.MoreMessages.{all_sent}
 use Rattle.spread_report.proofs.desk.Desk.all_fills.Given as goal
 
 abbrev pub invariant-loop-one : goal.invariant-loop-one

@@ -1,16 +1,22 @@
-use Rattle.std.proofs.Common.{◌≡◌, List, ℕ, [], ◌∷◌, ap, sym, ◌∙◌}
+use Rattle.std.proofs.Common.{◌≡◌, ◌≢◌, List, ℕ, [], ◌∷◌, ap, sym, ◌∙◌, refl, codes}
 use Rattle.fix_wire.specs.declared.writer.Field.{Field}
 use Rattle.fix_wire.specs.declared.writer.Value.{Value}
-use Rattle.spread_report.specs.code.Addressed.{numbered_message}
+use Rattle.outbound_sessions.specs.code.Addressed.{numbered_message}
 use Rattle.spread_report.specs.code.Reports.{place_field}
 use Rattle.report_bodies.specs.Fields.{text_field, number_field}
-use Rattle.spread_report.proofs.messages.MoreMessages.{sends_same}
-use Rattle.spread_report.proofs.messages.OneMessage.{named_none, named_place}
+use Rattle.outbound_sessions.proofs.MoreMessages.{sends_same}
+use Rattle.std.proofs.lemmas.Bool.{ne_eqb}
 use Rattle.spread_report.proofs.desk.Desk.cancel_reject.Goals.{then-refusal-eq0, else-refusal-eq0}
 use Rattle.spread_report.proofs.desk.Desk.cancel_reject.Goals as goal
 
 abbrev with_37 : Value → Field
 with_37 v = record { tag = 37; value = v }
+
+named_none : (p : ℕ) → p ≡ 0 → place_field p ≡ text_field 37 (codes "NONE")
+named_none p e = rw e refl
+
+named_place : (p : ℕ) → p ≢ 0 → place_field p ≡ number_field 37 p
+named_place p h = rw (ne_eqb p 0 h) refl
 
 pub returns : goal.returns
 returns g c =

@@ -8,7 +8,7 @@ use Rattle.spread_report.specs.code.Addressed.{report, reports_from}
 use Rattle.spread_report.specs.code.Reports.{part_report, leg_reports}
 use Rattle.report_bodies.specs.declared.codes.MultiLegReportingType.TheVariants.{MultiLegSecurity}
 use Rattle.spread_rulebook.specs.Rulebook.{symbol_of}
-use Rattle.spread_report.proofs.messages.MoreMessages.{sends_after, sends_same}
+use Rattle.outbound_sessions.proofs.MoreMessages.{sends_after, sends_same}
 use Rattle.spread_report.proofs.desk.Desk.fill.Goals as goal
 
 pub returns-in-Outright : goal.returns-in-Outright

@@ -1,6 +1,6 @@
 use Rattle.std.specs.Int.{w64}
 use Rattle.std.proofs.lemmas.Int.{to_z-of_z}
-use Rattle.spread_report.proofs.messages.MoreMessages.{sends_after}
+use Rattle.outbound_sessions.proofs.MoreMessages.{sends_after}
 use Rattle.spread_report.proofs.desk.Desk.fill_legs.Goals as goal
 
 pub returns : goal.returns

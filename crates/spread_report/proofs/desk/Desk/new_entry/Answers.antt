@@ -1,13 +1,14 @@
 use Rattle.std.proofs.Common.{◌≡◌, List, [], ◌∷◌, ◌++◌, ◌+◌, ℕ, ap, sym, ◌∙◌, Err}
 use Rattle.std.proofs.lemmas.Result.{err_from_is_err_and}
 use Rattle.spread_report.specs.EntryMessages.{ExecutionReport, new_report, fills_reports}
-use Rattle.spread_report.specs.code.Addressed.{AddressedStep, report, reports_from, event_messages}
+use Rattle.outbound_sessions.specs.code.Addressed.{AddressedStep}
+use Rattle.spread_report.specs.code.Addressed.{report, reports_from, event_messages}
 use Rattle.spread_report.specs.code.Reports.{ended_report, reports_of}
 use Rattle.spread_report.proofs.messages.OneFillMore.{report_behind}
 use Rattle.spread_rules.specs.declared.event.Event.TheVariants.{New}
 use Rattle.spread_rules.specs.declared.outcome.Outcome.{Outcome}
 use Rattle.spread_rules.specs.declared.outcome.Outcome.TheVariants.{Ended}
-use Rattle.spread_report.proofs.messages.MoreMessages.{sends_after, sends_no_more, sends_same}
+use Rattle.outbound_sessions.proofs.MoreMessages.{sends_after, sends_no_more, sends_same}
 use Rattle.spread_report.proofs.desk.Desk.new_entry.Goals as goal
 
 pub returns-in_ok-index-in-Ended : goal.returns-in_ok-index-in-Ended

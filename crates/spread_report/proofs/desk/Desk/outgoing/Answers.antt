@@ -1,34 +1,28 @@
-use Rattle.std.proofs.Common.{◌≡◌, ℕ, ◌<◌, List, sym, ap, subst, ◌∙◌}
-use Rattle.spread_report.specs.declared.outbound.OutboundSession.{OutboundSession}
-use Rattle.spread_report.specs.Desk.{DeskState}
-use Rattle.spread_report.specs.code.PerSession.{noted_messages, outbound_at_entry, applied_at}
-use Rattle.spread_report.specs.Sessions.{outbound_at, KeepsBytes}
-use Rattle.spread_report.specs.code.Sending.{OnlyAppended}
+use Rattle.std.proofs.Common.{◌≡◌, sym, ap, subst, ◌∙◌}
+use Rattle.outbound_sessions.specs.Sessions.{OutboundState, texts_of, KeepsBytes}
+use Rattle.outbound_sessions.specs.code.TakingBack.{IsMark, SentSince}
+use Rattle.spread_report.specs.code.PerSession.{noted_messages, applied_at}
 use Rattle.spread_report.proofs.entries.EntrySent.{ok_refused, err_sent, sent_bytes, sent_outbound, sent_unspent, sent_whole, sent_spent}
-use Rattle.spread_report.proofs.entries.TakenBack.{sessions_back, back_again, after_refusal, desk_of, desk_back}
+use Rattle.spread_report.proofs.entries.TakenBack.{sent_since, after_refusal}
 use Rattle.spread_report.proofs.desk.Desk.outgoing.Goals as goal
 
 pub returns-then-is_err-clause-desk_kept : goal.returns-then-is_err-clause-desk_kept
 returns-then-is_err-clause-desk_kept g c =
-    let i = c.self.inside in
-    let w = c.send_entry-result in
     let noted = c.note_comp_ids.new.self in
+    let w = c.send_entry-result in
     let e = c.args.entry.now in
-    let before : c.args.self.now.sessions ≡ i.sessions = ap (λ (d : DeskState). d.sessions) (sym c.self.view_is) in
-    let after : w.new.self.sessions ≡ c.self-2.inside.sessions = ap (λ (d : DeskState). d.sessions) (sym c.self-2.view_is) in
-    let stamp : c.self-2.inside.stamp ≡ i.stamp =
-    ap (λ (d : DeskState). d.stamp) c.self-2.view_is ∙ (w.ensures.stamp ∙ (c.note_comp_ids.ensures.stamp ∙ ap (λ (d : DeskState). d.stamp) (sym c.self.view_is))) in
-    let opened : (s : ℕ) → s < 16 → outbound_at noted.sessions s ≡ outbound_at_entry s (outbound_at i.sessions s) e.session e.event =
-    λ s below. c.note_comp_ids.ensures.noted s below ∙ ap (λ (l : List OutboundSession). outbound_at_entry s (outbound_at l s) e.session e.event) before in
-    after_refusal (desk_of c.self-2.inside.stamp c.restore.new.sessions ≡ c.args.self.now) noted.stamp noted.sessions w.new.self.sessions c.args.lists.now w.new.lists
+    let texts = texts_of c.args.lists.now in
+    let marked = subst (λ (d : OutboundState). IsMark c.mark-mark.result e.session d texts) c.self.view_is c.mark-mark.ensures in
+    after_refusal (c.take_back.new.self ≡ c.args.self.now) noted.stamp noted.sessions w.new.self.sessions c.args.lists.now w.new.lists
     (noted_messages c.args.rules.now c.args.place e.session e.event c.args.outcome.now c.args.fills.now) w.result w.ensures.result
-    (λ appended.
-    let grown : OnlyAppended noted.sessions c.self-2.inside.sessions c.args.lists.now w.new.lists =
-    subst (λ (l : List OutboundSession). OnlyAppended noted.sessions l c.args.lists.now w.new.lists) after appended in
-    let back : c.restore.new.sessions ≡ i.sessions =
-    sessions_back i.sessions noted.sessions c.self-2.inside.sessions c.restore.new.sessions c.args.lists.now w.new.lists c.numbers_of-numbers.result e.session e.event c.index-self-entry.result
-    c.self.invariant.count c.restore.ensures.size c.requires.session opened grown c.numbers_of-numbers.ensures c.restore.ensures.restored in
-    desk_back c.args.self.now c.self-2.inside.stamp i.stamp i.sessions c.restore.new.sessions stamp back c.self.view_is)
+    (λ grown.
+    let since = sent_since c.args.self.now noted w.new.self c.args.lists.now w.new.lists e.session e.event c.note_comp_ids.ensures.stamp w.ensures.stamp c.note_comp_ids.ensures.noted grown in
+    c.take_back.ensures.sessions e.session c.args.self.now texts marked
+    (subst (λ (d : OutboundState). SentSince e.session c.args.self.now d texts (texts_of w.new.lists)) (sym c.self-2.view_is) since))
+
+pub returns-then-is_err-clause-stamp : goal.returns-then-is_err-clause-stamp
+returns-then-is_err-clause-stamp g c =
+    c.take_back.ensures.stamp ∙ ap (λ (d : OutboundState). d.stamp) c.self-2.view_is ∙ c.send_entry-result.ensures.stamp ∙ c.note_comp_ids.ensures.stamp
 
 pub returns-then-is_err-clause-bytes : goal.returns-then-is_err-clause-bytes
 returns-then-is_err-clause-bytes g c = ok_refused _ c.send_entry-result.result (sym c.is_err.ensures.value ∙ c.if-is_err.true)
@@ -76,9 +70,15 @@ pub returns-then-is_err-clause-lists_kept : goal.returns-then-is_err-clause-list
 returns-then-is_err-clause-lists_kept g c =
     let noted = c.note_comp_ids.new.self in
     let w = c.send_entry-result in
-    after_refusal (KeepsBytes c.args.lists.now c.cut_back.new.lists) noted.stamp noted.sessions w.new.self.sessions c.args.lists.now w.new.lists
-    (noted_messages c.args.rules.now c.args.place c.args.entry.now.session c.args.entry.now.event c.args.outcome.now c.args.fills.now) w.result w.ensures.result
-    (λ grown. back_again noted.sessions w.new.self.sessions c.args.lists.now w.new.lists c.cut_back.new.lists c.lengths_of-lengths.result grown c.lengths_of-lengths.ensures c.cut_back.ensures.rows)
+    let e = c.args.entry.now in
+    let texts = texts_of c.args.lists.now in
+    let marked = subst (λ (d : OutboundState). IsMark c.mark-mark.result e.session d texts) c.self.view_is c.mark-mark.ensures in
+    after_refusal (KeepsBytes c.args.lists.now c.take_back.new.lists) noted.stamp noted.sessions w.new.self.sessions c.args.lists.now w.new.lists
+    (noted_messages c.args.rules.now c.args.place e.session e.event c.args.outcome.now c.args.fills.now) w.result w.ensures.result
+    (λ grown.
+    let since = sent_since c.args.self.now noted w.new.self c.args.lists.now w.new.lists e.session e.event c.note_comp_ids.ensures.stamp w.ensures.stamp c.note_comp_ids.ensures.noted grown in
+    c.take_back.ensures.lists e.session c.args.self.now texts marked
+    (subst (λ (d : OutboundState). SentSince e.session c.args.self.now d texts (texts_of w.new.lists)) (sym c.self-2.view_is) since))
 
 pub returns-else-is_err-clause-desk_kept : goal.returns-else-is_err-clause-desk_kept
 returns-else-is_err-clause-desk_kept g c = err_sent _ c.send_entry-result.result (sym c.is_err.ensures.value ∙ c.if-is_err.false)

@@ -4,7 +4,7 @@ use Rattle.spread_rulebook.specs.Rulebook.{symbol_of}
 use Rattle.spread_report.specs.EntryMessages.{fills_reports}
 use Rattle.spread_report.specs.code.Addressed.{report, reports_from}
 use Rattle.spread_report.specs.code.Reports.{replaced_report}
-use Rattle.spread_report.proofs.messages.MoreMessages.{sends_after, sends_ok, sends_err}
+use Rattle.outbound_sessions.proofs.MoreMessages.{sends_after, sends_ok, sends_err}
 use Rattle.spread_report.proofs.desk.Desk.replace_entry.Goals as goal
 
 pub returns-in_ok-all_fills-in-Replaced : goal.returns-in_ok-all_fills-in-Replaced

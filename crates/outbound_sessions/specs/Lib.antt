@@ -1,0 +1,5 @@
+pub mod Steps
+pub mod Sessions
+pub mod Rows
+pub mod Faults
+pub mod code

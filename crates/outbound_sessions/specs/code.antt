@@ -1,0 +1,5 @@
+-- Words of the code alone: no public promise needs them to be read.
+pub mod Addressed
+pub mod PerSession
+pub mod Sending
+pub mod TakingBack

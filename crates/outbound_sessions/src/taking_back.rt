@@ -1,0 +1,135 @@
+//! What was sent is taken back where an entry is refused.
+ghost use Rattle.std.specs.Prelude.{◌≡◌, ℕ, ◌<◌, ◌==◌, List, length, take, slice_index_or, if◌then◌else◌};
+ghost use Rattle.host_base.specs.declared.limits.TheConstants.{SESSIONS};
+ghost use Rattle.outbound_sessions.specs.Sessions.{OutboundState, bytes_of, texts_of, session_text, outbound_at};
+
+use crate::parties::spell_parties;
+use crate::sending::OutboundSessions;
+use crate::session::{CompIds, OutboundSession};
+use host_base::limits::SESSIONS;
+use std::alloc::Allocator;
+
+/// How sessions and lists stood: the length of each list, the next number of each session, and the CompIDs of one.
+#[derive(Drop)]
+pub struct Mark {
+    lengths: [usize; SESSIONS],
+    numbers: [u64; SESSIONS],
+    session: u8,
+    comp_ids: Option<CompIds>,
+    ghost in_range: { session < SESSIONS },
+}
+
+impl OutboundSessions {
+    ghost use Rattle.outbound_sessions.specs.code.TakingBack.{IsMark, SentSince};
+
+    /// Notes how the sessions and their lists stand before this session's entry, which alone may bring other CompIDs.
+    pub fn mark<A: Allocator>(&self, lists: &[Vec<u8, A>], session: u8) -> Mark
+        requires lists { length lists.now ≡ SESSIONS }
+        requires session { session < SESSIONS }
+        ensures { IsMark result session self.now (texts_of lists.now) }
+    {
+        Mark {
+            lengths: lengths_of(lists),
+            numbers: numbers_of(&self.sessions),
+            session,
+            comp_ids: self.sessions[session as usize].comp_ids,
+        }
+    }
+
+    /// Takes back what was sent since the mark: the sessions and all lists are as they were then.
+    pub fn take_back<A: Allocator>(&mut self, lists: &mut [Vec<u8, A>], mark: &Mark)
+        requires { length lists.old ≡ SESSIONS }
+        ensures sessions { (session : ℕ) (before : OutboundState) (texts : List (List ℕ)) →
+            IsMark mark.now session before texts →
+            SentSince session before self.old texts (texts_of lists.old) → self.new ≡ before }
+        ensures lists { (session : ℕ) (before : OutboundState) (texts : List (List ℕ)) →
+            IsMark mark.now session before texts →
+            SentSince session before self.old texts (texts_of lists.old) →
+            (s : ℕ) → s < SESSIONS → bytes_of lists.new s ≡ session_text texts s }
+        ensures stamp { self.new.stamp ≡ self.old.stamp }
+        ensures count { length lists.new ≡ SESSIONS }
+    {
+        restore(
+            &mut self.sessions,
+            &mark.numbers,
+            mark.session,
+            mark.comp_ids,
+        );
+        spell_parties(&mut self.parties, &self.sessions, &self.stamp);
+        cut_back(lists, &mark.lengths);
+    }
+}
+
+/// Cuts each list to its length.
+fn cut_back<A: Allocator>(lists: &mut [Vec<u8, A>], lengths: &[usize; SESSIONS])
+    requires lists { length lists.old ≡ SESSIONS }
+    ensures size { length lists.new ≡ SESSIONS }
+    ensures rows { (s : ℕ) → s < SESSIONS → bytes_of lists.new s
+        ≡ take (slice_index_or lengths.now s 0) (bytes_of lists.old s) }
+{
+    for s in 0..SESSIONS {
+        let length = lengths[s];
+        lists[s].truncate(length);
+    }
+}
+
+/// How long each list is.
+fn lengths_of<A: Allocator>(lists: &[Vec<u8, A>]) -> [usize; SESSIONS]
+    requires { length lists.now ≡ SESSIONS }
+    ensures { (s : ℕ) → s < SESSIONS → slice_index_or result s 0 ≡ length (bytes_of lists.now s) }
+{
+    let mut lengths = [0; SESSIONS];
+    for s in 0..SESSIONS {
+        let count = lists[s].len();
+        lengths[s] = count;
+    }
+    lengths
+}
+
+/// The next number of each session.
+fn numbers_of(sessions: &[OutboundSession; SESSIONS]) -> [u64; SESSIONS]
+    ensures { (s : ℕ) → s < SESSIONS
+        → slice_index_or result s 0 ≡ (outbound_at sessions.now s).next }
+{
+    let mut numbers = [0; SESSIONS];
+    for s in 0..SESSIONS {
+        numbers[s] = sessions[s].next;
+    }
+    numbers
+}
+
+/// Gives each session that next number.
+fn renumber(sessions: &mut [OutboundSession; SESSIONS], numbers: &[u64; SESSIONS])
+    ensures size { length sessions.new ≡ SESSIONS }
+    ensures numbered { (s : ℕ) → s < SESSIONS → outbound_at sessions.new s
+        ≡ record {
+          next = slice_index_or numbers.now s 0;
+          comp_ids = (outbound_at sessions.old s).comp_ids;
+        } }
+{
+    for s in 0..SESSIONS {
+        let comp_ids = sessions[s].comp_ids;
+        sessions[s] = OutboundSession {
+            next: numbers[s],
+            comp_ids,
+        };
+    }
+}
+
+/// Gives each session that next number, and one of them those CompIDs.
+fn restore(
+    sessions: &mut [OutboundSession; SESSIONS],
+    numbers: &[u64; SESSIONS],
+    session: u8,
+    comp_ids: Option<CompIds>,
+)
+    requires { session < SESSIONS }
+    ensures size { length sessions.new ≡ SESSIONS }
+    ensures restored { (s : ℕ) → s < SESSIONS → outbound_at sessions.new s ≡ record {
+      next = slice_index_or numbers.now s 0;
+      comp_ids = if session == s then comp_ids else (outbound_at sessions.old s).comp_ids;
+    } }
+{
+    sessions[session as usize].comp_ids = comp_ids;
+    renumber(sessions, numbers);
+}
