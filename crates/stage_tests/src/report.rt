@@ -12,6 +12,7 @@ mod admin_messages;
 mod definitions;
 mod memory_refused;
 mod numbering;
+mod outbound;
 mod refusals_and_cancels;
 mod replaces;
 mod reports;

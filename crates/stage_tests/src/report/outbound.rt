@@ -1,7 +1,7 @@
 //! A message of one session, sent and taken back.
 use crate::expect::holds;
-use fix_wire::{msg_types, tags};
-use outbound_sessions::{CompIds, OutboundSessions};
+use fix_wire::{Field, Value, msg_types, tags};
+use outbound_sessions::{CompIds, Mark, OutboundSessions};
 use report_bodies::text_field;
 use std::alloc::Global;
 use std::process::Abort;
@@ -18,6 +18,34 @@ fn sixteen_lists(rt: &impl Abort, alloc: Global) -> Vec<Vec<u8>> {
     lists
 }
 
+/// Whether session 0 is sent a Heartbeat.
+fn is_sent(outbound: &mut OutboundSessions, lists: &mut [Vec<u8>]) -> bool {
+    if lists.len() != 16 {
+        return false;
+    }
+    let fields = [text_field!(tags::TEST_REQ_ID, id(b"T"))];
+    outbound
+        .send(lists, 0, msg_types::HEARTBEAT, &fields)
+        .is_ok()
+}
+
+/// Whether all is taken back to the mark.
+fn is_taken_back(outbound: &mut OutboundSessions, lists: &mut [Vec<u8>], mark: &Mark) -> bool {
+    if lists.len() != 16 {
+        return false;
+    }
+    outbound.take_back(lists, mark);
+    true
+}
+
+/// Whether session 0 was sent this.
+fn was_sent(lists: &[Vec<u8>], want: &[u8]) -> bool {
+    match lists.first() {
+        Some(sent) => sent.as_slice() == want,
+        None => false,
+    }
+}
+
 #[test]
 fn sent_and_taken_back(rt: HostRuntime) {
     let mut lists = sixteen_lists(&rt, rt.alloc());
@@ -26,20 +54,16 @@ fn sent_and_taken_back(rt: HostRuntime) {
         rt.panic("sixteen lists");
     }
     let mut outbound = OutboundSessions::new(stamp());
-    outbound.log_on(
-        0,
-        CompIds {
-            client: id(b"C1"),
-            host: id(b"HOST"),
-        },
-    );
+    let comp_ids = CompIds {
+        client: id(b"C1"),
+        host: id(b"HOST"),
+    };
+    outbound.log_on(0, comp_ids);
     let mark = outbound.mark(lists, 0);
     for _ in 0..2 {
-        let fields = [text_field!(tags::TEST_REQ_ID, id(b"T"))];
-        let sent = outbound.send(lists, 0, msg_types::HEARTBEAT, &fields);
-        holds(&rt, sent.is_ok());
-        holds(&rt, lists[0] == FIRST_HEARTBEAT);
-        outbound.take_back(lists, &mark);
-        holds(&rt, lists[0].is_empty());
+        holds(&rt, is_sent(&mut outbound, lists));
+        holds(&rt, was_sent(lists, FIRST_HEARTBEAT));
+        holds(&rt, is_taken_back(&mut outbound, lists, &mark));
+        holds(&rt, was_sent(lists, b""));
     }
 }
