@@ -161,19 +161,14 @@ impl<A: Allocator> Course<A> {
         note_best(&mut self.sell, column, sell)
     }
 
-    /// Counts a trade.
-    fn count(&mut self, trade: &Trade) {
+    /// Notes a trade, and counts it. Trades of one column, price and kind that follow one another are noted as one.
+    pub fn note(&mut self, trade: Trade) -> Result<(), AllocError> {
         let turns = match trade.kind {
             Kind::Direct => &mut self.direct,
             Kind::Implied => &mut self.implied,
         };
         *turns = turns.saturating_add(1);
         self.lots = self.lots.saturating_add(trade.lots);
-    }
-
-    /// Notes a trade. Trades of one column, price and kind that follow one another are noted as one.
-    pub fn note(&mut self, trade: Trade) -> Result<(), AllocError> {
-        self.count(&trade);
         match self.trades.last_mut() {
             Some(last) if last.is_beside(&trade) => {
                 last.lots = last.lots.saturating_add(trade.lots);
