@@ -104,20 +104,29 @@ fn a_text_whose_writing_fails(rt: HostRuntime) {
     expect_lines(&rt, out.bytes(), 2);
 }
 
+/// Gives these bytes on as one piece, which has room for no more.
+fn give_piece<R: Wait + Abort, A: Allocator + Copy>(
+    rt: &R,
+    alloc: A,
+    sink: &mut PieceSink<'_, R, A>,
+    bytes: &[u8],
+)
+    requires { sink.old.ended ≡ false }
+    ensures { sink.new.ended ≡ false }
+{
+    let mut piece = bytes.to_vec(alloc).expect(rt, "memory");
+    sink.take(&mut piece).expect(rt, "no write fails");
+    holds(rt, piece.is_empty());
+}
+
 /// A piece of less room than the others has, one without bytes, and one of more.
 #[test]
 fn pieces_of_each_size(rt: HostRuntime) {
     let (sink, source) = piece_ring(&rt, rt.alloc()).expect(&rt, "memory");
     let mut sink = sink;
-    let mut small = Vec::new(rt.alloc());
-    small.extend_from_slice(LINE).expect(&rt, "memory");
-    sink.take(&mut small).expect(&rt, "no write fails");
-    holds(&rt, small.is_empty());
-    sink.take(&mut small).expect(&rt, "no write fails");
-    let mut large = Vec::new(rt.alloc());
-    large.resize(90_000, b'x').expect(&rt, "memory");
-    sink.take(&mut large).expect(&rt, "no write fails");
-    holds(&rt, large.is_empty());
+    give_piece(&rt, rt.alloc(), &mut sink, LINE);
+    give_piece(&rt, rt.alloc(), &mut sink, b"");
+    give_piece(&rt, rt.alloc(), &mut sink, &[b'x'; 90_000]);
     sink.end();
     let (out, whole) = take_text(&rt, source, rt.alloc(), 0);
     holds(&rt, whole && out.bytes().len() == 90_010);

@@ -1,7 +1,12 @@
 //! The rings behind the sequencer: to the thread that matches, and to a session's writer.
+ghost use mathlib.Core.List.{IsPrefix};
+ghost use Rattle.stage_rings.specs.Feeding.{AreFeedPair, SameMatcher, given};
+ghost use Rattle.stage_rings.specs.Posting.{ArePostPair};
+
 use crate::expect::{holds, holds_for};
 use gate_link::{
-    Give, LinkFault, Post, Poster, Taken, Writer, Wrote, agree, feed_ring, finished, post_ring,
+    Feeder, Give, LinkFault, Matcher, Post, Poster, Taken, Writer, Wrote, agree, feed_ring,
+    finished, post_ring,
 };
 use host_base::NoMemory;
 use spread_rules::{Entry, Event};
@@ -26,166 +31,309 @@ fn entries_to<A: Allocator>(rt: &impl Abort, alloc: A, last: u32) -> Vec<Entry, 
     entries
 }
 
-/// The entry with this number is what is taken.
-fn expect_entry(rt: &impl Abort, taken: Taken, number: u32) {
-    holds(rt, taken == Taken::Entry(entry(number)));
+// ---- entries, to the thread that matches
+
+/// What is done with a ring of entries, and what comes of it.
+#[derive(Clone, Copy)]
+enum EntryAct {
+    /// The journal is given.
+    Give(Give),
+    /// The feeder ends.
+    End(Give),
+    /// The entries from this number to that one are taken, one by one.
+    Take(u32, u32),
+    /// None is there to be taken.
+    TakeNone,
+    /// The end mark is taken.
+    TakeEnd,
+    /// Whether all that was given was taken.
+    Agree(bool),
 }
 
-#[test]
-fn entries_are_given_in_slices(rt: HostRuntime) {
-    let journal = entries_to(&rt, rt.alloc(), 3);
-    let Ok((mut feeder, mut matcher)) = feed_ring(rt.alloc(), 2) else {
-        panic!(rt; "no ring");
-    };
-    holds(&rt, feeder.give(&journal) == Give::Gave(2));
-    holds(&rt, feeder.give(&journal) == Give::Full);
-    expect_entry(&rt, matcher.take(), 1);
-    holds(&rt, feeder.give(&journal) == Give::Gave(1));
-    holds(&rt, feeder.give(&journal) == Give::Level);
-    expect_entry(&rt, matcher.take(), 2);
-    expect_entry(&rt, matcher.take(), 3);
-    holds(&rt, matcher.take() == Taken::Empty);
+/// A journal of so many entries, and a ring with room for so many.
+struct EntryCase {
+    shows: &'static str,
+    entries: u32,
+    ring: usize,
+    acts: &'static [EntryAct],
 }
 
-/// What is taken from the ring at once is handed out one by one, in order, and the ring has room meanwhile.
-#[test]
-fn entries_are_held_where_they_are_taken(rt: HostRuntime) {
-    let journal = entries_to(&rt, rt.alloc(), 5);
-    let Ok((mut feeder, mut matcher)) = feed_ring(rt.alloc(), 2) else {
-        panic!(rt; "no ring");
-    };
-    holds(&rt, feeder.give(&journal) == Give::Gave(2));
-    expect_entry(&rt, matcher.take(), 1);
-    holds(&rt, feeder.give(&journal) == Give::Gave(2));
-    expect_entry(&rt, matcher.take(), 2);
-    expect_entry(&rt, matcher.take(), 3);
-    holds(&rt, feeder.give(&journal) == Give::Gave(1));
-    holds(&rt, !agree(&mut feeder, &mut matcher));
-    expect_entry(&rt, matcher.take(), 4);
-    expect_entry(&rt, matcher.take(), 5);
-    holds(&rt, matcher.take() == Taken::Empty);
-}
+static ENTRY_CASES: [EntryCase; 4] = [
+    EntryCase {
+        shows: "entries are given in slices",
+        entries: 3,
+        ring: 2,
+        acts: &[
+            EntryAct::Give(Give::Gave(2)),
+            EntryAct::Give(Give::Full),
+            EntryAct::Take(1, 1),
+            EntryAct::Give(Give::Gave(1)),
+            EntryAct::Give(Give::Level),
+            EntryAct::Take(2, 3),
+            EntryAct::TakeNone,
+        ],
+    },
+    EntryCase {
+        shows: "what is taken from the ring at once is handed out one by one, and the ring has room meanwhile",
+        entries: 5,
+        ring: 2,
+        acts: &[
+            EntryAct::Give(Give::Gave(2)),
+            EntryAct::Take(1, 1),
+            EntryAct::Give(Give::Gave(2)),
+            EntryAct::Take(2, 3),
+            EntryAct::Give(Give::Gave(1)),
+            EntryAct::Agree(false),
+            EntryAct::Take(4, 5),
+            EntryAct::TakeNone,
+        ],
+    },
+    EntryCase {
+        shows: "more entries than are taken at once, and the mark behind them",
+        entries: 40,
+        ring: 64,
+        acts: &[
+            EntryAct::Give(Give::Gave(40)),
+            EntryAct::End(Give::Gave(0)),
+            EntryAct::Take(1, 40),
+            EntryAct::TakeEnd,
+        ],
+    },
+    EntryCase {
+        shows: "what was taken is what was given where the end mark was taken, and only there",
+        entries: 1,
+        ring: 1,
+        acts: &[
+            EntryAct::Give(Give::Gave(1)),
+            EntryAct::End(Give::Full),
+            EntryAct::Take(1, 1),
+            EntryAct::End(Give::Gave(0)),
+            EntryAct::End(Give::Ended),
+            EntryAct::Give(Give::Ended),
+            EntryAct::Agree(false),
+            EntryAct::TakeEnd,
+            EntryAct::TakeEnd,
+            EntryAct::Agree(true),
+        ],
+    },
+];
 
-/// More entries than are taken at once, and the mark behind them.
-#[test]
-fn forty_entries(rt: HostRuntime) {
-    let journal = entries_to(&rt, rt.alloc(), 40);
-    let Ok((mut feeder, mut matcher)) = feed_ring(rt.alloc(), 64) else {
-        panic!(rt; "no ring");
-    };
-    holds(&rt, feeder.give(&journal) == Give::Gave(40));
-    holds(&rt, feeder.end() == Give::Gave(0));
-    for number in 1..=40 {
-        expect_entry(&rt, matcher.take(), number);
+/// Whether the entries from this number to that one are taken.
+fn are_taken<A: Allocator>(matcher: &mut Matcher<A>, first: u32, last: u32) -> bool
+    ensures { SameMatcher matcher.old matcher.new }
+{
+    for number in first..=last {
+        if matcher.take() != Taken::Entry(entry(number)) {
+            return false;
+        }
     }
-    holds(&rt, matcher.take() == Taken::Ended);
+    true
 }
 
-/// What was taken is what was given where the end mark was taken, and only there.
+/// Whether an act comes to what it should.
+fn entry_act_holds<A: Allocator>(
+    feeder: &mut Feeder<A>,
+    matcher: &mut Matcher<A>,
+    journal: &[Entry],
+    act: EntryAct,
+) -> bool
+    requires prefix { IsPrefix (given feeder.old) journal.now }
+    requires pair { AreFeedPair feeder.old matcher.old }
+    ensures prefix { IsPrefix (given feeder.new) journal.now }
+    ensures pair { AreFeedPair feeder.new matcher.new }
+{
+    match act {
+        EntryAct::Give(want) => feeder.give(journal) == want,
+        EntryAct::End(want) => feeder.end() == want,
+        EntryAct::Take(first, last) => are_taken(matcher, first, last),
+        EntryAct::TakeNone => matcher.take() == Taken::Empty,
+        EntryAct::TakeEnd => matcher.take() == Taken::Ended,
+        EntryAct::Agree(want) => agree(feeder, matcher) == want,
+    }
+}
+
+fn expect_entry_acts<A: Allocator>(
+    rt: &impl Abort,
+    feeder: &mut Feeder<A>,
+    matcher: &mut Matcher<A>,
+    journal: &[Entry],
+    case: &EntryCase,
+)
+    requires prefix { IsPrefix (given feeder.old) journal.now }
+    requires pair { AreFeedPair feeder.old matcher.old }
+{
+    for act in case.acts {
+        let held = entry_act_holds(feeder, matcher, journal, *act);
+        holds_for(rt, held, case.shows);
+    }
+}
+
+fn expect_entry_case<A: Allocator + Copy>(rt: &impl Abort, alloc: A, case: &EntryCase) {
+    let journal = entries_to(rt, alloc, case.entries);
+    let (mut feeder, mut matcher) = feed_ring(alloc, case.ring).expect(rt, "a ring");
+    expect_entry_acts(rt, &mut feeder, &mut matcher, &journal, case);
+}
+
 #[test]
-fn entries_end_with_a_mark(rt: HostRuntime) {
-    let journal = entries_to(&rt, rt.alloc(), 1);
-    let Ok((mut feeder, mut matcher)) = feed_ring(rt.alloc(), 1) else {
-        panic!(rt; "no ring");
-    };
-    holds(&rt, feeder.give(&journal) == Give::Gave(1));
-    holds(&rt, feeder.end() == Give::Full);
-    expect_entry(&rt, matcher.take(), 1);
-    holds(&rt, feeder.end() == Give::Gave(0));
-    holds(&rt, feeder.end() == Give::Ended);
-    holds(&rt, feeder.give(&journal) == Give::Ended);
-    holds(&rt, !agree(&mut feeder, &mut matcher));
-    holds(&rt, matcher.take() == Taken::Ended);
-    holds(&rt, matcher.take() == Taken::Ended);
-    holds(&rt, agree(&mut feeder, &mut matcher));
+fn entries_through_a_ring(rt: HostRuntime) {
+    for case in &ENTRY_CASES {
+        expect_entry_case(&rt, rt.alloc(), case);
+    }
 }
 
-fn expect_posted<A: Allocator>(rt: &impl Abort, poster: &mut Poster<A>, bytes: &[u8], want: Post) {
-    holds(rt, poster.post(bytes) == want);
+// ---- bytes, to a session's writer
+
+/// Where bytes of the text begin and end.
+#[derive(Clone, Copy)]
+struct Part(usize, usize);
+
+/// What is done with a ring of bytes, and what comes of it.
+#[derive(Clone, Copy)]
+enum ByteAct {
+    /// A part of the text is posted, one piece at most.
+    Post(Part, Post),
+    /// The same, several pieces at most.
+    PostMany(Part, Post),
+    /// The poster ends.
+    End(Post),
+    /// A piece is taken.
+    Take(Wrote),
+    /// Whether all that was posted was taken.
+    Finished(bool),
 }
 
-/// The same of several pieces at once.
-fn expect_posted_many<A: Allocator>(
+/// A ring with room for so many pieces, and how many bytes of the text have been taken at the end.
+struct ByteCase {
+    shows: &'static str,
+    ring: usize,
+    acts: &'static [ByteAct],
+    taken: usize,
+}
+
+static BYTE_CASES: [ByteCase; 4] = [
+    ByteCase {
+        shows: "at most 63 bytes are posted as one piece, and a ring of 1 has room for one",
+        ring: 1,
+        acts: &[
+            ByteAct::Post(Part(0, 0), Post::Posted(0)),
+            ByteAct::Post(Part(0, 100), Post::Posted(63)),
+            ByteAct::Post(Part(63, 100), Post::Full),
+            ByteAct::Take(Wrote::Bytes(63)),
+            ByteAct::Post(Part(63, 100), Post::Posted(37)),
+            ByteAct::End(Post::Full),
+            ByteAct::Take(Wrote::Bytes(37)),
+            ByteAct::Take(Wrote::Empty),
+        ],
+        taken: 100,
+    },
+    ByteCase {
+        shows: "several pieces of 254 bytes are posted at once, or none, and no more than a ring of 2 holds",
+        ring: 2,
+        acts: &[
+            ByteAct::PostMany(Part(0, 0), Post::Posted(0)),
+            ByteAct::PostMany(Part(0, 512), Post::Posted(508)),
+            ByteAct::Take(Wrote::Bytes(254)),
+            ByteAct::PostMany(Part(0, 512), Post::Full),
+            ByteAct::PostMany(Part(508, 512), Post::Posted(4)),
+            ByteAct::End(Post::Full),
+            ByteAct::Take(Wrote::Bytes(254)),
+            ByteAct::End(Post::Posted(0)),
+            ByteAct::PostMany(Part(0, 512), Post::Ended),
+            ByteAct::Take(Wrote::Bytes(4)),
+        ],
+        taken: 512,
+    },
+    ByteCase {
+        shows: "four pieces at most, and no more than a ring of 8 holds",
+        ring: 8,
+        acts: &[
+            ByteAct::PostMany(Part(0, 1200), Post::Posted(1016)),
+            ByteAct::PostMany(Part(0, 1200), Post::Posted(1016)),
+            ByteAct::PostMany(Part(0, 1200), Post::Full),
+            ByteAct::Take(Wrote::Bytes(254)),
+        ],
+        taken: 254,
+    },
+    ByteCase {
+        shows: "what is written is what was posted where the end mark was taken, and only there",
+        ring: 2,
+        acts: &[
+            ByteAct::Post(Part(0, 5), Post::Posted(5)),
+            ByteAct::End(Post::Posted(0)),
+            ByteAct::End(Post::Ended),
+            ByteAct::Post(Part(0, 5), Post::Ended),
+            ByteAct::Take(Wrote::Bytes(5)),
+            ByteAct::Finished(false),
+            ByteAct::Take(Wrote::Ended),
+            ByteAct::Take(Wrote::Ended),
+            ByteAct::Finished(true),
+        ],
+        taken: 5,
+    },
+];
+
+/// A text in which no piece is like the one before it.
+fn text() -> [u8; 1200] {
+    let mut text = [0; 1200];
+    for n in 0..1200 {
+        text[n] = (n % 251) as u8;
+    }
+    text
+}
+
+/// Those bytes of a text; none, where it has not so many.
+fn part_of(text: &[u8], part: Part) -> &[u8] {
+    text.get(part.0..part.1).unwrap_or(b"")
+}
+
+/// Whether an act comes to what it should.
+fn byte_act_holds<A: Allocator>(
+    poster: &mut Poster<A>,
+    writer: &mut Writer<A>,
+    text: &[u8],
+    act: ByteAct,
+) -> bool
+    requires { ArePostPair poster.old writer.old }
+    ensures { ArePostPair poster.new writer.new }
+{
+    match act {
+        ByteAct::Post(part, want) => poster.post(part_of(text, part)) == want,
+        ByteAct::PostMany(part, want) => poster.post_many(part_of(text, part)) == want,
+        ByteAct::End(want) => poster.end() == want,
+        ByteAct::Take(want) => writer.take() == Ok(want),
+        ByteAct::Finished(want) => finished(poster, writer) == want,
+    }
+}
+
+fn expect_byte_acts<A: Allocator>(
     rt: &impl Abort,
     poster: &mut Poster<A>,
-    bytes: &[u8],
-    want: Post,
-) {
-    holds(rt, poster.post_many(bytes) == want);
+    writer: &mut Writer<A>,
+    text: &[u8],
+    case: &ByteCase,
+)
+    requires { ArePostPair poster.old writer.old }
+{
+    for act in case.acts {
+        let held = byte_act_holds(poster, writer, text, *act);
+        holds_for(rt, held, case.shows);
+    }
 }
 
-/// The poster ends, or cannot yet.
-fn expect_end<A: Allocator>(rt: &impl Abort, poster: &mut Poster<A>, want: Post) {
-    holds(rt, poster.end() == want);
-}
-
-fn expect_taken<A: Allocator>(rt: &impl Abort, writer: &mut Writer<A>, want: Wrote) {
-    holds(rt, writer.take() == Ok(want));
-}
-
-/// At most 63 bytes are posted as one piece. The ring has room for one.
-fn expect_pieces<A: Allocator>(rt: &impl Abort, poster: &mut Poster<A>, writer: &mut Writer<A>) {
-    let bytes = [b'x'; 100];
-    expect_posted(rt, poster, &[], Post::Posted(0));
-    expect_posted(rt, poster, &bytes, Post::Posted(63));
-    expect_posted(rt, poster, &bytes[63..], Post::Full);
-    expect_taken(rt, writer, Wrote::Bytes(63));
-    expect_posted(rt, poster, &bytes[63..], Post::Posted(37));
-    expect_end(rt, poster, Post::Full);
-    expect_taken(rt, writer, Wrote::Bytes(37));
-    expect_taken(rt, writer, Wrote::Empty);
-    holds(rt, writer.bytes() == bytes.as_slice());
+fn expect_byte_case<A: Allocator + Copy>(rt: &impl Abort, alloc: A, case: &ByteCase) {
+    let text = text();
+    let (mut poster, mut writer) = post_ring(alloc, case.ring).expect(rt, "a ring");
+    expect_byte_acts(rt, &mut poster, &mut writer, &text, case);
+    let taken = part_of(&text, Part(0, case.taken));
+    holds_for(rt, writer.bytes() == taken, case.shows);
+    holds_for(rt, writer.into_bytes().as_slice() == taken, case.shows);
 }
 
 #[test]
-fn bytes_are_posted_in_pieces(rt: HostRuntime) {
-    let (mut poster, mut writer) = post_ring(rt.alloc(), 1).expect(&rt, "a ring");
-    expect_pieces(&rt, &mut poster, &mut writer);
-}
-
-/// Several pieces of 254 bytes are posted at once or none: 4 at most, and no more than a ring of 2 and then one of 8
-/// holds.
-fn expect_many<A: Allocator>(rt: &impl Abort, poster: &mut Poster<A>, writer: &mut Writer<A>) {
-    let bytes = [b'x'; 512];
-    expect_posted_many(rt, poster, &[], Post::Posted(0));
-    expect_posted_many(rt, poster, &bytes, Post::Posted(508));
-    expect_taken(rt, writer, Wrote::Bytes(254));
-    expect_posted_many(rt, poster, &bytes, Post::Full);
-    expect_posted_many(rt, poster, &bytes[508..], Post::Posted(4));
-    expect_end(rt, poster, Post::Full);
-    expect_taken(rt, writer, Wrote::Bytes(254));
-    expect_end(rt, poster, Post::Posted(0));
-    expect_posted_many(rt, poster, &bytes, Post::Ended);
-    expect_taken(rt, writer, Wrote::Bytes(4));
-    holds(rt, writer.bytes() == bytes.as_slice());
-}
-
-#[test]
-fn bytes_are_posted_in_several_pieces(rt: HostRuntime) {
-    let (mut poster, mut writer) = post_ring(rt.alloc(), 2).expect(&rt, "a ring");
-    expect_many(&rt, &mut poster, &mut writer);
-    let (mut poster, mut writer) = post_ring(rt.alloc(), 8).expect(&rt, "a ring");
-    holds(&rt, poster.post_many(&[b'y'; 1200]) == Post::Posted(1016));
-    holds(&rt, poster.post_many(&[b'y'; 1200]) == Post::Posted(1016));
-    holds(&rt, poster.post_many(&[b'y'; 1200]) == Post::Full);
-    holds(&rt, writer.take() == Ok(Wrote::Bytes(254)));
-    holds(&rt, writer.bytes() == [b'y'; 254].as_slice());
-}
-
-/// What is written is what was posted where the end mark was taken, and only there.
-#[test]
-fn bytes_end_with_a_mark(rt: HostRuntime) {
-    let (mut poster, mut writer) = post_ring(rt.alloc(), 2).expect(&rt, "a ring");
-    holds(&rt, poster.post(b"8=FIX") == Post::Posted(5));
-    holds(&rt, poster.end() == Post::Posted(0));
-    holds(&rt, poster.end() == Post::Ended);
-    holds(&rt, poster.post(b"8=FIX") == Post::Ended);
-    holds(&rt, writer.take() == Ok(Wrote::Bytes(5)));
-    holds(&rt, !finished(&mut poster, &mut writer));
-    holds(&rt, writer.take() == Ok(Wrote::Ended));
-    holds(&rt, writer.take() == Ok(Wrote::Ended));
-    holds(&rt, finished(&mut poster, &mut writer));
-    holds(&rt, writer.into_bytes().as_slice() == b"8=FIX".as_slice());
+fn bytes_through_a_ring(rt: HostRuntime) {
+    for case in &BYTE_CASES {
+        expect_byte_case(&rt, rt.alloc(), case);
+    }
 }
 
 /// The writer finds no memory, has taken nothing, and takes the same piece afterwards.
