@@ -67,6 +67,14 @@ fn rows_are_found(rt: HostRuntime) {
     holds(&rt, rows.count() == 0);
 }
 
+/// A rank for that order, in its queue.
+fn add_rank(rt: &impl Abort, queues: &mut QueueHeaps<Global>, order: &Order) {
+    let queue = queue_number(order.instrument, order.side);
+    queues
+        .add(queue, QueueRank::new(order))
+        .expect(rt, "memory");
+}
+
 /// The best price of that queue.
 fn expect_best(rt: &impl Abort, queues: &QueueHeaps<Global>, queue: u32, price: i64, place: u64) {
     match queues.least(queue) {
@@ -91,12 +99,8 @@ fn ranks_of_a_queue(rt: HostRuntime) {
     let queue = queue_number(rests.instrument, rests.side);
     let mut queues = QueueHeaps::new(rt.alloc());
     holds(&rt, queues.least(queue).is_none());
-    queues
-        .add(queue, QueueRank::new(&rests))
-        .expect(&rt, "memory");
-    queues
-        .add(queue, QueueRank::new(&left))
-        .expect(&rt, "memory");
+    add_rank(&rt, &mut queues, &rests);
+    add_rank(&rt, &mut queues, &left);
     expect_best(&rt, &queues, queue, 9800, 8);
     queues.settle(&rows, queue);
     expect_best(&rt, &queues, queue, 9900, 7);
@@ -118,9 +122,7 @@ fn ranks_of_many_that_left(rt: HostRuntime) {
     rows.push(rests).expect(&rt, "memory");
     let queue = queue_number(rests.instrument, rests.side);
     let mut queues = QueueHeaps::new(rt.alloc());
-    queues
-        .add(queue, QueueRank::new(&rests))
-        .expect(&rt, "memory");
+    add_rank(&rt, &mut queues, &rests);
     for place in 8..74 {
         let left = Order {
             price: 9800,
@@ -128,9 +130,7 @@ fn ranks_of_many_that_left(rt: HostRuntime) {
             ..rests
         };
         queues.thin(&rows, queue);
-        queues
-            .add(queue, QueueRank::new(&left))
-            .expect(&rt, "memory");
+        add_rank(&rt, &mut queues, &left);
     }
     expect_best(&rt, &queues, queue, 9800, 8);
     queues.thin(&rows, queue);

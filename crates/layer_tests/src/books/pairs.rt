@@ -94,31 +94,37 @@ fn come(
         .renew(&tables.fronts, 3, &order, Change::Came);
 }
 
-// Who buys the first month by way of the second pays 100 for the spread and 9900 for the second.
+/// Tables of a book in which no order rests.
+fn empty_tables(rt: &impl Abort, alloc: Global) -> Tables {
+    Tables {
+        fronts: FrontCosts::new(alloc, 3).expect(rt, "memory"),
+        cheapest: QuoteTable::new(alloc, 3).expect(rt, "memory"),
+    }
+}
+
+/// Who buys the first month by way of the second pays 100 for the spread and 9900 for the second.
+fn expect_costs(rt: &impl Abort, rules: &Rulebook, book: &ListBook<Global>, tables: &Tables) {
+    holds(rt, are_priced(book));
+    let cost = front_cost(book, Instrument::Outright(1), Sell);
+    holds(rt, cost == Some(9900));
+    holds(rt, tables.fronts.spread_cell(Buy, 0, 1) == 100);
+    holds(rt, tables.fronts.outright_cell(Buy, 1) == 9900);
+    let pair = tables.cheapest.known_pair(Buy, 0).expect(rt, "a month");
+    holds(rt, is_pair(pair, 10000, 1));
+    let pairs = MonthPairs { rules, months: 3 };
+    holds(rt, is_pair(cheapest_pair(book, &pairs, Buy, 0), 10000, 1));
+}
+
 #[test]
 fn costs_of_fronts_and_their_cheapest_pair(rt: HostRuntime) {
     let rules = Rulebook::read(THREE_MONTHS).expect(&rt, "a rulebook");
     let mut book = ListBook::new(rt.alloc());
-    let mut tables = Tables {
-        fronts: FrontCosts::new(rt.alloc(), 3).expect(&rt, "memory"),
-        cheapest: QuoteTable::new(rt.alloc(), 3).expect(&rt, "memory"),
-    };
+    let mut tables = empty_tables(&rt, rt.alloc());
     let spread = sell(1, Instrument::Spread(0, 1), 100);
     come(&rt, &rules, &mut book, &mut tables, spread);
     let second = sell(2, Instrument::Outright(1), 9900);
     come(&rt, &rules, &mut book, &mut tables, second);
-    holds(&rt, are_priced(&book));
-    let cost = front_cost(&book, Instrument::Outright(1), Sell);
-    holds(&rt, cost == Some(9900));
-    holds(&rt, tables.fronts.spread_cell(Buy, 0, 1) == 100);
-    holds(&rt, tables.fronts.outright_cell(Buy, 1) == 9900);
-    let pair = tables.cheapest.known_pair(Buy, 0).expect(&rt, "a month");
-    holds(&rt, is_pair(pair, 10000, 1));
-    let pairs = MonthPairs {
-        rules: &rules,
-        months: 3,
-    };
-    holds(&rt, is_pair(cheapest_pair(&book, &pairs, Buy, 0), 10000, 1));
+    expect_costs(&rt, &rules, &book, &tables);
     holds(&rt, is_all_on(&rules));
 }
 
