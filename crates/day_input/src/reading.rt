@@ -1,6 +1,6 @@
 //! A source of day lines, read to its end, to its journal.
-ghost use Rattle.std.specs.Prelude.{◌≡◌, ◌≢◌, ◌⊎◌, ◌+◌, ◌<◌, length, true, false, IfOk, IfErr, OnOk, IfSome, IsErrOf};
-ghost use Rattle.std.specs.Io.KnownBytes.{IsAtEnd};
+ghost use Rattle.std.specs.Prelude.{◌≡◌, ◌≢◌, ◌⊎◌, ◌+◌, ◌<◌, ◌≤◌, length, take, [], true, false, IfOk, IfErr, OnOk, OnErr, IfSome, IfNone, IsErrOf};
+ghost use Rattle.std.specs.Io.KnownBytes.{Consumes, IsAtEnd, Keeps};
 ghost use Rattle.host_base.specs.declared.limits.TheConstants.{MAX_INPUT_BYTES};
 ghost use Rattle.host_base.specs.Ends.{TakesAtMost};
 ghost use Rattle.fix_frames.specs.Texts.{with_soh};
@@ -16,6 +16,29 @@ use std::alloc::Allocator;
 
 /// How many bytes one read takes at most.
 pub const CHUNK_BYTES: usize = 65_536;
+
+/// One read of a source: how many bytes of the piece it gave, none at the end.
+fn read_piece<S: Source>(source: &mut S, piece: &mut [u8]) -> Result<Option<usize>, LinesFault>
+    requires failed { S.has_failed source.old ≡ false }
+    requires room { 0 < length piece.old }
+    ensures more { IfOk result (λ given. IfSome given (λ count. 0 < count)) }
+    ensures bound { IfOk result (λ given. IfSome given (λ count. count ≤ length piece.new)) }
+    ensures bytes { IfOk result (λ given. IfSome given (λ count.
+        Consumes (S.left source.old) (S.left source.new) (take count piece.new))) }
+    ensures end { IfOk result (λ given. IfNone given (IsAtEnd (S.left source.new))) }
+    ensures nothing { IfOk result (λ given. IfNone given
+        (Consumes (S.left source.old) (S.left source.new) [])) }
+    ensures sound { OnOk result (S.has_failed source.new ≡ false) }
+    ensures fault { IfErr result (λ f. f ≡ LinesFault.Read) }
+    ensures read { OnErr result (S.has_failed source.new ≡ true) }
+    ensures kept { OnErr result (Keeps (S.left source.old) (S.left source.new)) }
+{
+    match source.read(piece) {
+        Ok(0) => Ok(None),
+        Ok(count) => Ok(Some(count)),
+        Err(Failed) => Err(LinesFault::Read),
+    }
+}
 
 /// Reads a source to its end, past a bad line too.
 fn read_pieces<S: Source, A: Allocator + Copy>(
@@ -38,20 +61,14 @@ fn read_pieces<S: Source, A: Allocator + Copy>(
     let mut reader = DayReader::new(alloc)?;
     let mut piece = [0u8; CHUNK_BYTES];
     let mut taken = 0;
-    loop {
-        let count = match source.read(&mut piece) {
-            Ok(count) => count,
-            Err(Failed) => return Err(LinesFault::Read),
-        };
-        if count == 0 {
-            return Ok(reader);
-        }
+    while let Some(count) = read_piece(source, &mut piece)? {
         if count > MAX_INPUT_BYTES - taken {
             return Err(LinesFault::Read);
         }
         reader.take_piece(&mut piece[..count])?;
         taken += count;
     }
+    Ok(reader)
 }
 
 /// The journal of the day lines that a source gives, read a piece at a time. At most 16,777,216 bytes are taken, and

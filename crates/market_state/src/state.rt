@@ -456,6 +456,13 @@ impl<B: Book, A: Allocator + Copy> MarketState<B, A> {
         Ok(Outcome::Replaced(order))
     }
 
+    /// Whether an earlier New or Replace entry of the session gave the id.
+    fn is_used(&self, session: u8, id: &Id) -> bool
+        ensures { result ≡ is_some (find (has_id session id.now) self.now.statuses) }
+    {
+        self.statuses.find(session, id).is_some()
+    }
+
     /// A Replace entry that names a resting order.
     fn replace_resting(
         &mut self,
@@ -481,7 +488,7 @@ impl<B: Book, A: Allocator + Copy> MarketState<B, A> {
         ensures no_fills { OnErr result (fills.new.items ≡ fills.old.items) }
     {
         let session = resting.session;
-        let used = self.statuses.find(session, &ticket.id).is_some();
+        let used = self.is_used(session, &ticket.id);
         if let Some(reason) = replace_refusal(rules, ticket, resting, used) {
             let refusal = Outcome::CancelRefused {
                 reason,

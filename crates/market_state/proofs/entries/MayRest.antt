@@ -1,5 +1,5 @@
 -- Which orders may rest, and what still can be traded once one has left.
-use Rattle.std.proofs.Common.{ℕ, ◌==◌, ◌<◌, not, List, All, Contains}
+use Rattle.std.proofs.Common.{ℕ, ◌==◌, ◌<◌, not, List, Contains}
 use Rattle.std.proofs.lemmas.List.Elements.{All-contains, All-filter}
 use Rattle.spread_rules.specs.declared.order.Order.{Order}
 use Rattle.spread_rules.specs.declared.event.Ticket.{Ticket}

@@ -1,11 +1,9 @@
-use Rattle.std.proofs.Common.{◌≡◌, ℕ, ◌++◌, sym, ap, ◌∙◌}
+use Rattle.std.proofs.Common.{ℕ, ◌++◌, sym, ap, ◌∙◌}
 use Rattle.std.specs.List.{find}
-use Rattle.std.specs.Option.{is_some}
 use Rattle.std.proofs.lemmas.List.{append-nil}
 use Rattle.spread_rules.specs.declared.event.Event.TheVariants.{Replace}
 use Rattle.spread_rules.specs.Meaning.{EntryMeaning, has_id, instrument_or_refusal_of, untraded}
 use Rattle.spread_rules.specs.declared.outcome.Outcome.TheVariants.{CancelRefused}
-use Rattle.market_state.specs.State.{MarketState}
 use Rattle.market_state.specs.code.StateAfter.{state_with}
 use Rattle.row_index.proofs.Tables.{on_ok}
 use Rattle.market_state.proofs.entries.ReplacedStates.{if_ok, kept_is, moved_is, refused_is}
@@ -16,8 +14,7 @@ returns-in-Some-clause-after g c =
     let m = c.args.self.now in
     let r = c.args.resting.now in
     let t = c.args.ticket.now in
-    let used : c.is_some-used.result ≡ is_some (find (has_id r.session t.id) m.statuses) = c.is_some-used.ensures ∙ ap (λ o. is_some o) (c.find.ensures ∙ ap (λ (x : MarketState). find (has_id r.session t.id) x.statuses) c.self.view_is) in
-    let is = refused_is c.args.rules.now m.orders c.args.place t (instrument_or_refusal_of c.args.rules.now m.statuses r.session t) r c.in-Some.reason (c.in-Some.ensures (find (has_id r.session t.id) m.statuses) used) in
+    let is = refused_is c.args.rules.now m.orders c.args.place t (instrument_or_refusal_of c.args.rules.now m.statuses r.session t) r c.in-Some.reason (c.in-Some.ensures (find (has_id r.session t.id) m.statuses) c.is_used-used.ensures) in
     on_ok c.refuse_replace.result _ _ (λ h. h r.id ∙ ap (state_with m c.args.place r.session (Replace r.id t)) (ap (λ (k : ℕ). untraded (CancelRefused c.in-Some.reason r.place k) m.orders) c.resting_status.ensures ∙ is)) c.refuse_replace.ensures.after
 
 pub returns-then-keeps_place-clause-fills : goal.returns-then-keeps_place-clause-fills
@@ -25,8 +22,7 @@ returns-then-keeps_place-clause-fills g c =
     let m = c.args.self.now in
     let r = c.args.resting.now in
     let t = c.args.ticket.now in
-    let used : c.is_some-used.result ≡ is_some (find (has_id r.session t.id) m.statuses) = c.is_some-used.ensures ∙ ap (λ o. is_some o) (c.find.ensures ∙ ap (λ (x : MarketState). find (has_id r.session t.id) x.statuses) c.self.view_is) in
-    let is = kept_is c.args.rules.now m.orders c.args.place t (instrument_or_refusal_of c.args.rules.now m.statuses r.session t) r (c.in_default.ensures (find (has_id r.session t.id) m.statuses) used) c.if-keeps_place.ensures in
+    let is = kept_is c.args.rules.now m.orders c.args.place t (instrument_or_refusal_of c.args.rules.now m.statuses r.session t) r (c.in_default.ensures (find (has_id r.session t.id) m.statuses) c.is_used-used.ensures) c.if-keeps_place.ensures in
     on_ok c.keep_place.result _ _ (λ h. sym (append-nil c.args.fills.now.items) ∙ ap (λ (e : EntryMeaning). c.args.fills.now.items ++ e.fills) is) c.keep_place.ensures.after
 
 pub returns-then-keeps_place-clause-after : goal.returns-then-keeps_place-clause-after
@@ -34,8 +30,7 @@ returns-then-keeps_place-clause-after g c =
     let m = c.args.self.now in
     let r = c.args.resting.now in
     let t = c.args.ticket.now in
-    let used : c.is_some-used.result ≡ is_some (find (has_id r.session t.id) m.statuses) = c.is_some-used.ensures ∙ ap (λ o. is_some o) (c.find.ensures ∙ ap (λ (x : MarketState). find (has_id r.session t.id) x.statuses) c.self.view_is) in
-    let is = kept_is c.args.rules.now m.orders c.args.place t (instrument_or_refusal_of c.args.rules.now m.statuses r.session t) r (c.in_default.ensures (find (has_id r.session t.id) m.statuses) used) c.if-keeps_place.ensures in
+    let is = kept_is c.args.rules.now m.orders c.args.place t (instrument_or_refusal_of c.args.rules.now m.statuses r.session t) r (c.in_default.ensures (find (has_id r.session t.id) m.statuses) c.is_used-used.ensures) c.if-keeps_place.ensures in
     on_ok c.keep_place.result _ _ (λ h. h ∙ ap (state_with m c.args.place r.session (Replace r.id t)) is) c.keep_place.ensures.after
 
 pub returns-else-keeps_place-clause-outcome : goal.returns-else-keeps_place-clause-outcome
@@ -43,8 +38,7 @@ returns-else-keeps_place-clause-outcome g c =
     let m = c.args.self.now in
     let r = c.args.resting.now in
     let t = c.args.ticket.now in
-    let used : c.is_some-used.result ≡ is_some (find (has_id r.session t.id) m.statuses) = c.is_some-used.ensures ∙ ap (λ o. is_some o) (c.find.ensures ∙ ap (λ (x : MarketState). find (has_id r.session t.id) x.statuses) c.self.view_is) in
-    let is = moved_is c.args.rules.now m.orders c.args.place t (instrument_or_refusal_of c.args.rules.now m.statuses r.session t) r (c.in_default.ensures (find (has_id r.session t.id) m.statuses) used) c.if-keeps_place.ensures in
+    let is = moved_is c.args.rules.now m.orders c.args.place t (instrument_or_refusal_of c.args.rules.now m.statuses r.session t) r (c.in_default.ensures (find (has_id r.session t.id) m.statuses) c.is_used-used.ensures) c.if-keeps_place.ensures in
     if_ok c.lose_place.result _ _ (ap (λ (e : EntryMeaning). e.outcome) is) c.lose_place.ensures.outcome
 
 pub returns-else-keeps_place-clause-fills : goal.returns-else-keeps_place-clause-fills
@@ -52,8 +46,7 @@ returns-else-keeps_place-clause-fills g c =
     let m = c.args.self.now in
     let r = c.args.resting.now in
     let t = c.args.ticket.now in
-    let used : c.is_some-used.result ≡ is_some (find (has_id r.session t.id) m.statuses) = c.is_some-used.ensures ∙ ap (λ o. is_some o) (c.find.ensures ∙ ap (λ (x : MarketState). find (has_id r.session t.id) x.statuses) c.self.view_is) in
-    let is = moved_is c.args.rules.now m.orders c.args.place t (instrument_or_refusal_of c.args.rules.now m.statuses r.session t) r (c.in_default.ensures (find (has_id r.session t.id) m.statuses) used) c.if-keeps_place.ensures in
+    let is = moved_is c.args.rules.now m.orders c.args.place t (instrument_or_refusal_of c.args.rules.now m.statuses r.session t) r (c.in_default.ensures (find (has_id r.session t.id) m.statuses) c.is_used-used.ensures) c.if-keeps_place.ensures in
     on_ok c.lose_place.result _ _ (λ h. h ∙ ap (λ (e : EntryMeaning). c.args.fills.now.items ++ e.fills) is) c.lose_place.ensures.fills
 
 pub returns-else-keeps_place-clause-after : goal.returns-else-keeps_place-clause-after
@@ -61,6 +54,5 @@ returns-else-keeps_place-clause-after g c =
     let m = c.args.self.now in
     let r = c.args.resting.now in
     let t = c.args.ticket.now in
-    let used : c.is_some-used.result ≡ is_some (find (has_id r.session t.id) m.statuses) = c.is_some-used.ensures ∙ ap (λ o. is_some o) (c.find.ensures ∙ ap (λ (x : MarketState). find (has_id r.session t.id) x.statuses) c.self.view_is) in
-    let is = moved_is c.args.rules.now m.orders c.args.place t (instrument_or_refusal_of c.args.rules.now m.statuses r.session t) r (c.in_default.ensures (find (has_id r.session t.id) m.statuses) used) c.if-keeps_place.ensures in
+    let is = moved_is c.args.rules.now m.orders c.args.place t (instrument_or_refusal_of c.args.rules.now m.statuses r.session t) r (c.in_default.ensures (find (has_id r.session t.id) m.statuses) c.is_used-used.ensures) c.if-keeps_place.ensures in
     on_ok c.lose_place.result _ _ (λ h. h ∙ ap (state_with m c.args.place r.session (Replace r.id t)) is) c.lose_place.ensures.after
