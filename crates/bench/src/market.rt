@@ -3,7 +3,7 @@ ghost use Rattle.std.specs.Prelude.{◌≡◌, ◌<◌, [], All, OnOk, IfOk};
 ghost use Rattle.spread_rules.specs.Journal.{FitsEntry};
 ghost use Rattle.market_state.specs.State.{empty_state};
 
-use crate::fault::Fault;
+use crate::fault::BenchFault;
 use crate::reports::{Applied, send_all};
 use crate::timing::{Beside, Measured, RUNS, Timer};
 use crate::wire::{bytes_of, scanned};
@@ -16,12 +16,14 @@ use std::alloc::{AllocGlobal, Allocator, Global};
 use std::time::CpuClock;
 
 /// A rulebook and a journal, of their texts.
-fn read_inputs(alloc: Global, rules: &[u8], text: &[u8]) -> Result<(Rulebook, Vec<Entry>), Fault>
+fn read_inputs(
+    alloc: Global,
+    rules: &[u8],
+    text: &[u8],
+) -> Result<(Rulebook, Vec<Entry>), BenchFault>
     ensures { IfOk result (λ inputs. All FitsEntry inputs.1.items) }
 {
-    let Ok(rulebook) = Rulebook::read(rules) else {
-        return Err(Fault::Input);
-    };
+    let rulebook = Rulebook::read(rules)?;
     let journal = read_journal(alloc, text)?;
     Ok((rulebook, journal))
 }
@@ -123,15 +125,15 @@ fn match_runs(
     rt: &(impl CpuClock + AllocGlobal),
     rulebook: &Rulebook,
     journal: &[Entry],
-) -> Result<Measured, Fault>
+) -> Result<Measured, BenchFault>
     requires { All FitsEntry journal.now }
 {
     let mut fills = 0;
     let mut least = u64::MAX;
     for _ in 0..RUNS {
-        let timer = Timer::start(rt);
+        let timer = Timer::start(rt)?;
         fills = match_indexed(rt.alloc(), rulebook, journal)?;
-        least = least.min(timer.used(rt));
+        least = least.min(timer.used(rt)?);
     }
     Ok(Measured {
         phase: "match",
@@ -147,7 +149,7 @@ pub fn time_match(
     rt: &(impl CpuClock + AllocGlobal),
     rules: &[u8],
     text: &[u8],
-) -> Result<Measured, Fault> {
+) -> Result<Measured, BenchFault> {
     let (rulebook, journal) = read_inputs(rt.alloc(), rules, text)?;
     match_runs(rt, &rulebook, &journal)
 }
@@ -160,12 +162,12 @@ fn send_runs(
     journal: &[Entry],
     applied: &Applied<Global>,
     lists: &mut Vec<Vec<u8>>,
-) -> Result<u64, Fault> {
+) -> Result<u64, BenchFault> {
     let mut least = u64::MAX;
     for _ in 0..RUNS {
-        let timer = Timer::start(rt);
+        let timer = Timer::start(rt)?;
         *lists = send_all(rt.alloc(), rulebook, journal, applied)?;
-        least = least.min(timer.used(rt));
+        least = least.min(timer.used(rt)?);
     }
     Ok(least)
 }
@@ -176,7 +178,7 @@ fn time_messages(
     rulebook: &Rulebook,
     journal: &[Entry],
     applied: &Applied<Global>,
-) -> Result<Measured, Fault> {
+) -> Result<Measured, BenchFault> {
     let mut lists = Vec::new(rt.alloc());
     let least = send_runs(rt, rulebook, journal, applied, &mut lists)?;
     Ok(Measured {
@@ -195,7 +197,7 @@ fn time_messages_over<B: Book + Drop>(
     rulebook: &Rulebook,
     book: B,
     journal: &[Entry],
-) -> Result<Measured, Fault>
+) -> Result<Measured, BenchFault>
     requires empty { B.orders book ≡ [] }
     requires entries { All FitsEntry journal.now }
 {
@@ -206,7 +208,7 @@ fn time_messages_over<B: Book + Drop>(
     };
     match apply_each(&mut market, journal, &mut applied) {
         Ok(()) => time_messages(rt, rulebook, journal, &applied),
-        Err(NoMemory) => Err(Fault::NoMemory),
+        Err(NoMemory) => Err(BenchFault::NoMemory),
     }
 }
 
@@ -215,7 +217,7 @@ pub fn time_report(
     rt: &(impl CpuClock + AllocGlobal),
     rules: &[u8],
     text: &[u8],
-) -> Result<Measured, Fault> {
+) -> Result<Measured, BenchFault> {
     let (rulebook, journal) = read_inputs(rt.alloc(), rules, text)?;
     let book = IndexBook::new(rt.alloc(), &rulebook)?;
     time_messages_over(rt, &rulebook, book, &journal)

@@ -1,8 +1,9 @@
 //! What the sessions of an applied journal are sent.
 ghost use Rattle.std.specs.Prelude.{◌≤◌, length};
 
-use crate::fault::Fault;
+use crate::fault::BenchFault;
 use host_base::Id;
+use spread_journal::JournalFault;
 use spread_report::{Desk, DeskFault};
 use spread_rules::{Entry, Fill, Outcome, Rulebook};
 use std::alloc::{AllocError, Allocator};
@@ -24,19 +25,24 @@ struct AppliedEntry<'a> {
     fills: &'a [Fill],
 }
 
+/// The entry of that place is none that the desk takes. Its line follows the journal's first.
+fn unfit(place: u64) -> BenchFault {
+    BenchFault::Journal(JournalFault::Line(place.saturating_add(1)))
+}
+
 /// Sends what an entry sends. The ranges that the desk asks for are tested here.
 fn send<A: Allocator + Copy>(
     desk: &mut Desk,
     rules: &Rulebook,
     applied: &AppliedEntry<'_>,
     lists: &mut Vec<Vec<u8, A>, A>,
-) -> Result<(), Fault> {
+) -> Result<(), BenchFault> {
     if applied.entry.session >= 16
         || lists.len() != 16
         || !fits_outcome(rules, &applied.entry.event, applied.outcome)
         || !fit_fills(rules, applied.fills)
     {
-        return Err(Fault::Input);
+        return Err(unfit(applied.place));
     }
     match desk.outgoing(
         rules,
@@ -47,8 +53,8 @@ fn send<A: Allocator + Copy>(
         lists,
     ) {
         Ok(()) => Ok(()),
-        Err(DeskFault::NoMemory) => Err(Fault::NoMemory),
-        Err(DeskFault::NumbersSpent) => Err(Fault::Input),
+        Err(DeskFault::NoMemory) => Err(BenchFault::NoMemory),
+        Err(DeskFault::NumbersSpent) => Err(BenchFault::NumbersSpent(applied.place)),
     }
 }
 
@@ -71,20 +77,18 @@ fn new_lists<A: Allocator + Copy>(alloc: A) -> Result<Vec<Vec<u8, A>, A>, AllocE
     Ok(lists)
 }
 
-/// Sends what each entry of an applied journal sends. It is no part of its caller, so that the framing loop of `scan`
-/// begins at the half of 32 bytes at which it begins in the program `exchange` (docs/SPEED.md).
-#[inline(never)]
+/// Sends what each entry of an applied journal sends.
 fn send_each<A: Allocator + Copy>(
     desk: &mut Desk,
     rules: &Rulebook,
     journal: &[Entry],
     applied: &Applied<A>,
     lists: &mut Vec<Vec<u8, A>, A>,
-) -> Result<(), Fault> {
+) -> Result<(), BenchFault> {
     let mut rest = applied.fills.as_slice();
     let outcomes = applied.outcomes.as_slice();
     if outcomes.len() != journal.len() {
-        return Err(Fault::Input);
+        return Err(unfit(0));
     }
     for n in 0..journal.len() {
         let place = n as u64 + 1;
@@ -107,7 +111,7 @@ pub fn send_all<A: Allocator + Copy>(
     rules: &Rulebook,
     journal: &[Entry],
     applied: &Applied<A>,
-) -> Result<Vec<Vec<u8, A>, A>, Fault> {
+) -> Result<Vec<Vec<u8, A>, A>, BenchFault> {
     let mut lists = new_lists(alloc)?;
     let mut desk = Desk::new(Id::new(b"20260105-14:30:00").unwrap_or(Id::default()));
     send_each(&mut desk, rules, journal, applied, &mut lists)?;

@@ -1,5 +1,5 @@
 //! Gateways, rings and the sequencer, in two threads.
-use crate::fault::Fault;
+use crate::fault::BenchFault;
 use crate::timing::{Beside, Measured};
 use crate::wire::{PIECE, scanned};
 use gate_link::{Burst, Gateway, Sequencer, Step, Takes, Turn, link};
@@ -148,7 +148,7 @@ fn time_sending<R: Clock + Threads + Sync>(
     streams: &[Vec<u8>],
     messages: u64,
     at_once: AtOnce,
-) -> Result<Measured, Fault> {
+) -> Result<Measured, BenchFault> {
     let start = Instant::now(rt)?;
     send_and_take(rt, gateways, sequencer, streams, at_once);
     let used = start.elapsed(rt)?;
@@ -166,10 +166,10 @@ pub fn time_threads<R: Clock + AllocGlobal + Threads + Sync>(
     rt: &R,
     streams: &[Vec<u8>],
     at_once: AtOnce,
-) -> Result<Measured, Fault> {
+) -> Result<Measured, BenchFault> {
     let messages = scanned(streams);
     let Ok((mut gateways, mut sequencer)) = link(rt.alloc(), streams.len(), 256, 1_000_000) else {
-        return Err(Fault::NoMemory);
+        return Err(BenchFault::NoMemory);
     };
     time_sending(
         rt,

@@ -1,4 +1,5 @@
 //! Frames and messages.
+use crate::fault::BenchFault;
 use crate::timing::{Beside, Measured, RUNS, Timer};
 use fix_session::{Reader, Verdict};
 use fix_wire::{Framer, Next};
@@ -104,6 +105,7 @@ fn judged(streams: &[Vec<u8>]) -> u64 {
     events
 }
 
+/// How many bytes the streams have.
 pub fn bytes_of(streams: &[Vec<u8>]) -> u64 {
     let mut bytes = 0u64;
     for stream in streams {
@@ -113,38 +115,38 @@ pub fn bytes_of(streams: &[Vec<u8>]) -> u64 {
 }
 
 /// Scans streams: the bytes, and the messages.
-pub fn time_scan(rt: &impl CpuClock, streams: &[Vec<u8>]) -> Measured {
+pub fn time_scan(rt: &impl CpuClock, streams: &[Vec<u8>]) -> Result<Measured, BenchFault> {
     let mut passed = 0u64;
     let mut least = u64::MAX;
     for _ in 0..RUNS {
-        let timer = Timer::start(rt);
+        let timer = Timer::start(rt)?;
         passed = scanned(streams);
-        least = least.min(timer.used(rt));
+        least = least.min(timer.used(rt)?);
     }
-    Measured {
+    Ok(Measured {
         phase: "scan",
         count: bytes_of(streams),
         unit: "bytes",
         nanos: least,
         beside: Beside::Count(passed, "messages passed"),
-    }
+    })
 }
 
 /// Frames and judges streams.
-pub fn time_judge(rt: &impl CpuClock, streams: &[Vec<u8>]) -> Measured {
+pub fn time_judge(rt: &impl CpuClock, streams: &[Vec<u8>]) -> Result<Measured, BenchFault> {
     let messages = scanned(streams);
     let mut events = 0u64;
     let mut least = u64::MAX;
     for _ in 0..RUNS {
-        let timer = Timer::start(rt);
+        let timer = Timer::start(rt)?;
         events = judged(streams);
-        least = least.min(timer.used(rt));
+        least = least.min(timer.used(rt)?);
     }
-    Measured {
+    Ok(Measured {
         phase: "judge",
         count: messages,
         unit: "messages",
         nanos: least,
         beside: Beside::Count(events, "events"),
-    }
+    })
 }

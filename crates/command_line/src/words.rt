@@ -31,6 +31,11 @@ pub enum Request<'a> {
         journal: &'a str,
         task: Task<'a>,
     },
+    /// A phase is measured over files.
+    Bench {
+        phase: &'a str,
+        files: Vec<&'a str>,
+    },
 }
 
 /// What is done with a journal text.
@@ -138,6 +143,18 @@ const PLACE: Word = Word {
     form: Form::Needed(Value::Number),
 };
 
+const PHASE: Word = Word {
+    name: "PHASE",
+    help: "scan, judge, threads or slices, over a file of raw bytes for each session; match or report, over a rulebook and a journal text",
+    form: Form::Needed(Value::Text),
+};
+
+const FILES: Word = Word {
+    name: "FILE",
+    help: "The files of the phase",
+    form: Form::List,
+};
+
 const STAMP: Word = Word {
     name: "stamp",
     help: "The sending time that outgoing messages bear, 1 to 32 bytes",
@@ -204,6 +221,11 @@ static COMMANDS: &[CommandText] = &[
         name: "draw",
         about: "Draws the day of a journal, prices and fills over places, as an SVG picture",
         words: &[RULES, JOURNAL],
+    },
+    CommandText {
+        name: "bench",
+        about: "Measures how fast a phase of the host works over recorded input",
+        words: &[PHASE, FILES],
     },
 ];
 
@@ -302,6 +324,14 @@ fn live_request<'a>(alloc: Global, found: &ArgMatches<'a>) -> Result<Request<'a>
     })
 }
 
+fn bench_request<'a>(alloc: Global, found: &ArgMatches<'a>) -> Result<Request<'a>, AllocError> {
+    let files = found.get_strs("FILE").unwrap_or(&[]).to_vec(alloc)?;
+    Ok(Request::Bench {
+        phase: text_of(found, "PHASE"),
+        files,
+    })
+}
+
 fn replay_request<'a>(found: &ArgMatches<'a>) -> Request<'a> {
     Request::Replay {
         rules: text_of(found, "RULES"),
@@ -315,6 +345,7 @@ fn request_of<'a>(alloc: Global, matches: &ArgMatches<'a>) -> Result<Request<'a>
     match matches.subcommand() {
         Some(("replay", found)) => Ok(replay_request(found)),
         Some(("live", found)) => live_request(alloc, found),
+        Some(("bench", found)) => bench_request(alloc, found),
         Some((command, found)) => Ok(journal_request(command, found)),
         // The parser has asked for a command by now.
         None => Err(AllocError),

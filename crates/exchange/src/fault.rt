@@ -1,4 +1,5 @@
 //! The fault lines and the statuses.
+use bench::BenchFault;
 use day_explain::ExplainFault;
 use day_picture::DrawFault;
 use gate_link::LinkFault;
@@ -20,6 +21,10 @@ pub enum Fault<'a> {
     Claim,
     /// The journal has no entry of this place.
     Place(u32),
+    /// There is no such phase to measure over so many files.
+    Phase,
+    /// The clock failed.
+    Clock,
 }
 
 /// What a fault line ends with.
@@ -45,6 +50,19 @@ impl<'a> From<DrawFault> for Fault<'a> {
     }
 }
 
+impl<'a> From<BenchFault> for Fault<'a> {
+    fn from(fault: BenchFault) -> Fault<'a> {
+        Fault::Host(match fault {
+            BenchFault::Phase => return Fault::Phase,
+            BenchFault::Clock => return Fault::Clock,
+            BenchFault::Rule(fault) => HostFault::Rule(fault),
+            BenchFault::Journal(fault) => HostFault::Journal(fault),
+            BenchFault::NumbersSpent(place) => HostFault::NumbersSpent(place),
+            BenchFault::NoMemory => HostFault::NoMemory(0),
+        })
+    }
+}
+
 impl<'a> Fault<'a> {
     /// Why the entry of a place was not explained.
     pub fn of_explain(fault: ExplainFault, place: u32) -> Fault<'a> {
@@ -59,10 +77,11 @@ impl<'a> Fault<'a> {
     /// The exit status.
     pub fn status(&self) -> u8 {
         match self {
-            Fault::Stamp => 2,
+            Fault::Stamp | Fault::Phase => 2,
             Fault::File(_) => 3,
             Fault::Host(fault) => host_status(fault),
             Fault::Claim | Fault::Place(_) => 5,
+            Fault::Clock => 7,
         }
     }
 
@@ -74,6 +93,8 @@ impl<'a> Fault<'a> {
             Fault::Host(fault) => host_line(fault),
             Fault::Claim => ("wrong claim", Detail::Nothing),
             Fault::Place(place) => ("no place", Detail::Number(*place as u64)),
+            Fault::Phase => ("no such phase over these files", Detail::Nothing),
+            Fault::Clock => ("no clock", Detail::Nothing),
         }
     }
 }

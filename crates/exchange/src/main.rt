@@ -4,6 +4,7 @@
 mod fault;
 mod printing;
 
+use bench::measure;
 use command_line::{Request, Task, read_words, refuse, words_of};
 use day_explain::explain;
 use day_picture::draw;
@@ -17,6 +18,7 @@ use std::fs::Files;
 use std::process::ExitCode;
 use std::sync::Wait;
 use std::thread::Threads;
+use std::time::{Clock, CpuClock};
 use std::{fs, io};
 
 fn read_file<'a>(rt: &(impl Files + AllocGlobal), path: &'a str) -> Result<Vec<u8>, Fault<'a>> {
@@ -74,19 +76,19 @@ impl Gate for Open {
     fn before(&self, _session: u8, _message: u32) {}
 }
 
-/// The bytes of each session's file.
-fn read_streams<'a>(
+/// The bytes of each file.
+fn read_files<'a>(
     rt: &(impl Files + AllocGlobal),
     paths: &[&'a str],
 ) -> Result<Vec<Vec<u8>>, Fault<'a>> {
-    let mut streams = Vec::new(rt.alloc());
+    let mut files = Vec::new(rt.alloc());
     for path in paths {
-        let stream = read_file(rt, path)?;
-        if streams.push(stream).is_err() {
+        let file = read_file(rt, path)?;
+        if files.push(file).is_err() {
             return Err(Fault::Host(HostFault::NoMemory(0)));
         }
     }
-    Ok(streams)
+    Ok(files)
 }
 
 /// A thread for each session's file.
@@ -99,7 +101,7 @@ fn run_live<'a>(
 ) -> Result<(), Fault<'a>> {
     let stamp = read_stamp(stamp)?;
     let rulebook = read_rules(rt, rules)?;
-    let streams = read_streams(rt, sessions)?;
+    let streams = read_files(rt, sessions)?;
     let day = run_day(rt, rt.alloc(), &rulebook, stamp, streams, &Open, caps)?;
     print_day(rt, &rulebook, &day)?;
     Ok(())
@@ -204,9 +206,32 @@ fn run_journal<'a>(
     run_task(rt, &rulebook, &text, task)
 }
 
+/// A phase is measured over these files.
+fn run_bench<'a>(
+    rt: &(impl Print + Files + Clock + CpuClock + AllocGlobal + Threads + Sync),
+    phase: &str,
+    files: &[&'a str],
+) -> Result<(), Fault<'a>> {
+    let files = read_files(rt, files)?;
+    let measured = measure(rt, phase, &files)?;
+    match println!(rt; "{measured}") {
+        Ok(()) => Ok(()),
+        Err(_) => Err(Fault::Host(HostFault::Write)),
+    }
+}
+
 /// What the command line asks for, done.
 fn run<'a>(
-    rt: &(impl Input + Print + Eprint + Files + AllocGlobal + Threads + Wait + Sync),
+    rt: &(impl Input
+        + Print
+        + Eprint
+        + Files
+        + Clock
+        + CpuClock
+        + AllocGlobal
+        + Threads
+        + Wait
+        + Sync),
     request: &Request<'a>,
 ) -> Result<(), Fault<'a>> {
     match request {
@@ -233,6 +258,7 @@ fn run<'a>(
             journal,
             task,
         } => run_journal(rt, rules, journal, *task),
+        Request::Bench { phase, files } => run_bench(rt, phase, files),
     }
 }
 

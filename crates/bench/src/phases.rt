@@ -1,0 +1,45 @@
+//! The phases by their names.
+use crate::fault::BenchFault;
+use crate::market::{time_match, time_report};
+use crate::rings::{AtOnce, time_threads};
+use crate::timing::Measured;
+use crate::wire::{time_judge, time_scan};
+use std::alloc::AllocGlobal;
+use std::thread::Threads;
+use std::time::{Clock, CpuClock};
+
+/// A phase over a rulebook and a journal.
+fn measure_journal(
+    rt: &(impl CpuClock + AllocGlobal),
+    phase: &str,
+    files: &[Vec<u8>],
+) -> Result<Measured, BenchFault> {
+    let [rules, journal] = files else {
+        return Err(BenchFault::Phase);
+    };
+    match phase {
+        "match" => time_match(rt, rules, journal),
+        "report" => time_report(rt, rules, journal),
+        _ => Err(BenchFault::Phase),
+    }
+}
+
+/// Measures a phase over the bytes of these files: `scan`, `judge`, `threads` and `slices` take the streams of 1 to 16
+/// sessions, `match` and `report` a rulebook and a journal. A phase is run three times, those in threads once, and the
+/// least time counts.
+pub fn measure<R: Clock + CpuClock + AllocGlobal + Threads + Sync>(
+    rt: &R,
+    phase: &str,
+    files: &[Vec<u8>],
+) -> Result<Measured, BenchFault> {
+    if files.is_empty() {
+        return Err(BenchFault::Phase);
+    }
+    match phase {
+        "scan" => time_scan(rt, files),
+        "judge" => time_judge(rt, files),
+        "threads" => time_threads(rt, files, AtOnce::One),
+        "slices" => time_threads(rt, files, AtOnce::Slice),
+        _ => measure_journal(rt, phase, files),
+    }
+}
