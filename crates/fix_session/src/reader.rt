@@ -157,6 +157,7 @@ impl Reader {
 
     /// Judges the first messages that are held, at most so many, none past one that closes the session. Their events
     /// become the first of the entries, as those of the session with this number. Nothing is passed.
+    #[inline(always)]
     pub fn judge_ahead(&self, number: u8, most: usize, entries: &mut [Entry]) -> Ahead
         requires { most ≤ length entries.old }
         ensures size { length entries.new ≡ length entries.old }

@@ -157,6 +157,7 @@ impl Framer {
     }
 
     /// The first message, which is still held.
+    #[inline(always)]
     pub fn next(&mut self) -> Next<'_>
         ensures* after { sem 𝓛 (follows_so the_row the_row self.entry.ghost_name none (λ _ _. ⊤)
             (λ v. v ≡ from_first_start self.old)) }

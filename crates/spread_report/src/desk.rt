@@ -62,6 +62,7 @@ impl Desk {
 
     /// Appends to each session's list exactly the messages that the entry sends it, places counting
     /// from 1. After an error the desk and all lists are as they were.
+    #[inline(always)]
     pub fn outgoing<A: Allocator + Copy>(
         &mut self,
         rules: &Rulebook,
