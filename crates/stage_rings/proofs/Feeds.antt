@@ -1,13 +1,17 @@
 -- Entries and the end mark among the items of the ring to the thread that matches.
-use Rattle.std.proofs.Common.{◌≡◌, ◌∙◌, sym, ap, refl, arith, ℕ, suc, ◌+◌, ◌-◌, ◌<◌, ◌≤◌, Bool, true, false, List, [], ◌∷◌, ◌++◌, length, get_or, take, drop, append-nil, append_assoc, take_at, length-append, length-take, length-drop, subst}
+use Rattle.std.proofs.Common.{◌≡◌, ◌∙◌, sym, ap, refl, arith, ℕ, suc, ◌+◌, ◌-◌, ◌<◌, ◌≤◌, Bool, true, false, List, [], ◌∷◌, ◌++◌, length, get_or, take, drop, map, append-nil, append_assoc, take_at, length-append, length-take, length-drop, subst}
 use Rattle.std.proofs.lemmas.List.{drop_more}
 use Rattle.spread_rules.specs.declared.event.Entry.{Entry}
 use Rattle.stage_rings.specs.declared.feed.Fed.{Fed}
 use Rattle.stage_rings.specs.declared.feed.Fed.TheVariants.{Entry as Item, End}
-use Rattle.stage_rings.specs.Feeds.{entries, is_end, first_items, held_items, items_of}
+use Rattle.stage_rings.specs.Feeds.{entries, is_end, first_items, held_items}
 use Rattle.stage_rings.specs.Feeding.{Agrees}
 use Rattle.stage_rings.specs.Marks.{ends}
 use Rattle.stage_rings.proofs.Marks.{ends_more, ends_mark, all_taken}
+
+-- these entries as items
+abbrev pub items_of : List Entry → List Fed
+items_of es = map (λ (e : Entry). Item e) es
 
 pub entries-append : (xs ys : List Fed) → entries (xs ++ ys) ≡ entries xs ++ entries ys
 entries-append [] ys = refl

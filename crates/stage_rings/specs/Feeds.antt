@@ -1,5 +1,5 @@
 -- The items of the ring to the thread that matches: entries, and one mark that ends them.
-use Rattle.std.specs.Prelude.{ℕ, ◌-◌, Bool, true, false, List, [], ◌∷◌, map, length, take, drop}
+use Rattle.std.specs.Prelude.{ℕ, ◌-◌, Bool, true, false, List, [], ◌∷◌, length, take, drop}
 use Rattle.spread_rules.specs.declared.event.Entry.{Entry}
 use Rattle.stage_rings.specs.declared.feed.Fed.{Fed}
 use Rattle.stage_rings.specs.declared.feed.Fed.TheVariants.{Entry as Item, End}
@@ -13,10 +13,6 @@ abbrev pub entries : List Fed → List Entry
 entries [] = []
 entries (Item e ∷ xs) = e ∷ entries xs
 entries (End ∷ xs) = entries xs
-
--- these entries as items
-abbrev pub items_of : List Entry → List Fed
-items_of es = map (λ (e : Entry). Item e) es
 
 -- these items without the last ones, so many
 abbrev pub first_items : List Fed → ℕ → List Fed

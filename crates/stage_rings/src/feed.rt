@@ -3,8 +3,8 @@ ghost use Rattle.std.specs.Prelude.{◌≡◌, ◌-◌, ◌<◌, ◌≤◌, ◌+
 ghost use Rattle.std.specs.Bool.{OnFalse};
 ghost use Rattle.rtrb.specs.Ring.{sent, received, known_free, ProducerLooked};
 ghost use Rattle.stage_rings.specs.Marks.{ends};
-ghost use Rattle.stage_rings.specs.Feeds.{entries, is_end, items_of, first_items, held_items};
-ghost use Rattle.stage_rings.specs.declared.feed.TheConstants.{HELD, SLICE};
+ghost use Rattle.stage_rings.specs.Feeds.{entries, is_end, first_items, held_items};
+ghost use Rattle.stage_rings.specs.declared.feed.TheConstants.{HELD};
 
 use rtrb::{Consumer, Producer};
 use spread_rules::Entry;
@@ -27,11 +27,8 @@ pub(crate) enum Fed {
 #[derive(Drop)]
 pub struct Feeder<A: Allocator> {
     pub(crate) producer: Producer<Fed, A>,
-    /// Where the items of a slice are put before they are pushed.
-    slice: [Fed; SLICE],
     count: usize,
     ended: bool,
-    ghost room: { length slice ≡ SLICE },
     // The mark comes last, and only where it is ended.
     ghost shape: { ends is_end (sent producer) ended ≡ true },
     ghost counted: { count ≡ length (entries (sent producer)) },
@@ -88,16 +85,6 @@ fn has_room<A: Allocator>(producer: &mut Producer<Fed, A>, items: usize) -> bool
     items <= producer.slots()
 }
 
-/// Puts these entries at the front of the slice, as items.
-fn put_items(slice: &mut [Fed], entries: &[Entry])
-    requires { length entries.now ≤ length slice.old }
-    ensures { take (length entries.now) slice.new ≡ items_of entries.now }
-{
-    for i in 0..entries.len() {
-        slice[i] = Fed::Entry(entries[i]);
-    }
-}
-
 impl<A: Allocator> Feeder<A> {
     ghost use Rattle.std.specs.Prelude.{false};
     ghost use mathlib.Core.List.{IsPrefix};
@@ -109,7 +96,6 @@ impl<A: Allocator> Feeder<A> {
     {
         Feeder {
             producer,
-            slice: [Fed::End; SLICE],
             count: 0,
             ended: false,
         }
@@ -134,8 +120,11 @@ impl<A: Allocator> Feeder<A> {
         if !has_room(&mut self.producer, most) {
             return Give::Full;
         }
-        put_items(&mut self.slice, &rest[..most]);
-        let Ok(()) = self.producer.push_entire_slice(&self.slice[..most]) else {
+        let mut items = [Fed::End; SLICE];
+        for i in 0..most {
+            items[i] = Fed::Entry(rest[i]);
+        }
+        let Ok(()) = self.producer.push_entire_slice(&items[..most]) else {
             return Give::Full;
         };
         self.count += most;

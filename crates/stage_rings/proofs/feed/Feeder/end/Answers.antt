@@ -7,7 +7,7 @@ pub invariant_of-self-2 : goal.invariant_of-self-2
 invariant_of-self-2 g c =
     let f = c.args.self.now in
     let step = end_more (sent f.producer) _ _ f.ended f.shape c.if-self.false c.in-Ok.ensures.ok.0 refl in
-    record { room = f.room; shape = step.0; counted = f.counted ∙ ap length (sym step.1) }
+    record { shape = step.0; counted = f.counted ∙ ap length (sym step.1) }
 
 pub returns-clause-end : goal.returns-clause-end
 returns-clause-end g c =

@@ -1,32 +1,32 @@
 use Rattle.std.proofs.Common.{true, arith, List, ◌≡◌, ◌∙◌, ap, length, ◌≤◌, ◌++◌, take, subst}
 use Rattle.rtrb.specs.Ring.{sent}
-use Rattle.stage_rings.specs.Feeds.{entries, is_end, items_of}
+use Rattle.stage_rings.specs.Feeds.{entries, is_end}
 use Rattle.stage_rings.specs.declared.feed.Fed.{Fed}
 use Rattle.stage_rings.specs.Marks.{ends}
-use Rattle.std.proofs.lemmas.List.{length-take-le}
-use Rattle.stage_rings.proofs.Feeds.{slice_more}
+use Rattle.stage_rings.proofs.Feeds.{items_of, slice_more}
 use Rattle.stage_rings.proofs.Giving.{left, length-left, gave, front_prefix, gave_length}
 use Rattle.stage_rings.proofs.feed.Feeder.give.Goals as goal
 use Rattle.stage_rings.proofs.feed.Feeder.give.Goals.{In-Ok}
 
-few : (g : _) (c : In-Ok g) → c.min-most.result ≤ length (left c.args.journal.now c.args.self.now.count)
-few g c = omega (arith, c.min-most.ensures, c.min.ensures)
-
 -- the items pushed are the next entries
-whole : (g : _) (c : In-Ok g) → take c.min-most.result c.put_items.new.slice ≡ items_of (take c.min-most.result (left c.args.journal.now c.args.self.now.count))
+whole : (g : _) (c : In-Ok g) → take c.min-most.result c.loop-i.items ≡ items_of (take c.min-most.result (left c.args.journal.now c.args.self.now.count))
 whole g c =
-    subst (λ k. take k c.put_items.new.slice ≡ items_of (take c.min-most.result (left c.args.journal.now c.args.self.now.count))) (length-take-le c.min-most.result (left c.args.journal.now c.args.self.now.count) (few g c)) c.put_items.ensures
+    let n : c.loop-i.i ≡ c.min-most.result = omega (arith, c.loop-i.auto.i-end, c.loop-i-test.false) in
+    subst (λ k. take k c.loop-i.items ≡ items_of (take k (left c.args.journal.now c.args.self.now.count))) n c.loop-i.invariant.done
 
 pushed : (g : _) (c : In-Ok g) → (ends is_end (sent c.push_entire_slice.new.self) c.args.self.now.ended ≡ true) × (entries (sent c.push_entire_slice.new.self) ≡ entries (sent c.args.self.now.producer) ++ take c.min-most.result (left c.args.journal.now c.args.self.now.count))
 pushed g c =
     let f = c.args.self.now in
-    slice_more (sent f.producer) (sent c.push_entire_slice.new.self) (take c.min-most.result c.put_items.new.slice) (take c.min-most.result (left c.args.journal.now f.count)) f.ended f.shape c.if-self.false (c.in-Ok.ensures.ok.0 ∙ ap (λ (xs : List Fed). xs ++ take c.min-most.result c.put_items.new.slice) c.has_room.ensures.looked.1) (whole g c)
+    slice_more (sent f.producer) (sent c.push_entire_slice.new.self) (take c.min-most.result c.loop-i.items) (take c.min-most.result (left c.args.journal.now f.count)) f.ended f.shape c.if-self.false (c.in-Ok.ensures.ok.0 ∙ ap (λ (xs : List Fed). xs ++ take c.min-most.result c.loop-i.items) c.has_room.ensures.looked.1) (whole g c)
+
+few : (g : _) (c : In-Ok g) → c.min-most.result ≤ length (left c.args.journal.now c.args.self.now.count)
+few g c = omega (arith, c.min-most.ensures, c.min.ensures)
 
 pub invariant_of-self-2 : goal.invariant_of-self-2
 invariant_of-self-2 g c =
     let f = c.args.self.now in
     let now = pushed g c in
-    record { room = c.put_items.auto.slice ∙ f.room; shape = now.0; counted = gave_length (entries (sent f.producer)) c.args.journal.now (entries (sent c.push_entire_slice.new.self)) f.count c.min-most.result f.counted (few g c) now.1 }
+    record { shape = now.0; counted = gave_length (entries (sent f.producer)) c.args.journal.now (entries (sent c.push_entire_slice.new.self)) f.count c.min-most.result f.counted (few g c) now.1 }
 
 pub returns-clause-give : goal.returns-clause-give
 returns-clause-give g c =
