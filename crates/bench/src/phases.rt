@@ -4,6 +4,7 @@ use crate::market::{time_match, time_report};
 use crate::rings::{AtOnce, time_threads};
 use crate::timing::Measured;
 use crate::wire::{time_judge, time_scan};
+use host_base::limits::SESSIONS;
 use std::alloc::AllocGlobal;
 use std::thread::Threads;
 use std::time::{Clock, CpuClock};
@@ -32,7 +33,7 @@ pub fn measure<R: Clock + CpuClock + AllocGlobal + Threads + Sync>(
     phase: &str,
     files: &[Vec<u8>],
 ) -> Result<Measured, BenchFault> {
-    if files.is_empty() {
+    if files.is_empty() || files.len() > SESSIONS {
         return Err(BenchFault::Phase);
     }
     match phase {

@@ -145,7 +145,8 @@ const PLACE: Word = Word {
 
 const PHASE: Word = Word {
     name: "PHASE",
-    help: "scan, judge, threads or slices, over a file of raw bytes for each session; match or report, over a rulebook and a journal text",
+    help: "scan, judge, threads or slices, over a file of raw bytes for each session; \
+           match or report, over a rulebook and a journal text",
     form: Form::Needed(Value::Text),
 };
 
