@@ -1,10 +1,9 @@
 //! The page: its head, a panel for each month that traded, and below them one for each spread.
-use crate::course::Course;
 use crate::legend::{HEAD, Totals, put_about, put_head};
 use crate::panel::{Panel, Room, panel_of};
-use crate::points::most_lots;
 use crate::style::STYLE;
 use crate::svg_text::SvgText;
+use day_course::{Course, most_lots};
 use spread_rules::{Instrument, Rulebook};
 use std::alloc::{AllocError, Allocator};
 

@@ -1,9 +1,10 @@
 //! The panel of one instrument: its axes, its best prices as steps, its trades as marks.
-use crate::course::{Course, Kind, Stretch};
-use crate::points::{Point, points_of};
-use crate::scale::{Scale, WIDTH, first_multiple, length_of, scale_of, step};
-use crate::steps::{put_steps, widened};
+use crate::steps::put_steps;
 use crate::svg_text::SvgText;
+use day_course::{
+    Course, Kind, Point, Scale, Stretch, WIDTH, first_multiple, length_of, points_of, scale_of,
+    step, widened,
+};
 use spread_rules::{Instrument, Rulebook};
 use std::alloc::{AllocError, Allocator};
 

@@ -1,35 +1,13 @@
 //! The best prices of an instrument and side as a line of steps.
-use crate::course::Stretch;
-use crate::scale::{EDGE, Scale, WIDTH};
 use crate::svg_text::SvgText;
-use std::alloc::{AllocError, Allocator};
+use day_course::{EDGE, Scale, Stretch, WIDTH};
+use std::alloc::Allocator;
 
 /// Where a line is. It has no height where no order rests.
 #[derive(Clone, Copy)]
 struct Pen {
     x: i64,
     y: Option<i64>,
-}
-
-/// Stretches of as many columns each.
-pub fn widened<A: Allocator + Copy>(
-    alloc: A,
-    stretches: &[Stretch],
-    columns: u64,
-) -> Result<Vec<Stretch, A>, AllocError> {
-    let columns = columns.max(1);
-    let mut wider: Vec<Stretch, A> = Vec::new(alloc);
-    for stretch in stretches {
-        let stretch = Stretch {
-            column: stretch.column / columns * columns,
-            ..*stretch
-        };
-        match wider.last_mut() {
-            Some(last) if last.column == stretch.column => *last = last.then(stretch),
-            _ => wider.push(stretch)?,
-        }
-    }
-    Ok(wider)
 }
 
 impl Pen {

@@ -1,5 +1,6 @@
-//! Days as pictures.
+//! Days as pictures, and what they show.
 
+mod courses;
 mod faults;
 mod pictures;
 mod sizes;

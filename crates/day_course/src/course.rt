@@ -106,6 +106,27 @@ impl Stretch {
     }
 }
 
+/// Stretches of as many columns each.
+pub fn widened<A: Allocator + Copy>(
+    alloc: A,
+    stretches: &[Stretch],
+    columns: u64,
+) -> Result<Vec<Stretch, A>, AllocError> {
+    let columns = columns.max(1);
+    let mut wider: Vec<Stretch, A> = Vec::new(alloc);
+    for stretch in stretches {
+        let stretch = Stretch {
+            column: stretch.column / columns * columns,
+            ..*stretch
+        };
+        match wider.last_mut() {
+            Some(last) if last.column == stretch.column => *last = last.then(stretch),
+            _ => wider.push(stretch)?,
+        }
+    }
+    Ok(wider)
+}
+
 /// Notes the best price behind an entry of that column, where it is another than before.
 fn note_best<A: Allocator>(
     stretches: &mut Vec<Stretch, A>,
