@@ -1,4 +1,4 @@
-//! An entry of a journal, explained in words: what rested before it, how its order was traded, and what came of it.
+//! An entry of a journal, explained in words: how its order was traded, and what came of it.
 #![tactic(auto)]
 
 mod entry;
@@ -7,13 +7,8 @@ mod explaining;
 mod fault;
 mod outcome_words;
 mod refusal_words;
-mod standing;
-mod telling;
-mod told;
 mod turn_words;
 mod words;
 
 pub use explaining::explain;
 pub use fault::ExplainFault;
-pub use telling::tell;
-pub use told::{Told, Traded};

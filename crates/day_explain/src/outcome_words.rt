@@ -1,7 +1,7 @@
 //! The line of what came of an entry.
 use crate::refusal_words::{put_new_refusal, put_nothing_resting, put_replace_refusal};
-use crate::told::Told;
 use crate::words::Words;
+use explained_entries::Told;
 use spread_rules::{Entry, Event, Order, Outcome};
 use std::alloc::Allocator;
 

@@ -3,8 +3,8 @@ ghost use Rattle.std.specs.Prelude.{All};
 ghost use Rattle.spread_rules.specs.Candidates.{HasLegPrice};
 ghost use Rattle.explained_turns.specs.Explained.{HaveLegPrices};
 
-use crate::told::Traded;
 use crate::words::Words;
+use explained_entries::Traded;
 use explained_turns::{Beyond, Point, Turn, point_between};
 use spread_rules::{Candidate, Counterparty, Instrument, Order};
 use std::alloc::Allocator;

@@ -1,9 +1,9 @@
 use Rattle.std.proofs.Common.{List, All, subst, sym, ap, ◌∙◌}
 use Rattle.spread_rules.specs.declared.order.Order.{Order}
 use Rattle.spread_rules.specs.Candidates.{HasOrderPrice}
-use Rattle.day_explain.specs.Told.{others_of}
-use Rattle.day_explain.proofs.Prices.{trades_priced}
-use Rattle.day_explain.proofs.telling.tell.Goals as goal
+use Rattle.explained_entries.specs.Told.{others_of}
+use Rattle.explained_entries.proofs.Prices.{trades_priced}
+use Rattle.explained_entries.proofs.telling.tell.Goals as goal
 
 pub explain_order-requires-clause-small : goal.explain_order-requires-clause-small
 explain_order-requires-clause-small g c =

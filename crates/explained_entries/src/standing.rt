@@ -5,7 +5,7 @@ ghost use Rattle.std.specs.List.{find};
 ghost use Rattle.spread_rules.specs.Journal.{FitsEntry};
 ghost use Rattle.spread_rules.specs.Meaning.{is_own};
 ghost use Rattle.day_apply.specs.Application.{HasApplied, IsApplying, meaning_behind, rules_of};
-ghost use Rattle.day_explain.specs.Told.{named_by, standing_at};
+ghost use Rattle.explained_entries.specs.Told.{named_by, standing_at};
 
 use day_apply::{AppliedEntries, apply_entries};
 use host_base::{Id, NoMemory};

@@ -5,7 +5,7 @@ ghost use Rattle.spread_rules.specs.Clearing.{removed};
 ghost use Rattle.spread_rules.specs.Journal.{FitsEntry};
 ghost use Rattle.day_apply.specs.Application.{meaning_behind};
 ghost use Rattle.explained_turns.specs.Explained.{AreTurns, HaveLegPrices};
-ghost use Rattle.day_explain.specs.Told.{IsNewOrder, IsTrader, named_by, others_of, standing_at};
+ghost use Rattle.explained_entries.specs.Told.{IsNewOrder, IsTrader, named_by, others_of, standing_at};
 
 use crate::standing::{Standing, named_by, standing_at};
 use crate::told::{Told, Traded};

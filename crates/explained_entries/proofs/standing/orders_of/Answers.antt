@@ -1,9 +1,9 @@
 use Rattle.std.proofs.Common.{List, [], ◌∷◌, ◌++◌, sym, ap, ◌∙◌, arith}
 use Rattle.std.proofs.lemmas.List.{take_all}
 use Rattle.spread_rules.specs.declared.order.Order.{Order}
-use Rattle.day_explain.proofs.Walks.{walked_all, walked_more}
-use Rattle.day_explain.proofs.standing.orders_of.Goals.{else-loop-k-test, then-loop-k-test+in_default}
-use Rattle.day_explain.proofs.standing.orders_of.Goals as goal
+use Rattle.explained_entries.proofs.Walks.{walked_all, walked_more}
+use Rattle.explained_entries.proofs.standing.orders_of.Goals.{else-loop-k-test, then-loop-k-test+in_default}
+use Rattle.explained_entries.proofs.standing.orders_of.Goals as goal
 
 pub loop-k-preserved : goal.loop-k-preserved
 loop-k-preserved g c =
