@@ -1,3 +1,2 @@
-pub mod Limits
-pub mod Streams
 pub mod code
+pub mod Streams

@@ -10,8 +10,8 @@ use Rattle.outbound_sessions.specs.Sessions.{bytes_of}
 use Rattle.day_apply.specs.Applied.{IsPlaceOf, IsSpentOf, applied_entries, outgoing_bytes}
 use Rattle.gate_link.specs.Opening.{IsRefusal}
 use Rattle.session_threads.specs.Streams.{IsBeginningOf, all_events, whole_at}
-use Rattle.day_threads.specs.declared.fault.ThreadsFault.{ThreadsFault}
-use Rattle.day_threads.specs.declared.fault.ThreadsFault.TheVariants.{Link, Spawn, JournalFull, NoMemory, NumbersSpent}
+use Rattle.day_stages.specs.declared.fault.ThreadsFault.{ThreadsFault}
+use Rattle.day_stages.specs.declared.fault.ThreadsFault.TheVariants.{Link, Spawn, JournalFull, NoMemory, NumbersSpent}
 use Rattle.day_threads.specs.declared.conclude.SessionsDay.{SessionsDay}
 
 -- a session's thread, the matching thread behind the last session's, or behind that one a session's writer's

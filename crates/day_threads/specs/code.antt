@@ -1,3 +1,1 @@
 pub mod Concluding
-pub mod Making
-pub mod Matching

@@ -9,11 +9,11 @@ ghost use Rattle.entry_posting.specs.code.Posting.{posted_at};
 ghost use Rattle.session_threads.specs.declared.sequencing.SequenceEnd.TheVariants as sequence_end;
 ghost use Rattle.session_threads.specs.code.Writing.{AreJoinedPairs, written_at};
 
-use crate::fault::{ThreadsFault, of_apply};
-use crate::matching::Matched;
 use day_apply::FillsAndMessages;
+use day_stages::{ThreadsFault, of_apply};
 use entry_posting::MatchEnd;
 use gate_link::{Poster, agree, finished};
+use match_thread::Matched;
 use session_threads::{GivenStreams, SequenceEnd, Sequenced, Written};
 use spread_rules::Entry;
 use std::alloc::Allocator;

@@ -2,13 +2,9 @@
 #![tactic(auto)]
 
 mod conclude;
-mod fault;
-mod matching;
 mod sessions;
-mod stages;
 
 pub use conclude::SessionsDay;
-pub use fault::ThreadsFault;
+pub use day_stages::{Caps, DayRules, ThreadsFault};
 pub use session_threads::Gate;
 pub use sessions::run_sessions;
-pub use stages::{Caps, DayRules};

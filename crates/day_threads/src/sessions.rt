@@ -5,13 +5,12 @@ ghost use Rattle.day_apply.specs.Sending.{sending_rules, stamp_of};
 ghost use Rattle.day_threads.specs.code.Concluding.{AreReady};
 ghost use Rattle.session_threads.specs.code.Handing.{IsRoom};
 ghost use Rattle.day_threads.specs.Streams.{IsDayOfSessions, IsThreadsFault};
-ghost use Rattle.day_threads.specs.Limits.{IsWithinLimits};
-ghost use Rattle.day_threads.specs.declared.fault.ThreadsFault.TheVariants.{NoMemory, Spawn};
+ghost use Rattle.day_stages.specs.Limits.{IsWithinLimits};
+ghost use Rattle.day_stages.specs.declared.fault.ThreadsFault.TheVariants.{NoMemory, Spawn};
 
 use crate::conclude::{SessionsDay, conclude};
-use crate::fault::ThreadsFault;
-use crate::matching::start_matching;
-use crate::stages::{Caps, DayRules, Stages, stages_of};
+use day_stages::{Caps, DayRules, Stages, ThreadsFault, stages_of};
+use match_thread::start_matching;
 use session_threads::{
     Gate, SequenceEnd, Shared, Started, StartedWriters, Workers, Writing, join_all, join_writers,
     sequence, start_all, start_writers,

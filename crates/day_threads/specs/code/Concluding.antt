@@ -14,16 +14,16 @@ use Rattle.session_threads.specs.declared.sequencing.SequenceEnd.{SequenceEnd}
 use Rattle.session_threads.specs.declared.sequencing.SequenceEnd.TheVariants.{JournalFull as Full}
 use Rattle.session_threads.specs.declared.writing.Written.{Written}
 use Rattle.day_apply.specs.declared.fault.ApplyFault.TheVariants as apply
-use Rattle.day_threads.specs.code.Making.{IsMade}
-use Rattle.day_threads.specs.code.Matching.{MatchEnds}
+use Rattle.day_stages.specs.code.Making.{IsMade}
+use Rattle.match_thread.specs.code.Matching.{MatchEnds}
 use Rattle.entry_posting.specs.code.Posting.{HasPosted, posted_at}
-use Rattle.day_threads.specs.declared.fault.ThreadsFault.{ThreadsFault}
-use Rattle.day_threads.specs.declared.fault.ThreadsFault.TheVariants.{Link, Spawn, JournalFull, NoMemory, NumbersSpent}
-use Rattle.day_threads.specs.declared.matching.Matched.{Matched}
+use Rattle.day_stages.specs.declared.fault.ThreadsFault.{ThreadsFault}
+use Rattle.day_stages.specs.declared.fault.ThreadsFault.TheVariants.{Link, Spawn, JournalFull, NoMemory, NumbersSpent}
+use Rattle.match_thread.specs.declared.matching.Matched.{Matched}
 use Rattle.entry_posting.specs.declared.step.MatchEnd.{MatchEnd}
 use Rattle.entry_posting.specs.declared.step.MatchEnd.TheVariants.{Fault}
 use Rattle.entry_posting.specs.declared.posting.PostedEntries.{PostedEntries}
-use Rattle.day_threads.specs.declared.stages.Stages.{Stages}
+use Rattle.day_stages.specs.declared.stages.Stages.{Stages}
 
 -- the stages of a day that has not begun, one for each of these streams
 pub record AreReady {A : Type 0} (streams : List (Vec ℕ A)) (stages : Stages A) : Type 0 where

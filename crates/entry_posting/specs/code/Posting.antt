@@ -5,7 +5,9 @@ use Rattle.host_base.specs.declared.limits.TheConstants.{SESSIONS}
 use Rattle.spread_rules.specs.declared.event.Entry.{Entry}
 use Rattle.outbound_sessions.specs.Sessions.{session_text}
 use Rattle.gate_link.specs.Rows.{row}
+use Rattle.stage_rings.specs.Feeding.{taken, take_ended}
 use Rattle.stage_rings.specs.Posting.{posted, post_ended, SamePoster}
+use Rattle.stage_rings.specs.declared.feed.Matcher.{Matcher}
 use Rattle.stage_rings.specs.declared.post.Poster.{Poster}
 use Rattle.day_apply.specs.Applied.{IsApplyFault}
 use Rattle.day_apply.specs.Sending.{HasReportedBehind, sending_rules}
@@ -49,6 +51,13 @@ pub record HasPosted {A : Type 0} (entries : List Entry) (p : PostedEntries A) :
 pub record CanPost {A : Type 0} (p : PostedEntries A) : Type 0 where
   pub open_ : NoneEnded p.posters.items
   pub few : length p.posters.items ≤ SESSIONS
+
+-- nothing was taken, applied or given
+pub record IsUnfed {A : Type 0} (m : Matcher A) (p : PostedEntries A) : Type 0 where
+  pub taken_none : taken m ≡ []
+  pub not_over : take_ended m ≡ false
+  pub posted_none : HasPosted [] p
+  pub rings : CanPost p
 
 -- what became of entry e behind others, by how it ended: all that they send was given
 abbrev pub StepEnds : {A : Type 0} → MatchEnd → Entry → PostedEntries A → PostedEntries A → Type 0

@@ -13,7 +13,7 @@ use Rattle.session_threads.specs.code.Writing.{written_at}
 use Rattle.session_threads.specs.declared.writing.Written.{Written}
 use Rattle.day_threads.specs.Streams.{IsDayOfSessions}
 use Rattle.entry_posting.specs.code.Posting.{HasPosted, posted_at}
-use Rattle.day_threads.specs.declared.fault.ThreadsFault.{ThreadsFault}
+use Rattle.day_stages.specs.declared.fault.ThreadsFault.{ThreadsFault}
 use Rattle.day_threads.proofs.CollectedBytes.{collected}
 use Rattle.day_threads.proofs.conclude.conclude.Goals as goal
 use Rattle.day_threads.proofs.conclude.conclude.Goals.{After-into_parts-fills}

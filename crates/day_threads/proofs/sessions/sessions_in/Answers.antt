@@ -3,10 +3,10 @@ use Rattle.std.specs.Prelude.{IfErr, IfNone}
 use Rattle.spread_rulebook.specs.Rulebook.{Rules}
 use Rattle.gate_link.specs.Links.{journal_of}
 use Rattle.day_threads.specs.Streams.{IsThreadsFault}
-use Rattle.day_threads.specs.code.Matching.{HasMatched}
+use Rattle.match_thread.specs.code.Matching.{HasMatched}
 use Rattle.session_threads.specs.code.Sequencing.{SequenceEnds}
-use Rattle.day_threads.proofs.PostPairs.{posts_kept}
-use Rattle.day_threads.proofs.RingEnds.{feed_kept}
+use Rattle.day_stages.proofs.PostPairs.{posts_kept}
+use Rattle.match_thread.proofs.RingEnds.{feed_kept}
 use Rattle.day_threads.proofs.sessions.sessions_in.Goals as goal
 use Rattle.day_threads.proofs.sessions.sessions_in.Goals.{After-join-matched}
 

@@ -9,7 +9,7 @@ use Rattle.spread_rulebook.specs.Rulebook.{Rules}
 use Rattle.day_apply.specs.Sending.{sending_rules}
 use Rattle.entry_posting.specs.code.Posting.{HasPosted, StepEnds}
 use Rattle.entry_posting.specs.declared.posting.PostedEntries.{PostedEntries}
-use Rattle.day_threads.specs.code.Matching.{MatchEnds}
+use Rattle.match_thread.specs.code.Matching.{MatchEnds}
 use Rattle.entry_posting.specs.declared.step.MatchEnd.{MatchEnd}
 use Rattle.entry_posting.specs.declared.step.MatchEnd.TheVariants.{Whole, Stopped, Fault}
 

@@ -1,7 +1,7 @@
 use Rattle.std.proofs.Common.{◌≡◌, ◌≤◌, ℕ, [], vec_len, vec_capacity}
 use Rattle.entry_posting.specs.code.Posting.{posted_at, NoneEnded}
 use Rattle.session_threads.specs.code.Writing.{ArePostPairs}
-use Rattle.day_threads.proofs.stages.writer_rings.Given as goal
+use Rattle.day_stages.proofs.stages.writer_rings.Given as goal
 
 abbrev pub invariant-loop-s : goal.invariant-loop-s
 invariant-loop-s g l = record {

@@ -1,8 +1,8 @@
 use Rattle.std.proofs.Common.{rules}
 use Rattle.stage_rings.specs.Posting.{posted}
 use Rattle.gate_link.proofs.inboxes.OneMore.{idle_snoc}
-use Rattle.day_threads.proofs.PostPairs.{posts_snoc, open_snoc}
-use Rattle.day_threads.proofs.stages.writer_rings.Goals as goal
+use Rattle.day_stages.proofs.PostPairs.{posts_snoc, open_snoc}
+use Rattle.day_stages.proofs.stages.writer_rings.Goals as goal
 
 pub loop-s-preserved : goal.loop-s-preserved
 loop-s-preserved g c =

@@ -1,23 +1,16 @@
--- What the matching thread is given, and what it hands back.
+-- What the matching thread hands back.
 -- Words of the code alone.
-use Rattle.std.specs.Prelude.{◌≡◌, ◌≤◌, false, List, [], length}
+use Rattle.std.specs.Prelude.{◌≡◌, ◌≤◌, List, length}
 use Rattle.spread_rules.specs.declared.event.Entry.{Entry}
-use Rattle.stage_rings.specs.Feeding.{taken, take_ended, SameMatcher}
+use Rattle.stage_rings.specs.Feeding.{taken, SameMatcher}
 use Rattle.stage_rings.specs.declared.feed.Matcher.{Matcher}
 use Rattle.day_apply.specs.Applied.{IsApplyFault}
 use Rattle.day_apply.specs.Sending.{sending_rules, stamp_of}
-use Rattle.entry_posting.specs.code.Posting.{CanPost, HasPosted, SamePosters}
-use Rattle.day_threads.specs.declared.matching.Matched.{Matched}
+use Rattle.entry_posting.specs.code.Posting.{HasPosted, SamePosters}
+use Rattle.match_thread.specs.declared.matching.Matched.{Matched}
 use Rattle.entry_posting.specs.declared.step.MatchEnd.{MatchEnd}
 use Rattle.entry_posting.specs.declared.step.MatchEnd.TheVariants.{Whole, Stopped, Fault}
 use Rattle.entry_posting.specs.declared.posting.PostedEntries.{PostedEntries}
-
--- nothing was taken, applied or given
-pub record IsUnfed {A : Type 0} (m : Matcher A) (p : PostedEntries A) : Type 0 where
-  pub taken_none : taken m ≡ []
-  pub not_over : take_ended m ≡ false
-  pub posted_none : HasPosted [] p
-  pub rings : CanPost p
 
 -- what the entries that were taken came to, by how it ended
 abbrev pub MatchEnds : {A : Type 0} → MatchEnd → List Entry → PostedEntries A → Type 0

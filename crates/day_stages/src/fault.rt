@@ -1,6 +1,6 @@
 //! Why threads gave no day.
 ghost use Rattle.std.specs.Prelude.{◌≡◌};
-ghost use Rattle.day_threads.specs.code.Making.{of_apply};
+ghost use Rattle.day_stages.specs.code.Making.{of_apply};
 
 use day_apply::ApplyFault;
 use gate_link::LinkFault;

@@ -2,8 +2,8 @@
 //! writers.
 ghost use Rattle.std.specs.Prelude.{◌≡◌, ◌≤◌, IfSome, length};
 ghost use Rattle.day_apply.specs.Sending.{sending_rules, stamp_of};
-ghost use Rattle.day_threads.specs.code.Matching.{HasMatched, IsUnfed, MatchEnds};
-ghost use Rattle.entry_posting.specs.code.Posting.{SamePosters};
+ghost use Rattle.match_thread.specs.code.Matching.{HasMatched, MatchEnds};
+ghost use Rattle.entry_posting.specs.code.Posting.{IsUnfed, SamePosters};
 ghost use Rattle.stage_rings.specs.Feeding.{SameMatcher, taken};
 
 use entry_posting::{MatchEnd, PostedEntries, end_each, match_one};

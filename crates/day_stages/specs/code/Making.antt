@@ -7,10 +7,10 @@ use Rattle.stage_rings.specs.Feeding.{given, AreFeedPair}
 use Rattle.day_apply.specs.declared.fault.ApplyFault.{ApplyFault}
 use Rattle.day_apply.specs.declared.fault.ApplyFault.TheVariants as apply
 use Rattle.session_threads.specs.code.Writing.{ArePostPairs}
-use Rattle.day_threads.specs.code.Matching.{IsUnfed}
-use Rattle.day_threads.specs.declared.fault.ThreadsFault.{ThreadsFault}
-use Rattle.day_threads.specs.declared.fault.ThreadsFault.TheVariants.{Link, NoMemory, NumbersSpent}
-use Rattle.day_threads.specs.declared.stages.Stages.{Stages}
+use Rattle.entry_posting.specs.code.Posting.{IsUnfed}
+use Rattle.day_stages.specs.declared.fault.ThreadsFault.{ThreadsFault}
+use Rattle.day_stages.specs.declared.fault.ThreadsFault.TheVariants.{Link, NoMemory, NumbersSpent}
+use Rattle.day_stages.specs.declared.stages.Stages.{Stages}
 
 -- the stages of a day that has not begun
 pub record IsMade {A : Type 0} (ring : ℕ) (stages : Stages A) : Type 0 where

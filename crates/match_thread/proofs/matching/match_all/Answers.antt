@@ -4,14 +4,14 @@ use Rattle.std.specs.Vec.{with_items}
 use Rattle.spread_rules.specs.declared.event.Entry.{Entry}
 use Rattle.stage_rings.specs.Feeding.{taken, SameMatcher}
 use Rattle.stage_rings.specs.declared.post.Poster.{Poster}
-use Rattle.day_threads.specs.code.Matching.{MatchEnds}
+use Rattle.match_thread.specs.code.Matching.{MatchEnds}
 use Rattle.entry_posting.specs.code.Posting.{HasPosted, SamePosters, posted_at}
 use Rattle.entry_posting.specs.declared.posting.PostedEntries.{PostedEntries}
 use Rattle.entry_posting.proofs.Posters.{same_posters_trans}
 use Rattle.entry_posting.proofs.OneEntryMore.{posted_still}
-use Rattle.day_threads.proofs.RingEnds.{same_matcher_trans, step_ends}
-use Rattle.day_threads.proofs.matching.match_all.Goals as goal
-use Rattle.day_threads.proofs.matching.match_all.Goals.{After-take, After-match_one}
+use Rattle.match_thread.proofs.RingEnds.{same_matcher_trans, step_ends}
+use Rattle.match_thread.proofs.matching.match_all.Goals as goal
+use Rattle.match_thread.proofs.matching.match_all.Goals.{After-take, After-match_one}
 
 ring : (g : _) (c : After-take g) → SameMatcher c.args.matcher.now c.take.new.self
 ring g c = same_matcher_trans c.args.matcher.now c.loop.matcher c.take.new.self c.loop.invariant.ring c.take.ensures.ring

@@ -1,7 +1,7 @@
 use Rattle.std.proofs.Common.{arith}
 use Rattle.entry_posting.specs.declared.posting.PostedEntries.{PostedEntries}
 use Rattle.entry_posting.proofs.OneEntryMore.{posted_none}
-use Rattle.day_threads.proofs.stages.stages_of.Goals as goal
+use Rattle.day_stages.proofs.stages.stages_of.Goals as goal
 
 pub returns-clause-ready : goal.returns-clause-ready
 returns-clause-ready g c =

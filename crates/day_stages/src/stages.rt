@@ -2,8 +2,8 @@
 ghost use Rattle.std.specs.Prelude.{◌≡◌, ℕ, [], length, IfOk, IfErr, OnOk, vec_len};
 ghost use Rattle.day_apply.specs.Sending.{sending_rules, stamp_of};
 ghost use Rattle.stage_rings.specs.Faults.{IsRingRefusal, IsRingSize};
-ghost use Rattle.day_threads.specs.Limits.{IsWithinLimits};
-ghost use Rattle.day_threads.specs.code.Making.{IsMade, IsStagesFault};
+ghost use Rattle.day_stages.specs.Limits.{IsWithinLimits};
+ghost use Rattle.day_stages.specs.code.Making.{IsMade, IsStagesFault};
 ghost use Rattle.entry_posting.specs.code.Posting.{NoneEnded, posted_at};
 ghost use Rattle.session_threads.specs.code.Writing.{ArePostPairs};
 
