@@ -1,4 +1,7 @@
 //! The phases by their names.
+ghost use Rattle.std.specs.Prelude.{◌≤◌, length, OnOk};
+ghost use Rattle.host_base.specs.declared.limits.TheConstants.{SESSIONS};
+
 use crate::fault::BenchFault;
 use crate::market::{time_match, time_report};
 use crate::rings::{AtOnce, time_threads};
@@ -32,7 +35,9 @@ pub fn measure<R: Clock + CpuClock + AllocGlobal + Threads + Sync>(
     rt: &R,
     phase: &str,
     files: &[Vec<u8>],
-) -> Result<Measured, BenchFault> {
+) -> Result<Measured, BenchFault>
+    ensures files { OnOk result ((1 ≤ length files.now) × (length files.now ≤ SESSIONS)) }
+{
     if files.is_empty() || files.len() > SESSIONS {
         return Err(BenchFault::Phase);
     }

@@ -1,5 +1,5 @@
-//! What a picture shows of a day in one instrument: the course of its best prices and its trades, the scale of its panel,
-//! and the points at which it traded.
+//! What a picture shows of a day in one instrument: the course of its best prices and its trades, the scale of its
+//! panel, and the points at which it traded.
 //!
 //! Nothing is drawn here: `day_page` writes what this tells.
 #![tactic(auto)]

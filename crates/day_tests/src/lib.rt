@@ -1,6 +1,6 @@
 //! Tests of whole days: of day lines, and `spread_host`; in threads; and what looks into a day that is over:
-//! `explained_turns`, `explained_entries` and `day_explain`, `day_course`, `day_page` and `day_picture`. And the phases of
-//! `bench`.
+//! `explained_turns`, `explained_entries` and `day_explain`, `day_course`, `day_page` and `day_picture`. And the phases
+//! of `bench`.
 #![tactic(auto)]
 
 #[cfg(test)]

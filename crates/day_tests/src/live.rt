@@ -2,4 +2,5 @@
 mod days;
 mod headline;
 mod no_memory;
+mod stages;
 mod watch;

@@ -1,5 +1,5 @@
-//! What is told of an entry of a journal: what came of it, the order that it names, and the turns of the order with which it
-//! trades.
+//! What is told of an entry of a journal: what came of it, the order that it names, and the turns of the order with
+//! which it trades.
 //!
 //! Nothing is said in words here: `day_explain` does that.
 #![tactic(auto)]

@@ -1,8 +1,8 @@
 //! Courses of one instrument, their scale and their points.
 use crate::expect::holds;
 use day_course::{
-    Course, Kind, Scale, Span, Stretch, Trade, column_of, first_multiple, length_of, most_lots,
-    points_of, round_below, scale_of, step, widened,
+    Course, Kind, Span, Stretch, Trade, column_of, first_multiple, length_of, most_lots, points_of,
+    round_below, scale_of, step, widened,
 };
 use spread_rules::Instrument;
 use std::alloc::{AllocError, Global};
@@ -25,19 +25,13 @@ fn is_span(span: Option<Span>, least: i64, most: i64) -> bool {
 }
 
 /// A panel is 8,640 tenths wide, of which 125 are left at each edge: 8,390 for four columns, 2,097 each.
-fn is_scale(scale: &Scale) -> bool {
-    is_span(Some(scale.prices), 9_990, 10_010)
-        && scale.x(1) == 2_222
-        && scale.x_of_place(2) == 2_222
-        && scale.y(10_010) == 125
-        && scale.y(10_000) == 500
-}
-
 #[test]
 fn a_trade_is_a_point(rt: HostRuntime) {
     let course = short_course(rt.alloc()).expect(&rt, "memory");
     let scale = scale_of(&course, 4, 1, 1_000).expect(&rt, "a trade");
-    holds(&rt, is_scale(&scale));
+    holds(&rt, is_span(Some(scale.prices), 9_990, 10_010));
+    holds(&rt, scale.x(1) == 2_222 && scale.x_of_place(2) == 2_222);
+    holds(&rt, scale.y(10_010) == 125 && scale.y(10_000) == 500);
     let points = points_of(rt.alloc(), &course.trades, &scale, 100).expect(&rt, "memory");
     holds(&rt, points.len() == 1 && most_lots(&points) == 5);
     let point = points.first().expect(&rt, "a point");
