@@ -3,11 +3,9 @@ ghost use Rattle.std.specs.Prelude.{◌≡◌, ◌<◌, [], All, OnOk, IfOk};
 ghost use Rattle.spread_rules.specs.Journal.{FitsEntry};
 ghost use Rattle.market_state.specs.State.{empty_state};
 
-use crate::fault::BenchFault;
 use crate::reports::{Applied, send_all};
-use crate::timing::{Beside, Measured, RUNS, Timer};
-use crate::wire::{bytes_of, scanned};
 use host_base::NoMemory;
+use intake_phases::{BenchFault, Beside, Measured, RUNS, Timer, bytes_of, scanned};
 use spread_books::{Book, IndexBook};
 use spread_journal::read_journal;
 use spread_match::Market;

@@ -2,12 +2,9 @@
 ghost use Rattle.std.specs.Prelude.{◌≤◌, length, OnOk};
 ghost use Rattle.host_base.specs.declared.limits.TheConstants.{SESSIONS};
 
-use crate::fault::BenchFault;
 use crate::market::{time_match, time_report};
-use crate::rings::{AtOnce, time_threads};
-use crate::timing::Measured;
-use crate::wire::{time_judge, time_scan};
 use host_base::limits::SESSIONS;
+use intake_phases::{AtOnce, BenchFault, Measured, time_judge, time_scan, time_threads};
 use std::alloc::AllocGlobal;
 use std::thread::Threads;
 use std::time::{Clock, CpuClock};

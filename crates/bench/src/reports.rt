@@ -1,8 +1,8 @@
 //! What the sessions of an applied journal are sent.
 ghost use Rattle.std.specs.Prelude.{◌≤◌, length};
 
-use crate::fault::BenchFault;
 use host_base::Id;
+use intake_phases::BenchFault;
 use spread_journal::JournalFault;
 use spread_report::{Desk, DeskFault};
 use spread_rules::{Entry, Fill, Outcome, Rulebook};

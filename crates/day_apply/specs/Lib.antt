@@ -1,3 +1,2 @@
 pub mod Applied
-pub mod Application
 pub mod Sending

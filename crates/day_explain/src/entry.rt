@@ -2,10 +2,9 @@
 ghost use Rattle.std.specs.Prelude.{◌<◌, All, length};
 ghost use Rattle.spread_rules.specs.Journal.{FitsEntry};
 
-use crate::entry_words::put_entry;
 use crate::outcome_words::{put_loses_place, put_outcome};
 use crate::turn_words::put_turns;
-use crate::words::Words;
+use entry_words::{Words, put_entry};
 use explained_entries::tell;
 use host_base::NoMemory;
 use spread_rules::{Entry, Rulebook};

@@ -1,6 +1,5 @@
 //! The line of what came of an entry.
-use crate::refusal_words::{put_new_refusal, put_nothing_resting, put_replace_refusal};
-use crate::words::Words;
+use entry_words::{Words, put_new_refusal, put_nothing_resting, put_replace_refusal};
 use explained_entries::Told;
 use spread_rules::{Entry, Event, Order, Outcome};
 use std::alloc::Allocator;

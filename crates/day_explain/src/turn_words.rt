@@ -3,7 +3,7 @@ ghost use Rattle.std.specs.Prelude.{All};
 ghost use Rattle.spread_rules.specs.Candidates.{HasLegPrice};
 ghost use Rattle.explained_turns.specs.Explained.{HaveLegPrices};
 
-use crate::words::Words;
+use entry_words::Words;
 use explained_entries::Traded;
 use explained_turns::{Beyond, Point, Turn, point_between};
 use spread_rules::{Candidate, Counterparty, Instrument, Order};

@@ -1,8 +1,7 @@
 //! The head of a page: what it shows, and what its lines and marks mean.
-use crate::panel::{corner, put_diamond, radius};
-use crate::svg_text::SvgText;
 use day_course::round_below;
 use std::alloc::Allocator;
+use svg_marks::{SvgText, corner, put_diamond, radius};
 
 /// How far from the top the first panel's heading may begin.
 pub const HEAD: i64 = 132;

@@ -6,9 +6,7 @@
 mod legend;
 mod page;
 mod panel;
-mod steps;
 mod style;
-mod svg_text;
 
 pub use page::page_of;
-pub use svg_text::put_bytes;
+pub use svg_marks::put_bytes;

@@ -1,18 +1,13 @@
 -- What the text of a day shows: its journal, its fills, what each session is sent, and the months.
-use Rattle.std.specs.Prelude.{ℕ, Bool, true, false, List, ◌++◌, map, All}
-use Rattle.std.specs.declared.vec.Vec.{Vec}
+use Rattle.std.specs.Prelude.{ℕ, Bool, true, false, List, ◌++◌, All}
 use Rattle.journal_parts.specs.JournalText.{journal_text}
 use Rattle.spread_rules.specs.declared.event.Entry.{Entry}
 use Rattle.spread_rules.specs.declared.fill.Fill.{Fill}
 use Rattle.spread_rulebook.specs.Rulebook.{Rules, IsListed}
 use Rattle.day_text.specs.Fills.{fill_lines}
-use Rattle.day_text.specs.Messages.{outgoing_lines}
+use Rattle.message_lines.specs.Messages.{outgoing_lines}
 use Rattle.day_text.specs.Months.{month_lines}
 use Rattle.month_totals.specs.Totals.{IsSummable}
-
--- the lists' bytes, session by session
-abbrev pub texts_of : {A : Type 0} → List (Vec ℕ A) → List (List ℕ)
-texts_of {A} lists = map (λ (v : Vec ℕ A). v.items) lists
 
 -- fills that a day's text can show: of listed instruments, in the ranges of its sums
 pub record AreShown (rules : Rules) (fills : List Fill) : Type 0 where

@@ -1,6 +1,5 @@
 pub mod Fills
 pub mod Months
-pub mod Messages
 pub mod DayText
 pub mod code
 pub mod Differences

@@ -6,15 +6,13 @@ mod difference;
 mod fault;
 mod fills;
 mod journal;
-mod messages;
 mod months;
-mod pieces;
 
 pub use day_text::{Day, text_of_fills, write_day, write_fills};
 pub use difference::{Difference, first_difference};
 pub use fault::TextFault;
 pub use fills::put_fills;
-pub use messages::write_sessions;
+pub use message_lines::write_sessions;
 pub use month_totals::{MonthTotals, month_totals};
 pub use months::put_months;
-pub use pieces::{PIECE_BYTES, TakesPieces};
+pub use text_pieces::{PIECE_BYTES, TakesPieces};

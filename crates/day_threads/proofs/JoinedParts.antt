@@ -13,8 +13,8 @@ use Rattle.spread_rules.proofs.journals.SessionParts.{restricted-append}
 use Rattle.stage_rings.specs.Feeding.{Agrees}
 use Rattle.stage_rings.specs.Posting.{Finishes}
 use Rattle.day_apply.specs.Applied.{IsApplyFault}
-use Rattle.day_apply.specs.declared.fault.ApplyFault.{ApplyFault}
-use Rattle.day_apply.specs.declared.fault.ApplyFault.TheVariants.{NoMemory, NumbersSpent}
+use Rattle.journal_matching.specs.declared.fault.ApplyFault.{ApplyFault}
+use Rattle.journal_matching.specs.declared.fault.ApplyFault.TheVariants.{NoMemory, NumbersSpent}
 use Rattle.session_threads.specs.Streams.{IsBeginningOf, whole_at}
 use Rattle.session_threads.specs.code.Sequencing.{SequenceEnds}
 use Rattle.session_threads.specs.code.Writing.{AreJoinedPairs}

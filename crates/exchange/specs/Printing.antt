@@ -3,7 +3,8 @@ use Rattle.std.specs.Prelude.{◌≤◌, All, length}
 use Rattle.host_base.specs.declared.limits.TheConstants.{SESSIONS}
 use Rattle.spread_rulebook.specs.Rulebook.{Rules}
 use Rattle.fix_frames.specs.Frames.{IsFrameRow}
-use Rattle.day_text.specs.DayText.{AreShown, texts_of}
+use Rattle.day_text.specs.DayText.{AreShown}
+use Rattle.message_lines.specs.Messages.{texts_of}
 use Rattle.day_text.specs.declared.day_text.Day.{Day}
 
 -- at most sixteen lists of whole frames, and fills that a text can show

@@ -4,11 +4,11 @@ ghost use Rattle.spread_rules.specs.declared.event.Entry.{Entry};
 ghost use Rattle.std.specs.List.{find};
 ghost use Rattle.spread_rules.specs.Journal.{FitsEntry};
 ghost use Rattle.spread_rules.specs.Meaning.{is_own};
-ghost use Rattle.day_apply.specs.Application.{HasApplied, IsApplying, meaning_behind, rules_of};
+ghost use Rattle.journal_matching.specs.Application.{HasApplied, IsApplying, meaning_behind, rules_of};
 ghost use Rattle.explained_entries.specs.Told.{named_by, standing_at};
 
-use day_apply::{AppliedEntries, apply_entries};
 use host_base::{Id, NoMemory};
+use journal_matching::{AppliedEntries, apply_entries};
 use spread_books::Book;
 use spread_rules::{Entry, Event, Order, Outcome, Rulebook};
 use std::alloc::{AllocError, Allocator};

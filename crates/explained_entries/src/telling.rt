@@ -3,7 +3,7 @@ ghost use Rattle.std.specs.Prelude.{◌≡◌, ◌+◌, All, IfOk, IfSome, lengt
 ghost use Rattle.spread_rules.specs.Candidates.{HasOrderPrice};
 ghost use Rattle.spread_rules.specs.Clearing.{removed};
 ghost use Rattle.spread_rules.specs.Journal.{FitsEntry};
-ghost use Rattle.day_apply.specs.Application.{meaning_behind};
+ghost use Rattle.journal_matching.specs.Application.{meaning_behind};
 ghost use Rattle.explained_turns.specs.Explained.{AreTurns, HaveLegPrices};
 ghost use Rattle.explained_entries.specs.Told.{IsNewOrder, IsTrader, named_by, others_of, standing_at};
 

@@ -9,8 +9,8 @@ use Rattle.std.specs.declared.vec.Vec.{Vec}
 use Rattle.host_base.specs.Ends.{AppendsPrefix}
 use Rattle.stage_rings.specs.Marks.{ends}
 use Rattle.stage_rings.proofs.Marks.{ends_more, ends_mark}
-use Rattle.day_text.specs.code.Pieces.{Writes}
-use Rattle.day_text.proofs.PiecesInTurn.{front_after, front_of_more}
+use Rattle.text_pieces.specs.code.Pieces.{Writes}
+use Rattle.text_pieces.proofs.PiecesInTurn.{front_after, front_of_more}
 use Rattle.piece_ring.specs.Pieces.{is_mark, text_in}
 
 -- one piece more

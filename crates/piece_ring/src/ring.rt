@@ -5,10 +5,10 @@ ghost use Rattle.piece_ring.specs.Ends.{text_given, IsUnread};
 use crate::piece::{Emptied, Filled, PIECES, Piece};
 use crate::sink::PieceSink;
 use crate::source::PieceSource;
-use day_text::PIECE_BYTES;
 use rtrb::{Producer, RingBuffer};
 use std::alloc::{AllocError, Allocator};
 use std::sync::Wait;
+use text_pieces::PIECE_BYTES;
 
 /// Puts all pieces, empty, into the ring by which they come back.
 fn put_empty<A: Allocator + Copy>(

@@ -1,7 +1,7 @@
 //! The end that the thread has that writes a text.
 ghost use Rattle.std.specs.Prelude.{◌≡◌, ◌≤◌, false, vec_capacity};
-ghost use Rattle.day_text.specs.code.Pieces.{Writes};
-ghost use Rattle.day_text.specs.declared.pieces.TheConstants.{PIECE_BYTES};
+ghost use Rattle.text_pieces.specs.code.Pieces.{Writes};
+ghost use Rattle.text_pieces.specs.declared.pieces.TheConstants.{PIECE_BYTES};
 ghost use Rattle.piece_ring.specs.Ends.{text_taken, IsUnread, IsRead};
 
 use crate::piece::{Emptied, Filled, Piece};

@@ -7,7 +7,8 @@ use Rattle.spread_rules.specs.declared.event.Entry.{Entry}
 use Rattle.spread_rules.specs.Journal.{restricted}
 use Rattle.spread_rules.specs.Meaning.{JournalState, meaning_of, after_entry, no_entries}
 use Rattle.spread_rulebook.specs.Rulebook.{Rules}
-use Rattle.spread_report.specs.EntryMessages.{ExecutionReport, report_step, entry_reports}
+use Rattle.order_reports.specs.ExecutionReports.{ExecutionReport, report_step}
+use Rattle.spread_report.specs.EntryMessages.{entry_reports}
 use Rattle.outbound_sessions.specs.Steps.{OutgoingStep, logged_on, numbered, gap_fill, steps_texts, outbound_before_logon}
 use Rattle.spread_report.specs.Outgoing.{AppliedEntry, entry_steps, session_steps}
 use Rattle.spread_report.specs.Messages.{messages_to}

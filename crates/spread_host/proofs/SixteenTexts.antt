@@ -14,7 +14,7 @@ use Rattle.outbound_sessions.specs.Rows.{IsRow}
 use Rattle.spread_report.specs.Messages.{AreReadBack, messages_to}
 use Rattle.outbound_sessions.specs.Sessions.{bytes_of}
 use Rattle.day_apply.specs.Applied.{outgoing_bytes, applied_entries}
-use Rattle.day_text.specs.DayText.{texts_of}
+use Rattle.message_lines.specs.Messages.{texts_of}
 use Rattle.spread_host.specs.Headline.{HasOutgoing, IsDayOf}
 
 -- ---- from session by session to one list

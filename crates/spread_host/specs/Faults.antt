@@ -5,8 +5,8 @@ use Rattle.day_lines.specs.declared.lines.LinesFault.{LinesFault}
 use Rattle.day_lines.specs.declared.lines.LinesFault.TheVariants as lines
 use Rattle.day_stages.specs.declared.fault.ThreadsFault.{ThreadsFault}
 use Rattle.day_stages.specs.declared.fault.ThreadsFault.TheVariants as threads
-use Rattle.day_apply.specs.declared.fault.ApplyFault.{ApplyFault}
-use Rattle.day_apply.specs.declared.fault.ApplyFault.TheVariants as apply
+use Rattle.journal_matching.specs.declared.fault.ApplyFault.{ApplyFault}
+use Rattle.journal_matching.specs.declared.fault.ApplyFault.TheVariants as apply
 use Rattle.day_text.specs.declared.fault.TextFault.{TextFault}
 use Rattle.day_text.specs.declared.fault.TextFault.TheVariants as text
 use Rattle.spread_host.specs.declared.fault.HostFault.TheVariants.{DayLine, Rule, Link, Spawn, JournalFull, NoMemory, Read, Write, NumbersSpent, Journal}

@@ -15,7 +15,8 @@ use Rattle.spread_rulebook.specs.Rulebook.{implied, Rules}
 use Rattle.spread_match.specs.Sound.{KeepsOrder}
 use Rattle.spread_report.specs.Messages.{messages_to, AreReadBack}
 use Rattle.day_apply.specs.Applied.{applied_entries, applied_journal}
-use Rattle.day_text.specs.DayText.{AreShown, texts_of}
+use Rattle.day_text.specs.DayText.{AreShown}
+use Rattle.message_lines.specs.Messages.{texts_of}
 use Rattle.session_judging.specs.Streams.{whole}
 use Rattle.day_lines.specs.LineText.{day_lines_of}
 use Rattle.day_lines.specs.DayLines.{stream_of}

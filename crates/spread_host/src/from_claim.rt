@@ -3,8 +3,8 @@ ghost use Rattle.std.specs.Prelude.{IfErr, OnOk};
 ghost use Rattle.spread_host.specs.Claims.{IsRight, IsAuditFault};
 
 use crate::fault::HostFault;
-use day_apply::fills_of_journal;
 use day_text::{Difference, first_difference, text_of_fills};
+use journal_matching::fills_of_journal;
 use spread_journal::{JournalFault, read_journal};
 use spread_match::laws::ranges;
 use spread_rules::Rulebook;

@@ -2,7 +2,7 @@
 //! caller's.
 ghost use Rattle.std.specs.Prelude.{◌≡◌, ◌<◌, ◌≤◌, ℕ, [], length, slice_index_or, IfOk, IfErr, OnOk};
 ghost use Rattle.host_base.specs.declared.limits.TheConstants.{SESSIONS, MAX_RING, MAX_JOURNAL_ENTRIES};
-ghost use Rattle.day_text.specs.DayText.{texts_of};
+ghost use Rattle.message_lines.specs.Messages.{texts_of};
 ghost use Rattle.stage_rings.specs.Faults.{Between};
 ghost use Rattle.spread_host.specs.Headline.{IsJournalOfStreams, HasFills, HasOutgoing, BoughtIsSold, PaidIsReceived, IsAlwaysQuiet, IsDayOf};
 ghost use Rattle.spread_host.specs.LiveDays.{IsRunDayFault};

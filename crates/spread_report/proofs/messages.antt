@@ -1,4 +1,3 @@
 pub mod Steps
-pub mod OneFillMore
 pub mod InRange
 pub mod NumbersSpent

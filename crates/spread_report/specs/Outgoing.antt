@@ -7,7 +7,8 @@ use Rattle.spread_rules.specs.declared.event.Entry.{Entry}
 use Rattle.spread_rules.specs.declared.outcome.Outcome.{Outcome}
 use Rattle.spread_rulebook.specs.Rulebook.{Rules}
 use Rattle.outbound_sessions.specs.Steps.{OutgoingStep, after_step}
-use Rattle.spread_report.specs.EntryMessages.{ExecutionReport, report_step, entry_reports, event_steps}
+use Rattle.order_reports.specs.ExecutionReports.{ExecutionReport, report_step}
+use Rattle.spread_report.specs.EntryMessages.{entry_reports, event_steps}
 
 -- An entry at its place in the journal, with its outcome and its fills.
 pub record AppliedEntry : Type 0 where

@@ -1,22 +1,13 @@
 //! The desk: what each session is sent next.
-ghost use Rattle.std.specs.Prelude.{◌≡◌, ℕ, ◌<◌, ◌≤◌, ◌++◌, ◌∷◌, ◌≢◌, [], true, false, length, OnOk, OnErr, IsErrOf};
-ghost use Rattle.std.specs.List.{list_all};
+ghost use Rattle.std.specs.Prelude.{◌≡◌, ℕ, ◌<◌, ◌++◌, false, length, OnOk, OnErr, IsErrOf};
 ghost use Rattle.spread_rules.specs.Ranges.{FitsOutcome, FitFills};
 ghost use Rattle.outbound_sessions.specs.declared.fault.DeskFault.TheVariants.{NumbersSpent};
 ghost use Rattle.outbound_sessions.specs.Rows.{IsRow};
 ghost use Rattle.outbound_sessions.specs.Sessions.{sessions_starting, sessions_at, bytes_of, outbound_at, KeepsBytes};
-ghost use Rattle.outbound_sessions.specs.Steps.{gap_fill};
-ghost use Rattle.outbound_sessions.specs.code.Addressed.{has_tag, numbered_message};
-ghost use Rattle.outbound_sessions.specs.code.Sending.{Sends};
 ghost use Rattle.spread_report.specs.Running.{RunsOut};
 ghost use Rattle.spread_report.specs.code.PerSession.{entry_bytes, entry_texts, entry_outbound, entry_spends, applied_at};
 
-mod admin;
-mod entry;
-mod execution_report;
-
-use entry::AppliedEntry;
-use fix_wire::{Body, Field};
+use crate::entry::{AppliedEntry, note_comp_ids, send_entry};
 use host_base::Id;
 use host_base::limits::SESSIONS;
 use outbound_sessions::{DeskFault, OutboundSessions};
@@ -99,71 +90,17 @@ impl Desk {
         ensures count { length lists.new ≡ SESSIONS }
     {
         let mark = self.outbound.mark(lists, entry.session);
-        self.note_comp_ids(entry);
+        note_comp_ids(&mut self.outbound, entry);
         let applied = AppliedEntry {
             place,
             entry,
             outcome,
             fills,
         };
-        let result = self.send_entry(lists, rules, &applied);
+        let result = send_entry(&mut self.outbound, lists, rules, &applied);
         if result.is_err() {
             self.outbound.take_back(lists, &mark);
         }
         result
-    }
-
-    /// Sends a message that bears the session's next number, and uses it.
-    fn send_body<A: Allocator + Copy, B: Body>(
-        &mut self,
-        lists: &mut [Vec<u8, A>],
-        session: u8,
-        kind: u8,
-        body: &B,
-    ) -> Result<(), DeskFault>
-        requires lists { length lists.old ≡ SESSIONS }
-        requires session { session < SESSIONS }
-        requires kind { kind ≢ 1 }
-        requires tags { list_all has_tag (B.fields body.now) ≡ true }
-        requires few { length (B.fields body.now) ≤ 18 }
-        ensures { Sends self.old self.new lists.old lists.new
-            (numbered_message session kind (B.fields body.now) ∷ []) result }
-    {
-        self.outbound.send_body(lists, session, kind, body)
-    }
-
-    /// Sends a message of any fields.
-    fn send<A: Allocator + Copy>(
-        &mut self,
-        lists: &mut [Vec<u8, A>],
-        session: u8,
-        kind: u8,
-        fields: &[Field],
-    ) -> Result<(), DeskFault>
-        requires lists { length lists.old ≡ SESSIONS }
-        requires session { session < SESSIONS }
-        requires kind { kind ≢ 1 }
-        requires tags { list_all has_tag fields.now ≡ true }
-        requires few { length fields.now ≤ 18 }
-        ensures { Sends self.old self.new lists.old lists.new
-            (numbered_message session kind fields.now ∷ []) result }
-    {
-        self.outbound.send(lists, session, kind, fields)
-    }
-
-    /// Sends a gap fill, where the asked numbers begin below the next one. It uses no number.
-    fn fill_gap<A: Allocator + Copy>(
-        &mut self,
-        lists: &mut [Vec<u8, A>],
-        session: u8,
-        first: u32,
-        last: u32,
-    ) -> Result<(), DeskFault>
-        requires lists { length lists.old ≡ SESSIONS }
-        requires session { session < SESSIONS }
-        ensures { Sends self.old self.new lists.old lists.new
-            (record { to = session; step = gap_fill first last } ∷ []) result }
-    {
-        self.outbound.fill_gap(lists, session, first, last)
     }
 }

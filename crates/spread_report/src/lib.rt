@@ -1,7 +1,9 @@
 //! Reports: the FIX bytes that each session is sent.
 #![tactic(auto)]
 
+mod admin;
 mod desk;
+mod entry;
 pub mod laws;
 
 pub use desk::Desk;

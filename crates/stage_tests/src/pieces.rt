@@ -3,7 +3,7 @@ ghost use Rattle.std.specs.Prelude.{◌≡◌, false};
 ghost use Rattle.piece_ring.specs.Ends.{IsUnread};
 
 use crate::expect::holds;
-use day_text::{PIECE_BYTES, TakesPieces};
+use text_pieces::{PIECE_BYTES, TakesPieces};
 use piece_ring::{PieceSink, PieceSource, piece_ring};
 use std::alloc::{Allocator, Global};
 use std::process::Abort;

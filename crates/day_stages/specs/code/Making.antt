@@ -4,8 +4,8 @@ use Rattle.std.specs.Prelude.{◌≡◌, ℕ, [], length}
 use Rattle.gate_link.specs.Links.{IsLinkOf, room_of}
 use Rattle.gate_link.specs.Opening.{AreFresh, IsRefusal}
 use Rattle.stage_rings.specs.Feeding.{given, AreFeedPair}
-use Rattle.day_apply.specs.declared.fault.ApplyFault.{ApplyFault}
-use Rattle.day_apply.specs.declared.fault.ApplyFault.TheVariants as apply
+use Rattle.journal_matching.specs.declared.fault.ApplyFault.{ApplyFault}
+use Rattle.journal_matching.specs.declared.fault.ApplyFault.TheVariants as apply
 use Rattle.session_threads.specs.code.Writing.{ArePostPairs}
 use Rattle.entry_posting.specs.code.Posting.{IsUnfed}
 use Rattle.day_stages.specs.declared.fault.ThreadsFault.{ThreadsFault}

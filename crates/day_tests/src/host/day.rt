@@ -1,7 +1,8 @@
 //! A day's text, and what goes into it.
 ghost use Rattle.std.specs.Prelude.{◌<◌, ◌≤◌, All, length};
 ghost use Rattle.fix_frames.specs.Frames.{IsFrameRow};
-ghost use Rattle.day_text.specs.DayText.{AreShown, texts_of};
+ghost use Rattle.day_text.specs.DayText.{AreShown};
+ghost use Rattle.message_lines.specs.Messages.{texts_of};
 
 use super::read_again;
 use crate::expect::holds;

@@ -17,10 +17,6 @@ abbrev pub trade_text : Fill → List ℕ
 trade_text f = SPACE ∷ side_byte f.side ∷ SPACE ∷ decimal f.quantity
     ++ SPACE ∷ signed_decimal f.price
 
--- `O S:`
-abbrev pub line_lead : ℕ → List ℕ
-line_lead session = codes "O " ++ decimal session ++ codes ":"
-
 -- bought and sold
 abbrev pub lots_text : MonthTotals → List ℕ
 lots_text t = SPACE ∷ decimal t.bought ++ SPACE ∷ decimal t.sold

@@ -13,7 +13,7 @@ use Rattle.session_threads.specs.declared.sequencing.Sequenced.{Sequenced}
 use Rattle.session_threads.specs.declared.sequencing.SequenceEnd.{SequenceEnd}
 use Rattle.session_threads.specs.declared.sequencing.SequenceEnd.TheVariants.{JournalFull as Full}
 use Rattle.session_threads.specs.declared.writing.Written.{Written}
-use Rattle.day_apply.specs.declared.fault.ApplyFault.TheVariants as apply
+use Rattle.journal_matching.specs.declared.fault.ApplyFault.TheVariants as apply
 use Rattle.day_stages.specs.code.Making.{IsMade}
 use Rattle.match_thread.specs.code.Matching.{MatchEnds}
 use Rattle.entry_posting.specs.code.Posting.{HasPosted, posted_at}

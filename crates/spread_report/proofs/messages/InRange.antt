@@ -21,11 +21,13 @@ use Rattle.spread_rules.specs.declared.event.Event.TheVariants.{Logon, New, Canc
 use Rattle.spread_rules.specs.declared.outcome.Outcome.{Outcome}
 use Rattle.spread_rules.specs.declared.outcome.Outcome.TheVariants.{Rested, Filled, Ended, Cancelled, Replaced, Refused, CancelRefused, Session}
 use Rattle.outbound_sessions.specs.Steps.{OutgoingStep, logged_on, numbered, gap_fill}
-use Rattle.spread_report.specs.EntryMessages.{ExecutionReport, new_report, fill_report, fill_reports, fills_reports, entry_reports, order_cancel_reject, close_steps, event_steps}
+use Rattle.order_reports.specs.ExecutionReports.{ExecutionReport, new_report, fill_report, fill_reports, fills_reports}
+use Rattle.spread_report.specs.EntryMessages.{entry_reports, order_cancel_reject, close_steps, event_steps}
 use Rattle.outbound_sessions.specs.code.Addressed.{AddressedStep, steps_to}
-use Rattle.spread_report.specs.code.Addressed.{report, reports_from, entry_messages}
-use Rattle.spread_report.specs.code.Reports.{rejected_report, ended_report, cancelled_report, replaced_report, report_count, reports_of, place_field}
-use Rattle.spread_report.proofs.messages.OneFillMore.{reports_length}
+use Rattle.order_reports.specs.code.Reports.{report, reports_from, rejected_report, ended_report, cancelled_report, replaced_report, report_count, reports_of}
+use Rattle.spread_report.specs.code.Addressed.{entry_messages}
+use Rattle.spread_report.specs.code.Reports.{place_field}
+use Rattle.order_reports.proofs.OneFillMore.{reports_length}
 use Rattle.report_bodies.specs.Fields.{text_field, number_field, price_field, pair_field}
 use Rattle.fix_wire.specs.Layout.{field}
 use Rattle.fix_wire.specs.declared.writer.Value.TheVariants.{Text, Number}

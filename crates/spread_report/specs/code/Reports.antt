@@ -1,89 +1,12 @@
--- The reports and the session messages that the desk writes, one by one.
+-- The session messages that the desk writes, one by one.
 -- Words of the code alone.
-use Rattle.std.specs.Prelude.{ℕ, ℤ, ◌+◌, ◌-◌, ◌==◌, if◌then◌else◌, List, [], ◌∷◌, codes, Some}
+use Rattle.std.specs.Prelude.{ℕ, ◌==◌, if◌then◌else◌, List, [], ◌∷◌, codes}
 use Rattle.fix_frames.specs.declared.tags.TheConstants as tags
 use Rattle.fix_wire.specs.declared.writer.Field.{Field}
 use Rattle.fix_wire.specs.declared.writer.Value.TheVariants.{Text, Number}
 use Rattle.fix_wire.specs.Layout.{field}
-use Rattle.spread_rules.specs.declared.codes.ord_status.TheConstants as code
-use Rattle.spread_rules.specs.declared.order.Order.{Order}
-use Rattle.spread_rules.specs.declared.order.Side.{Side}
-use Rattle.spread_rulebook.specs.declared.instrument.Instrument.{Instrument}
-use Rattle.spread_rulebook.specs.declared.instrument.Instrument.TheVariants.{Outright, Spread}
-use Rattle.spread_rules.specs.declared.fill.Fill.{Fill}
-use Rattle.spread_rules.specs.declared.event.Ticket.{Ticket}
-use Rattle.spread_rulebook.specs.Rulebook.{Rules, symbol_of}
-use Rattle.spread_rules.specs.Legs.{other_side}
 use Rattle.report_bodies.specs.declared.codes.TheConstants.{ENCRYPT_METHOD_NONE}
-use Rattle.report_bodies.specs.declared.codes.MultiLegReportingType.{MultiLegReportingType}
-use Rattle.report_bodies.specs.declared.codes.MultiLegReportingType.TheVariants.{IndividualLeg}
-use Rattle.report_bodies.specs.Codes.{multi_leg_code}
-use Rattle.report_bodies.specs.declared.codes.OrdStatus.{OrdStatus}
-use Rattle.report_bodies.specs.declared.codes.OrdStatus.TheVariants as status
 use Rattle.report_bodies.specs.Fields.{text_field, number_field}
-use Rattle.spread_report.specs.EntryMessages.{ExecutionReport, plain_report, order_report}
-
--- ---- execution reports
-
--- a new order is rejected
-abbrev pub rejected_report : ℕ → ℕ → Ticket → ℕ → ExecutionReport
-rejected_report session place t reason =
-    record (order_report session place t code.REJECTED) { ord_rej_reason = Some reason }
-
--- what is left of an immediate order is cancelled
-abbrev pub ended_report : ℕ → ℕ → Ticket → ℕ → ExecutionReport
-ended_report session place t left =
-    record (order_report session place t code.CANCELED) { cum_qty = t.quantity - left }
-
--- a resting order, with this symbol, is cancelled by a cancel request with this id
-abbrev pub cancelled_report : List ℕ → ℕ → List ℕ → List ℕ → Order → ExecutionReport
-cancelled_report symbol session id original o =
-    record (plain_report session o.place id symbol o.side o.quantity code.CANCELED) {
-      orig_cl_ord_id = Some original;
-      cum_qty = o.quantity - o.leaves;
-    }
-
--- a resting order, with this symbol, became this one by a replace request with this id
-abbrev pub replaced_report : List ℕ → ℕ → List ℕ → List ℕ → Order → ExecutionReport
-replaced_report symbol session id original o =
-    record (plain_report session o.place id symbol o.side o.quantity code.REPLACED) {
-      orig_cl_ord_id = Some original;
-      leaves_qty = o.leaves;
-      cum_qty = o.quantity - o.leaves;
-    }
-
--- a fill leaves an order filled, or partially filled
-abbrev pub fill_status : ℕ → OrdStatus
-fill_status leaves = if leaves == 0 then status.Filled else status.PartiallyFilled
-
--- one report of a fill: the symbol, side and price of the part that it tells
-abbrev pub part_report : Fill → List ℕ → Side → ℤ → MultiLegReportingType → ExecutionReport
-part_report f symbol side price multi_leg =
-    let ord_status = if f.leaves == 0 then code.FILLED else code.PARTIALLY_FILLED in
-    record (plain_report f.session f.order f.id symbol side f.total ord_status) {
-      traded = Some (record { multi_leg = multi_leg_code multi_leg; fill = record f { price = price } });
-      leaves_qty = f.leaves;
-      cum_qty = f.total - f.leaves;
-    }
-
--- the reports of a spread's legs: the near month on the order's side, the far month on the other
-abbrev pub leg_reports : ℕ → ℕ → Rules → Fill → List ExecutionReport
-leg_reports i j rules f =
-    part_report f (symbol_of rules (Outright i)) f.side f.near IndividualLeg
-    ∷ part_report f (symbol_of rules (Outright j)) (other_side f.side) f.far IndividualLeg
-    ∷ []
-
--- how many reports a fill has
-abbrev pub report_count : Instrument → ℕ
-report_count (Outright m) = 1
-report_count (Spread i j) = 3
-
--- how many reports fills have
-abbrev pub reports_of : List Fill → ℕ
-reports_of [] = 0
-reports_of (f ∷ fs) = report_count f.instrument + reports_of fs
-
--- ---- other messages
 
 -- OrderID in an OrderCancelReject: the place of the order that was named, or `NONE`
 abbrev pub place_field : ℕ → Field

@@ -1,6 +1,6 @@
 //! A number that may be below 0, as the texts of a journal and of fills have it.
 use crate::expect::holds;
-use spread_journal::put_signed;
+use journal_lines::put_signed;
 use std::process::Abort;
 
 /// The number is written behind what stands before that place, and nothing else is.

@@ -1,5 +1,5 @@
 use Rattle.std.proofs.Common.{take}
-use Rattle.day_apply.specs.Application.{HasApplied}
+use Rattle.journal_matching.specs.Application.{HasApplied}
 use Rattle.day_picture.proofs.watch.courses_behind.Given as goal
 
 abbrev pub invariant-loop-n : goal.invariant-loop-n

@@ -1,5 +1,5 @@
 use Rattle.std.proofs.Common.{Result, Ok, Err, OnOk, take}
-use Rattle.day_apply.proofs.EntryByEntry.{applied_through}
+use Rattle.journal_matching.proofs.EntryByEntry.{applied_through}
 use Rattle.day_picture.proofs.watch.watch_entry.Goals as goal
 
 on_ok : {T E P : Type 0} (r : Result T E) → P → OnOk r P

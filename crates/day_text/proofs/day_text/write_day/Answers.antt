@@ -3,11 +3,11 @@ use Rattle.spread_rules.specs.declared.event.Entry.{Entry}
 use Rattle.spread_rules.specs.declared.fill.Fill.{Fill}
 use Rattle.host_base.specs.Ends.{AppendsPrefix}
 use Rattle.journal_parts.specs.JournalText.{journal_text}
-use Rattle.day_text.specs.DayText.{day_text, texts_of}
+use Rattle.day_text.specs.DayText.{day_text}
+use Rattle.message_lines.specs.Messages.{texts_of, outgoing_lines_from}
 use Rattle.day_text.specs.Fills.{fill_lines}
 use Rattle.day_text.specs.Months.{month_lines}
-use Rattle.day_text.specs.Messages.{outgoing_lines_from}
-use Rattle.day_text.proofs.PiecesInTurn.{of_err}
+use Rattle.text_pieces.proofs.PiecesInTurn.{of_err}
 use Rattle.day_text.proofs.day_text.write_day.Goals as goal
 use Rattle.day_text.proofs.day_text.write_day.Goals.{then-journal_only, else-journal_only+in-Ok-text_of_months}
 

@@ -4,10 +4,9 @@ use Rattle.std.specs.Io.KnownBytes.{Appends}
 use Rattle.host_base.specs.Ends.{AppendsPrefix}
 use Rattle.spread_rules.specs.declared.event.Entry.{Entry}
 use Rattle.journal_parts.specs.JournalText.{journal_text, HasByteIds}
-use Rattle.day_text.specs.DayText.{texts_of}
+use Rattle.message_lines.specs.Messages.{texts_of, outgoing_lines_from}
 use Rattle.day_text.specs.Fills.{fill_lines}
-use Rattle.day_text.specs.Messages.{outgoing_lines_from}
-use Rattle.day_text.proofs.PiecesInTurn.{front_after, front_of_more, on_err, on_err_any, on_ok, on_ok_any}
+use Rattle.text_pieces.proofs.PiecesInTurn.{front_after, front_of_more, on_err, on_err_any, on_ok, on_ok_any}
 use Rattle.day_text.proofs.day_text.write_parts.Goals as goal
 
 pub returns-in_err-write_journal_lines : goal.returns-in_err-write_journal_lines

@@ -1,7 +1,7 @@
 use Rattle.std.proofs.Common.{rules, take}
 use Rattle.day_text.specs.Fills.{fill_line}
-use Rattle.day_text.proofs.LinesInTurn.{line_put, line_fails}
-use Rattle.day_text.proofs.PiecesInTurn.{on_err_any}
+use Rattle.text_pieces.proofs.LinesInTurn.{line_put, line_fails}
+use Rattle.text_pieces.proofs.PiecesInTurn.{on_err_any}
 use Rattle.day_text.proofs.fills.put_all.Goals as goal
 
 pub returns-in_err-put_whole-clause-puts : goal.returns-in_err-put_whole-clause-puts

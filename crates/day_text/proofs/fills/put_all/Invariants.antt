@@ -1,6 +1,6 @@
 use Rattle.std.proofs.Common.{◌≡◌, ◌≤◌, ◌++◌, take, vec_capacity, false}
 use Rattle.day_text.specs.Fills.{fill_lines}
-use Rattle.day_text.specs.code.Pieces.{IsPut}
+use Rattle.text_pieces.specs.code.Pieces.{IsPut}
 use Rattle.day_text.proofs.fills.put_all.Given as goal
 
 abbrev pub invariant-loop-fill : goal.invariant-loop-fill

@@ -1,5 +1,5 @@
 use Rattle.day_text.specs.Fills.{fill_lines}
-use Rattle.day_text.proofs.PiecesInTurn.{put_and_given}
+use Rattle.text_pieces.proofs.PiecesInTurn.{put_and_given}
 use Rattle.day_text.proofs.fills.write_fill_lines.Goals as goal
 
 pub returns-clause-writes : goal.returns-clause-writes

@@ -1,6 +1,6 @@
 use Rattle.std.proofs.Common.{take, ◌∙◌}
 use Rattle.std.proofs.lemmas.Result.{IfOk-at_ok}
-use Rattle.day_apply.proofs.EntryByEntry.{applied_through}
+use Rattle.journal_matching.proofs.EntryByEntry.{applied_through}
 use Rattle.day_tests.proofs.host.applied.apply_all.Goals as goal
 
 pub loop-entry-preserved : goal.loop-entry-preserved

@@ -1,5 +1,5 @@
 use Rattle.std.proofs.Common.{◌≡◌, take}
-use Rattle.day_apply.specs.Application.{HasApplied, rules_of}
+use Rattle.journal_matching.specs.Application.{HasApplied, rules_of}
 use Rattle.day_tests.proofs.host.applied.apply_all.Given as goal
 
 abbrev pub invariant-loop-entry : goal.invariant-loop-entry

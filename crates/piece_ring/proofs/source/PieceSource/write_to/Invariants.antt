@@ -1,7 +1,7 @@
 use Rattle.std.proofs.Common.{◌≡◌, true, false}
 use Rattle.rtrb.specs.Ring.{received}
 use Rattle.stage_rings.specs.Marks.{ends}
-use Rattle.day_text.specs.code.Pieces.{Writes}
+use Rattle.text_pieces.specs.code.Pieces.{Writes}
 use Rattle.piece_ring.specs.Pieces.{is_mark, text_in}
 use Rattle.piece_ring.proofs.source.PieceSource.write_to.Given as goal
 

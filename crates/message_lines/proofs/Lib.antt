@@ -1,0 +1,2 @@
+mod LinesInParts
+mod SessionLines

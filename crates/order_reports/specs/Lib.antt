@@ -1,0 +1,2 @@
+pub mod ExecutionReports
+pub mod code

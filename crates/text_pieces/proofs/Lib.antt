@@ -1,0 +1,2 @@
+pub mod PiecesInTurn
+pub mod LinesInTurn
