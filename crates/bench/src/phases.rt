@@ -4,7 +4,8 @@ ghost use Rattle.host_base.specs.declared.limits.TheConstants.{SESSIONS};
 
 use crate::market::{time_match, time_report};
 use host_base::limits::SESSIONS;
-use intake_phases::{AtOnce, BenchFault, Measured, time_judge, time_scan, time_threads};
+use intake_phases::{BenchFault, Measured, time_judge, time_scan};
+use ring_phases::{AtOnce, time_threads};
 use std::alloc::AllocGlobal;
 use std::thread::Threads;
 use std::time::{Clock, CpuClock};
