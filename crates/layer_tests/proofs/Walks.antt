@@ -6,7 +6,7 @@ use Rattle.std.proofs.lemmas.Bool.Decides.{nat_tests}
 use Rattle.std.proofs.lemmas.Option.{slice_get-get_or}
 use Rattle.spread_rules.specs.declared.order.Order.{Order}
 use Rattle.spread_rulebook.proofs.lists.Membership.{in_head, in_tail}
-use Rattle.order_tables.proofs.places.Ascending.{is_so}
+use Rattle.order_rows.proofs.places.Ascending.{is_so}
 
 pub one_more : (P : Order → Type 0) (xs : List Order) (n : ℕ) → n < length xs → All P (take n xs) → ((o : Order) → slice_get xs n ≡ Some o → P o) → All P (take (n + 1) xs)
 one_more P [] n lt h each = absurd (omega arith)

@@ -27,7 +27,7 @@ use crate::ticket::{judge, keeps_place, moved_order, replace_refusal, resting_st
 use host_base::{Id, NoMemory};
 use order_clearing::trade;
 use order_statuses::Statuses;
-use order_tables::{is_own, with_quantity};
+use order_rows::{is_own, with_quantity};
 use spread_books::Book;
 use spread_rules::codes::{cxl_rej_reason, ord_rej_reason, ord_status};
 use spread_rules::{Entry, Event, Fill, Instrument, Order, OrderStatus, Outcome, Rulebook, Ticket};

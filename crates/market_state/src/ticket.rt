@@ -7,7 +7,7 @@ ghost use Rattle.spread_rulebook.specs.Rulebook.{find_symbol};
 ghost use Rattle.market_state.specs.code.StateAfter.{replace_refusal};
 
 use host_base::limits;
-use order_tables::with_quantity;
+use order_rows::with_quantity;
 use spread_rules::codes::{cxl_rej_reason, ord_rej_reason, ord_status};
 use spread_rules::{Instrument, Order, Rulebook, Ticket};
 

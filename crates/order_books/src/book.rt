@@ -10,7 +10,7 @@ ghost use Rattle.spread_rules.specs.declared.order.Order.{Order};
 ghost use Rattle.spread_rules.specs.Amended.{amended};
 ghost use Rattle.order_books.specs.Pairs.{IsCheapest};
 ghost use Rattle.order_books.specs.Queues.{CanAmend, IsFront, IsFrontLevel};
-ghost use Rattle.order_tables.specs.Places.{HasMore, HasPlace};
+ghost use Rattle.order_rows.specs.Places.{HasMore, HasPlace};
 
 use crate::pair::PairCost;
 use host_base::{Id, NoMemory};

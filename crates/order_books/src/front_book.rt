@@ -3,7 +3,7 @@ ghost use Rattle.std.specs.Prelude.{◌≡◌, ◌<◌, ◌^◌, ◌==◌, ◌++
 ghost use Rattle.std.specs.List.{find};
 ghost use Rattle.spread_rules.specs.Clearing.{removed};
 ghost use Rattle.spread_rules.specs.declared.order.Order.{Order};
-ghost use Rattle.order_tables.specs.Places.{HasPlace, Ascends};
+ghost use Rattle.order_rows.specs.Places.{HasPlace, Ascends};
 ghost use Rattle.order_books.specs.code.FrontPrices.{may_be_at, becomes_front, is_ahead_of, HoldsPrices};
 
 use crate::book::Book;

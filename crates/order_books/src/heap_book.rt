@@ -3,7 +3,7 @@ ghost use Rattle.std.specs.Prelude.{◌≡◌, ◌<◌, ◌^◌, ◌==◌, [], l
 ghost use Rattle.std.specs.List.{find};
 ghost use Rattle.std.specs.Option.{option_copied};
 ghost use Rattle.spread_rules.specs.Clearing.{reduced, removed};
-ghost use Rattle.order_tables.specs.Places.{HasMore, HasPlace, Ascends};
+ghost use Rattle.order_rows.specs.Places.{HasMore, HasPlace, Ascends};
 ghost use Rattle.order_books.specs.code.FrontPrices.{IsBestPrice};
 
 use crate::book::Book;

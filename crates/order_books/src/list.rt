@@ -10,7 +10,7 @@ ghost use Rattle.order_books.specs.Queues.{is_in, front_step};
 use crate::book::Book;
 use crate::queue::{front_with, is_in};
 use host_base::{Id, NoMemory};
-use order_tables::{is_own, with_quantity};
+use order_rows::{is_own, with_quantity};
 use spread_rules::{Instrument, Order, Side};
 use std::alloc::Allocator;
 use std::marker::Model;

@@ -1,2 +1,1 @@
-pub mod places
 pub mod ranks

@@ -1,4 +1,3 @@
-pub mod Places
 pub mod FrontTable
 pub mod QueueRanks
 pub mod code

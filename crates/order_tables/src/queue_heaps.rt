@@ -5,11 +5,11 @@
 //! once, in the logarithm.
 ghost use Rattle.std.specs.Prelude.{◌≡◌, ◌<◌, [], All, OnOk, OnErr, IfSome, IfNone, length, map};
 ghost use Rattle.order_tables.specs.code.Heaps.{IsRankHeap, ranks_in, ranks_at, Joins, SameRanks, IsLeast, is_of_rank, is_ranked, HasSettled, Settles, HasThinned, Thins};
-ghost use Rattle.order_tables.specs.Places.{Ascends};
+ghost use Rattle.order_rows.specs.Places.{Ascends};
 
-use crate::place_rows::PlaceRows;
 use crate::queue_rank::{QueueRank, queue_number};
 use host_base::NoMemory;
+use order_rows::PlaceRows;
 use spread_rules::Order;
 use std::alloc::Allocator;
 use std::cmp::Reverse;

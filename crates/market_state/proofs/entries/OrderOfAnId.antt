@@ -11,7 +11,7 @@ use Rattle.spread_rules.specs.declared.order.Order.{Order}
 use Rattle.spread_rules.specs.declared.outcome.OrderStatus.{OrderStatus}
 use Rattle.spread_rules.specs.Candidates.{PlacesDiffer}
 use Rattle.spread_rules.specs.Meaning.{has_id, is_own}
-use Rattle.order_tables.proofs.places.Ascending.{unfound, unfound_by}
+use Rattle.order_rows.proofs.places.Ascending.{unfound, unfound_by}
 use Rattle.market_state.specs.code.StateAfter.{AreKnown, place_of_id}
 use Rattle.market_state.proofs.entries.FoundStands.{find_holds, find_none, find_stands}
 use Rattle.order_statuses.proofs.status_rows.MarkedRows.{same_number}

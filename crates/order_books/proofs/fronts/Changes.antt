@@ -15,10 +15,10 @@ use Rattle.spread_rules.specs.Quiet.{Rests}
 use Rattle.spread_rules.specs.Clearing.{removed}
 use Rattle.spread_rulebook.proofs.lists.Membership.{in_head, in_map, from_map}
 use Rattle.order_books.specs.Queues.{IsFront, IsFrontLevel, is_in, is_ahead, queue_cmp}
-use Rattle.order_tables.specs.Places.{Ascends}
+use Rattle.order_rows.specs.Places.{Ascends}
 use Rattle.order_books.proofs.fronts.FoldGivesFront.{queue_total, in_queue, from_queue}
-use Rattle.order_tables.proofs.places.Ascending.{one_at_a_place, is_so, from_removed, in_removed}
-use Rattle.order_tables.proofs.places.ChangedAt.{changed_at, changed, key_kept}
+use Rattle.order_rows.proofs.places.Ascending.{one_at_a_place, is_so, from_removed, in_removed}
+use Rattle.order_rows.proofs.places.ChangedAt.{changed_at, changed, key_kept}
 
 is_less : (r : Ordering) → is_lt r ≡ true → r ≡ Less
 is_less Less h = refl

@@ -14,13 +14,13 @@ use Rattle.spread_rulebook.proofs.lists.Membership.{not_in_nil, in_head, in_tail
 use Rattle.order_books.specs.Queues.{IsFront, IsFrontLevel, is_ahead}
 use Rattle.spread_rules.specs.Legs.{is_side}
 use Rattle.spread_rules.proofs.clearings.BoughtIsSold.{same_instrument_is}
-use Rattle.order_tables.specs.Places.{Ascends}
+use Rattle.order_rows.specs.Places.{Ascends}
 use Rattle.order_tables.specs.FrontTable.{has_slot, slot_number, slot_of, slot_in, put_in, known_price, with_known_price, best_price_of, level_at}
 use Rattle.order_books.specs.code.FrontPrices.{IsBestPrice, HoldsPrices, becomes_front, may_be_at}
 use Rattle.order_tables.specs.declared.front_table.BestPrice.{BestPrice}
 use Rattle.order_books.proofs.fronts.FoldGivesFront.{same_instrument_itself, same_side_is, same_side_itself}
-use Rattle.order_tables.proofs.places.Ascending.{is_so, is_found}
-use Rattle.order_tables.proofs.places.ChangedAt.{changed_at, changed, key_kept}
+use Rattle.order_rows.proofs.places.Ascending.{is_so, is_found}
+use Rattle.order_rows.proofs.places.ChangedAt.{changed_at, changed, key_kept}
 use Rattle.order_books.proofs.fronts.Changes.{front_of_others, front_of_own, front_removed, any_front_changed, KeepsQueue, of_another}
 
 -- ---- slots

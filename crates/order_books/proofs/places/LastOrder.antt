@@ -12,9 +12,9 @@ use Rattle.spread_rules.specs.Meaning.{is_own}
 use Rattle.spread_rules.specs.Amended.{done}
 use Rattle.order_books.specs.Queues.{CanAmend}
 use Rattle.spread_rulebook.proofs.lists.Membership.{not_in_nil, in_cons_cases}
-use Rattle.order_tables.specs.Places.{HasMore, HasPlace, Ascends}
-use Rattle.order_tables.proofs.places.ChangedAt.{changed_at, changed, changed_nobody}
-use Rattle.order_tables.proofs.places.Ascending.{all_of, ascends_cons, behind_first, others_ascend, find_none, unfound, removed_nobody, is_so, from_removed}
+use Rattle.order_rows.specs.Places.{HasMore, HasPlace, Ascends}
+use Rattle.order_rows.proofs.places.ChangedAt.{changed_at, changed, changed_nobody}
+use Rattle.order_rows.proofs.places.Ascending.{all_of, ascends_cons, behind_first, others_ascend, find_none, unfound, removed_nobody, is_so, from_removed}
 
 -- ---- places that rise
 

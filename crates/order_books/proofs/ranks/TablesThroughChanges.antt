@@ -14,8 +14,8 @@ use Rattle.spread_rules.specs.Amended.{amended, with_quantity}
 use Rattle.order_tables.specs.declared.queue_rank.QueueRank.{QueueRank}
 use Rattle.order_tables.specs.QueueRanks.{queue_of, rank_of, rank_cmp, HasMonths}
 use Rattle.order_tables.specs.code.Heaps.{ranks_at, Joins, SameRanks, IsLed, KeepsRanks, HasSettled, HasThinned, ChangesQueue, Settles, Thins}
-use Rattle.order_tables.proofs.places.Ascending.{ascends_changed, is_so, one_at_a_place, from_removed, in_removed}
-use Rattle.order_tables.proofs.places.ChangedAt.{changed, changed_at, less, key_kept}
+use Rattle.order_rows.proofs.places.Ascending.{ascends_changed, is_so, one_at_a_place, from_removed, in_removed}
+use Rattle.order_rows.proofs.places.ChangedAt.{changed, changed_at, less, key_kept}
 use Rattle.order_books.specs.code.Index.{IsIndex}
 use Rattle.order_books.proofs.ranks.TotalOrder.{rank_total}
 use Rattle.order_books.proofs.places.LastOrder.{ascends_removed, ascends_added}

@@ -2,7 +2,7 @@
 -- Words of the code alone.
 use Rattle.std.specs.Prelude.{ℕ, List, Contains}
 use Rattle.spread_rules.specs.declared.order.Order.{Order}
-use Rattle.order_tables.specs.Places.{Ascends}
+use Rattle.order_rows.specs.Places.{Ascends}
 use Rattle.order_tables.specs.declared.queue_rank.QueueRank.{QueueRank}
 use Rattle.order_tables.specs.QueueRanks.{queue_of, rank_of, HasMonths}
 use Rattle.order_tables.specs.code.Heaps.{ranks_at, IsLed}

@@ -17,10 +17,10 @@ use Rattle.std.proofs.lemmas.List.Elements.{All-from_recursion, All-contains}
 use Rattle.spread_rules.specs.declared.order.Order.{Order}
 use Rattle.spread_rulebook.proofs.lists.Membership.{not_in_nil, in_head, in_tail, in_cons_cases, in_map, from_map}
 use Rattle.order_tables.specs.declared.queue_rank.QueueRank.{QueueRank}
-use Rattle.order_tables.specs.Places.{Ascends}
+use Rattle.order_rows.specs.Places.{Ascends}
 use Rattle.order_tables.specs.QueueRanks.{queue_of, rank_of, rank_cmp, is_rank}
 use Rattle.order_tables.specs.code.Heaps.{top_cmp, ranks_in, ranks_at, Joins, SameRanks, IsLeast, IsRanked, is_of_rank, is_ranked, IsLed, HasThinned, ChangesQueue}
-use Rattle.order_tables.proofs.places.Ascending.{is_so, at_place, is_found}
+use Rattle.order_rows.proofs.places.Ascending.{is_so, at_place, is_found}
 
 -- ---- one heap, whose least rank is at the top
 

@@ -12,7 +12,7 @@ use Rattle.spread_rules.specs.Candidates.{Pairs, cost}
 use Rattle.spread_rulebook.specs.Prices.{IsLegPrice}
 use Rattle.spread_rules.specs.Legs.{other_side}
 use Rattle.spread_rules.specs.Quiet.{Rests}
-use Rattle.order_tables.proofs.places.Ascending.{is_so}
+use Rattle.order_rows.proofs.places.Ascending.{is_so}
 use Rattle.order_books.specs.declared.pair.PairCost.{PairCost}
 use Rattle.order_books.specs.Pairs.{spread_of, spread_side, cost_of_pair, IsPair, HasFronts, IsNoCheaper, IsCheapest}
 use Rattle.candidate_search.specs.code.Cheapest.{CostsOfFront, CostsOfFronts, cheaper_of, KeepsColumn, KeepsOthers, sooner_of}

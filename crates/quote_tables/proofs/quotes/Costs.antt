@@ -11,9 +11,9 @@ use Rattle.spread_rules.specs.Candidates.{cost, all_on}
 use Rattle.spread_rules.specs.Clearing.{removed}
 use Rattle.spread_rules.specs.Legs.{other_side}
 use Rattle.spread_rules.specs.Quiet.{Rests}
-use Rattle.order_tables.specs.Places.{Ascends}
-use Rattle.order_tables.proofs.places.Ascending.{one_at_a_place, is_so, from_removed, in_removed}
-use Rattle.order_tables.proofs.places.ChangedAt.{changed_at, changed, key_kept}
+use Rattle.order_rows.specs.Places.{Ascends}
+use Rattle.order_rows.proofs.places.Ascending.{one_at_a_place, is_so, from_removed, in_removed}
+use Rattle.order_rows.proofs.places.ChangedAt.{changed_at, changed, key_kept}
 use Rattle.order_books.specs.Queues.{IsFront, IsFrontLevel, front_step}
 use Rattle.order_books.proofs.fronts.FoldGivesFront.{fold_front}
 use Rattle.order_books.proofs.fronts.Changes.{front_of_others, front_removed, any_front_changed, KeepsQueue, of_another}

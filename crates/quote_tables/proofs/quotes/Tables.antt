@@ -13,8 +13,8 @@ use Rattle.spread_rules.specs.Clearing.{removed}
 use Rattle.spread_rules.specs.Legs.{other_side}
 use Rattle.spread_rulebook.specs.Prices.{IsOrderPrice}
 use Rattle.spread_rulebook.proofs.lists.Membership.{not_in_nil, from_map}
-use Rattle.order_tables.proofs.places.Ascending.{is_so, all_of, from_removed}
-use Rattle.order_tables.proofs.places.ChangedAt.{changed_at, changed, key_kept}
+use Rattle.order_rows.proofs.places.Ascending.{is_so, all_of, from_removed}
+use Rattle.order_rows.proofs.places.ChangedAt.{changed_at, changed, key_kept}
 use Rattle.order_books.specs.Queues.{IsFrontLevel}
 use Rattle.order_books.proofs.fronts.Changes.{KeepsQueue}
 use Rattle.order_books.proofs.fronts.TableHoldsFronts.{get_set_same, get_set_other, get_replicate, same_queue}

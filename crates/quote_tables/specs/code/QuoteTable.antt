@@ -9,7 +9,7 @@ use Rattle.spread_rules.specs.declared.order.Level.{Level}
 use Rattle.spread_rules.specs.Candidates.{Pairs, cost, HasOrderPrice}
 use Rattle.spread_rules.specs.Clearing.{removed}
 use Rattle.spread_rules.specs.Legs.{other_side}
-use Rattle.order_tables.specs.Places.{Ascends}
+use Rattle.order_rows.specs.Places.{Ascends}
 use Rattle.order_books.specs.Queues.{IsFrontLevel}
 use Rattle.candidate_search.specs.Listed.{IsInMonths}
 use Rattle.order_books.specs.Pairs.{IsCheapest}

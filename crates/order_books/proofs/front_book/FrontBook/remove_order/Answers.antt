@@ -2,7 +2,7 @@ use Rattle.std.proofs.Common.{◌≡◌, ◌==◌, ℕ, List, None, sym, ap, ◌
 use Rattle.std.specs.List.{find}
 use Rattle.spread_rules.specs.declared.order.Order.{Order}
 use Rattle.spread_rules.specs.Clearing.{removed}
-use Rattle.order_tables.specs.Places.{HasPlace}
+use Rattle.order_rows.specs.Places.{HasPlace}
 use Rattle.order_books.proofs.fronts.TableHoldsFronts.{rests_at, not_nobody}
 use Rattle.order_books.proofs.front_book.FrontBook.remove_order.Goals as goal
 

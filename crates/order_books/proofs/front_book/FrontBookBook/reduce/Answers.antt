@@ -2,7 +2,7 @@ use Rattle.std.proofs.Common.{List, refl, sym, subst}
 use Rattle.spread_rules.specs.declared.order.Order.{Order}
 use Rattle.order_books.specs.code.FrontPrices.{HoldsPrices}
 use Rattle.order_books.proofs.fronts.TableHoldsFronts.{prices_changed}
-use Rattle.order_tables.proofs.places.ChangedAt.{less}
+use Rattle.order_rows.proofs.places.ChangedAt.{less}
 use Rattle.order_books.proofs.front_book.FrontBookBook.reduce.Goals as goal
 
 pub invariant_of-self : goal.invariant_of-self

@@ -4,8 +4,8 @@ use Rattle.spread_rules.specs.declared.order.Order.{Order}
 use Rattle.spread_rules.specs.Clearing.{removed}
 use Rattle.order_tables.specs.QueueRanks.{queue_of}
 use Rattle.order_tables.specs.code.Heaps.{Settles}
-use Rattle.order_tables.proofs.places.Ascending.{at_place}
-use Rattle.order_tables.proofs.places.RowsByPlace.{missing}
+use Rattle.order_rows.proofs.places.Ascending.{at_place}
+use Rattle.order_rows.proofs.places.RowsByPlace.{missing}
 use Rattle.order_books.specs.code.Index.{IsIndex}
 use Rattle.order_books.proofs.ranks.TablesThroughChanges.{index_removed}
 use Rattle.order_books.proofs.heap_book.HeapBook.remove_order.Goals as goal

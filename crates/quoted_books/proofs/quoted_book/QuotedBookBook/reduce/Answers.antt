@@ -1,6 +1,6 @@
 use Rattle.std.proofs.Common.{List, refl, sym, subst}
 use Rattle.spread_rules.specs.declared.order.Order.{Order}
-use Rattle.order_tables.proofs.places.ChangedAt.{less}
+use Rattle.order_rows.proofs.places.ChangedAt.{less}
 use Rattle.spread_rulebook.specs.Rulebook.{implied}
 use Rattle.quote_tables.specs.code.QuoteTable.{KeepsQuotes}
 use Rattle.quote_tables.proofs.quotes.Tables.{changed_table}

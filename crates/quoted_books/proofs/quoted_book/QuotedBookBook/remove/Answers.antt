@@ -2,7 +2,7 @@ use Rattle.std.proofs.Common.{ℕ, List, All, refl, sym, ap, ◌∙◌, subst}
 use Rattle.spread_rules.specs.declared.order.Order.{Order}
 use Rattle.spread_rules.specs.Candidates.{HasOrderPrice}
 use Rattle.spread_rules.specs.Clearing.{removed}
-use Rattle.order_tables.specs.Places.{HasPlace}
+use Rattle.order_rows.specs.Places.{HasPlace}
 use Rattle.order_books.proofs.fronts.TableHoldsFronts.{rests_at, not_nobody}
 use Rattle.spread_rulebook.specs.Rulebook.{implied}
 use Rattle.std.proofs.lemmas.List.Elements.{All-contains}

@@ -2,8 +2,8 @@ use Rattle.std.proofs.Common.{List, ◌++◌, ◌∷◌, [], refl, sym, ap, ◌�
 use Rattle.std.specs.Option.{option_to_list}
 use Rattle.spread_rules.specs.declared.order.Order.{Order}
 use Rattle.spread_rules.specs.Amended.{amended, with_quantity}
-use Rattle.order_tables.specs.Places.{Ascends}
-use Rattle.order_tables.proofs.places.Ascending.{ascends_changed}
+use Rattle.order_rows.specs.Places.{Ascends}
+use Rattle.order_rows.proofs.places.Ascending.{ascends_changed}
 use Rattle.order_books.specs.Queues.{CanAmend}
 use Rattle.order_books.proofs.ranks.TablesThroughChanges.{from_both}
 use Rattle.order_books.proofs.places.LastOrder.{changed_newest, changed_before, amend_before}

@@ -1,0 +1,2 @@
+pub mod Places
+pub mod code
