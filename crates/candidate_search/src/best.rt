@@ -9,10 +9,10 @@ ghost use Rattle.spread_rules.specs.declared.candidate.Counterparty.TheVariants.
 ghost use Rattle.spread_rulebook.specs.declared.instrument.Instrument.TheVariants.{Outright};
 ghost use Rattle.candidate_search.specs.Listed.{IsInMonths, IsNearFirst};
 ghost use Rattle.candidate_search.specs.code.Best.{IsFair, IsBeyond, IsDirect, IsBestDirect, is_better, Offers, CoversTwo, CoversBelow};
-ghost use Rattle.order_books.specs.Pairs.{IsCheapest};
+ghost use Rattle.resting_orders.specs.Pairs.{IsCheapest};
 
 use crate::cheapest::{MonthPairs, Queue, cheapest_pair, spreads_with};
-use order_books::{Book, PairCost};
+use resting_orders::{Book, PairCost};
 use spread_rules::{
     Candidate, Counterparty, Instrument, Order, Rulebook, Side, candidate_for, is_within,
     levels_meet, ranking,

@@ -4,10 +4,10 @@ ghost use Rattle.spread_rules.specs.Candidates.{cost, HasOrderPrice};
 ghost use Rattle.spread_rulebook.specs.Rulebook.{implied};
 ghost use Rattle.spread_rulebook.specs.Prices.{IsOrderPrice, IsLegPrice};
 ghost use Rattle.spread_rules.specs.Legs.{other_side};
-ghost use Rattle.order_books.specs.Pairs.{spread_of, spread_side, is_pair_on, IsCheapest};
+ghost use Rattle.resting_orders.specs.Pairs.{spread_of, spread_side, is_pair_on, IsCheapest};
 ghost use Rattle.candidate_search.specs.code.Cheapest.{CostsOfFront, CostsOfFronts, cheaper_of};
 
-use order_books::{Book, PairCost};
+use resting_orders::{Book, PairCost};
 use spread_rules::{Instrument, Rulebook, Side};
 
 /// The orders of one instrument and side.

@@ -1,3 +1,2 @@
-pub mod places
 pub mod fronts
 pub mod ranks

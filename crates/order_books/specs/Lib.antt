@@ -1,3 +1,1 @@
-pub mod Queues
-pub mod Pairs
 pub mod code

@@ -1,16 +1,9 @@
-//! Books of resting orders by price and time: one list, ordered tables, and tables with the best prices at hand.
+//! Books of resting orders over tables by place and by queue, one of them with the best prices at hand.
 #![tactic(auto)]
 
-mod book;
 mod front_book;
 mod heap_book;
-mod list;
-mod pair;
-mod queue;
 
-pub use book::Book;
 pub use front_book::FrontBook;
 pub use heap_book::HeapBook;
-pub use list::ListBook;
-pub use pair::PairCost;
-pub use queue::{front_with, is_in};
+pub use resting_orders::{Book, ListBook, PairCost, front_with, is_in};

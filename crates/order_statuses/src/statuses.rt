@@ -6,7 +6,7 @@ ghost use Rattle.std.specs.List.{find};
 ghost use Rattle.spread_rules.specs.Meaning.{has_id};
 ghost use Rattle.order_statuses.specs.code.Statuses.{key_of_status, IsIndex, IsOpenRow, is_open, status_after_fill, status_after_replace, statuses_after, AreRefusedLater};
 ghost use Rattle.spread_rules.specs.Amended.{amended};
-ghost use Rattle.order_books.specs.Queues.{CanAmend};
+ghost use Rattle.resting_orders.specs.Queues.{CanAmend};
 
 use host_base::{Id, IdKey, NoMemory};
 use row_index::{Hints, IdRows, IdTable, PlacedRows};

@@ -13,7 +13,7 @@ ghost use Rattle.quote_tables.specs.code.QuoteTable.{ChangesOneQueue};
 use candidate_search::{MonthPairs, front_cost, is_pair_on};
 use host_base::NoMemory;
 use host_base::limits::MAX_MONTHS;
-use order_books::Book;
+use resting_orders::Book;
 use spread_rules::{Instrument, Order, Side};
 use std::alloc::Allocator;
 use std::marker::Model;

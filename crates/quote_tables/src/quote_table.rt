@@ -4,7 +4,7 @@ ghost use Rattle.host_base.specs.declared.limits.TheConstants.{MAX_MONTHS};
 ghost use Rattle.spread_rules.specs.Candidates.{Pairs};
 ghost use Rattle.spread_rules.specs.declared.order.Side.{Side};
 ghost use Rattle.spread_rules.specs.declared.order.Order.{Order};
-ghost use Rattle.order_books.specs.Pairs.{IsCheapest};
+ghost use Rattle.resting_orders.specs.Pairs.{IsCheapest};
 ghost use Rattle.candidate_search.specs.Listed.{IsInMonths};
 ghost use Rattle.candidate_search.specs.code.Cheapest.{KeepsOthers, sooner_of};
 ghost use Rattle.quote_tables.specs.code.FrontCosts.{AreFrontCosts, cell_of, pair_of_cell, pairs_of};
@@ -15,7 +15,7 @@ use crate::front_costs::{FrontCosts, NO_PAIR, ROW, cell, row_cell, sum_of_cells}
 use crate::renewal::{cheapest_of_row, is_sooner};
 use host_base::NoMemory;
 use host_base::limits::MAX_MONTHS;
-use order_books::PairCost;
+use resting_orders::PairCost;
 use spread_rules::{Instrument, Order, Side};
 use std::alloc::Allocator;
 use std::marker::Model;
@@ -43,7 +43,7 @@ pub struct QuoteTable<A: Allocator + Copy> {
 
 impl<A: Allocator + Copy> Model for QuoteTable<A> {
     ghost use Rattle.std.specs.Prelude.{List, Option};
-    ghost use Rattle.order_books.specs.declared.pair.PairCost.{PairCost};
+    ghost use Rattle.resting_orders.specs.declared.pair.PairCost.{PairCost};
     ghost use Rattle.quote_tables.specs.code.FrontCosts.{pairs_of};
 
     ghost Value = { List (Option PairCost) };

@@ -2,13 +2,13 @@
 ghost use Rattle.std.specs.Prelude.{◌≡◌, ◌<◌, List};
 ghost use Rattle.spread_rules.specs.Candidates.{Pairs};
 ghost use Rattle.spread_rules.specs.declared.order.Order.{Order};
-ghost use Rattle.order_books.specs.Pairs.{IsCheapest};
+ghost use Rattle.resting_orders.specs.Pairs.{IsCheapest};
 ghost use Rattle.candidate_search.specs.code.Cheapest.{is_sooner};
 ghost use Rattle.quote_tables.specs.code.FrontCosts.{AreFrontCosts, pair_of_cell};
 
 use crate::front_costs::{FrontCosts, NO_PAIR};
 use host_base::limits::MAX_MONTHS;
-use order_books::PairCost;
+use resting_orders::PairCost;
 use spread_rules::Side;
 use std::alloc::Allocator;
 

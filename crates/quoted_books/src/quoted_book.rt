@@ -2,7 +2,7 @@
 ghost use Rattle.std.specs.Prelude.{◌≡◌, ◌<◌, ◌^◌, [], IfOk, IfSome, true, length};
 ghost use Rattle.host_base.specs.declared.limits.TheConstants.{MAX_MONTHS};
 ghost use Rattle.spread_rulebook.specs.Rulebook.{implied};
-ghost use Rattle.order_books.specs.Pairs.{IsCheapest};
+ghost use Rattle.resting_orders.specs.Pairs.{IsCheapest};
 ghost use Rattle.quote_tables.specs.code.PairsOn.{AreAllOn};
 ghost use Rattle.quote_tables.specs.code.QuoteTable.{IsListed};
 

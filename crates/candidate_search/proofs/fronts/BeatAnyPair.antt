@@ -13,7 +13,7 @@ use Rattle.spread_rules.specs.Candidates.{implied_price, cost, is_within_limit, 
 use Rattle.spread_rulebook.specs.Instruments.{month_of}
 use Rattle.spread_rules.specs.Quiet.{Rests}
 use Rattle.spread_rules.proofs.ranks.PlainIsLeast.{candidate_is}
-use Rattle.order_books.specs.Queues.{IsFront}
+use Rattle.resting_orders.specs.Queues.{IsFront}
 use Rattle.spread_rules.specs.Legs.{other_side}
 use Rattle.candidate_search.specs.code.Best.{IsFair, CoversOne, CoversTwo}
 use Rattle.candidate_search.proofs.fronts.PairCost.{implied_price_sum, implied_price_again, within_cost, behind, rank_after, pair_le, pair_same, so_again}

@@ -15,14 +15,14 @@ use Rattle.spread_rules.specs.Legs.{other_side}
 use Rattle.spread_rules.specs.declared.order.Side.{Side}
 use Rattle.spread_rules.specs.declared.order.Side.TheVariants.{Buy, Sell}
 use Rattle.spread_rulebook.specs.declared.instrument.Instrument.{Instrument}
-use Rattle.order_books.proofs.fronts.FoldGivesFront.{same_instrument_itself}
+use Rattle.resting_orders.proofs.fronts.FoldGivesFront.{same_instrument_itself}
 use Rattle.spread_rulebook.specs.Instruments.{month_of}
 use Rattle.spread_rulebook.specs.Prices.{IsLegPrice}
 use Rattle.candidate_search.specs.Listed.{IsNearFirst}
 use Rattle.candidate_search.specs.code.Best.{IsDirect, IsFair, IsBestDirect, is_better, CoversBelow, CoversOne}
-use Rattle.order_books.specs.declared.pair.PairCost.{PairCost}
-use Rattle.order_books.specs.Pairs.{IsCheapest}
-use Rattle.order_books.specs.Queues.{IsFront}
+use Rattle.resting_orders.specs.declared.pair.PairCost.{PairCost}
+use Rattle.resting_orders.specs.Pairs.{IsCheapest}
+use Rattle.resting_orders.specs.Queues.{IsFront}
 use Rattle.candidate_search.proofs.fronts.BeatAnyPair.{front_beats, candidate_fair}
 use Rattle.candidate_search.proofs.fronts.PairCost.{after_cost}
 use Rattle.candidate_search.proofs.fronts.MonthPairs.{cost_twice, eligible_pair, leg_is, price_costs, too_dear}

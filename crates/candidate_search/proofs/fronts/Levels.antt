@@ -11,7 +11,7 @@ use Rattle.spread_rules.specs.code.Cases.{price_if, level_of}
 use Rattle.spread_rules.specs.Legs.{other_side}
 use Rattle.spread_rules.specs.Candidates.{Pairs, candidate_of, candidate_at, is_within_limit}
 use Rattle.spread_rules.specs.Quiet.{Rests}
-use Rattle.order_books.specs.Queues.{IsFront, IsFrontLevel}
+use Rattle.resting_orders.specs.Queues.{IsFront, IsFrontLevel}
 use Rattle.candidate_search.specs.code.Best.{CoversOne, CoversTwo, IsBeyond}
 use Rattle.candidate_search.proofs.fronts.BeatAnyPair.{front_beats, fronts_beat}
 

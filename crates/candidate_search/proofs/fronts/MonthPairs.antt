@@ -25,15 +25,15 @@ use Rattle.spread_rules.proofs.ranks.PlainIsLeast.{ranks}
 use Rattle.spread_rules.proofs.clearings.BoughtIsSold.{is_less, is_not_less, so_true}
 use Rattle.spread_rules.proofs.ranks.PairsSwitched.{priced, part_of, priced_again}
 use Rattle.candidate_search.specs.Listed.{IsNearBeforeFar, IsNearFirst}
-use Rattle.order_books.specs.declared.pair.PairCost.{PairCost}
+use Rattle.resting_orders.specs.declared.pair.PairCost.{PairCost}
 use Rattle.candidate_search.specs.code.Best.{Beats, CoversTwo, CoversBelow}
-use Rattle.order_books.specs.Pairs.{spread_of, spread_side, is_pair_on, cost_of_pair, IsPair, HasFronts, IsNoCheaper, IsCheapest}
+use Rattle.resting_orders.specs.Pairs.{spread_of, spread_side, is_pair_on, cost_of_pair, IsPair, HasFronts, IsNoCheaper, IsCheapest}
 use Rattle.candidate_search.specs.code.Cheapest.{HasFront, CostsOfFronts, cheaper_of}
 use Rattle.candidate_search.proofs.fronts.PairCost.{within_cost, after_cost, pair_le}
 use Rattle.candidate_search.proofs.fronts.BeatAnyPair.{front_best, pair_cost}
 use Rattle.candidate_search.proofs.fronts.Suffice.{less_or_same}
 use Rattle.candidate_search.proofs.fronts.Levels.{front_of_level}
-use Rattle.order_books.specs.Queues.{IsFrontLevel}
+use Rattle.resting_orders.specs.Queues.{IsFrontLevel}
 use Rattle.spread_rules.specs.declared.order.Level.{Level}
 
 -- ---- which pairs meet an order of one month

@@ -10,7 +10,7 @@ use Rattle.spread_rules.specs.Candidates.{Pairs, HasLegPrice, cost, is_within_li
 use Rattle.spread_rulebook.specs.Instruments.{month_of}
 use Rattle.spread_rules.specs.Quiet.{Rests}
 use Rattle.spread_rules.specs.Legs.{other_side}
-use Rattle.order_books.specs.Queues.{IsFront}
+use Rattle.resting_orders.specs.Queues.{IsFront}
 
 -- the best so far is an eligible candidate
 abbrev pub IsFair : Pairs → Order → List Order → Option Candidate → Type 0

@@ -9,9 +9,9 @@ use Rattle.spread_rules.specs.declared.order.Order.{Order}
 use Rattle.spread_rules.specs.Candidates.{Pairs, cost}
 use Rattle.spread_rules.specs.Quiet.{Rests}
 use Rattle.spread_rules.specs.Legs.{other_side}
-use Rattle.order_books.specs.Pairs.{IsPair, HasFronts, spread_of, spread_side}
-use Rattle.order_books.specs.Queues.{IsFront}
-use Rattle.order_books.specs.declared.pair.PairCost.{PairCost}
+use Rattle.resting_orders.specs.Pairs.{IsPair, HasFronts, spread_of, spread_side}
+use Rattle.resting_orders.specs.Queues.{IsFront}
+use Rattle.resting_orders.specs.declared.pair.PairCost.{PairCost}
 
 -- the front of a queue, and what it costs
 pub record HasFront

@@ -18,7 +18,7 @@ use Rattle.spread_rules.specs.Clearing.{Trading, clear, removed}
 use Rattle.spread_rules.specs.Meaning.{has_id, instrument_or_refusal_of, is_own, is_refused, keeps_place, may_replace, moved_to, order_of, outcome_of, place_left, replace_means, replace_refused, resting}
 use Rattle.spread_rulebook.specs.Prices.{IsOrderPrice}
 use Rattle.spread_rulebook.specs.Rulebook.{Rules, references_of, implied}
-use Rattle.order_books.specs.Queues.{CanAmend}
+use Rattle.resting_orders.specs.Queues.{CanAmend}
 use Rattle.market_state.specs.State.{MarketState}
 use Rattle.order_clearing.specs.Tradable.{IsTradable}
 use Rattle.market_state.specs.code.StateAfter.{AreKnown, entered_status, meaning_in, moved_in, replace_refusal, replaced_in, state_after, state_with}

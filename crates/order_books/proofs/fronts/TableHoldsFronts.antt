@@ -1,5 +1,5 @@
 -- the table of best prices through the changes of a book
-use Rattle.std.proofs.Common.{◌≡◌, ℕ, zero, suc, ◌<◌, ◌==◌, nat_lt, Bool, true, false, cond, List, [], ◌∷◌, ◌++◌, length, replicate, Contains, Option, Some, None, option_map, refl, sym, ap, ◌∙◌, subst, arith, inl, inr, ◌⊎◌, slice_set, slice_get}
+use Rattle.std.proofs.Common.{◌≡◌, ℕ, ◌<◌, ◌==◌, nat_lt, Bool, true, false, cond, List, [], ◌∷◌, ◌++◌, length, replicate, Contains, Option, Some, None, option_map, refl, sym, ap, ◌∙◌, subst, arith, inl, inr}
 use Rattle.std.proofs.lemmas.Bool.{and_parts}
 use Rattle.std.specs.List.{find}
 use Rattle.std.proofs.lemmas.Bool.Decides.{nat_tests}
@@ -8,20 +8,18 @@ use Rattle.spread_rules.specs.declared.order.Side.TheVariants.{Buy, Sell}
 use Rattle.spread_rulebook.specs.declared.instrument.Instrument.{Instrument}
 use Rattle.spread_rulebook.specs.declared.instrument.Instrument.TheVariants.{Outright, Spread}
 use Rattle.spread_rules.specs.declared.order.Order.{Order}
-use Rattle.spread_rules.specs.Candidates.{same_instrument}
 use Rattle.spread_rules.specs.Clearing.{removed}
 use Rattle.spread_rulebook.proofs.lists.Membership.{not_in_nil, in_head, in_tail, in_cons_cases}
-use Rattle.order_books.specs.Queues.{IsFront, IsFrontLevel, is_ahead}
-use Rattle.spread_rules.specs.Legs.{is_side}
-use Rattle.spread_rules.proofs.clearings.BoughtIsSold.{same_instrument_is}
+use Rattle.resting_orders.specs.Queues.{IsFront, IsFrontLevel, is_ahead}
 use Rattle.order_rows.specs.Places.{Ascends}
 use Rattle.order_tables.specs.FrontTable.{has_slot, slot_number, slot_of, slot_in, put_in, known_price, with_known_price, best_price_of, level_at}
 use Rattle.order_books.specs.code.FrontPrices.{IsBestPrice, HoldsPrices, becomes_front, may_be_at}
 use Rattle.order_tables.specs.declared.front_table.BestPrice.{BestPrice}
-use Rattle.order_books.proofs.fronts.FoldGivesFront.{same_instrument_itself, same_side_is, same_side_itself}
+use Rattle.resting_orders.proofs.fronts.FoldGivesFront.{same_queue}
 use Rattle.order_rows.proofs.places.Ascending.{is_so, is_found}
 use Rattle.order_rows.proofs.places.ChangedAt.{changed_at, changed, key_kept}
-use Rattle.order_books.proofs.fronts.Changes.{front_of_others, front_of_own, front_removed, any_front_changed, KeepsQueue, of_another}
+use Rattle.resting_orders.proofs.fronts.Changes.{front_of_others, front_of_own, front_removed, any_front_changed, KeepsQueue, of_another}
+use Rattle.resting_orders.proofs.fronts.Slots.{get_set_same, get_set_other, get_replicate}
 
 -- ---- slots
 
@@ -63,18 +61,6 @@ slot_once i j s t n e f =
     let b = given (has_slot j) (slot_number j t) n f in
     slot_is i j s t a.0 b.0 (a.1 ∙ sym b.1)
 
-pub get_set_same : {X : Type 0} (xs : List X) (n : ℕ) (x y : X) → slice_get (slice_set xs n x) n ≡ Some y → y ≡ x
-get_set_same [] n x y h = cc
-get_set_same (z ∷ xs) zero x y h = cc
-get_set_same (z ∷ xs) (suc n) x y h = get_set_same xs n x y h
-
-pub get_set_other : {X : Type 0} (xs : List X) (n m : ℕ) (x : X) → (n ≡ m → ⊥) → slice_get (slice_set xs n x) m ≡ slice_get xs m
-get_set_other [] n m x h = refl
-get_set_other (z ∷ xs) zero zero x h = absurd (h refl)
-get_set_other (z ∷ xs) zero (suc m) x h = refl
-get_set_other (z ∷ xs) (suc n) zero x h = refl
-get_set_other (z ∷ xs) (suc n) (suc m) x h = get_set_other xs n m x (λ e. h (ap suc e))
-
 put_same_at : (slots : List (Option BestPrice)) (a : Option ℕ) (f r : Option BestPrice) → slot_in (put_in slots a f) a ≡ Some r → r ≡ f
 put_same_at slots None f r h = cc
 put_same_at slots (Some n) f r h = get_set_same slots n f r h
@@ -83,16 +69,6 @@ put_other_at : (slots : List (Option BestPrice)) (a b : Option ℕ) (f : Option 
 put_other_at slots None b f h = refl
 put_other_at slots (Some n) None f h = refl
 put_other_at slots (Some n) (Some m) f h = get_set_other slots n m f (λ e. h n refl (ap (λ (k : ℕ). Some k) (sym e)))
-
-pub same_queue : (i j : Instrument) (s t : Side) → ((i ≡ j) × (s ≡ t)) ⊎ ((i ≡ j) × (s ≡ t) → ⊥)
-same_queue i j s t =
-    elim (is_so (same_instrument i j)) [
-      | inl a ↦ elim (is_so (is_side s t)) [
-        | inl b ↦ inl (same_instrument_is i j a, same_side_is s t b)
-        | inr b ↦ inr (λ e. let k : is_side s t ≡ true = subst (λ (u : Side). is_side s u ≡ true) e.1 (same_side_itself s) in cc)
-      ]
-      | inr a ↦ inr (λ e. let k : same_instrument i j ≡ true = subst (λ (u : Instrument). same_instrument i u ≡ true) e.0 (same_instrument_itself i) in cc)
-    ]
 
 -- ---- a table whose fronts are those of the others, and of one queue
 
@@ -129,11 +105,6 @@ no_slot (Some n) f h = cc
 
 pub no_slots : (xs : List Order) → HoldsPrices xs []
 no_slots xs j t f h = absurd (no_slot (slot_of j t) f h)
-
-pub get_replicate : {X : Type 0} (n k : ℕ) (x y : X) → slice_get (replicate n x) k ≡ Some y → y ≡ x
-get_replicate zero k x y h = cc
-get_replicate (suc n) zero x y h = cc
-get_replicate (suc n) (suc k) x y h = get_replicate n k x y h
 
 no_front_at : (n : ℕ) (a : Option ℕ) (f : Option BestPrice) → slot_in (replicate n None) a ≡ Some f → f ≡ None
 no_front_at n None f h = cc

@@ -13,7 +13,7 @@ use Rattle.order_tables.specs.declared.front_table.BestPrice.{BestPrice}
 use Rattle.order_tables.specs.declared.queue_rank.QueueRank.{QueueRank}
 use Rattle.order_tables.specs.QueueRanks.{queue_number, queue_of, queue_cost, rank_of, rank_cmp, HasMonths}
 use Rattle.order_tables.specs.code.Heaps.{ranks_at, IsLeast}
-use Rattle.order_books.specs.Queues.{IsFront}
+use Rattle.resting_orders.specs.Queues.{IsFront}
 use Rattle.order_books.specs.code.Index.{IsIndex}
 use Rattle.order_books.proofs.ranks.TotalOrder.{one_rank, queue_is, same_queue_cmp}
 

@@ -18,7 +18,7 @@ use Rattle.order_rows.proofs.places.Ascending.{ascends_changed, is_so, one_at_a_
 use Rattle.order_rows.proofs.places.ChangedAt.{changed, changed_at, less, key_kept}
 use Rattle.order_books.specs.code.Index.{IsIndex}
 use Rattle.order_books.proofs.ranks.TotalOrder.{rank_total}
-use Rattle.order_books.proofs.places.LastOrder.{ascends_removed, ascends_added}
+use Rattle.resting_orders.proofs.places.LastOrder.{ascends_removed, ascends_added}
 
 -- ---- no order
 

@@ -15,7 +15,7 @@ use Rattle.spread_rules.specs.declared.order.Order.{Order}
 use Rattle.spread_rules.specs.Candidates.{cost}
 use Rattle.row_index.proofs.Keys.{both_equal}
 use Rattle.order_tables.specs.declared.queue_rank.QueueRank.{QueueRank}
-use Rattle.order_books.specs.Queues.{queue_cmp}
+use Rattle.resting_orders.specs.Queues.{queue_cmp}
 use Rattle.spread_rules.specs.Legs.{other_side}
 use Rattle.order_tables.specs.QueueRanks.{queue_number, queue_cost, rank_of, rank_cmp, HasMonths}
 

@@ -9,7 +9,7 @@ use Rattle.spread_rules.specs.Candidates.{cost}
 use Rattle.spread_rules.specs.Legs.{other_side}
 use Rattle.order_tables.specs.FrontTable.{known_price, best_price_of}
 use Rattle.order_tables.specs.declared.front_table.BestPrice.{BestPrice}
-use Rattle.order_books.specs.Queues.{IsFront}
+use Rattle.resting_orders.specs.Queues.{IsFront}
 
 -- the price and the place of the front
 abbrev pub IsBestPrice : List Order → Instrument → Side → Option BestPrice → Type 0

@@ -13,8 +13,8 @@ use Rattle.spread_rules.specs.declared.order.Side.{Side}
 use Rattle.spread_rules.specs.declared.order.Order.{Order}
 use Rattle.spread_rules.specs.Candidates.{Pairs}
 use Rattle.spread_rules.specs.Legs.{other_side}
-use Rattle.order_books.specs.Pairs.{IsCheapest}
-use Rattle.order_books.specs.declared.pair.PairCost.{PairCost}
+use Rattle.resting_orders.specs.Pairs.{IsCheapest}
+use Rattle.resting_orders.specs.declared.pair.PairCost.{PairCost}
 use Rattle.quote_tables.specs.declared.front_costs.TheConstants.{NO_COST, NO_PAIR}
 use Rattle.candidate_search.specs.code.Cheapest.{CostsOfFronts, cheaper_of}
 use Rattle.quote_tables.specs.code.FrontCosts.{cost_of_cell, costs_of, pair_of_cell, cell_at, sum_of, cost_at, joined, row_cell, set_if, with_spread_cost, spread_cost, outright_cost, AreOrderPrices, CostRows, AreFrontCosts, pair_cost_in}

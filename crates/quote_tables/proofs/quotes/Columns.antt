@@ -13,8 +13,8 @@ use Rattle.spread_rulebook.specs.Prices.{IsLegPrice}
 use Rattle.spread_rules.specs.Legs.{other_side}
 use Rattle.spread_rules.specs.Quiet.{Rests}
 use Rattle.order_rows.proofs.places.Ascending.{is_so}
-use Rattle.order_books.specs.declared.pair.PairCost.{PairCost}
-use Rattle.order_books.specs.Pairs.{spread_of, spread_side, cost_of_pair, IsPair, HasFronts, IsNoCheaper, IsCheapest}
+use Rattle.resting_orders.specs.declared.pair.PairCost.{PairCost}
+use Rattle.resting_orders.specs.Pairs.{spread_of, spread_side, cost_of_pair, IsPair, HasFronts, IsNoCheaper, IsCheapest}
 use Rattle.candidate_search.specs.code.Cheapest.{CostsOfFront, CostsOfFronts, cheaper_of, KeepsColumn, KeepsOthers, sooner_of}
 use Rattle.quote_tables.specs.code.QuoteTable.{AreAmong}
 use Rattle.candidate_search.proofs.fronts.PairCost.{behind, pair_le}

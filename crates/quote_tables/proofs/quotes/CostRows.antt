@@ -10,8 +10,9 @@ use Rattle.spread_rules.specs.declared.order.Order.{Order}
 use Rattle.spread_rules.specs.Candidates.{Pairs}
 use Rattle.spread_rules.specs.Legs.{other_side}
 use Rattle.spread_rulebook.proofs.lists.Membership.{not_in_nil}
-use Rattle.order_books.proofs.fronts.TableHoldsFronts.{get_set_other, same_queue}
-use Rattle.order_books.specs.Pairs.{spread_of, spread_side, is_pair_on}
+use Rattle.resting_orders.proofs.fronts.FoldGivesFront.{same_queue}
+use Rattle.resting_orders.proofs.fronts.Slots.{get_set_other}
+use Rattle.resting_orders.specs.Pairs.{spread_of, spread_side, is_pair_on}
 use Rattle.candidate_search.specs.code.Cheapest.{CostsOfFront, CostsOfFronts, KeepsCost}
 use Rattle.quote_tables.specs.code.QuoteTable.{ChangesOneQueue}
 use Rattle.quote_tables.specs.code.FrontCosts.{CostRows, AreFrontCosts, IsSpreadCost, cost_at, joined, row_cell, sum_of, pair_cost_in, spread_cost, outright_cost, with_outright_cost, with_spread_cost, set_if, no_costs}

@@ -14,9 +14,9 @@ use Rattle.spread_rules.specs.Quiet.{Rests}
 use Rattle.order_rows.specs.Places.{Ascends}
 use Rattle.order_rows.proofs.places.Ascending.{one_at_a_place, is_so, from_removed, in_removed}
 use Rattle.order_rows.proofs.places.ChangedAt.{changed_at, changed, key_kept}
-use Rattle.order_books.specs.Queues.{IsFront, IsFrontLevel, front_step}
-use Rattle.order_books.proofs.fronts.FoldGivesFront.{fold_front}
-use Rattle.order_books.proofs.fronts.Changes.{front_of_others, front_removed, any_front_changed, KeepsQueue, of_another}
+use Rattle.resting_orders.specs.Queues.{IsFront, IsFrontLevel, front_step}
+use Rattle.resting_orders.proofs.fronts.FoldGivesFront.{fold_front}
+use Rattle.resting_orders.proofs.fronts.Changes.{front_of_others, front_removed, any_front_changed, KeepsQueue, of_another}
 use Rattle.candidate_search.specs.code.Cheapest.{HasFront, CostsOfFront, KeepsCost}
 use Rattle.quote_tables.specs.code.QuoteTable.{is_as_good}
 use Rattle.candidate_search.proofs.fronts.BeatAnyPair.{front_best}

@@ -10,8 +10,8 @@ use Rattle.spread_rules.specs.declared.order.Side.{Side}
 use Rattle.spread_rules.specs.declared.order.Side.TheVariants.{Buy, Sell}
 use Rattle.spread_rules.specs.declared.order.Order.{Order}
 use Rattle.spread_rules.specs.Candidates.{Pairs}
-use Rattle.order_books.specs.Pairs.{IsCheapest}
-use Rattle.order_books.specs.declared.pair.PairCost.{PairCost}
+use Rattle.resting_orders.specs.Pairs.{IsCheapest}
+use Rattle.resting_orders.specs.declared.pair.PairCost.{PairCost}
 use Rattle.quote_tables.specs.declared.front_costs.TheConstants.{NO_PAIR}
 use Rattle.candidate_search.specs.code.Cheapest.{CostsOfFronts, KeepsOthers, is_sooner, sooner_of}
 use Rattle.quote_tables.specs.code.FrontCosts.{cost_of_cell, sum_of, cell_of, row_cell, pair_of_cell, pairs_of, spread_cost, outright_cost, AreFrontCosts, CostRows}

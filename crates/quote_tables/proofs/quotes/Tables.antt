@@ -15,12 +15,13 @@ use Rattle.spread_rulebook.specs.Prices.{IsOrderPrice}
 use Rattle.spread_rulebook.proofs.lists.Membership.{not_in_nil, from_map}
 use Rattle.order_rows.proofs.places.Ascending.{is_so, all_of, from_removed}
 use Rattle.order_rows.proofs.places.ChangedAt.{changed_at, changed, key_kept}
-use Rattle.order_books.specs.Queues.{IsFrontLevel}
-use Rattle.order_books.proofs.fronts.Changes.{KeepsQueue}
-use Rattle.order_books.proofs.fronts.TableHoldsFronts.{get_set_same, get_set_other, get_replicate, same_queue}
+use Rattle.resting_orders.specs.Queues.{IsFrontLevel}
+use Rattle.resting_orders.proofs.fronts.Changes.{KeepsQueue}
+use Rattle.resting_orders.proofs.fronts.FoldGivesFront.{same_queue}
+use Rattle.resting_orders.proofs.fronts.Slots.{get_set_same, get_set_other, get_replicate}
 use Rattle.candidate_search.specs.Listed.{IsInMonths}
-use Rattle.order_books.specs.declared.pair.PairCost.{PairCost}
-use Rattle.order_books.specs.Pairs.{spread_of, spread_side, IsCheapest}
+use Rattle.resting_orders.specs.declared.pair.PairCost.{PairCost}
+use Rattle.resting_orders.specs.Pairs.{spread_of, spread_side, IsCheapest}
 use Rattle.candidate_search.specs.code.Cheapest.{IsInColumn, KeepsCost, KeepsColumn, KeepsOthers}
 use Rattle.quote_tables.specs.code.QuoteTable.{QuotesView, no_quotes, AreQuotes, known_pair, HasCheapest, AreCheapest, ChangesOneQueue, is_as_good, HasCome, HasLeft, IsListed, IsQuoted, KeepsQuotes, AreAmong}
 use Rattle.quote_tables.proofs.quotes.Costs.{others_when_it_comes, others_when_it_leaves, changed_in_queue, own_when_it_comes, own_when_it_leaves}

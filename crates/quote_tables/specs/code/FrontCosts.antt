@@ -10,8 +10,8 @@ use Rattle.spread_rules.specs.Candidates.{Pairs}
 use Rattle.spread_rules.specs.Legs.{other_side}
 use Rattle.spread_rulebook.specs.Prices.{IsOrderPrice}
 use Rattle.order_tables.specs.QueueRanks.{side_index}
-use Rattle.order_books.specs.Pairs.{spread_of, spread_side, is_pair_on}
-use Rattle.order_books.specs.declared.pair.PairCost.{PairCost}
+use Rattle.resting_orders.specs.Pairs.{spread_of, spread_side, is_pair_on}
+use Rattle.resting_orders.specs.declared.pair.PairCost.{PairCost}
 use Rattle.candidate_search.specs.code.Cheapest.{CostsOfFront}
 use Rattle.quote_tables.specs.declared.front_costs.TheConstants.{NO_COST, NO_PAIR}
 

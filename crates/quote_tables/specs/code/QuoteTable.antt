@@ -10,15 +10,15 @@ use Rattle.spread_rules.specs.Candidates.{Pairs, cost, HasOrderPrice}
 use Rattle.spread_rules.specs.Clearing.{removed}
 use Rattle.spread_rules.specs.Legs.{other_side}
 use Rattle.order_rows.specs.Places.{Ascends}
-use Rattle.order_books.specs.Queues.{IsFrontLevel}
+use Rattle.resting_orders.specs.Queues.{IsFrontLevel}
 use Rattle.candidate_search.specs.Listed.{IsInMonths}
-use Rattle.order_books.specs.Pairs.{IsCheapest}
+use Rattle.resting_orders.specs.Pairs.{IsCheapest}
 use Rattle.candidate_search.specs.code.Cheapest.{KeepsCost, KeepsOthers}
 use Rattle.quote_tables.specs.code.FrontCosts.{CostRows, AreFrontCosts, cell_of, no_costs}
 use Rattle.quote_tables.specs.code.PairsOn.{AreAllOn}
 use Rattle.quote_tables.specs.declared.quote_table.Change.{Change}
 use Rattle.quote_tables.specs.declared.quote_table.Change.TheVariants.{Came, Left}
-use Rattle.order_books.specs.declared.pair.PairCost.{PairCost}
+use Rattle.resting_orders.specs.declared.pair.PairCost.{PairCost}
 
 -- what the cell of that side and month has, none where the table has no such month
 abbrev pub known_pair : List (Option PairCost) → Side → ℕ → Option (Option PairCost)

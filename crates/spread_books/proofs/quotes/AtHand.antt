@@ -5,8 +5,8 @@ use Rattle.std.specs.Option.{IsSomeAnd, option_to_list}
 use Rattle.spread_rules.specs.declared.order.Side.{Side}
 use Rattle.spread_rules.specs.declared.order.Order.{Order}
 use Rattle.spread_rules.specs.Candidates.{Pairs}
-use Rattle.order_books.specs.Pairs.{IsCheapest}
-use Rattle.order_books.specs.declared.pair.PairCost.{PairCost}
+use Rattle.resting_orders.specs.Pairs.{IsCheapest}
+use Rattle.resting_orders.specs.declared.pair.PairCost.{PairCost}
 use Rattle.candidate_search.specs.code.Cheapest.{IsInColumn, KeepsCost}
 use Rattle.quote_tables.specs.code.QuoteTable.{ChangesOneQueue}
 use Rattle.quote_tables.proofs.quotes.Columns.{kept_row}

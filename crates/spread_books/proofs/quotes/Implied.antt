@@ -16,9 +16,9 @@ use Rattle.spread_rules.specs.Legs.{other_side}
 use Rattle.spread_rules.specs.Quiet.{Rests}
 use Rattle.candidate_search.specs.Listed.{IsInMonths}
 use Rattle.spread_books.specs.Quotes.{pair_at, IsImplied, IsLeastImplied, IsQuote, AreQuotable}
-use Rattle.order_books.specs.declared.pair.PairCost.{PairCost}
+use Rattle.resting_orders.specs.declared.pair.PairCost.{PairCost}
 use Rattle.candidate_search.specs.code.Best.{Beats, CoversTwo}
-use Rattle.order_books.specs.Pairs.{spread_of, spread_side, IsCheapest}
+use Rattle.resting_orders.specs.Pairs.{spread_of, spread_side, IsCheapest}
 use Rattle.spread_books.specs.code.PairQuote.{AreFrontsOf, IsQuoteOfFronts}
 use Rattle.spread_rules.proofs.ranks.PairsSwitched.{price_on, priced, part_of}
 use Rattle.candidate_search.proofs.fronts.BeatAnyPair.{fronts_beat}

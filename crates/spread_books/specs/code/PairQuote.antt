@@ -8,7 +8,7 @@ use Rattle.spread_rules.specs.declared.candidate.Choice.{Choice}
 use Rattle.spread_rules.specs.declared.candidate.Counterparty.TheVariants.{Implied}
 use Rattle.spread_rules.specs.Candidates.{Pairs, price_of, members_of}
 use Rattle.spread_rules.specs.Quiet.{Rests}
-use Rattle.order_books.specs.Queues.{IsFront}
+use Rattle.resting_orders.specs.Queues.{IsFront}
 
 -- the fronts meet the order at the quote's price
 pub record AreFrontsOf

@@ -1,5 +1,5 @@
 use Rattle.std.proofs.Common.{Some, subst, sym, ap, ◌∙◌}
-use Rattle.order_books.specs.Queues.{IsFrontLevel}
+use Rattle.resting_orders.specs.Queues.{IsFrontLevel}
 use Rattle.candidate_search.proofs.fronts.Levels.{level_beyond, no_level_beyond}
 use Rattle.spread_rules.specs.Candidates.{is_within_limit}
 use Rattle.spread_rulebook.proofs.rulebook_texts.OrderPrices.{order_is}

@@ -1,6 +1,6 @@
 use Rattle.std.proofs.Common.{sym, subst, ◌∙◌}
 use Rattle.spread_rules.specs.Candidates.{all_on}
-use Rattle.order_books.specs.Queues.{IsFrontLevel}
+use Rattle.resting_orders.specs.Queues.{IsFrontLevel}
 use Rattle.candidate_search.proofs.fronts.Levels.{front_of_level, none_without_level, none_meets}
 use Rattle.candidate_search.proofs.best.fronts_meet.Goals as goal
 

@@ -1,6 +1,6 @@
 use Rattle.std.proofs.Common.{true, false, subst, sym, ◌∙◌, Some, None}
 use Rattle.spread_rules.specs.declared.order.Side.{Side}
-use Rattle.order_books.specs.Queues.{IsFront}
+use Rattle.resting_orders.specs.Queues.{IsFront}
 use Rattle.candidate_search.specs.code.Best.{IsBestDirect}
 use Rattle.candidate_search.proofs.fronts.DirectFirst.{front_made}
 use Rattle.candidate_search.proofs.best.with_front.Goals as goal

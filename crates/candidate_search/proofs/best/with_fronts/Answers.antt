@@ -5,7 +5,7 @@ use Rattle.spread_rules.specs.code.Cases.{better_of}
 use Rattle.spread_rules.specs.Candidates.{IsEligible, is_before, candidate_of, takes_part}
 use Rattle.spread_rules.proofs.ranks.PlainIsLeast.{ranks}
 use Rattle.spread_rules.proofs.ranks.PairsSwitched.{candidate_on}
-use Rattle.order_books.specs.Queues.{IsFront}
+use Rattle.resting_orders.specs.Queues.{IsFront}
 use Rattle.candidate_search.specs.code.Best.{IsFair, Beats}
 use Rattle.candidate_search.proofs.fronts.BeatAnyPair.{fronts_beat, candidate_fair, stays_beaten, beaten_by, better_has}
 use Rattle.candidate_search.proofs.best.with_fronts.Goals as goal

@@ -5,7 +5,7 @@ use Rattle.spread_rulebook.specs.declared.instrument.Instrument.TheVariants.{Out
 use Rattle.spread_rulebook.specs.Rulebook.{implied, month_count}
 use Rattle.spread_rules.specs.Legs.{other_side}
 use Rattle.candidate_search.specs.code.Best.{CoversTwo, is_better}
-use Rattle.order_books.specs.Pairs.{IsCheapest, spread_of, spread_side}
+use Rattle.resting_orders.specs.Pairs.{IsCheapest, spread_of, spread_side}
 use Rattle.candidate_search.proofs.fronts.MonthPairs.{pair_takes_part, cheapest_beats, none_beats, price_passed}
 use Rattle.candidate_search.proofs.fronts.DirectFirst.{not_better}
 use Rattle.candidate_search.proofs.best.with_months.Goals as goal

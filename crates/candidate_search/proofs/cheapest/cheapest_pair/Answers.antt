@@ -1,6 +1,6 @@
 use Rattle.std.proofs.Common.{◌≡◌, subst, sym, ap, ◌∙◌}
 use Rattle.spread_rulebook.specs.Rulebook.{implied}
-use Rattle.order_books.specs.Pairs.{IsCheapest}
+use Rattle.resting_orders.specs.Pairs.{IsCheapest}
 use Rattle.candidate_search.specs.code.Cheapest.{cheaper_of}
 use Rattle.candidate_search.proofs.fronts.MonthPairs.{cheapest_more}
 use Rattle.candidate_search.proofs.cheapest.cheapest_pair.Goals as goal

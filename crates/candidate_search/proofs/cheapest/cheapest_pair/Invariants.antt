@@ -1,5 +1,5 @@
 use Rattle.spread_rulebook.specs.Rulebook.{implied}
-use Rattle.order_books.specs.Pairs.{IsCheapest}
+use Rattle.resting_orders.specs.Pairs.{IsCheapest}
 use Rattle.candidate_search.proofs.cheapest.cheapest_pair.Given as goal
 
 abbrev pub invariant-loop-other_month : goal.invariant-loop-other_month

@@ -1,7 +1,7 @@
 use Rattle.std.proofs.Common.{◌≡◌, Some, subst, sym, ap, ◌∙◌}
 use Rattle.spread_rules.specs.Candidates.{cost}
 use Rattle.spread_rules.specs.Legs.{other_side}
-use Rattle.order_books.specs.Queues.{IsFrontLevel}
+use Rattle.resting_orders.specs.Queues.{IsFrontLevel}
 use Rattle.candidate_search.specs.code.Cheapest.{HasFront}
 use Rattle.candidate_search.proofs.fronts.Levels.{none_without_level}
 use Rattle.spread_rulebook.proofs.rulebook_texts.OrderPrices.{order_is}

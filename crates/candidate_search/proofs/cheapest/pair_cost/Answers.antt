@@ -4,7 +4,7 @@ use Rattle.spread_rulebook.specs.declared.instrument.Instrument.{Instrument}
 use Rattle.spread_rulebook.specs.declared.instrument.Instrument.TheVariants.{Outright}
 use Rattle.spread_rules.specs.Legs.{other_side}
 use Rattle.spread_rulebook.specs.Rulebook.{implied}
-use Rattle.order_books.specs.Pairs.{spread_of, spread_side, HasFronts}
+use Rattle.resting_orders.specs.Pairs.{spread_of, spread_side, HasFronts}
 use Rattle.candidate_search.specs.code.Cheapest.{CostsOfFront}
 use Rattle.candidate_search.proofs.fronts.MonthPairs.{fronts_cost, leg_is, sum_passed}
 use Rattle.candidate_search.proofs.cheapest.pair_cost.Goals as goal

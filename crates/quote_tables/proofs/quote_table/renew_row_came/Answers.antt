@@ -1,8 +1,8 @@
 use Rattle.std.proofs.Common.{◌≡◌, ℕ, ◌<◌, ℤ, List, Option, IfSome, length, get_or, pos, slice_set, sym, ap, subst, ◌∙◌, arith, inl, inr}
 use Rattle.std.proofs.lemmas.List.{length-set}
 use Rattle.spread_rulebook.specs.Prices.{IsOrderPrice}
-use Rattle.order_books.specs.Pairs.{IsCheapest}
-use Rattle.order_books.specs.declared.pair.PairCost.{PairCost}
+use Rattle.resting_orders.specs.Pairs.{IsCheapest}
+use Rattle.resting_orders.specs.declared.pair.PairCost.{PairCost}
 use Rattle.candidate_search.specs.code.Cheapest.{KeepsOthers, sooner_of}
 use Rattle.quote_tables.specs.code.FrontCosts.{cell_of, row_cell, cost_of_cell, costs_of, cost_at, spread_cost, pairs_of, pair_of_cell}
 use Rattle.quote_tables.specs.code.QuoteTable.{HasCheapest}

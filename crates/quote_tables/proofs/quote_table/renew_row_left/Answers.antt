@@ -1,6 +1,6 @@
 use Rattle.std.proofs.Common.{◌≡◌, ℕ, ◌<◌, length, slice_set, sym, subst, ◌∙◌, arith, inl, inr}
 use Rattle.std.proofs.lemmas.List.{length-set}
-use Rattle.order_books.specs.Pairs.{IsCheapest}
+use Rattle.resting_orders.specs.Pairs.{IsCheapest}
 use Rattle.candidate_search.specs.code.Cheapest.{KeepsOthers}
 use Rattle.quote_tables.specs.code.FrontCosts.{cell_of, pairs_of, pair_of_cell}
 use Rattle.quote_tables.specs.code.QuoteTable.{HasCheapest}

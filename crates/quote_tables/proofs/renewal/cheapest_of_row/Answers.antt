@@ -2,7 +2,7 @@ use Rattle.std.proofs.Common.{◌≡◌, pos, ◌+◌, ◌<◌, ℤ, ◌+ℤ◌,
 use Rattle.std.specs.Prelude.{int_lt}
 use Rattle.spread_rules.specs.declared.order.Order.{Order}
 use Rattle.spread_rules.specs.Candidates.{Pairs}
-use Rattle.order_books.specs.Pairs.{IsCheapest}
+use Rattle.resting_orders.specs.Pairs.{IsCheapest}
 use Rattle.quote_tables.specs.declared.front_costs.TheConstants.{NO_PAIR}
 use Rattle.quote_tables.specs.code.FrontCosts.{AreFrontCosts}
 use Rattle.quote_tables.proofs.quotes.Cells.{told_there, small_there, sum_fits, sum_is, least_pair, least_more, lesser_then, lesser_else, near_then, row_ended}

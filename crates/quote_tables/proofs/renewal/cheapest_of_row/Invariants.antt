@@ -1,7 +1,7 @@
 use Rattle.std.proofs.Common.{◌<◌, ◌≤ℤ◌, List}
 use Rattle.spread_rules.specs.declared.order.Order.{Order}
 use Rattle.spread_rules.specs.Candidates.{Pairs}
-use Rattle.order_books.specs.Pairs.{IsCheapest}
+use Rattle.resting_orders.specs.Pairs.{IsCheapest}
 use Rattle.quote_tables.specs.declared.front_costs.TheConstants.{NO_PAIR}
 use Rattle.quote_tables.specs.code.FrontCosts.{AreFrontCosts}
 use Rattle.quote_tables.proofs.quotes.Cells.{least_pair}

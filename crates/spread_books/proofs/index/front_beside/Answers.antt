@@ -1,4 +1,4 @@
-use Rattle.order_books.proofs.fronts.Changes.{front_of_queue}
+use Rattle.resting_orders.proofs.fronts.Changes.{front_of_queue}
 use Rattle.spread_books.proofs.index.front_beside.Goals as goal
 
 pub returns : goal.returns

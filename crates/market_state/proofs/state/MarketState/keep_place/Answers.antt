@@ -1,6 +1,6 @@
 use Rattle.std.proofs.Common.{List, sym, subst, ap}
 use Rattle.spread_rules.specs.declared.order.Order.{Order}
-use Rattle.order_books.specs.Queues.{CanAmend}
+use Rattle.resting_orders.specs.Queues.{CanAmend}
 use Rattle.market_state.specs.State.{MarketState}
 use Rattle.market_state.proofs.entries.ReplacedStates.{may_amend}
 use Rattle.market_state.proofs.state.MarketState.keep_place.Goals as goal

@@ -1,7 +1,7 @@
 use Rattle.std.proofs.Common.{List, Option, Some, sym, ap, ◌∙◌, subst}
 use Rattle.spread_rules.specs.declared.order.Order.{Order}
 use Rattle.order_tables.specs.declared.front_table.BestPrice.{BestPrice}
-use Rattle.order_books.specs.Queues.{IsFront}
+use Rattle.resting_orders.specs.Queues.{IsFront}
 use Rattle.order_books.proofs.fronts.TableHoldsFronts.{front_found}
 use Rattle.order_books.proofs.front_book.FrontBookBook.front.Goals as goal
 

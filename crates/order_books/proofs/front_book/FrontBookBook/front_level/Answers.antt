@@ -2,7 +2,7 @@ use Rattle.std.proofs.Common.{List, Option, Some, None, sym, ap, ◌∙◌, subs
 use Rattle.spread_rules.specs.declared.order.Order.{Order}
 use Rattle.spread_rules.specs.declared.order.Level.{Level}
 use Rattle.order_tables.specs.declared.front_table.BestPrice.{BestPrice}
-use Rattle.order_books.specs.Queues.{IsFrontLevel}
+use Rattle.resting_orders.specs.Queues.{IsFrontLevel}
 use Rattle.order_books.proofs.fronts.TableHoldsFronts.{no_level, level_found}
 use Rattle.order_books.proofs.front_book.FrontBookBook.front_level.Goals as goal
 

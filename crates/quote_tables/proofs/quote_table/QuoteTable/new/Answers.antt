@@ -1,5 +1,5 @@
 use Rattle.std.proofs.Common.{ℕ, ◌*◌, replicate, refl, ap, ◌∙◌}
-use Rattle.order_books.specs.declared.pair.PairCost.{PairCost}
+use Rattle.resting_orders.specs.declared.pair.PairCost.{PairCost}
 use Rattle.quote_tables.specs.code.FrontCosts.{pairs_of}
 use Rattle.quote_tables.specs.declared.front_costs.TheConstants.{NO_PAIR}
 use Rattle.quote_tables.proofs.quotes.PairCells.{no_pairs, resized}

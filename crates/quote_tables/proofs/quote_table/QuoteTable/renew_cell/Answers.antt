@@ -1,6 +1,6 @@
 use Rattle.std.proofs.Common.{◌≡◌, ℤ, List, Option, Some, arith, sym, ap, subst, ◌∙◌}
-use Rattle.order_books.specs.Pairs.{IsCheapest}
-use Rattle.order_books.specs.declared.pair.PairCost.{PairCost}
+use Rattle.resting_orders.specs.Pairs.{IsCheapest}
+use Rattle.resting_orders.specs.declared.pair.PairCost.{PairCost}
 use Rattle.candidate_search.specs.code.Cheapest.{sooner_of}
 use Rattle.quote_tables.specs.code.FrontCosts.{pairs_of, pair_of_cell}
 use Rattle.quote_tables.specs.code.QuoteTable.{known_pair, HasCheapest, IsOneWay}

@@ -1,5 +1,5 @@
 use Rattle.std.proofs.Common.{List, Option, sym, ap, subst, ◌∙◌}
-use Rattle.order_books.specs.declared.pair.PairCost.{PairCost}
+use Rattle.resting_orders.specs.declared.pair.PairCost.{PairCost}
 use Rattle.quote_tables.specs.code.FrontCosts.{pairs_of}
 use Rattle.quote_tables.specs.code.QuoteTable.{HasCheapest, IsOneWay}
 use Rattle.quote_tables.specs.declared.quote_table.Change.{Change}

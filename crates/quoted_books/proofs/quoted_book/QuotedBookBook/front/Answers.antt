@@ -1,5 +1,5 @@
 use Rattle.std.proofs.Common.{subst}
-use Rattle.order_books.specs.Queues.{IsFront}
+use Rattle.resting_orders.specs.Queues.{IsFront}
 use Rattle.candidate_search.specs.BookView.{BookView}
 use Rattle.quoted_books.proofs.quoted_book.QuotedBookBook.front.Goals as goal
 

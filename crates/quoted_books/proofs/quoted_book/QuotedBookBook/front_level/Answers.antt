@@ -1,5 +1,5 @@
 use Rattle.std.proofs.Common.{subst}
-use Rattle.order_books.specs.Queues.{IsFrontLevel}
+use Rattle.resting_orders.specs.Queues.{IsFrontLevel}
 use Rattle.candidate_search.specs.BookView.{BookView}
 use Rattle.quoted_books.proofs.quoted_book.QuotedBookBook.front_level.Goals as goal
 

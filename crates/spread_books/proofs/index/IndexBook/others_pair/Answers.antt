@@ -1,7 +1,7 @@
 use Rattle.std.proofs.Common.{◌≡◌, true, false, sym, ap, subst, ◌∙◌}
 use Rattle.host_base.specs.declared.limits.TheConstants.{MAX_MONTHS}
 use Rattle.spread_rulebook.specs.Rulebook.{Rules, implied}
-use Rattle.order_books.specs.Pairs.{IsCheapest}
+use Rattle.resting_orders.specs.Pairs.{IsCheapest}
 use Rattle.candidate_search.specs.BookView.{BookView}
 use Rattle.spread_books.proofs.quotes.AtHand.{kept_by_newest}
 use Rattle.spread_books.proofs.index.IndexBook.others_pair.Goals as goal

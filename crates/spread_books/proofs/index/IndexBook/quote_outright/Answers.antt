@@ -5,7 +5,7 @@ use Rattle.spread_rulebook.specs.declared.instrument.Instrument.TheVariants.{Out
 use Rattle.spread_rules.specs.Candidates.{all_on, takes_part}
 use Rattle.spread_rulebook.specs.Rulebook.{implied}
 use Rattle.spread_rules.specs.Legs.{other_side}
-use Rattle.order_books.specs.Pairs.{spread_of, spread_side}
+use Rattle.resting_orders.specs.Pairs.{spread_of, spread_side}
 use Rattle.spread_books.specs.code.PairQuote.{IsQuoteOfFronts}
 use Rattle.spread_books.proofs.quotes.Implied.{no_quote, outright_quote, quote_on}
 use Rattle.candidate_search.proofs.fronts.MonthPairs.{month_takes_part}

@@ -4,9 +4,9 @@ use Rattle.spread_rules.specs.declared.order.Order.{Order}
 use Rattle.spread_rules.specs.Amended.{amended, with_quantity}
 use Rattle.order_rows.specs.Places.{Ascends}
 use Rattle.order_rows.proofs.places.Ascending.{ascends_changed}
-use Rattle.order_books.specs.Queues.{CanAmend}
+use Rattle.resting_orders.specs.Queues.{CanAmend}
 use Rattle.order_books.proofs.ranks.TablesThroughChanges.{from_both}
-use Rattle.order_books.proofs.places.LastOrder.{changed_newest, changed_before, amend_before}
+use Rattle.resting_orders.proofs.places.LastOrder.{changed_newest, changed_before, amend_before}
 use Rattle.candidate_search.specs.BookView.{BookView}
 use Rattle.spread_books.proofs.index.IndexBookBook.amend.Goals as goal
 

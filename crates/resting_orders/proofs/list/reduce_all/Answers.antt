@@ -2,7 +2,7 @@ use Rattle.std.proofs.Common.{◌≡◌, ◌<◌, subst, sym}
 use Rattle.spread_rules.specs.declared.order.Order.{Order}
 use Rattle.spread_rules.specs.code.Cases.{with_less_left}
 use Rattle.spread_rules.proofs.lists.InTurn.{still, next}
-use Rattle.order_books.proofs.list.reduce_all.Goals as goal
+use Rattle.resting_orders.proofs.list.reduce_all.Goals as goal
 
 pub reduce_one-requires : goal.reduce_one-requires
 reduce_one-requires c =

@@ -1,7 +1,7 @@
 //! Where an order stands among others: in which queue, and ahead of whom.
 ghost use Rattle.std.specs.Prelude.{◌≡◌, None, Some};
 ghost use Rattle.spread_rules.specs.Candidates.{better_by};
-ghost use Rattle.order_books.specs.Queues.{is_ahead, is_in};
+ghost use Rattle.resting_orders.specs.Queues.{is_ahead, is_in};
 
 use spread_rules::{Instrument, Order, Side};
 

@@ -8,8 +8,8 @@ use Rattle.spread_rules.specs.declared.order.Order.{Order}
 use Rattle.spread_rules.specs.Candidates.{Pairs, cost}
 use Rattle.spread_rules.specs.Legs.{other_side}
 use Rattle.spread_rules.specs.Quiet.{Rests}
-use Rattle.order_books.specs.Queues.{IsFront}
-use Rattle.order_books.specs.declared.pair.PairCost.{PairCost}
+use Rattle.resting_orders.specs.Queues.{IsFront}
+use Rattle.resting_orders.specs.declared.pair.PairCost.{PairCost}
 
 -- the spread of a month and another one
 abbrev pub spread_of : ℕ → ℕ → Instrument

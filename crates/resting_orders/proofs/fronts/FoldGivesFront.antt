@@ -1,5 +1,5 @@
 -- the fold over a list gives the front of a queue
-use Rattle.std.proofs.Common.{◌≡◌, List, refl, subst, Option, Some, None, Bool, true, false, cond, fold, arith}
+use Rattle.std.proofs.Common.{◌≡◌, List, refl, subst, Option, Some, None, Bool, true, false, cond, fold, arith, inl, inr, ◌⊎◌}
 use Rattle.std.proofs.lemmas.Bool.{and_parts}
 use Rattle.std.proofs.lemmas.Bool.Decides.{nat_tests}
 use Rattle.std.specs.Cmp.{IsTotalOrder, IsStrictWeakOrder}
@@ -13,9 +13,10 @@ use Rattle.spread_rules.specs.declared.order.Order.{Order}
 use Rattle.spread_rules.specs.Candidates.{same_instrument, cost}
 use Rattle.spread_rules.specs.Quiet.{Rests}
 use Rattle.spread_rules.proofs.ranks.FirstOfAFold.{IsFirst, fold_first}
-use Rattle.order_books.specs.Queues.{is_in, is_ahead, queue_cmp, IsFront, front_step}
+use Rattle.resting_orders.specs.Queues.{is_in, is_ahead, queue_cmp, IsFront, front_step}
 use Rattle.spread_rules.specs.Legs.{is_side, other_side}
 use Rattle.spread_rules.proofs.clearings.BoughtIsSold.{same_instrument_is}
+use Rattle.order_rows.proofs.places.Ascending.{is_so}
 
 pub queue_total : (side : Side) → IsTotalOrder (queue_cmp side)
 queue_total side = then_total (on_total (λ (o : Order). cost (other_side side) o.price) int_cmp_total) (on_total (λ (o : Order). o.place) nat_cmp_total)
@@ -36,6 +37,16 @@ same_side_is Sell Buy h = cc
 pub same_side_itself : (a : Side) → is_side a a ≡ true
 same_side_itself Buy = refl
 same_side_itself Sell = refl
+
+pub same_queue : (i j : Instrument) (s t : Side) → ((i ≡ j) × (s ≡ t)) ⊎ ((i ≡ j) × (s ≡ t) → ⊥)
+same_queue i j s t =
+    elim (is_so (same_instrument i j)) [
+      | inl a ↦ elim (is_so (is_side s t)) [
+        | inl b ↦ inl (same_instrument_is i j a, same_side_is s t b)
+        | inr b ↦ inr (λ e. let k : is_side s t ≡ true = subst (λ (u : Side). is_side s u ≡ true) e.1 (same_side_itself s) in cc)
+      ]
+      | inr a ↦ inr (λ e. let k : same_instrument i j ≡ true = subst (λ (u : Instrument). same_instrument i u ≡ true) e.0 (same_instrument_itself i) in cc)
+    ]
 
 pub in_queue : (xs : List Order) (instrument : Instrument) (side : Side) (o : Order) → Rests xs instrument side o → is_in instrument side o ≡ true
 in_queue xs instrument side o r = rw (r.instrument_is, r.side_is, same_instrument_itself instrument) (same_side_itself side)

@@ -10,7 +10,7 @@ use Rattle.spread_rules.specs.declared.order.Order.{Order}
 use Rattle.spread_rules.specs.Clearing.{removed}
 use Rattle.spread_rules.specs.Meaning.{is_own}
 use Rattle.spread_rules.specs.Amended.{done}
-use Rattle.order_books.specs.Queues.{CanAmend}
+use Rattle.resting_orders.specs.Queues.{CanAmend}
 use Rattle.spread_rulebook.proofs.lists.Membership.{not_in_nil, in_cons_cases}
 use Rattle.order_rows.specs.Places.{HasMore, HasPlace, Ascends}
 use Rattle.order_rows.proofs.places.ChangedAt.{changed_at, changed, changed_nobody}

@@ -5,7 +5,7 @@ ghost use Rattle.spread_rules.specs.code.Cases.{with_less_left, amended_at};
 ghost use Rattle.spread_rules.specs.Clearing.{reduced, removed};
 ghost use Rattle.spread_rules.specs.Meaning.{is_own};
 ghost use Rattle.spread_rules.specs.Amended.{amended};
-ghost use Rattle.order_books.specs.Queues.{is_in, front_step};
+ghost use Rattle.resting_orders.specs.Queues.{is_in, front_step};
 
 use crate::book::Book;
 use crate::queue::{front_with, is_in};

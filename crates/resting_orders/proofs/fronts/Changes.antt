@@ -14,9 +14,9 @@ use Rattle.spread_rules.specs.Candidates.{better_by}
 use Rattle.spread_rules.specs.Quiet.{Rests}
 use Rattle.spread_rules.specs.Clearing.{removed}
 use Rattle.spread_rulebook.proofs.lists.Membership.{in_head, in_map, from_map}
-use Rattle.order_books.specs.Queues.{IsFront, IsFrontLevel, is_in, is_ahead, queue_cmp}
+use Rattle.resting_orders.specs.Queues.{IsFront, IsFrontLevel, is_in, is_ahead, queue_cmp}
 use Rattle.order_rows.specs.Places.{Ascends}
-use Rattle.order_books.proofs.fronts.FoldGivesFront.{queue_total, in_queue, from_queue}
+use Rattle.resting_orders.proofs.fronts.FoldGivesFront.{queue_total, in_queue, from_queue}
 use Rattle.order_rows.proofs.places.Ascending.{one_at_a_place, is_so, from_removed, in_removed}
 use Rattle.order_rows.proofs.places.ChangedAt.{changed_at, changed, key_kept}
 

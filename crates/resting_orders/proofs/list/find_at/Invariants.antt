@@ -1,6 +1,6 @@
 use Rattle.std.proofs.Common.{◌≡◌, ◌==◌, drop}
 use Rattle.std.specs.List.{find}
-use Rattle.order_books.proofs.list.find_at.Given as goal
+use Rattle.resting_orders.proofs.list.find_at.Given as goal
 
 abbrev pub invariant-loop-order : goal.invariant-loop-order
 invariant-loop-order l =

@@ -1,8 +1,8 @@
 use Rattle.std.proofs.Common.{subst, sym, ap, ◌∙◌, fold, None, List}
 use Rattle.spread_rules.specs.declared.order.Order.{Order}
-use Rattle.order_books.specs.Queues.{IsFront, front_step}
-use Rattle.order_books.proofs.fronts.FoldGivesFront.{fold_front}
-use Rattle.order_books.proofs.list.ListBookBook.front.Goals as goal
+use Rattle.resting_orders.specs.Queues.{IsFront, front_step}
+use Rattle.resting_orders.proofs.fronts.FoldGivesFront.{fold_front}
+use Rattle.resting_orders.proofs.list.ListBookBook.front.Goals as goal
 
 pub returns : goal.returns
 returns g c =

@@ -8,8 +8,8 @@ ghost use Rattle.spread_rules.specs.Clearing.{reduced, removed};
 ghost use Rattle.spread_rules.specs.Meaning.{is_own};
 ghost use Rattle.spread_rules.specs.declared.order.Order.{Order};
 ghost use Rattle.spread_rules.specs.Amended.{amended};
-ghost use Rattle.order_books.specs.Pairs.{IsCheapest};
-ghost use Rattle.order_books.specs.Queues.{CanAmend, IsFront, IsFrontLevel};
+ghost use Rattle.resting_orders.specs.Pairs.{IsCheapest};
+ghost use Rattle.resting_orders.specs.Queues.{CanAmend, IsFront, IsFrontLevel};
 ghost use Rattle.order_rows.specs.Places.{HasMore, HasPlace};
 
 use crate::pair::PairCost;

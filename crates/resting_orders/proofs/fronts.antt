@@ -1,0 +1,3 @@
+pub mod Changes
+pub mod FoldGivesFront
+pub mod Slots
