@@ -2,6 +2,5 @@
 #![tactic(auto)]
 
 mod state;
-mod ticket;
 
 pub use state::MarketState;

@@ -1,38 +1,40 @@
 //! The state of a market, and what each kind of entry does to it.
-ghost use Rattle.std.specs.Prelude.{◌≡◌, ℕ, ◌<◌, ◌≤◌, ◌+◌, ◌*◌, min, List, All, Contains, OnOk, OnErr, IfOk, ◌++◌, [], drop, length, cond, is_some, Option, None, true, false};
+ghost use Rattle.std.specs.Prelude.{◌≡◌, ℕ, ◌<◌, ◌≤◌, ◌+◌, ◌*◌, min, List, All, Contains, OnOk, OnErr, IfOk, ◌++◌, [], length, is_some, Option, None, true, false};
 ghost use Rattle.std.specs.List.{find};
 ghost use Rattle.std.specs.Vec.{vec_len, vec_capacity};
 ghost use Rattle.host_base.specs.declared.limits.TheConstants.{MAX_ORDER_QTY};
-ghost use Rattle.spread_rules.specs.declared.codes.ord_rej_reason.TheConstants.{DUPLICATE_ORDER};
 ghost use Rattle.spread_rules.specs.declared.order.Order.{Order};
 ghost use Rattle.spread_rules.specs.declared.outcome.OrderStatus.{OrderStatus};
 ghost use Rattle.spread_rules.specs.declared.event.Event.TheVariants.{New, Cancel, Replace};
-ghost use Rattle.spread_rules.specs.declared.outcome.Outcome.TheVariants.{Refused};
 ghost use Rattle.spread_rules.specs.code.Cases.{keeping_means};
 ghost use Rattle.spread_rules.specs.Amended.{done};
 ghost use Rattle.spread_rules.specs.Candidates.{PlacesDiffer};
 ghost use Rattle.spread_rules.specs.Clearing.{removed};
 ghost use Rattle.spread_rulebook.specs.Prices.{IsOrderPrice};
-ghost use Rattle.spread_rules.specs.Meaning.{has_id, is_own, is_refused, outcome_of, order_of, resting, resting_status, keeps_place, cancel_of_nothing_resting, untraded};
+ghost use Rattle.spread_rules.specs.Meaning.{has_id, is_own, is_refused, resting, resting_status, keeps_place, cancel_of_nothing_resting, untraded};
 ghost use Rattle.spread_rulebook.specs.Rulebook.{month_count};
 ghost use Rattle.market_state.specs.State.{empty_state};
 ghost use Rattle.candidate_search.specs.Listed.{IsInMonths, IsNearBeforeFar};
 ghost use Rattle.market_state.specs.Trade.{IsPriced};
 ghost use Rattle.order_clearing.specs.Tradable.{IsTradable};
 ghost use Rattle.order_statuses.specs.code.Statuses.{statuses_after};
-ghost use Rattle.market_state.specs.code.StateAfter.{with_order, with_refusal, refusal_in, matched_in, cancel_in, replace_refusal, replaced_in, moved_in, trading_in, meaning_in, state_after, state_with, orders_after_trading, AreKnown, IsReady};
+ghost use Rattle.market_state.specs.code.StateAfter.{with_order, with_refusal, refusal_in, matched_in, cancel_in, replaced_in, moved_in, trading_in, meaning_in, state_after, state_with, IsReady};
+ghost use Rattle.known_orders.specs.code.Known.{AreKnown};
 ghost use Rattle.order_clearing.specs.code.Turns.{IsNewest};
 
-use crate::ticket::{judge, keeps_place, moved_order, replace_refusal, resting_status};
 use host_base::{Id, NoMemory};
-use order_clearing::trade;
+use known_orders::{add_order, resting_order, trade_newest};
+use order_rows::with_quantity;
 use order_statuses::Statuses;
-use order_rows::{is_own, with_quantity};
 use spread_books::Book;
 use spread_rules::codes::{cxl_rej_reason, ord_rej_reason, ord_status};
 use spread_rules::{Entry, Event, Fill, Instrument, Order, OrderStatus, Outcome, Rulebook, Ticket};
 use std::alloc::Allocator;
 use std::marker::Model;
+use ticket_judging::{
+    judge, keeps_place, moved_order, new_order, outcome_with, refusal, replace_refusal,
+    resting_status,
+};
 
 /// Resting orders, the status of each New and Replace entry so far, and the greatest place that was given.
 #[derive(Drop)]
@@ -57,67 +59,6 @@ struct ListedTicket<'a> {
     session: u8,
     ticket: &'a Ticket,
     instrument: Instrument,
-}
-
-/// A refusal. That its id was used comes before any other reason.
-fn refusal(used: bool, reason: u8) -> Outcome
-    ensures { result ≡ Refused (cond used DUPLICATE_ORDER reason) }
-{
-    Outcome::Refused(if used {
-        ord_rej_reason::DUPLICATE_ORDER
-    } else {
-        reason
-    })
-}
-
-/// Orders that the fills from that one on leave nothing of are filled.
-fn mark_filled_from<A: Allocator + Copy>(statuses: &mut Statuses<A>, fills: &[Fill], from: usize)
-    requires { from ≤ length fills.now }
-    ensures { statuses.new ≡ statuses_after (drop from fills.now) statuses.old }
-{
-    statuses.mark_filled(&fills[from..]);
-}
-
-/// What becomes of an order of which so much is left.
-fn outcome_with(immediate: bool, left: u32) -> Outcome
-    ensures { result ≡ outcome_of immediate left }
-{
-    if left == 0 {
-        Outcome::Filled
-    } else if immediate {
-        Outcome::Ended { left }
-    } else {
-        Outcome::Rested
-    }
-}
-
-/// A new order as it comes in.
-fn new_order(place: u64, session: u8, ticket: &Ticket, instrument: Instrument) -> Order
-    ensures { result ≡ order_of place session ticket.now instrument }
-{
-    Order {
-        place,
-        session,
-        id: ticket.id,
-        instrument,
-        side: ticket.side,
-        price: ticket.price,
-        quantity: ticket.quantity,
-        leaves: ticket.quantity,
-    }
-}
-
-/// The new order rests with what is left, or goes.
-fn rest_or_remove<B: Book>(book: &mut B, immediate: bool, own: &Order, left: u32)
-    requires newest { IsNewest own.now (B.orders book.old) }
-    requires most { left ≤ own.now.leaves }
-    ensures { B.orders book.new ≡ orders_after_trading immediate own.now left (B.orders book.old) }
-{
-    if left == 0 || immediate {
-        book.remove(own.place);
-    } else if left < own.leaves {
-        book.reduce(own.place, own.leaves - left);
-    }
 }
 
 impl<B: Book, A: Allocator + Copy> MarketState<B, A> {
@@ -184,18 +125,7 @@ impl<B: Book, A: Allocator + Copy> MarketState<B, A> {
             used ≡ true → self.new ≡ with_refusal self.old order.now) }
         ensures err { OnErr result (self.new ≡ self.old) }
     {
-        self.book.add(*order)?;
-        let place = order.place;
-        let noted = self.statuses.add(OrderStatus {
-            session: order.session,
-            id: order.id,
-            place,
-            status: ord_status::CANCELED,
-        });
-        if noted.unwrap_or(true) {
-            self.book.remove(place);
-        }
-        noted
+        add_order(&mut self.book, &mut self.statuses, order)
     }
 
     /// The newest order, which stands in the book and among the statuses, is traded, and rests with what is left or
@@ -221,11 +151,14 @@ impl<B: Book, A: Allocator + Copy> MarketState<B, A> {
             ≡ statuses_after (trading_in rules.now self.old order.now).fills self.old.statuses }
         ensures last { self.new.last ≡ self.old.last }
     {
-        let before = fills.len();
-        let left = trade(&mut self.book, rules, *order, fills);
-        rest_or_remove(&mut self.book, immediate, order, left.leaves);
-        mark_filled_from(&mut self.statuses, fills, before);
-        left.leaves
+        trade_newest(
+            &mut self.book,
+            &mut self.statuses,
+            rules,
+            order,
+            immediate,
+            fills,
+        )
     }
 
     /// Clears a ticket of a listed instrument, which is refused only where its id was used. All growth comes first.
@@ -329,13 +262,7 @@ impl<B: Book, A: Allocator + Copy> MarketState<B, A> {
         requires known { AreKnown self.now.statuses self.now.orders }
         ensures { result ≡ find (is_own session id.now) self.now.orders }
     {
-        let status = self.statuses.find(session, id)?;
-        let order = self.book.at(status.place)?;
-        if is_own(&order, session, id) {
-            Some(order)
-        } else {
-            None
-        }
+        resting_order(&self.book, &self.statuses, session, id)
     }
 
     /// Ends the resting order with the original id.

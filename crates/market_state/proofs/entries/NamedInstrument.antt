@@ -6,7 +6,7 @@ use Rattle.spread_rulebook.specs.declared.instrument.Instrument.TheVariants.{Out
 use Rattle.spread_rulebook.specs.Rulebook.{Rules, month_count, instruments_of, IsListed, symbol_of, find_symbol}
 use Rattle.spread_rulebook.proofs.rulebook_texts.SymbolsNameOne.{from_instruments}
 use Rattle.candidate_search.specs.Listed.{IsInMonths, IsNearBeforeFar}
-use Rattle.market_state.proofs.entries.FoundStands.{find_stands}
+use Rattle.known_orders.proofs.entries.FoundStands.{find_stands}
 
 pub listed_found : (rules : Rules) (symbol : List ℕ) (i : Instrument) → find_symbol rules symbol ≡ Some i → IsListed rules i
 listed_found rules symbol i e = from_instruments rules i (find_stands (λ (x : Instrument). bytes_eq (symbol_of rules x) symbol) (instruments_of rules) i e)

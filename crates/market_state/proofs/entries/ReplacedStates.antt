@@ -21,12 +21,14 @@ use Rattle.spread_rulebook.specs.Rulebook.{Rules, references_of, implied}
 use Rattle.resting_orders.specs.Queues.{CanAmend}
 use Rattle.market_state.specs.State.{MarketState}
 use Rattle.order_clearing.specs.Tradable.{IsTradable}
-use Rattle.market_state.specs.code.StateAfter.{AreKnown, entered_status, meaning_in, moved_in, replace_refusal, replaced_in, state_after, state_with}
+use Rattle.market_state.specs.code.StateAfter.{meaning_in, moved_in, replaced_in, state_after, state_with}
+use Rattle.known_orders.specs.code.Known.{AreKnown, entered_status}
+use Rattle.ticket_judging.specs.code.Refusals.{replace_refusal}
 use Rattle.order_statuses.specs.code.Statuses.{status_after_replace, statuses_after}
 use Rattle.order_clearing.specs.code.Turns.{IsNewest}
-use Rattle.market_state.proofs.entries.NewOrder.{below_new, removed_newest, tradable_more, first_is_four}
+use Rattle.known_orders.proofs.entries.NewOrder.{below_new, removed_newest, tradable_more, first_is_four}
 use Rattle.market_state.proofs.entries.MayRest.{moved_rests, removed_tradable}
-use Rattle.market_state.proofs.entries.OrderOfAnId.{unused_rests}
+use Rattle.known_orders.proofs.entries.OrderOfAnId.{unused_rests}
 use Rattle.market_state.proofs.entries.Replaces.{own_is}
 
 -- ---- a new order

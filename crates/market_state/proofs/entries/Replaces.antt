@@ -28,7 +28,7 @@ use Rattle.spread_rulebook.specs.Rulebook.{Rules, find_symbol, references_of, im
 use Rattle.spread_rulebook.proofs.lists.Membership.{from_map}
 use Rattle.candidate_search.specs.Listed.{IsNearFirst, IsInMonths}
 use Rattle.order_clearing.specs.Tradable.{IsTradable}
-use Rattle.market_state.proofs.entries.FoundStands.{find_holds}
+use Rattle.known_orders.proofs.entries.FoundStands.{find_holds}
 use Rattle.order_statuses.proofs.status_rows.MarkedRows.{same_number}
 
 -- ---- the order that is named

@@ -1,14 +1,13 @@
 -- The market's state after an entry: the orders that rest, and a status for each New and Replace entry in place of the
 -- past.
 -- Words of the code alone.
-use Rattle.std.specs.Prelude.{◌≡◌, ℕ, ◌-◌, ◌==◌, ◌≤◌, nat_le, Bool, not, ◌||◌, cond, if◌then◌else◌, List, [], ◌∷◌, ◌++◌, map, All, Option, Some, None, option_map, Result}
+use Rattle.std.specs.Prelude.{ℕ, ◌≤◌, not, cond, List, [], ◌∷◌, ◌++◌, map, All, Option, Some, None}
 use Rattle.std.specs.List.{find}
-use Rattle.spread_rules.specs.declared.codes.cxl_rej_reason.TheConstants as cxl_rej_reason
 use Rattle.spread_rules.specs.declared.codes.ord_rej_reason.TheConstants as ord_rej_reason
 use Rattle.spread_rules.specs.declared.codes.ord_status.TheConstants as ord_status
 use Rattle.spread_rules.specs.declared.order.Order.{Order}
 use Rattle.spread_rules.specs.code.Cases.{moving_means, replace_of_resting, clearing_means}
-use Rattle.spread_rules.specs.Clearing.{clear, removed, reduced, Trading}
+use Rattle.spread_rules.specs.Clearing.{clear, removed, Trading}
 use Rattle.spread_rules.specs.declared.outcome.OrderStatus.{OrderStatus}
 use Rattle.spread_rulebook.specs.declared.instrument.Instrument.{Instrument}
 use Rattle.spread_rules.specs.declared.event.Ticket.{Ticket}
@@ -16,8 +15,8 @@ use Rattle.spread_rules.specs.declared.event.Event.{Event}
 use Rattle.spread_rules.specs.declared.outcome.Outcome.{Outcome}
 use Rattle.spread_rules.specs.declared.outcome.Outcome.TheVariants.{Refused}
 use Rattle.order_clearing.specs.Tradable.{IsTradable}
-use Rattle.spread_rules.specs.Amended.{done}
-use Rattle.spread_rules.specs.Meaning.{EntryMeaning, has_id, instrument_or_refusal_of, is_own, is_refused, may_replace, meaning_with, moved_to, order_of, original_of, place_left, ticket_of, untraded, cancel_means}
+use Rattle.known_orders.specs.code.Known.{entered_status, trading_of, AreKnown}
+use Rattle.spread_rules.specs.Meaning.{EntryMeaning, has_id, instrument_or_refusal_of, is_own, is_refused, meaning_with, moved_to, order_of, original_of, place_left, ticket_of, untraded, cancel_means}
 use Rattle.spread_rulebook.specs.Rulebook.{implied, Rules, references_of}
 use Rattle.market_state.specs.State.{MarketState}
 use Rattle.order_statuses.specs.code.Statuses.{status_after_replace, statuses_after}
@@ -68,13 +67,6 @@ cancel_in m session original =
     (find (has_id session original) m.statuses)
     (find (is_own session original) m.orders)
 
--- why a replace of that resting order is refused, if it is
-abbrev pub replace_refusal : Ticket → Order → Result Instrument ℕ → Option ℕ
-replace_refusal t r instrument =
-    if not (may_replace t r instrument) then Some cxl_rej_reason.BROKER_OPTION
-    else if nat_le t.quantity (done r) then Some cxl_rej_reason.TOO_LATE
-    else None
-
 -- what a replace of that resting order comes to, where it is not refused and loses its place
 abbrev pub moved_in : Rules → MarketState → ℕ → Ticket → Order → EntryMeaning
 moved_in rules m place t r =
@@ -87,10 +79,9 @@ replaced_in rules m place t r =
     replace_of_resting rules m.orders place t
     (instrument_or_refusal_of rules m.statuses r.session t) r
 
--- how that order is traded with all other orders
+-- how that order is traded with all other orders of that state
 abbrev pub trading_in : Rules → MarketState → Order → Trading
-trading_in rules m order =
-    clear (implied rules) (references_of rules) order (removed order.place m.orders)
+trading_in rules m order = trading_of rules order m.orders
 
 -- the state after an entry that came to this
 abbrev pub state_with : MarketState → ℕ → ℕ → Event → EntryMeaning → MarketState
@@ -107,15 +98,6 @@ abbrev pub state_after : Rules → MarketState → ℕ → ℕ → Event → Mar
 state_after rules m place session event =
     state_with m place session event (meaning_in rules m place session event)
 
--- the first status of an order that is not refused
-abbrev pub entered_status : Order → OrderStatus
-entered_status o = record {
-  session = o.session;
-  id = o.id;
-  place = o.place;
-  status = ord_status.CANCELED;
-}
-
 -- with that order in the book, and its status
 abbrev pub with_order : MarketState → Order → MarketState
 with_order m o =
@@ -127,21 +109,6 @@ with_refusal m o =
     record m {
       statuses = m.statuses ++ record (entered_status o) { status = ord_status.REJECTED } ∷ [];
     }
-
--- what the book does with the new order once it has traded
-abbrev pub orders_after_trading : Bool → Order → ℕ → List Order → List Order
-orders_after_trading immediate own left xs =
-    if left == 0 || immediate then removed own.place xs
-    else if left == own.leaves then xs
-    else reduced own.place (own.leaves - left) xs
-
--- the place that the first status of that session and id names
-abbrev pub place_of_id : List OrderStatus → ℕ → List ℕ → Option ℕ
-place_of_id ss session id = option_map (λ s. s.place) (find (has_id session id) ss)
-
--- each order stands at the place that the status of its session and id names
-abbrev pub AreKnown : List OrderStatus → List Order → Type 0
-AreKnown ss xs = All (λ o. place_of_id ss o.session o.id ≡ Some o.place) xs
 
 -- what has to hold of a market, so that the next entry can be applied
 pub record IsReady (months : ℕ) (m : MarketState) : Type 0 where

@@ -22,17 +22,18 @@ use Rattle.market_state.specs.State.{MarketState}
 use Rattle.candidate_search.specs.Listed.{IsNearFirst, IsInMonths}
 use Rattle.order_clearing.specs.Tradable.{IsTradable}
 use Rattle.market_state.specs.Trade.{IsPriced}
-use Rattle.market_state.specs.code.StateAfter.{AreKnown, IsReady, place_of_id, first_status, meaning_in, state_after, state_with, statuses_after_replace}
+use Rattle.market_state.specs.code.StateAfter.{IsReady, first_status, meaning_in, state_after, state_with, statuses_after_replace}
+use Rattle.known_orders.specs.code.Known.{AreKnown, place_of_id}
 use Rattle.order_statuses.specs.code.Statuses.{status_after_fill, status_after_replace, statuses_after}
 use Rattle.order_statuses.proofs.status_rows.MarkedRows.{KeepsName, has_id_kept, has_own_id}
 use Rattle.order_statuses.proofs.status_rows.MarksOfEntries.{fill_keeps, replace_keeps}
 use Rattle.order_clearing.proofs.turns.NotAgainstItself.{are_apart}
 use Rattle.order_clearing.proofs.turns.StaysTradable.{still_tradable}
-use Rattle.market_state.proofs.entries.NewOrder.{clear_all, clear_keeps, below_new, none_earlier, taken_is}
+use Rattle.known_orders.proofs.entries.NewOrder.{clear_all, clear_keeps, below_new, none_earlier, taken_is}
 use Rattle.market_state.proofs.entries.NamedInstrument.{listed_found, near_of, months_of}
 use Rattle.market_state.proofs.entries.MayRest.{MayRest, moved_rests, removed_tradable}
 use Rattle.spread_match.proofs.entries.PastStaysSound.{later_all, new_rests, rests_all, rest_tradable}
-use Rattle.market_state.proofs.entries.FoundStands.{find_stands}
+use Rattle.known_orders.proofs.entries.FoundStands.{find_stands}
 use Rattle.market_state.proofs.entries.Replaces.{CanReplace, all_amended, amended_tradable, by_replace, from_amended, own_is}
 use Rattle.spread_rules.specs.Amended.{amended, done}
 use Rattle.spread_rules.specs.declared.fill.Fill.{Fill}

@@ -29,10 +29,10 @@ use Rattle.spread_match.specs.Sound.{HasEntry, IsCounted, IsEntryApplied, IsName
 use Rattle.spread_match.proofs.entries.FillsCounted.{IsRunning, running}
 use Rattle.market_state.proofs.entries.NamedInstrument.{listed_found, near_of, months_of}
 use Rattle.spread_rulebook.specs.Prices.{IsOrderPrice}
-use Rattle.market_state.proofs.entries.NewOrder.{tradable_more, clear_all, clear_keeps, taken_is, below_new}
+use Rattle.known_orders.proofs.entries.NewOrder.{tradable_more, clear_all, clear_keeps, taken_is, below_new}
 use Rattle.spread_rules.specs.Meaning.{EntryMeaning, JournalState, PastTicket, cancel_means, filled, has_id, is_own, is_refused, meaning_of, meaning_with, moved_to, new_means, order_of, original_of, refusal_or_instrument, replace_means, resting, statuses_of, ticket_of, with_meaning}
 use Rattle.spread_rules.specs.Amended.{amended, done, with_quantity}
-use Rattle.market_state.proofs.entries.FoundStands.{find_stands}
+use Rattle.known_orders.proofs.entries.FoundStands.{find_stands}
 use Rattle.market_state.proofs.entries.MayRest.{MayRest, moved_rests, removed_tradable}
 use Rattle.market_state.proofs.entries.Replaces.{IsOwn, accepted_unused, amended_place, amended_tradable, by_replace, from_amended, none_refused, own_is}
 use Rattle.spread_match.proofs.entries.StatusesOfThePast.{statuses_more, unused}

@@ -19,7 +19,7 @@ use Rattle.spread_rules.specs.FirstMeaning.{is_replace, is_refused as was_refuse
 use Rattle.spread_rulebook.specs.Rulebook.{Rules, find_symbol, month_count, references_of, implied}
 use Rattle.spread_rulebook.proofs.lists.Membership.{not_in_nil}
 use Rattle.spread_match.specs.Sound.{IsSound}
-use Rattle.market_state.proofs.entries.NewOrder.{none_earlier, taken_is}
+use Rattle.known_orders.proofs.entries.NewOrder.{none_earlier, taken_is}
 use Rattle.spread_match.proofs.entries.PastStaysSound.{filled_none, new_asks, rests_all, started}
 use Rattle.spread_match.proofs.first_meaning.FilledWhole.{AreExact, IsExact, IsMarked, IsTicketOf, exact_turns}
 use Rattle.spread_match.proofs.entries.StatusesOfThePast.{not_named, not_named_at, unused}

@@ -33,12 +33,12 @@ use Rattle.spread_match.specs.Sound.{IsSound, IsCounted, IsFillWithinLimits}
 use Rattle.market_state.specs.Trade.{IsPriced, ArePriced}
 use Rattle.order_clearing.specs.Tradable.{IsTradable}
 use Rattle.spread_match.proofs.entries.FillsCounted.{IsRunning, running_with}
-use Rattle.market_state.proofs.entries.NewOrder.{taken_is, traded_all}
+use Rattle.known_orders.proofs.entries.NewOrder.{taken_is, traded_all}
 use Rattle.spread_rulebook.proofs.rulebook_texts.OrderPrices.{small_references}
 use Rattle.market_state.proofs.entries.NamedInstrument.{listed_found}
 use Rattle.spread_match.proofs.entries.PastStaysSound.{AsksFor, started, entry_kept, moved_asks, new_asks, rests_all}
 use Rattle.market_state.proofs.entries.MayRest.{removed_tradable}
-use Rattle.market_state.proofs.entries.FoundStands.{find_stands}
+use Rattle.known_orders.proofs.entries.FoundStands.{find_stands}
 use Rattle.market_state.proofs.entries.Replaces.{all_amended, by_replace, own_is}
 use Rattle.spread_rules.specs.Amended.{amended}
 use Rattle.spread_rules.specs.declared.outcome.Outcome.TheVariants.{Rested}

@@ -2,7 +2,7 @@ use Rattle.std.proofs.Common.{◌++◌, sym, ap, ◌∙◌}
 use Rattle.spread_rules.specs.Meaning.{EntryMeaning, is_own}
 use Rattle.market_state.specs.code.StateAfter.{meaning_in, state_after}
 use Rattle.row_index.proofs.Tables.{on_ok}
-use Rattle.market_state.proofs.entries.FoundStands.{find_stands}
+use Rattle.known_orders.proofs.entries.FoundStands.{find_stands}
 use Rattle.market_state.proofs.entries.ReplacedStates.{if_ok, replaced_means, replaced_state}
 use Rattle.market_state.proofs.state.MarketState.apply_entry.Goals as goal
 

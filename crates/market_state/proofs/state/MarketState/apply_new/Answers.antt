@@ -1,5 +1,5 @@
 use Rattle.std.proofs.Common.{None, ◌∙◌, sym}
-use Rattle.market_state.proofs.entries.NewOrder.{taken_is}
+use Rattle.known_orders.proofs.entries.NewOrder.{taken_is}
 use Rattle.market_state.proofs.entries.NamedInstrument.{listed_found, near_of, months_of}
 use Rattle.market_state.proofs.state.MarketState.apply_new.Goals as goal
 

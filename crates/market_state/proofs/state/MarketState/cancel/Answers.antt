@@ -2,7 +2,7 @@ use Rattle.std.proofs.Common.{List, Contains, ◌∙◌, sym, ap, subst, refl}
 use Rattle.spread_rules.specs.declared.order.Order.{Order}
 use Rattle.spread_rules.specs.Meaning.{is_own}
 use Rattle.market_state.specs.State.{MarketState}
-use Rattle.market_state.proofs.entries.FoundStands.{find_stands}
+use Rattle.known_orders.proofs.entries.FoundStands.{find_stands}
 use Rattle.market_state.proofs.state.MarketState.cancel.Goals as goal
 
 pub remove-requires : goal.remove-requires

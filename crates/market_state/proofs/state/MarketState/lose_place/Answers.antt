@@ -1,6 +1,7 @@
-use Rattle.std.proofs.Common.{◌≡◌, ◌≤◌, List, ◌++◌, ◌∷◌, [], false, map, length, Option, None, refl, ap, ◌∙◌, arith}
+use Rattle.std.proofs.Common.{◌≡◌, ℕ, ◌<◌, ◌≤◌, All, Contains, List, ◌++◌, ◌∷◌, [], false, map, length, Option, None, refl, sym, subst, ap, ◌∙◌, arith}
 use Rattle.std.specs.List.{find}
 use Rattle.std.specs.Option.{is_some}
+use Rattle.std.proofs.lemmas.List.Elements.{Contains-append_left}
 use Rattle.spread_rules.specs.declared.order.Order.{Order}
 use Rattle.spread_rules.specs.declared.fill.Fill.{Fill}
 use Rattle.spread_rules.specs.declared.outcome.OrderStatus.{OrderStatus}
@@ -8,15 +9,32 @@ use Rattle.spread_rules.specs.Clearing.{clear, removed, Trading}
 use Rattle.spread_rules.specs.Meaning.{has_id, moved_to}
 use Rattle.spread_rulebook.specs.Rulebook.{month_count, references_of, implied}
 use Rattle.market_state.specs.State.{MarketState}
-use Rattle.market_state.specs.code.StateAfter.{entered_status}
+use Rattle.known_orders.specs.code.Known.{entered_status}
 use Rattle.order_statuses.specs.code.Statuses.{status_after_replace, statuses_after}
-use Rattle.market_state.proofs.entries.NewOrder.{clear_same}
+use Rattle.known_orders.proofs.entries.NewOrder.{below_new, clear_same}
 use Rattle.market_state.proofs.entries.ReplacedStates.{moved_newest, moved_rest, moved_state, moved_tradable, room_moved}
 use Rattle.market_state.proofs.state.MarketState.lose_place.Goals as goal
 
 -- its id was not used
 not_used : (ss : List OrderStatus) (n m : Order) (used : _) → n ≡ m → used ≡ is_some (find (has_id n.session n.id) ss) → find (has_id m.session m.id) ss ≡ None → used ≡ false
 not_used ss n m used same e f = e ∙ (ap (λ (o : Order). is_some (find (has_id o.session o.id) ss)) same ∙ ap (λ (o : Option OrderStatus). is_some o) f)
+
+pub add_to_book-requires : goal.add_to_book-requires
+add_to_book-requires g c =
+    let m = c.args.self.now in
+    record { orders = subst (λ (k : ℕ). All (λ (o : Order). o.place < k) m.orders) (sym (ap (λ (o : Order). o.place) c.moved_order-order.ensures)) (below_new m.orders m.last c.args.place c.requires.ready.below c.requires.place) }
+
+pub remove-requires : goal.remove-requires
+remove-requires g c =
+    let m = c.args.self.now in
+    let n = c.moved_order-order.result in
+    let r = c.args.resting.now in
+    let used = not_used m.statuses n (moved_to c.args.place c.args.ticket.now r) c.in_ok-add_to_book.field-0 c.moved_order-order.ensures c.in_ok-add_to_book.ensures.used c.requires.unused in
+    record {
+      order = r;
+      stands = subst (λ (x : MarketState). Contains x.orders r) (sym (c.self-2.view_is ∙ c.in_ok-add_to_book.ensures.stands used)) (Contains-append_left m.orders (n ∷ []) r c.requires.rests);
+      at = refl;
+    }
 
 pub trade_newest-requires-clause-newest : goal.trade_newest-requires-clause-newest
 trade_newest-requires-clause-newest g c =

@@ -14,10 +14,11 @@ use Rattle.spread_rulebook.specs.Rulebook.{Rules, month_count, references_of, im
 use Rattle.candidate_search.specs.Listed.{IsNearFirst, IsInMonths}
 use Rattle.market_state.specs.State.{MarketState}
 use Rattle.order_clearing.specs.Tradable.{IsTradable}
-use Rattle.market_state.specs.code.StateAfter.{entered_status, matched_in, state_with, trading_in, with_order}
+use Rattle.market_state.specs.code.StateAfter.{matched_in, state_with, trading_in, with_order}
+use Rattle.known_orders.specs.code.Known.{entered_status}
 use Rattle.order_statuses.specs.code.Statuses.{statuses_after}
 use Rattle.market_state.proofs.entries.IdNotUsed.{id_is_new}
-use Rattle.market_state.proofs.entries.NewOrder.{below_new, clear_same, rest_is, room_new, tradable_more}
+use Rattle.known_orders.proofs.entries.NewOrder.{below_new, clear_same, rest_is, room_new, tradable_more}
 use Rattle.market_state.proofs.entries.ReplacedStates.{matched_state}
 use Rattle.market_state.proofs.state.MarketState.match_new.Goals as goal
 

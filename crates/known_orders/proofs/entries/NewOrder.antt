@@ -12,7 +12,7 @@ use Rattle.spread_rules.proofs.clearings.ClearIsTurns.{clear_is}
 use Rattle.spread_rules.proofs.clearings.TurnsEnd.{keeps_turns}
 use Rattle.candidate_search.specs.Listed.{IsNearFirst, IsInMonths}
 use Rattle.order_clearing.specs.Tradable.{IsTradable}
-use Rattle.market_state.specs.code.StateAfter.{orders_after_trading}
+use Rattle.known_orders.specs.code.Known.{orders_after_trading}
 use Rattle.order_clearing.specs.code.Turns.{IsNewest}
 use Rattle.spread_rulebook.specs.declared.instrument.Instrument.{Instrument}
 use Rattle.spread_rules.specs.declared.outcome.OrderStatus.{OrderStatus}

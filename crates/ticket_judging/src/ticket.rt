@@ -1,15 +1,17 @@
 //! Whether a ticket can be a new order, and what a replace request may make of a resting one.
-ghost use Rattle.std.specs.Prelude.{◌≡◌, Option, None, is_some};
+ghost use Rattle.std.specs.Prelude.{◌≡◌, Option, None, is_some, cond};
+ghost use Rattle.spread_rules.specs.declared.codes.ord_rej_reason.TheConstants.{DUPLICATE_ORDER};
+ghost use Rattle.spread_rules.specs.declared.outcome.Outcome.TheVariants.{Refused};
 ghost use Rattle.spread_rules.specs.declared.outcome.OrderStatus.{OrderStatus};
 ghost use Rattle.spread_rules.specs.Amended.{done};
-ghost use Rattle.spread_rules.specs.Meaning.{refusal_or_instrument, resting_status, may_replace, keeps_place, moved_to};
+ghost use Rattle.spread_rules.specs.Meaning.{order_of, outcome_of, refusal_or_instrument, resting_status, may_replace, keeps_place, moved_to};
 ghost use Rattle.spread_rulebook.specs.Rulebook.{find_symbol};
-ghost use Rattle.market_state.specs.code.StateAfter.{replace_refusal};
+ghost use Rattle.ticket_judging.specs.code.Refusals.{replace_refusal};
 
 use host_base::limits;
 use order_rows::with_quantity;
 use spread_rules::codes::{cxl_rej_reason, ord_rej_reason, ord_status};
-use spread_rules::{Instrument, Order, Rulebook, Ticket};
+use spread_rules::{Instrument, Order, Outcome, Rulebook, Ticket};
 
 /// The instrument, or why the ticket is refused, for one whose id was not used.
 pub fn judge(rules: &Rulebook, ticket: &Ticket) -> Result<Instrument, u8>
@@ -38,6 +40,46 @@ fn judge_fields(
                 Ok(instrument)
             }
         }
+    }
+}
+
+/// A refusal. That its id was used comes before any other reason.
+pub fn refusal(used: bool, reason: u8) -> Outcome
+    ensures { result ≡ Refused (cond used DUPLICATE_ORDER reason) }
+{
+    Outcome::Refused(if used {
+        ord_rej_reason::DUPLICATE_ORDER
+    } else {
+        reason
+    })
+}
+
+/// A new order as it comes in.
+pub fn new_order(place: u64, session: u8, ticket: &Ticket, instrument: Instrument) -> Order
+    ensures { result ≡ order_of place session ticket.now instrument }
+{
+    Order {
+        place,
+        session,
+        id: ticket.id,
+        instrument,
+        side: ticket.side,
+        price: ticket.price,
+        quantity: ticket.quantity,
+        leaves: ticket.quantity,
+    }
+}
+
+/// What becomes of an order of which so much is left.
+pub fn outcome_with(immediate: bool, left: u32) -> Outcome
+    ensures { result ≡ outcome_of immediate left }
+{
+    if left == 0 {
+        Outcome::Filled
+    } else if immediate {
+        Outcome::Ended { left }
+    } else {
+        Outcome::Rested
     }
 }
 

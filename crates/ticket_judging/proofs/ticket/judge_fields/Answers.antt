@@ -1,5 +1,5 @@
 use Rattle.std.proofs.Common.{rules}
-use Rattle.market_state.proofs.ticket.judge_fields.Goals as goal
+use Rattle.ticket_judging.proofs.ticket.judge_fields.Goals as goal
 
 pub returns-then-ticket-gt-MAX_ORDER_QTY : goal.returns-then-ticket-gt-MAX_ORDER_QTY
 returns-then-ticket-gt-MAX_ORDER_QTY c = rw c.in-Some.is (search rules)

@@ -12,8 +12,8 @@ use Rattle.spread_rules.specs.declared.outcome.OrderStatus.{OrderStatus}
 use Rattle.spread_rules.specs.Candidates.{PlacesDiffer}
 use Rattle.spread_rules.specs.Meaning.{has_id, is_own}
 use Rattle.order_rows.proofs.places.Ascending.{unfound, unfound_by}
-use Rattle.market_state.specs.code.StateAfter.{AreKnown, place_of_id}
-use Rattle.market_state.proofs.entries.FoundStands.{find_holds, find_none, find_stands}
+use Rattle.known_orders.specs.code.Known.{AreKnown, place_of_id}
+use Rattle.known_orders.proofs.entries.FoundStands.{find_holds, find_none, find_stands}
 use Rattle.order_statuses.proofs.status_rows.MarkedRows.{same_number}
 
 -- an order of that session and id stands at the place that their status names

@@ -2,8 +2,8 @@ use Rattle.std.proofs.Common.{◌≡◌, ℕ, ◌-◌, ◌<◌, ◌≤◌, ◌==
 use Rattle.std.proofs.lemmas.Bool.Decides.{nat_tests}
 use Rattle.spread_rules.specs.declared.order.Order.{Order}
 use Rattle.spread_rules.specs.Clearing.{reduced, removed}
-use Rattle.market_state.specs.code.StateAfter.{orders_after_trading}
-use Rattle.market_state.proofs.state.rest_or_remove.Goals as goal
+use Rattle.known_orders.specs.code.Known.{orders_after_trading}
+use Rattle.known_orders.proofs.newest.rest_or_remove.Goals as goal
 
 module _ (immediate : Bool) (own : Order) (left : ℕ) (xs : List Order) where
   -- nothing is left, or what is left may not rest

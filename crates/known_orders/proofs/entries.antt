@@ -1,0 +1,3 @@
+pub mod FoundStands
+pub mod NewOrder
+pub mod OrderOfAnId
