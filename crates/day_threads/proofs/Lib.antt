@@ -1,3 +1,1 @@
-pub mod CollectedBytes
-pub mod JoinedParts
 pub mod LawfulJournal

@@ -1,1 +1,1 @@
-pub mod Concluding
+pub mod Starting

@@ -2,13 +2,13 @@
 ghost use Rattle.std.specs.Prelude.{◌≡◌, ◌<◌, ◌≤◌, ℕ, length, IfOk, IfErr, OnOk, vec_len, vec_capacity};
 ghost use Rattle.spread_rules.specs.Journal.{IsLawful};
 ghost use Rattle.day_apply.specs.Sending.{sending_rules, stamp_of};
-ghost use Rattle.day_threads.specs.code.Concluding.{AreReady};
+ghost use Rattle.day_threads.specs.code.Starting.{AreReady};
 ghost use Rattle.session_threads.specs.code.Handing.{IsRoom};
-ghost use Rattle.day_threads.specs.Streams.{IsDayOfSessions, IsThreadsFault};
+ghost use Rattle.day_conclusion.specs.Streams.{IsDayOfSessions, IsThreadsFault};
 ghost use Rattle.day_stages.specs.Limits.{IsWithinLimits};
 ghost use Rattle.day_stages.specs.declared.fault.ThreadsFault.TheVariants.{NoMemory, Spawn};
 
-use crate::conclude::{SessionsDay, conclude};
+use day_conclusion::{SessionsDay, conclude};
 use day_stages::{Caps, DayRules, Stages, ThreadsFault, stages_of};
 use match_thread::start_matching;
 use session_threads::{

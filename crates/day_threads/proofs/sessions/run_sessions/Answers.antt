@@ -3,9 +3,9 @@ use Rattle.std.specs.Prelude.{IfErr, OnOk}
 use denote.Param.Always.{Once-at_one}
 use Rattle.spread_rulebook.specs.Rulebook.{Rules}
 use Rattle.day_apply.specs.Sending.{sending_rules, stamp_of}
-use Rattle.day_threads.specs.Streams.{IsThreadsFault}
+use Rattle.day_conclusion.specs.Streams.{IsThreadsFault}
 use Rattle.day_stages.specs.Limits.{IsWithinLimits}
-use Rattle.day_threads.specs.code.Concluding.{AreReady}
+use Rattle.day_threads.specs.code.Starting.{AreReady}
 use Rattle.day_threads.proofs.LawfulJournal.{lawful_result, fault_result}
 use Rattle.day_threads.proofs.sessions.run_sessions.Goals as goal
 

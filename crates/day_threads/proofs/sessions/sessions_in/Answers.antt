@@ -2,7 +2,7 @@ use Rattle.std.proofs.Common.{◌≡◌, ◌≤◌, refl, subst, arith, length, 
 use Rattle.std.specs.Prelude.{IfErr, IfNone}
 use Rattle.spread_rulebook.specs.Rulebook.{Rules}
 use Rattle.gate_link.specs.Links.{journal_of}
-use Rattle.day_threads.specs.Streams.{IsThreadsFault}
+use Rattle.day_conclusion.specs.Streams.{IsThreadsFault}
 use Rattle.match_thread.specs.code.Matching.{HasMatched}
 use Rattle.session_threads.specs.code.Sequencing.{SequenceEnds}
 use Rattle.day_stages.proofs.PostPairs.{posts_kept}

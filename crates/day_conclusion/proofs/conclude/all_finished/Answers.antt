@@ -3,8 +3,8 @@ use Rattle.stage_rings.specs.Posting.{posted, written}
 use Rattle.gate_link.proofs.inboxes.AlongTwoLists.{left_more}
 use Rattle.gate_link.proofs.links.PartOfASession.{row_at}
 use Rattle.session_threads.specs.code.Writing.{bytes_written}
-use Rattle.day_threads.proofs.JoinedParts.{row_written, finishes_whole, pair_left}
-use Rattle.day_threads.proofs.conclude.all_finished.Goals as goal
+use Rattle.day_conclusion.proofs.JoinedParts.{row_written, finishes_whole, pair_left}
+use Rattle.day_conclusion.proofs.conclude.all_finished.Goals as goal
 
 pub finished-requires : goal.finished-requires
 finished-requires g c =

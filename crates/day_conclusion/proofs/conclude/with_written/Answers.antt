@@ -3,8 +3,8 @@ use Rattle.std.specs.Vec.Iter.{into_iter_items}
 use Rattle.gate_link.proofs.links.PartOfASession.{row_at, row_other}
 use Rattle.session_threads.specs.code.Writing.{bytes_written, written_at}
 use Rattle.session_threads.proofs.ElementByElement.{next_is}
-use Rattle.day_threads.proofs.JoinedParts.{row_written}
-use Rattle.day_threads.proofs.conclude.with_written.Goals as goal
+use Rattle.day_conclusion.proofs.JoinedParts.{row_written}
+use Rattle.day_conclusion.proofs.conclude.with_written.Goals as goal
 
 pub loop-one-preserved : goal.loop-one-preserved
 loop-one-preserved g c =

@@ -24,8 +24,8 @@ use Rattle.session_threads.specs.declared.writing.Written.{Written}
 use Rattle.stage_rings.specs.Feeding.{taken}
 use Rattle.stage_rings.specs.Posting.{ArePostPair}
 use Rattle.stage_rings.specs.declared.post.Poster.{Poster}
-use Rattle.day_threads.specs.Streams.{IsThreadsFault}
-use Rattle.day_threads.specs.code.Concluding.{IsFaultOfEnds}
+use Rattle.day_conclusion.specs.Streams.{IsThreadsFault}
+use Rattle.day_conclusion.specs.code.Concluding.{IsFaultOfEnds}
 use Rattle.day_stages.specs.code.Making.{of_apply}
 use Rattle.match_thread.specs.code.Matching.{MatchEnds}
 use Rattle.day_stages.specs.declared.fault.ThreadsFault.{ThreadsFault}

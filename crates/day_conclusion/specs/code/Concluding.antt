@@ -1,4 +1,4 @@
--- The ends of a day's rings, before any thread is started and in one thread again.
+-- The ends of a day's rings in one thread again, and the fault of how the two ended.
 -- Words of the code alone.
 use Rattle.std.specs.Prelude.{◌≡◌, ℕ, ◌<◌, ◌≤◌, ◌⊎◌, List, length, Vec}
 use mathlib.Core.List.{IsPrefix}
@@ -14,7 +14,6 @@ use Rattle.session_threads.specs.declared.sequencing.SequenceEnd.{SequenceEnd}
 use Rattle.session_threads.specs.declared.sequencing.SequenceEnd.TheVariants.{JournalFull as Full}
 use Rattle.session_threads.specs.declared.writing.Written.{Written}
 use Rattle.journal_matching.specs.declared.fault.ApplyFault.TheVariants as apply
-use Rattle.day_stages.specs.code.Making.{IsMade}
 use Rattle.match_thread.specs.code.Matching.{MatchEnds}
 use Rattle.entry_posting.specs.code.Posting.{HasPosted, posted_at}
 use Rattle.day_stages.specs.declared.fault.ThreadsFault.{ThreadsFault}
@@ -23,14 +22,6 @@ use Rattle.match_thread.specs.declared.matching.Matched.{Matched}
 use Rattle.entry_posting.specs.declared.step.MatchEnd.{MatchEnd}
 use Rattle.entry_posting.specs.declared.step.MatchEnd.TheVariants.{Fault}
 use Rattle.entry_posting.specs.declared.posting.PostedEntries.{PostedEntries}
-use Rattle.day_stages.specs.declared.stages.Stages.{Stages}
-
--- the stages of a day that has not begun, one for each of these streams
-pub record AreReady {A : Type 0} (streams : List (Vec ℕ A)) (stages : Stages A) : Type 0 where
-  pub ring : ℕ
-  pub made : IsMade ring stages
-  pub stream_count : length stages.gateways.items ≡ length streams
-  pub few : length streams ≤ SESSIONS
 
 -- both ends of each ring in one thread again, with what each part promised
 pub record AreJoined {A : Type 0} (room : ℕ) (streams : List (Vec ℕ A)) (q : Sequenced A)

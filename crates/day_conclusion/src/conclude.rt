@@ -2,8 +2,8 @@
 ghost use Rattle.std.specs.Prelude.{◌≡◌, ◌≤◌, ◌<◌, ℕ, length, true, IfOk, IfErr, IfSome, IfNone, vec_len};
 ghost use Rattle.outbound_sessions.specs.Sessions.{bytes_of};
 ghost use Rattle.day_apply.specs.Sending.{sending_rules, stamp_of};
-ghost use Rattle.day_threads.specs.Streams.{IsDayOfSessions, IsThreadsFault};
-ghost use Rattle.day_threads.specs.code.Concluding.{AreJoined, IsFaultOfEnds, IsWhole};
+ghost use Rattle.day_conclusion.specs.Streams.{IsDayOfSessions, IsThreadsFault};
+ghost use Rattle.day_conclusion.specs.code.Concluding.{AreJoined, IsFaultOfEnds, IsWhole};
 ghost use Rattle.entry_posting.specs.declared.step.MatchEnd.TheVariants as matched_end;
 ghost use Rattle.entry_posting.specs.code.Posting.{posted_at};
 ghost use Rattle.session_threads.specs.declared.sequencing.SequenceEnd.TheVariants as sequence_end;
@@ -135,7 +135,7 @@ fn fault_of<A: Allocator + Copy>(
 }
 
 /// The day, or of the faults that arose the one with the least number.
-pub(crate) fn conclude<A: Allocator + Copy>(
+pub fn conclude<A: Allocator + Copy>(
     sequenced: Sequenced<A>,
     matched: Matched<'_, A>,
     written: Vec<Written<A>, A>,

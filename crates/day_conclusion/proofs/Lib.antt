@@ -1,0 +1,2 @@
+pub mod CollectedBytes
+pub mod JoinedParts
