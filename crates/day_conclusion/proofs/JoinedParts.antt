@@ -17,10 +17,10 @@ use Rattle.journal_matching.specs.declared.fault.ApplyFault.{ApplyFault}
 use Rattle.journal_matching.specs.declared.fault.ApplyFault.TheVariants.{NoMemory, NumbersSpent}
 use Rattle.session_threads.specs.Streams.{IsBeginningOf, whole_at}
 use Rattle.session_threads.specs.code.Sequencing.{SequenceEnds}
-use Rattle.session_threads.specs.code.Writing.{AreJoinedPairs}
+use Rattle.writer_threads.specs.code.Writing.{AreJoinedPairs}
 use Rattle.session_threads.specs.declared.sequencing.Sequenced.{Sequenced}
 use Rattle.session_threads.specs.declared.sequencing.SequenceEnd.{SequenceEnd}
-use Rattle.session_threads.specs.declared.writing.Written.{Written}
+use Rattle.writer_threads.specs.declared.writing.Written.{Written}
 use Rattle.stage_rings.specs.Feeding.{taken}
 use Rattle.stage_rings.specs.Posting.{ArePostPair}
 use Rattle.stage_rings.specs.declared.post.Poster.{Poster}

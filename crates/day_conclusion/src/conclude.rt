@@ -7,7 +7,7 @@ ghost use Rattle.day_conclusion.specs.code.Concluding.{AreJoined, IsFaultOfEnds,
 ghost use Rattle.entry_posting.specs.declared.step.MatchEnd.TheVariants as matched_end;
 ghost use Rattle.entry_posting.specs.code.Posting.{posted_at};
 ghost use Rattle.session_threads.specs.declared.sequencing.SequenceEnd.TheVariants as sequence_end;
-ghost use Rattle.session_threads.specs.code.Writing.{AreJoinedPairs, written_at};
+ghost use Rattle.writer_threads.specs.code.Writing.{AreJoinedPairs, written_at};
 
 use day_apply::FillsAndMessages;
 use day_stages::{ThreadsFault, of_apply};

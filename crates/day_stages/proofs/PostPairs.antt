@@ -8,9 +8,9 @@ use Rattle.stage_rings.specs.declared.post.Poster.{Poster}
 use Rattle.stage_rings.specs.declared.post.Writer.{Writer}
 use Rattle.stage_rings.specs.Posting.{post_ended, ArePostPair, SamePoster, SameWriter}
 use Rattle.entry_posting.specs.code.Posting.{NoneEnded, SamePosters}
-use Rattle.session_threads.specs.code.Writing.{AreJoinedPairs, ArePostPairs, AreWriting, AreWritten}
-use Rattle.session_threads.specs.declared.writing.Written.{Written}
-use Rattle.session_threads.specs.declared.writing.WritePromise.{WritePromise}
+use Rattle.writer_threads.specs.code.Writing.{AreJoinedPairs, ArePostPairs, AreWriting, AreWritten}
+use Rattle.writer_threads.specs.declared.writing.Written.{Written}
+use Rattle.writer_threads.specs.declared.writing.WritePromise.{WritePromise}
 
 pub posts_snoc : {A : Type 0} (ps : List (Poster A)) (ws : List (Writer A)) (p : Poster A) (w : Writer A) → ArePostPairs ps ws → ArePostPair p w → ArePostPairs (ps ++ p ∷ []) (ws ++ w ∷ [])
 posts_snoc ps ws p w pairs here =

@@ -5,7 +5,7 @@ ghost use Rattle.stage_rings.specs.Faults.{IsRingRefusal, IsRingSize};
 ghost use Rattle.day_stages.specs.Limits.{IsWithinLimits};
 ghost use Rattle.day_stages.specs.code.Making.{IsMade, IsStagesFault};
 ghost use Rattle.entry_posting.specs.code.Posting.{NoneEnded, posted_at};
-ghost use Rattle.session_threads.specs.code.Writing.{ArePostPairs};
+ghost use Rattle.writer_threads.specs.code.Writing.{ArePostPairs};
 
 use crate::fault::{ThreadsFault, of_apply};
 use day_apply::ReportedEntries;

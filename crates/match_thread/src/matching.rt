@@ -8,7 +8,6 @@ ghost use Rattle.stage_rings.specs.Feeding.{SameMatcher, taken};
 
 use entry_posting::{MatchEnd, PostedEntries, end_each, match_one};
 use sequencer_turns::{found, rest};
-use session_threads::Gate;
 use stage_rings::{Matcher, Taken};
 use std::alloc::Allocator;
 use std::snapshot::Snapshot;
@@ -16,6 +15,7 @@ use std::sync::Wait;
 use std::sync::atomic::{AtomicBool, Ordering};
 use std::thread;
 use std::thread::{Promise, PromisedHandle, Scope, Threads};
+use writer_threads::Gate;
 
 /// What the matching thread hands back.
 #[derive(Drop)]

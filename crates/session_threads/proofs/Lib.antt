@@ -1,8 +1,5 @@
-pub mod ElementByElement
 pub mod FullJournal
 pub mod JoinedWorkers
 pub mod SentAndOwed
 pub mod SequencedJournal
 pub mod StartedWorkers
-pub mod Writers
-pub mod Joined

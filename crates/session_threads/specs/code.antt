@@ -1,5 +1,3 @@
 pub mod Handing
-pub mod Joining
 pub mod Sequencing
 pub mod Workers
-pub mod Writing

@@ -6,7 +6,7 @@ ghost use Rattle.gate_link.specs.declared.gateway.TheConstants.{MAX_SLICE};
 ghost use Rattle.gate_link.specs.Gateways.{is_over};
 ghost use Rattle.session_threads.specs.code.Workers.{IsUnused, HasSent, SameEvents, IsReady, AreReady};
 
-use crate::workers::{Shared, WorkerHandle};
+use crate::workers::WorkerHandle;
 use fix_session::Ahead;
 use gate_link::{Burst, Gateway, MAX_SLICE, Step};
 use host_base::release;
@@ -17,27 +17,7 @@ use std::sync::Wait;
 use std::sync::atomic::{AtomicBool, Ordering};
 use std::thread;
 use std::thread::{Promise, Scope, Threads};
-
-/// Sees each message of each session before it is judged, each entry after it was matched, and each piece of a
-/// session's outgoing bytes after it was taken, and may hold the thread that it is called in.
-pub trait Gate: Sync {
-    /// Called once before a session first steps on a message. Messages count from 0, and stay at the greatest u32. Of
-    /// messages that are stepped on together each is named before the first of them is stepped on.
-    fn before(&self, session: u8, message: u32);
-
-    /// How many messages a session steps on together: 1 to 64, and no more than its ring takes. What lies beyond counts as
-    /// the bound.
-    fn most(&self) -> u32 {
-        MAX_SLICE as u32
-    }
-
-    /// Called by the matching thread after the entry of that place was applied, and all that it sends was given to the
-    /// writers.
-    fn matched(&self, _place: u64) {}
-
-    /// Called by the thread of a session's writer after it took more bytes: so many it has in all.
-    fn written(&self, _session: u8, _total: u64) {}
-}
+use writer_threads::{Gate, Shared};
 
 /// What a worker's thread gives back: its own gateway, with what it sent of its own stream.
 #[derive(Drop)]

@@ -5,30 +5,19 @@ ghost use Rattle.gate_link.specs.declared.gateway.Gateway.{Gateway};
 ghost use Rattle.gate_link.specs.Opening.{AreFresh};
 ghost use Rattle.session_threads.specs.code.Handing.{AreStarted, AreKept};
 
-use crate::joining::join_each;
-use crate::worker::{Gate, WorkerPromise, start};
+use crate::worker::{WorkerPromise, start};
 use gate_link::Gateway;
 use std::alloc::Allocator;
 use std::snapshot::Snapshot;
 use std::sync::Wait;
-use std::sync::atomic::AtomicBool;
 use std::thread::{PromisedHandle, Scope, Threads};
+use writer_threads::{Gate, Shared, join_each};
 
 /// The handle of a session's thread.
 pub type WorkerHandle<A> = PromisedHandle<Gateway<A>, WorkerPromise<A>>;
 
 /// The streams of all sessions as clauses see them. It has no bytes: each thread has its own stream.
 pub type GivenStreams<A> = Snapshot<Vec<Vec<u8, A>, A>>;
-
-/// What the threads of all sessions share.
-#[derive(Drop)]
-pub struct Shared<'r, 's, R, G> {
-    pub rt: &'r R,
-    pub gate: &'r G,
-    pub stop: &'s AtomicBool,
-    /// How many items each ring takes.
-    pub ring: usize,
-}
 
 /// The handles of all threads of sessions that were started, and room for the gateways that they hand back.
 #[derive(Drop)]

@@ -8,11 +8,11 @@ use Rattle.spread_rules.specs.declared.event.Entry.{Entry}
 use Rattle.spread_rules.specs.Journal.{restricted}
 use Rattle.session_threads.specs.Streams.{IsBeginningOf, whole_at}
 use Rattle.session_threads.specs.code.Sequencing.{SequenceEnds}
-use Rattle.session_threads.specs.code.Writing.{AreJoinedPairs, written_at}
+use Rattle.writer_threads.specs.code.Writing.{AreJoinedPairs, written_at}
 use Rattle.session_threads.specs.declared.sequencing.Sequenced.{Sequenced}
 use Rattle.session_threads.specs.declared.sequencing.SequenceEnd.{SequenceEnd}
 use Rattle.session_threads.specs.declared.sequencing.SequenceEnd.TheVariants.{JournalFull as Full}
-use Rattle.session_threads.specs.declared.writing.Written.{Written}
+use Rattle.writer_threads.specs.declared.writing.Written.{Written}
 use Rattle.journal_matching.specs.declared.fault.ApplyFault.TheVariants as apply
 use Rattle.match_thread.specs.code.Matching.{MatchEnds}
 use Rattle.entry_posting.specs.code.Posting.{HasPosted, posted_at}

@@ -6,7 +6,7 @@ use Rattle.gate_link.specs.Opening.{AreFresh, IsRefusal}
 use Rattle.stage_rings.specs.Feeding.{given, AreFeedPair}
 use Rattle.journal_matching.specs.declared.fault.ApplyFault.{ApplyFault}
 use Rattle.journal_matching.specs.declared.fault.ApplyFault.TheVariants as apply
-use Rattle.session_threads.specs.code.Writing.{ArePostPairs}
+use Rattle.writer_threads.specs.code.Writing.{ArePostPairs}
 use Rattle.entry_posting.specs.code.Posting.{IsUnfed}
 use Rattle.day_stages.specs.declared.fault.ThreadsFault.{ThreadsFault}
 use Rattle.day_stages.specs.declared.fault.ThreadsFault.TheVariants.{Link, NoMemory, NumbersSpent}

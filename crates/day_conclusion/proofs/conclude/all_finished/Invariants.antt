@@ -1,8 +1,8 @@
 use Rattle.std.proofs.Common.{◌≡◌, ◌≤◌, ◌<◌, ℕ, get_or}
 use Rattle.stage_rings.specs.declared.post.Poster.{Poster}
 use Rattle.entry_posting.specs.code.Posting.{posted_at}
-use Rattle.session_threads.specs.code.Writing.{written_at}
-use Rattle.session_threads.specs.declared.writing.Written.{Written}
+use Rattle.writer_threads.specs.code.Writing.{written_at}
+use Rattle.writer_threads.specs.declared.writing.Written.{Written}
 use Rattle.day_conclusion.proofs.conclude.all_finished.Given as goal
 
 abbrev pub invariant-loop-s : goal.invariant-loop-s

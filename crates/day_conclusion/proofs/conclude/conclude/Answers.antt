@@ -9,8 +9,8 @@ use Rattle.day_apply.specs.Applied.{applied_entries, outgoing_bytes}
 use Rattle.day_apply.specs.Sending.{sending_rules, stamp_of}
 use Rattle.day_apply.proofs.EntryByEntry.{texts_length}
 use Rattle.day_apply.proofs.HandedOn.{behind_length}
-use Rattle.session_threads.specs.code.Writing.{written_at}
-use Rattle.session_threads.specs.declared.writing.Written.{Written}
+use Rattle.writer_threads.specs.code.Writing.{written_at}
+use Rattle.writer_threads.specs.declared.writing.Written.{Written}
 use Rattle.day_conclusion.specs.Streams.{IsDayOfSessions}
 use Rattle.entry_posting.specs.code.Posting.{HasPosted, posted_at}
 use Rattle.day_stages.specs.declared.fault.ThreadsFault.{ThreadsFault}

@@ -1,7 +1,7 @@
 use Rattle.std.proofs.Common.{◌≡◌, ◌≤◌, ◌+◌, drop, vec_len, vec_capacity}
 use Rattle.std.specs.Vec.Iter.{into_iter_items, into_iter_len}
-use Rattle.session_threads.specs.code.Joining.{AreJoined}
-use Rattle.session_threads.proofs.joining.join_each.Given as goal
+use Rattle.writer_threads.specs.code.Joining.{AreJoined}
+use Rattle.writer_threads.proofs.joining.join_each.Given as goal
 
 abbrev pub invariant-loop-handle : goal.invariant-loop-handle
 invariant-loop-handle g l =

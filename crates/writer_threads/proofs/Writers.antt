@@ -4,9 +4,9 @@ use Rattle.std.proofs.lemmas.List.{get_or_append_left, get_or_push, get_or_defau
 use Rattle.std.specs.declared.thread.PromisedHandle.{PromisedHandle}
 use Rattle.stage_rings.specs.declared.post.Writer.{Writer}
 use Rattle.gate_link.proofs.inboxes.OneMore.{snoc_cases}
-use Rattle.session_threads.specs.declared.writing.Written.{Written}
-use Rattle.session_threads.specs.declared.writing.WritePromise.{WritePromise}
-use Rattle.session_threads.specs.code.Writing.{AreWriting}
+use Rattle.writer_threads.specs.declared.writing.Written.{Written}
+use Rattle.writer_threads.specs.declared.writing.WritePromise.{WritePromise}
+use Rattle.writer_threads.specs.code.Writing.{AreWriting}
 
 pub writing_snoc : {A : Type 0} (ws : List (Writer A)) (hs : List (PromisedHandle (Written A) (WritePromise A))) (h : PromisedHandle (Written A) (WritePromise A)) (w : Writer A)
     → length hs < length ws → AreWriting ws hs → w ≡ get_or ws (length hs) w → h.promise.writer.value ≡ w → AreWriting ws (hs ++ h ∷ [])

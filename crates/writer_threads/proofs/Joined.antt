@@ -4,7 +4,7 @@ use Rattle.std.proofs.lemmas.List.{get_or_append_left, get_or_push, get_or_defau
 use Rattle.std.specs.declared.thread.PromisedHandle.{PromisedHandle}
 use Rattle.std.specs.declared.thread.Promise as Promise
 use Rattle.gate_link.proofs.inboxes.OneMore.{snoc_cases}
-use Rattle.session_threads.specs.code.Joining.{AreJoined}
+use Rattle.writer_threads.specs.code.Joining.{AreJoined}
 
 pub joined_snoc : {T P : Type 0} (g : Promise.Ghosts P T) (hs : List (PromisedHandle T P)) (rs : List T) (r : T) (handle : PromisedHandle T P)
     → length rs < length hs → AreJoined g hs rs → handle ≡ get_or hs (length rs) handle → g.kept_by handle.promise r → AreJoined g hs (rs ++ r ∷ [])

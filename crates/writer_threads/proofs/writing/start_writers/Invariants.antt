@@ -1,7 +1,7 @@
 use Rattle.std.proofs.Common.{◌≡◌, ◌≤◌, ◌+◌, drop, vec_len, vec_capacity}
 use Rattle.std.specs.Vec.Iter.{into_iter_items, into_iter_len}
-use Rattle.session_threads.specs.code.Writing.{AreWriting}
-use Rattle.session_threads.proofs.writing.start_writers.Given as goal
+use Rattle.writer_threads.specs.code.Writing.{AreWriting}
+use Rattle.writer_threads.proofs.writing.start_writers.Given as goal
 
 abbrev pub invariant-loop-writer : goal.invariant-loop-writer
 invariant-loop-writer g l =

@@ -3,11 +3,10 @@ ghost use Rattle.std.specs.Prelude.{◌≡◌, ◌<◌, ◌≤◌, IfSome, IfNon
 ghost use Rattle.host_base.specs.declared.limits.TheConstants.{SESSIONS};
 ghost use Rattle.stage_rings.specs.declared.post.Writer.{Writer};
 ghost use Rattle.stage_rings.specs.Posting.{SameWriter};
-ghost use Rattle.session_threads.specs.code.Writing.{AreWriting, AreWritten};
+ghost use Rattle.writer_threads.specs.code.Writing.{AreWriting, AreWritten};
 
+use crate::gate::{Gate, Shared};
 use crate::joining::join_each;
-use crate::worker::Gate;
-use crate::workers::Shared;
 use gate_link::{Writer, Wrote};
 use sequencer_turns::Pace;
 use std::alloc::Allocator;

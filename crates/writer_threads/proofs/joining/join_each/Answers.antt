@@ -1,8 +1,8 @@
 use Rattle.std.proofs.Common.{rules, arith, ◌≡◌, ◌<◌, sym, length, vec_len}
 use Rattle.std.specs.Vec.Iter.{into_iter_items}
-use Rattle.session_threads.proofs.ElementByElement.{next_is}
-use Rattle.session_threads.proofs.Joined.{joined_snoc}
-use Rattle.session_threads.proofs.joining.join_each.Goals as goal
+use Rattle.writer_threads.proofs.ElementByElement.{next_is}
+use Rattle.writer_threads.proofs.Joined.{joined_snoc}
+use Rattle.writer_threads.proofs.joining.join_each.Goals as goal
 
 pub loop-handle-init : goal.loop-handle-init
 loop-handle-init g c =

@@ -1,6 +1,6 @@
 //! The threads of a list are joined.
 ghost use Rattle.std.specs.Prelude.{◌≡◌, ◌≤◌, vec_len, vec_capacity};
-ghost use Rattle.session_threads.specs.code.Joining.{AreJoined};
+ghost use Rattle.writer_threads.specs.code.Joining.{AreJoined};
 
 use std::alloc::Allocator;
 use std::thread::{Promise, PromisedHandle, Threads};

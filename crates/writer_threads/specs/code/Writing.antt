@@ -6,8 +6,8 @@ use Rattle.gate_link.specs.Rows.{row}
 use Rattle.stage_rings.specs.declared.post.Poster.{Poster}
 use Rattle.stage_rings.specs.declared.post.Writer.{Writer}
 use Rattle.stage_rings.specs.Posting.{written, ArePostPair, SameWriter}
-use Rattle.session_threads.specs.declared.writing.Written.{Written}
-use Rattle.session_threads.specs.declared.writing.WritePromise.{WritePromise}
+use Rattle.writer_threads.specs.declared.writing.Written.{Written}
+use Rattle.writer_threads.specs.declared.writing.WritePromise.{WritePromise}
 
 -- handle s is of the thread that has writer s
 abbrev pub AreWriting : {A : Type 0} → List (Writer A)

@@ -1,8 +1,8 @@
 use Rattle.std.proofs.Common.{rules, arith, ◌≡◌, ◌<◌, sym, length, vec_len}
 use Rattle.std.specs.Vec.Iter.{into_iter_items}
-use Rattle.session_threads.proofs.ElementByElement.{next_is}
-use Rattle.session_threads.proofs.Writers.{writing_snoc}
-use Rattle.session_threads.proofs.writing.start_writers.Goals as goal
+use Rattle.writer_threads.proofs.ElementByElement.{next_is}
+use Rattle.writer_threads.proofs.Writers.{writing_snoc}
+use Rattle.writer_threads.proofs.writing.start_writers.Goals as goal
 
 pub loop-writer-init : goal.loop-writer-init
 loop-writer-init g c =

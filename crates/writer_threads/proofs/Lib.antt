@@ -1,0 +1,3 @@
+pub mod ElementByElement
+pub mod Joined
+pub mod Writers
