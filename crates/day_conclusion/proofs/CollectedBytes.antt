@@ -3,7 +3,7 @@ use Rattle.std.proofs.Common.{◌≡◌, ◌∙◌, sym, ap, ℕ, ◌<◌, ◌�
 use Rattle.std.proofs.lemmas.Bool.{cases_lt}
 use Rattle.spread_rules.specs.declared.event.Entry.{Entry}
 use Rattle.outbound_sessions.specs.Sessions.{session_text}
-use Rattle.gate_link.proofs.links.PartOfASession.{row_past}
+use Rattle.session_rings.proofs.PartOfASession.{row_past}
 use Rattle.stage_rings.specs.Posting.{posted}
 use Rattle.day_apply.specs.Applied.{outgoing_bytes}
 use Rattle.day_apply.specs.Sending.{sending_rules, stamp_of}

@@ -7,8 +7,8 @@ use Rattle.spread_rules.specs.declared.event.Entry.{Entry}
 use Rattle.spread_rules.specs.Journal.{restricted}
 use Rattle.spread_rulebook.specs.Rulebook.{Rules}
 use Rattle.gate_link.proofs.links.SeveralCalls.{prefix_trans}
-use Rattle.gate_link.proofs.links.PartOfASession.{row_other, row_same}
-use Rattle.gate_link.specs.Rows.{row}
+use Rattle.session_rings.proofs.PartOfASession.{row_other, row_same}
+use Rattle.session_rings.specs.Rows.{row}
 use Rattle.spread_rules.proofs.journals.SessionParts.{restricted-append}
 use Rattle.stage_rings.specs.Feeding.{Agrees}
 use Rattle.stage_rings.specs.Posting.{Finishes}

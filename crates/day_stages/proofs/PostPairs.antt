@@ -3,7 +3,7 @@ use Rattle.std.proofs.Common.{◌≡◌, ◌∙◌, sym, ap, ◌<◌, ◌≤◌,
 use Rattle.std.proofs.lemmas.List.{get_or_append_left, get_or_push, get_or_default, get_or-map, get_or_past, length-map}
 use Rattle.std.proofs.lemmas.Bool.{cases_lt}
 use Rattle.std.specs.declared.thread.PromisedHandle.{PromisedHandle}
-use Rattle.gate_link.proofs.inboxes.OneMore.{snoc_cases}
+use Rattle.session_rings.proofs.inboxes.OneMore.{snoc_cases}
 use Rattle.stage_rings.specs.declared.post.Poster.{Poster}
 use Rattle.stage_rings.specs.declared.post.Writer.{Writer}
 use Rattle.stage_rings.specs.Posting.{post_ended, ArePostPair, SamePoster, SameWriter}

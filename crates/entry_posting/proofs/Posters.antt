@@ -6,7 +6,7 @@ use Rattle.std.proofs.Math.ListN.{set}
 use Rattle.std.proofs.lemmas.Bool.{cases_eq}
 use Rattle.stage_rings.specs.declared.post.Poster.{Poster}
 use Rattle.stage_rings.specs.Posting.{posted, post_ended, SamePoster}
-use Rattle.gate_link.proofs.links.PartOfASession.{row_at, row_same, row_other}
+use Rattle.session_rings.proofs.PartOfASession.{row_at, row_same, row_other}
 use Rattle.outbound_sessions.specs.Sessions.{session_text}
 use Rattle.entry_posting.specs.code.Posting.{posted_at, NoneEnded, SamePosters}
 

@@ -1,4 +1,1 @@
-pub mod AlongTwoLists
 pub mod Looked
-pub mod OneMore
-pub mod OneClose

@@ -1,8 +1,3 @@
-pub mod Rows
-pub mod Owed
-pub mod Gateways
-pub mod Bursts
-pub mod Inboxes
 pub mod Links
 pub mod Turns
 pub mod Slices

@@ -1,19 +1,15 @@
 //! Makes the gateways and the sequencer of a day, and refuses what is out of range.
-ghost use Rattle.std.specs.Prelude.{◌≡◌, ◌≤◌, ◌<◌, ℕ, [], IfOk, IfErr, vec_len};
-ghost use Rattle.gate_link.specs.Rows.{row};
-ghost use Rattle.gate_link.specs.Inboxes.{taken, ArePairs};
+ghost use Rattle.std.specs.Prelude.{◌≡◌, ◌≤◌, ◌<◌, [], IfOk, IfErr, vec_len};
 ghost use Rattle.gate_link.specs.Links.{IsLinkOf, journal_of, room_of, session_count};
-ghost use Rattle.gate_link.specs.Opening.{AreFresh, IsRefusal};
+ghost use Rattle.gate_link.specs.Opening.{IsRefusal};
+ghost use Rattle.session_rings.specs.Fresh.{AreFresh};
 ghost use Rattle.stage_rings.specs.Faults.{Between};
 
-use crate::gateway::Gateway;
-use crate::inbox::Inbox;
 use crate::sequencer::Sequencer;
 use host_base::limits::{MAX_JOURNAL_ENTRIES, MAX_RING, SESSIONS};
-use rtrb::RingBuffer;
-use spread_rules::Entry;
+use session_rings::{Gateway, rings};
 use stage_rings::LinkFault;
-use std::alloc::{AllocError, Allocator};
+use std::alloc::Allocator;
 
 /// The gateways of 1 to 16 sessions in their order, over rings of 1 to 4,096 events, and their sequencer, whose journal has
 /// room for at most 1,000,000 entries, all of it reserved here. The faults are judged in the order 1, 2, 4, 3.
@@ -47,25 +43,4 @@ pub fn link<A: Allocator + Copy>(
         return Err(LinkFault::NoMemory);
     };
     Ok((gateways, Sequencer::new(inboxes, entries, journal)))
-}
-
-fn rings<A: Allocator + Copy>(
-    alloc: A,
-    sessions: usize,
-    ring: usize,
-) -> Result<(Vec<Gateway<A>, A>, Vec<Inbox<A>, A>), AllocError>
-    requires { sessions ≤ SESSIONS }
-    ensures len { IfOk result (λ r. (vec_len r.0 ≡ sessions) × (vec_len r.1 ≡ sessions)) }
-    ensures pairs { IfOk result (λ r. ArePairs r.1.items r.0.items) }
-    ensures fresh { IfOk result (λ r. AreFresh ring r.0.items) }
-    ensures idle { IfOk result (λ r. (s : ℕ) → row taken r.1.items s ≡ []) }
-{
-    let mut gateways = Vec::with_capacity(alloc, sessions)?;
-    let mut inboxes = Vec::with_capacity(alloc, sessions)?;
-    for s in 0..sessions {
-        let (producer, consumer) = RingBuffer::<Entry>::new(alloc, ring)?;
-        gateways.push_reserved(Gateway::new(s as u8, producer));
-        inboxes.push_reserved(Inbox::new(consumer));
-    }
-    Ok((gateways, inboxes))
 }

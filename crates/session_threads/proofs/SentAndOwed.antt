@@ -7,11 +7,11 @@ use Rattle.spread_rules.specs.declared.event.Event.{Event}
 use Rattle.fix_frames.specs.Frames.{frames}
 use Rattle.session_judging.specs.declared.session.Session.{Session}
 use Rattle.session_judging.proofs.events.StateOfPlaces.{whole_law}
-use Rattle.gate_link.specs.Owed.{events_left}
+use Rattle.session_rings.specs.Owed.{events_left}
 use Rattle.session_judging.specs.Streams.{whole}
-use Rattle.gate_link.specs.Gateways.{events_sent, pending_events, session_state, bytes_held, SameGateway}
-use Rattle.gate_link.specs.declared.gateway.Gateway.{Gateway}
-use Rattle.gate_link.proofs.gateways.SentAndOwed.{kept_of_put, sent_is_prefix, sent_is_whole}
+use Rattle.session_rings.specs.Gateways.{events_sent, pending_events, session_state, bytes_held, SameGateway}
+use Rattle.session_rings.specs.declared.gateway.Gateway.{Gateway}
+use Rattle.session_rings.proofs.gateways.SentAndOwed.{kept_of_put, sent_is_prefix, sent_is_whole}
 use Rattle.session_threads.specs.code.Workers.{HasSent, IsUnused, SameEvents, sent_and_pending}
 
 pub sent_of : {A : Type 0} (stream : List ℕ) (a b : Gateway A) (rest : List ℕ) → SameGateway a b → sent_and_pending b rest ≡ whole stream → HasSent stream a b

@@ -2,8 +2,8 @@
 use Rattle.std.proofs.Common.{◌≡◌, ℕ, ◌<◌, List, [], ◌∷◌, ◌++◌, length, get_or, remove, refl, arith, sym, ap, ◌∙◌, inl, inr, Vec}
 use Rattle.std.proofs.lemmas.List.{get_or_append_left, get_or_push, get_or_default}
 use Rattle.std.specs.declared.thread.PromisedHandle.{PromisedHandle}
-use Rattle.gate_link.specs.declared.gateway.Gateway.{Gateway}
-use Rattle.gate_link.proofs.inboxes.OneMore.{snoc_cases}
+use Rattle.session_rings.specs.declared.gateway.Gateway.{Gateway}
+use Rattle.session_rings.proofs.inboxes.OneMore.{snoc_cases}
 use Rattle.session_threads.specs.declared.worker.WorkerPromise.{WorkerPromise}
 use Rattle.session_threads.specs.code.Handing.{AreStarted}
 

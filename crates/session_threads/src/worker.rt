@@ -1,9 +1,9 @@
 //! One session's thread: it judges the session's stream and sends its events.
 ghost use Rattle.std.specs.Prelude.{◌≡◌, ◌≤◌, ℕ, List, length, drop, true, IfSome};
-ghost use Rattle.gate_link.specs.declared.gateway.Gateway.{Gateway};
-ghost use Rattle.gate_link.specs.declared.gateway.Step.TheVariants.{Full, Closed};
-ghost use Rattle.gate_link.specs.declared.gateway.TheConstants.{MAX_SLICE};
-ghost use Rattle.gate_link.specs.Gateways.{is_over};
+ghost use Rattle.session_rings.specs.declared.gateway.Gateway.{Gateway};
+ghost use Rattle.session_rings.specs.declared.gateway.Step.TheVariants.{Full, Closed};
+ghost use Rattle.session_rings.specs.declared.gateway.TheConstants.{MAX_SLICE};
+ghost use Rattle.session_rings.specs.Gateways.{is_over};
 ghost use Rattle.session_threads.specs.code.Workers.{IsUnused, HasSent, SameEvents, IsReady, AreReady};
 
 use crate::workers::WorkerHandle;

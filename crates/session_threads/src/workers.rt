@@ -1,8 +1,8 @@
 //! A thread for each session's stream: all are started, and all are joined.
 ghost use Rattle.std.specs.Prelude.{◌≡◌, ◌<◌, ◌≤◌, ℕ, IfNone, IfSome, vec_len, vec_capacity};
 ghost use Rattle.host_base.specs.declared.limits.TheConstants.{SESSIONS};
-ghost use Rattle.gate_link.specs.declared.gateway.Gateway.{Gateway};
-ghost use Rattle.gate_link.specs.Opening.{AreFresh};
+ghost use Rattle.session_rings.specs.declared.gateway.Gateway.{Gateway};
+ghost use Rattle.session_rings.specs.Fresh.{AreFresh};
 ghost use Rattle.session_threads.specs.code.Handing.{AreStarted, AreKept};
 
 use crate::worker::{WorkerPromise, start};

@@ -1,6 +1,6 @@
-//! Tests of the stages that a day goes through, one by one: rings and gateways (`stage_rings`, `gate_link`), messages
-//! (`spread_report`), the texts of journals and days (`journal_parts`, `spread_journal`, `day_text`), and a text's way
-//! from thread to thread (`piece_ring`).
+//! Tests of the stages that a day goes through, one by one: rings and gateways (`stage_rings`, `session_rings`,
+//! `gate_link`), messages (`spread_report`), the texts of journals and days (`journal_parts`, `spread_journal`,
+//! `day_text`), and a text's way from thread to thread (`piece_ring`).
 #![tactic(auto)]
 
 #[cfg(test)]

@@ -3,7 +3,7 @@ use Rattle.std.proofs.Common.{◌≡◌, ◌<◌, List, [], ◌∷◌, ◌++◌,
 use Rattle.std.proofs.lemmas.List.{get_or_append_left, get_or_push, get_or_default}
 use Rattle.std.specs.declared.thread.PromisedHandle.{PromisedHandle}
 use Rattle.std.specs.declared.thread.Promise as Promise
-use Rattle.gate_link.proofs.inboxes.OneMore.{snoc_cases}
+use Rattle.session_rings.proofs.inboxes.OneMore.{snoc_cases}
 use Rattle.writer_threads.specs.code.Joining.{AreJoined}
 
 pub joined_snoc : {T P : Type 0} (g : Promise.Ghosts P T) (hs : List (PromisedHandle T P)) (rs : List T) (r : T) (handle : PromisedHandle T P)

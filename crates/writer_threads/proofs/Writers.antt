@@ -3,7 +3,7 @@ use Rattle.std.proofs.Common.{◌≡◌, ◌<◌, List, [], ◌∷◌, ◌++◌,
 use Rattle.std.proofs.lemmas.List.{get_or_append_left, get_or_push, get_or_default}
 use Rattle.std.specs.declared.thread.PromisedHandle.{PromisedHandle}
 use Rattle.stage_rings.specs.declared.post.Writer.{Writer}
-use Rattle.gate_link.proofs.inboxes.OneMore.{snoc_cases}
+use Rattle.session_rings.proofs.inboxes.OneMore.{snoc_cases}
 use Rattle.writer_threads.specs.declared.writing.Written.{Written}
 use Rattle.writer_threads.specs.declared.writing.WritePromise.{WritePromise}
 use Rattle.writer_threads.specs.code.Writing.{AreWriting}

@@ -2,7 +2,8 @@
 -- Words of the code alone.
 use Rattle.std.specs.Prelude.{◌≡◌, ℕ, [], length}
 use Rattle.gate_link.specs.Links.{IsLinkOf, room_of}
-use Rattle.gate_link.specs.Opening.{AreFresh, IsRefusal}
+use Rattle.gate_link.specs.Opening.{IsRefusal}
+use Rattle.session_rings.specs.Fresh.{AreFresh}
 use Rattle.stage_rings.specs.Feeding.{given, AreFeedPair}
 use Rattle.journal_matching.specs.declared.fault.ApplyFault.{ApplyFault}
 use Rattle.journal_matching.specs.declared.fault.ApplyFault.TheVariants as apply

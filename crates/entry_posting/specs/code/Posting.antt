@@ -4,7 +4,7 @@ use Rattle.std.specs.Prelude.{◌≡◌, ℕ, ◌<◌, ◌≤◌, Bool, true, fa
 use Rattle.host_base.specs.declared.limits.TheConstants.{SESSIONS}
 use Rattle.spread_rules.specs.declared.event.Entry.{Entry}
 use Rattle.outbound_sessions.specs.Sessions.{session_text}
-use Rattle.gate_link.specs.Rows.{row}
+use Rattle.session_rings.specs.Rows.{row}
 use Rattle.stage_rings.specs.Feeding.{taken, take_ended}
 use Rattle.stage_rings.specs.Posting.{posted, post_ended, SamePoster}
 use Rattle.stage_rings.specs.declared.feed.Matcher.{Matcher}

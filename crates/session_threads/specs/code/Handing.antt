@@ -2,7 +2,7 @@
 -- Words of the code alone.
 use Rattle.std.specs.Prelude.{◌≡◌, ℕ, ◌<◌, ◌≤◌, List, length, slice_index_or, Vec}
 use Rattle.std.specs.declared.thread.PromisedHandle.{PromisedHandle}
-use Rattle.gate_link.specs.declared.gateway.Gateway.{Gateway}
+use Rattle.session_rings.specs.declared.gateway.Gateway.{Gateway}
 use Rattle.session_threads.specs.declared.worker.WorkerPromise.{WorkerPromise}
 use Rattle.session_threads.specs.code.Workers.{HasSent}
 

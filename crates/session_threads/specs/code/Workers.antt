@@ -6,9 +6,9 @@ use Rattle.spread_rules.specs.declared.event.Event.{Event}
 use Rattle.session_judging.specs.Steps.{new_session}
 use Rattle.session_judging.specs.Streams.{whole}
 use Rattle.session_judging.specs.declared.ahead.Ahead.{Ahead}
-use Rattle.gate_link.specs.Bursts.{HasJudged}
-use Rattle.gate_link.specs.Gateways.{events_sent, pending_events, is_over, session_state, bytes_held, SameGateway}
-use Rattle.gate_link.specs.declared.gateway.Gateway.{Gateway}
+use Rattle.session_rings.specs.Bursts.{HasJudged}
+use Rattle.session_rings.specs.Gateways.{events_sent, pending_events, is_over, session_state, bytes_held, SameGateway}
+use Rattle.session_rings.specs.declared.gateway.Gateway.{Gateway}
 
 -- a gateway that has done nothing
 abbrev pub IsUnused : {A : Type 0} → Gateway A → Type 0

@@ -1,5 +1,5 @@
 //! Days of one session, as what is done with its gateway and the sequencer.
-ghost use Rattle.gate_link.specs.Gateways.{SameGateway};
+ghost use Rattle.session_rings.specs.Gateways.{SameGateway};
 ghost use Rattle.gate_link.specs.Links.{IsLinkOf, SameLink};
 
 use super::{Says, expect_journal};

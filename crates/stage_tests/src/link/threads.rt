@@ -1,8 +1,8 @@
 //! Gateways in threads of their own.
 ghost use Rattle.std.specs.Prelude.{ℕ, ◌<◌, length, slice_index_or};
-ghost use Rattle.gate_link.specs.Gateways.{SameGateway};
+ghost use Rattle.session_rings.specs.Gateways.{SameGateway};
 ghost use Rattle.gate_link.specs.Links.{IsLinkOf, SameLink};
-ghost use Rattle.gate_link.specs.declared.gateway.Gateway.{Gateway};
+ghost use Rattle.session_rings.specs.declared.gateway.Gateway.{Gateway};
 ghost use Rattle.std.specs.declared.alloc.Global.{Global};
 ghost use denote.Param.Send.{IsSync};
 

@@ -1,7 +1,7 @@
 use Rattle.std.proofs.Common.{◌≡◌, ◌∙◌, sym, ap, arith, ◌<◌, length, get_or}
 use Rattle.stage_rings.specs.Posting.{posted, written}
-use Rattle.gate_link.proofs.inboxes.AlongTwoLists.{left_more}
-use Rattle.gate_link.proofs.links.PartOfASession.{row_at}
+use Rattle.session_rings.proofs.inboxes.AlongTwoLists.{left_more}
+use Rattle.session_rings.proofs.PartOfASession.{row_at}
 use Rattle.writer_threads.specs.code.Writing.{bytes_written}
 use Rattle.day_conclusion.proofs.JoinedParts.{row_written, finishes_whole, pair_left}
 use Rattle.day_conclusion.proofs.conclude.all_finished.Goals as goal

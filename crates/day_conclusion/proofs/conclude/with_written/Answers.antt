@@ -1,6 +1,6 @@
 use Rattle.std.proofs.Common.{arith, ◌≡◌, ◌≢◌, ◌<◌, ◌∙◌, sym, ap, ℕ, Vec, length, vec_len}
 use Rattle.std.specs.Vec.Iter.{into_iter_items}
-use Rattle.gate_link.proofs.links.PartOfASession.{row_at, row_other}
+use Rattle.session_rings.proofs.PartOfASession.{row_at, row_other}
 use Rattle.writer_threads.specs.code.Writing.{bytes_written, written_at}
 use Rattle.writer_threads.proofs.ElementByElement.{next_is}
 use Rattle.day_conclusion.proofs.JoinedParts.{row_written}

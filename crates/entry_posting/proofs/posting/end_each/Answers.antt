@@ -1,6 +1,6 @@
 use Rattle.std.proofs.Common.{◌≡◌, ◌∙◌, sym, ◌<◌, ℕ, length, arith, slice_set}
 use Rattle.stage_rings.specs.Posting.{posted}
-use Rattle.gate_link.proofs.links.PartOfASession.{row_at, row_kept}
+use Rattle.session_rings.proofs.PartOfASession.{row_at, row_kept}
 use Rattle.entry_posting.specs.code.Posting.{posted_at, SamePosters}
 use Rattle.entry_posting.proofs.Posters.{same_set}
 use Rattle.entry_posting.proofs.posting.end_each.Goals as goal

@@ -1,6 +1,6 @@
 use Rattle.std.proofs.Common.{◌≡◌, ◌∙◌, arith, drop, rules}
 use Rattle.session_judging.specs.Streams.{whole}
-use Rattle.gate_link.specs.Gateways.{SameGateway}
+use Rattle.session_rings.specs.Gateways.{SameGateway}
 use Rattle.session_threads.specs.code.Workers.{sent_and_pending}
 use Rattle.session_threads.proofs.SentAndOwed.{same_gateway_trans, sent_of, stepped, unused_owes}
 use Rattle.session_threads.proofs.worker.send_stream.Goals as goal

@@ -1,6 +1,6 @@
 use Rattle.std.proofs.Common.{◌≡◌, ◌≤◌, ◌++◌, length, drop}
 use Rattle.session_judging.specs.Streams.{whole}
-use Rattle.gate_link.specs.Gateways.{events_sent, pending_events, SameGateway}
+use Rattle.session_rings.specs.Gateways.{events_sent, pending_events, SameGateway}
 use Rattle.session_threads.specs.code.Workers.{AreReady}
 use Rattle.session_threads.proofs.worker.send_stream.Given as goal
 

@@ -1,7 +1,7 @@
 use Rattle.std.proofs.Common.{rules, arith, ◌≡◌, ◌<◌, ◌∙◌, ℕ, List, ap, refl, sym, length, vec_len, Vec}
 use Rattle.std.proofs.lemmas.List.{length-drop}
 use Rattle.std.specs.Vec.Iter.{into_iter_items}
-use Rattle.gate_link.specs.Opening.{IsFresh}
+use Rattle.session_rings.specs.Fresh.{IsFresh}
 use Rattle.writer_threads.proofs.ElementByElement.{next_is}
 use Rattle.session_threads.proofs.StartedWorkers.{first_removed, started_snoc}
 use Rattle.session_threads.proofs.workers.start_all.Goals as goal

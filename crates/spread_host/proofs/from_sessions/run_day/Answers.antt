@@ -1,5 +1,5 @@
 use Rattle.std.proofs.Common.{◌∙◌}
-use Rattle.gate_link.proofs.links.PartOfASession.{row_past}
+use Rattle.session_rings.proofs.PartOfASession.{row_past}
 use Rattle.session_threads.specs.Streams.{whole_stream}
 use Rattle.spread_host.proofs.DayOfParts.{DayHolds, day_holds}
 use Rattle.spread_host.proofs.LawfulJournals.{has_fills}

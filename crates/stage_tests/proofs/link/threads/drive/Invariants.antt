@@ -1,4 +1,4 @@
-use Rattle.gate_link.specs.Gateways.{SameGateway}
+use Rattle.session_rings.specs.Gateways.{SameGateway}
 use Rattle.stage_tests.proofs.link.threads.drive.Given as goal
 
 abbrev pub invariant-loop : goal.invariant-loop

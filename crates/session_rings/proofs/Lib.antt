@@ -1,0 +1,3 @@
+pub mod gateways
+pub mod inboxes
+pub mod PartOfASession

@@ -1,0 +1,3 @@
+pub mod AlongTwoLists
+pub mod OneMore
+pub mod OneClose
