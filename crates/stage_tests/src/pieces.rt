@@ -3,7 +3,6 @@ ghost use Rattle.std.specs.Prelude.{◌≡◌, false};
 ghost use Rattle.piece_ring.specs.Ends.{IsUnread};
 
 use crate::expect::holds;
-use text_pieces::{PIECE_BYTES, TakesPieces};
 use piece_ring::{PieceSink, PieceSource, piece_ring};
 use std::alloc::{Allocator, Global};
 use std::process::Abort;
@@ -11,6 +10,7 @@ use std::sync::Wait;
 use std::thread;
 use std::thread::Threads;
 use test_support::{Refusing, TestSink};
+use text_pieces::{PIECE_BYTES, TakesPieces};
 
 const LINE: &[u8] = b"abcdefghi\n";
 
