@@ -12,7 +12,7 @@ use Rattle.gate_link.specs.Opening.{IsRefusal}
 use Rattle.session_threads.specs.Streams.{IsBeginningOf, all_events, whole_at}
 use Rattle.day_stages.specs.declared.fault.ThreadsFault.{ThreadsFault}
 use Rattle.day_stages.specs.declared.fault.ThreadsFault.TheVariants.{Link, Spawn, JournalFull, NoMemory, NumbersSpent}
-use Rattle.day_conclusion.specs.declared.conclude.SessionsDay.{SessionsDay}
+use Rattle.day_conclusion.specs.declared.conclusion.SessionsDay.{SessionsDay}
 
 -- a session's thread, the matching thread behind the last session's, or behind that one a session's writer's
 abbrev pub IsThread : ℕ → ℕ → Type 0

@@ -1,6 +1,6 @@
 //! What comes of the joined parts of a day in threads: the day, or of the faults that arose the one with the least number.
 #![tactic(auto)]
 
-mod conclude;
+mod conclusion;
 
-pub use conclude::{SessionsDay, conclude};
+pub use conclusion::{SessionsDay, conclude};

@@ -13,8 +13,8 @@ use Rattle.match_thread.specs.code.Matching.{MatchEnds}
 use Rattle.entry_posting.specs.code.Posting.{HasPosted, posted_at}
 use Rattle.entry_posting.specs.declared.step.MatchEnd.{MatchEnd}
 use Rattle.day_conclusion.proofs.JoinedParts.{agrees_prefix, agrees_whole, parts_of_front, fault_of_day}
-use Rattle.day_conclusion.proofs.conclude.fault_of.Goals as goal
-use Rattle.day_conclusion.proofs.conclude.fault_of.Goals.{After-agree-agreed, After-saturating_add-place}
+use Rattle.day_conclusion.proofs.conclusion.fault_of.Goals as goal
+use Rattle.day_conclusion.proofs.conclusion.fault_of.Goals.{After-agree-agreed, After-saturating_add-place}
 
 none_found : {P : Type 0} (o : Option ThreadsFault) → ((f : ThreadsFault) → o ≡ Some f → ⊥) → IfNone o P → P
 none_found None other h = h

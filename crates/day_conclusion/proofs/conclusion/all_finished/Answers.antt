@@ -4,7 +4,7 @@ use Rattle.session_rings.proofs.inboxes.AlongTwoLists.{left_more}
 use Rattle.session_rings.proofs.PartOfASession.{row_at}
 use Rattle.writer_threads.specs.code.Writing.{bytes_written}
 use Rattle.day_conclusion.proofs.JoinedParts.{row_written, finishes_whole, pair_left}
-use Rattle.day_conclusion.proofs.conclude.all_finished.Goals as goal
+use Rattle.day_conclusion.proofs.conclusion.all_finished.Goals as goal
 
 pub finished-requires : goal.finished-requires
 finished-requires g c =

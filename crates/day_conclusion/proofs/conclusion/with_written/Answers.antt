@@ -4,7 +4,7 @@ use Rattle.session_rings.proofs.PartOfASession.{row_at, row_other}
 use Rattle.writer_threads.specs.code.Writing.{bytes_written, written_at}
 use Rattle.writer_threads.proofs.ElementByElement.{next_is}
 use Rattle.day_conclusion.proofs.JoinedParts.{row_written}
-use Rattle.day_conclusion.proofs.conclude.with_written.Goals as goal
+use Rattle.day_conclusion.proofs.conclusion.with_written.Goals as goal
 
 pub loop-one-preserved : goal.loop-one-preserved
 loop-one-preserved g c =

@@ -15,8 +15,8 @@ use Rattle.day_conclusion.specs.Streams.{IsDayOfSessions}
 use Rattle.entry_posting.specs.code.Posting.{HasPosted, posted_at}
 use Rattle.day_stages.specs.declared.fault.ThreadsFault.{ThreadsFault}
 use Rattle.day_conclusion.proofs.CollectedBytes.{collected}
-use Rattle.day_conclusion.proofs.conclude.conclude.Goals as goal
-use Rattle.day_conclusion.proofs.conclude.conclude.Goals.{After-into_parts-fills}
+use Rattle.day_conclusion.proofs.conclusion.conclude.Goals as goal
+use Rattle.day_conclusion.proofs.conclusion.conclude.Goals.{After-into_parts-fills}
 
 none_found : {P : Type 0} (o : Option ThreadsFault) → ((f : ThreadsFault) → o ≡ Some f → ⊥) → IfNone o P → P
 none_found None other h = h

@@ -3,7 +3,7 @@ use Rattle.stage_rings.specs.declared.post.Poster.{Poster}
 use Rattle.entry_posting.specs.code.Posting.{posted_at}
 use Rattle.writer_threads.specs.code.Writing.{written_at}
 use Rattle.writer_threads.specs.declared.writing.Written.{Written}
-use Rattle.day_conclusion.proofs.conclude.all_finished.Given as goal
+use Rattle.day_conclusion.proofs.conclusion.all_finished.Given as goal
 
 abbrev pub invariant-loop-s : goal.invariant-loop-s
 invariant-loop-s g l = record {

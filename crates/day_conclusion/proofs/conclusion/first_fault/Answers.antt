@@ -1,5 +1,5 @@
 use Rattle.day_conclusion.proofs.JoinedParts.{fault_named}
-use Rattle.day_conclusion.proofs.conclude.first_fault.Goals as goal
+use Rattle.day_conclusion.proofs.conclusion.first_fault.Goals as goal
 
 pub returns-in-Fault-clause-fault : goal.returns-in-Fault-clause-fault
 returns-in-Fault-clause-fault c =
