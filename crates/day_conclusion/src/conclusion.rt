@@ -11,7 +11,7 @@ ghost use Rattle.writer_threads.specs.code.Writing.{AreJoinedPairs, written_at};
 
 use day_apply::FillsAndMessages;
 use day_stages::{ThreadsFault, of_apply};
-use entry_posting::MatchEnd;
+use entry_posting::{MatchEnd, PostedEntries};
 use gate_link::{Poster, agree, finished};
 use match_thread::Matched;
 use session_threads::{GivenStreams, SequenceEnd, Sequenced, Written};
@@ -132,6 +132,12 @@ fn fault_of<A: Allocator + Copy>(
         return Some(ThreadsFault::NoMemory(place));
     }
     None
+}
+
+/// What was applied and posted goes, since threads give no day.
+pub fn let_go<A: Allocator + Copy>(posted: PostedEntries<'_, A>) {
+    let PostedEntries { reported, .. } = posted;
+    let FillsAndMessages { .. } = reported.into_parts();
 }
 
 /// The day, or of the faults that arose the one with the least number.

@@ -8,9 +8,9 @@ ghost use Rattle.day_conclusion.specs.Streams.{IsDayOfSessions, IsThreadsFault};
 ghost use Rattle.day_stages.specs.Limits.{IsWithinLimits};
 ghost use Rattle.day_stages.specs.declared.fault.ThreadsFault.TheVariants.{NoMemory, Spawn};
 
-use day_conclusion::{SessionsDay, conclude};
+use day_conclusion::{SessionsDay, conclude, let_go};
 use day_stages::{Caps, DayRules, Stages, ThreadsFault, stages_of};
-use match_thread::start_matching;
+use match_thread::{Matched, start_matching};
 use session_threads::{
     Gate, SequenceEnd, Shared, Started, StartedWriters, Workers, Writing, join_all, join_writers,
     sequence, start_all, start_writers,
@@ -87,9 +87,6 @@ fn sessions_in<'r: 's, 's, E, R: Wait + Threads + Sync, G: Gate, A: Allocator + 
 {
     let given = Snapshot::of(&streams);
     let sessions = stages.gateways.len();
-    let Ok((workers, writing)) = rooms_of(alloc, sessions) else {
-        return Err(no_room((stages, streams)));
-    };
     let Stages {
         gateways,
         sequencer,
@@ -99,9 +96,15 @@ fn sessions_in<'r: 's, 's, E, R: Wait + Threads + Sync, G: Gate, A: Allocator + 
         writers,
         room: size,
     } = stages;
+    let Ok((workers, writing)) = rooms_of(alloc, sessions) else {
+        let_go(posted);
+        let unused = (gateways, sequencer, feeder, matcher, writers, streams);
+        return Err(no_room(unused));
+    };
     let Started { workers, refused } = start_all(scope, shared, gateways, streams, workers);
     if let Some(session) = refused {
-        let unused = (sequencer, feeder, matcher, posted, writers, writing);
+        let_go(posted);
+        let unused = (sequencer, feeder, matcher, writers, writing);
         return Err(stop_workers(shared, workers, session, unused));
     }
     let Shared { rt, gate, stop, .. } = *shared;
@@ -113,7 +116,8 @@ fn sessions_in<'r: 's, 's, E, R: Wait + Threads + Sync, G: Gate, A: Allocator + 
     if let Some(session) = refused {
         let number = sessions as u8 + 1 + session;
         let fault = stop_workers(shared, workers, number, (sequencer, feeder));
-        drop(matching.join(rt));
+        let Matched { posted, .. } = matching.join(rt);
+        let_go(posted);
         drop(join_writers(rt, writing));
         return Err(fault);
     }
@@ -149,10 +153,6 @@ pub fn run_sessions<'r, R: Threads + Wait + Sync, G: Gate, A: Allocator + Copy +
     ensures fault { IfErr result
         (IsThreadsFault rules.now.rulebook.now streams.items caps.ring caps.journal) }
 {
-    let stages = match stages_of(alloc, rules, streams.len(), caps) {
-        Ok(stages) => stages,
-        Err(fault) => return Err(fault),
-    };
     let flag = AtomicBool::new(false);
     let shared = Shared {
         rt,
@@ -160,17 +160,23 @@ pub fn run_sessions<'r, R: Threads + Wait + Sync, G: Gate, A: Allocator + Copy +
         stop: &flag,
         ring: caps.ring,
     };
+    // The stages are made inside, so that nothing outside of the scope owns a market.
     thread::scope(
         thread::scope_env(),
         rt,
         |scope| -> Result<SessionsDay<A>, ThreadsFault>
-            requires { AreReady streams.items stages }
-            ensures day { IfOk result (IsDayOfSessions (sending_rules stages.entry.posted.reported)
-                (stamp_of stages.entry.posted.reported) streams.items) }
-            ensures size { IfOk result (λ day. length day.journal.items ≤ stages.entry.room) }
-            ensures fault { IfErr result (λ f. (ring : ℕ)
-                → IsThreadsFault (sending_rules stages.entry.posted.reported)
-                streams.items ring stages.entry.room f) }
-        { sessions_in(scope, &shared, stages, streams, alloc) },
+            ensures day { IfOk result
+                (IsDayOfSessions rules.entry.now.rulebook.now rules.entry.now.stamp streams.items) }
+            ensures size { IfOk result (λ day. length day.journal.items ≤ caps.journal) }
+            ensures limits { OnOk result
+                (IsWithinLimits (length streams.items) caps.ring caps.journal) }
+            ensures fault { IfErr result
+                (IsThreadsFault rules.entry.now.rulebook.now streams.items caps.ring caps.journal) }
+        {
+            match stages_of(alloc, rules, streams.len(), caps) {
+                Ok(stages) => sessions_in(scope, &shared, stages, streams, alloc),
+                Err(fault) => Err(fault),
+            }
+        },
     )
 }
