@@ -1,4 +1,4 @@
-//! The fault lines and the statuses.
+//! The fault lines and the statuses, as the manual has them.
 use bench::BenchFault;
 use day_explain::ExplainFault;
 use day_picture::DrawFault;

@@ -1,6 +1,6 @@
 //! A day's text on standard output: this thread makes it, and another writes it.
 ghost use Rattle.piece_ring.specs.Ends.{IsUnread};
-ghost use Rattle.exchange.specs.Printing.{IsPrintable};
+ghost use Rattle.day_printing.specs.Printing.{IsPrintable};
 
 use host_base::{Failed, ToWriter};
 use piece_ring::{PieceSource, piece_ring};
