@@ -4,7 +4,7 @@ use Rattle.journal_parts.specs.JournalText.{journal_text}
 use Rattle.spread_rules.specs.declared.event.Entry.{Entry}
 use Rattle.spread_rules.specs.declared.fill.Fill.{Fill}
 use Rattle.spread_rulebook.specs.Rulebook.{Rules, IsListed}
-use Rattle.day_text.specs.Fills.{fill_lines}
+use Rattle.fill_lines.specs.Fills.{fill_lines}
 use Rattle.message_lines.specs.Messages.{outgoing_lines}
 use Rattle.day_text.specs.Months.{month_lines}
 use Rattle.month_totals.specs.Totals.{IsSummable}

@@ -1,4 +1,3 @@
-pub mod Fills
 pub mod Months
 pub mod DayText
 pub mod code

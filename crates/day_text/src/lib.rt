@@ -4,14 +4,13 @@
 mod day_text;
 mod difference;
 mod fault;
-mod fills;
 mod journal;
 mod months;
 
 pub use day_text::{Day, text_of_fills, write_day, write_fills};
 pub use difference::{Difference, first_difference};
 pub use fault::TextFault;
-pub use fills::put_fills;
+pub use fill_lines::put_fills;
 pub use message_lines::write_sessions;
 pub use month_totals::{MonthTotals, month_totals};
 pub use months::put_months;

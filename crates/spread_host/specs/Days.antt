@@ -12,7 +12,7 @@ use Rattle.day_lines.specs.LineText.{day_lines_of}
 use Rattle.day_lines.specs.DayLines.{journal_of_lines}
 use Rattle.day_lines.specs.Reading.{IsJournalOf}
 use Rattle.day_apply.specs.Applied.{outgoing_bytes, IsPlaceOf, IsSpentOf, applied_entries}
-use Rattle.day_text.specs.Fills.{fill_line}
+use Rattle.fill_lines.specs.Fills.{fill_line}
 use Rattle.message_lines.specs.Messages.{outgoing_line}
 use Rattle.day_text.specs.Months.{month_line}
 use Rattle.spread_host.specs.declared.fault.HostFault.{HostFault}

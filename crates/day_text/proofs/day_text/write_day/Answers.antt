@@ -5,7 +5,7 @@ use Rattle.host_base.specs.Ends.{AppendsPrefix}
 use Rattle.journal_parts.specs.JournalText.{journal_text}
 use Rattle.day_text.specs.DayText.{day_text}
 use Rattle.message_lines.specs.Messages.{texts_of, outgoing_lines_from}
-use Rattle.day_text.specs.Fills.{fill_lines}
+use Rattle.fill_lines.specs.Fills.{fill_lines}
 use Rattle.day_text.specs.Months.{month_lines}
 use Rattle.text_pieces.proofs.PiecesInTurn.{of_err}
 use Rattle.day_text.proofs.day_text.write_day.Goals as goal

@@ -5,7 +5,7 @@ use Rattle.host_base.specs.Ends.{AppendsPrefix}
 use Rattle.spread_rules.specs.declared.event.Entry.{Entry}
 use Rattle.journal_parts.specs.JournalText.{journal_text, HasByteIds}
 use Rattle.message_lines.specs.Messages.{texts_of, outgoing_lines_from}
-use Rattle.day_text.specs.Fills.{fill_lines}
+use Rattle.fill_lines.specs.Fills.{fill_lines}
 use Rattle.text_pieces.proofs.PiecesInTurn.{front_after, front_of_more, on_err, on_err_any, on_ok, on_ok_any}
 use Rattle.day_text.proofs.day_text.write_parts.Goals as goal
 

@@ -1,8 +1,8 @@
 use Rattle.std.proofs.Common.{rules, take}
-use Rattle.day_text.specs.Fills.{fill_line}
+use Rattle.fill_lines.specs.Fills.{fill_line}
 use Rattle.text_pieces.proofs.LinesInTurn.{line_put, line_fails}
 use Rattle.text_pieces.proofs.PiecesInTurn.{on_err_any}
-use Rattle.day_text.proofs.fills.put_all.Goals as goal
+use Rattle.fill_lines.proofs.fills.put_all.Goals as goal
 
 pub returns-in_err-put_whole-clause-puts : goal.returns-in_err-put_whole-clause-puts
 returns-in_err-put_whole-clause-puts g c =

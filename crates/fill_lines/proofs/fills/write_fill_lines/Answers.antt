@@ -1,6 +1,6 @@
-use Rattle.day_text.specs.Fills.{fill_lines}
+use Rattle.fill_lines.specs.Fills.{fill_lines}
 use Rattle.text_pieces.proofs.PiecesInTurn.{put_and_given}
-use Rattle.day_text.proofs.fills.write_fill_lines.Goals as goal
+use Rattle.fill_lines.proofs.fills.write_fill_lines.Goals as goal
 
 pub returns-clause-writes : goal.returns-clause-writes
 returns-clause-writes g c =

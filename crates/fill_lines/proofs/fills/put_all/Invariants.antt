@@ -1,7 +1,7 @@
 use Rattle.std.proofs.Common.{◌≡◌, ◌≤◌, ◌++◌, take, vec_capacity, false}
-use Rattle.day_text.specs.Fills.{fill_lines}
+use Rattle.fill_lines.specs.Fills.{fill_lines}
 use Rattle.text_pieces.specs.code.Pieces.{IsPut}
-use Rattle.day_text.proofs.fills.put_all.Given as goal
+use Rattle.fill_lines.proofs.fills.put_all.Given as goal
 
 abbrev pub invariant-loop-fill : goal.invariant-loop-fill
 invariant-loop-fill g l =
