@@ -1,7 +1,7 @@
 -- A day in threads can be written as text.
 use Rattle.std.proofs.Common.{rules, ◌≤◌, length, arith}
 use Rattle.spread_host.proofs.SixteenTexts.{sessions_sent}
-use Rattle.exchange.proofs.run_live.Goals as goal
+use Rattle.commands.proofs.requests.run_live.Goals as goal
 
 pub print_day-requires : goal.print_day-requires
 print_day-requires g c =
