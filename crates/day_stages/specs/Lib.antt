@@ -1,2 +1,3 @@
 pub mod Limits
 pub mod code
+pub use Rattle.entry_posting.specs.Sending

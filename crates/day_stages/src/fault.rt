@@ -2,7 +2,7 @@
 ghost use Rattle.std.specs.Prelude.{◌≡◌};
 ghost use Rattle.day_stages.specs.code.Making.{of_apply};
 
-use day_apply::ApplyFault;
+use entry_posting::ApplyFault;
 use gate_link::LinkFault;
 use thiserror::Error;
 

@@ -1,6 +1,6 @@
 //! What the threads of a day work with, made before any of them is started.
 ghost use Rattle.std.specs.Prelude.{◌≡◌, ℕ, [], length, IfOk, IfErr, OnOk, vec_len};
-ghost use Rattle.day_apply.specs.Sending.{sending_rules, stamp_of};
+ghost use Rattle.entry_posting.specs.Sending.{sending_rules, stamp_of};
 ghost use Rattle.stage_rings.specs.Faults.{IsRingRefusal, IsRingSize};
 ghost use Rattle.day_stages.specs.Limits.{IsWithinLimits};
 ghost use Rattle.day_stages.specs.code.Making.{IsMade, IsStagesFault};
@@ -8,8 +8,7 @@ ghost use Rattle.entry_posting.specs.code.Posting.{NoneEnded, posted_at};
 ghost use Rattle.writer_threads.specs.code.Writing.{ArePostPairs};
 
 use crate::fault::{ThreadsFault, of_apply};
-use day_apply::ReportedEntries;
-use entry_posting::PostedEntries;
+use entry_posting::{PostedEntries, ReportedEntries};
 use gate_link::{
     Feeder, Gateway, LinkFault, Matcher, Poster, Sequencer, Writer, feed_ring, link, post_ring,
 };

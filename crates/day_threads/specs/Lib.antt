@@ -1,1 +1,2 @@
 pub mod code
+pub use Rattle.day_stages.specs.declared.fault

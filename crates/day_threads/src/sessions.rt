@@ -1,7 +1,7 @@
 //! A thread for each session, one that matches, one for each writer, and the sequencer in the caller's.
 ghost use Rattle.std.specs.Prelude.{◌≡◌, ◌<◌, ◌≤◌, ℕ, length, IfOk, IfErr, OnOk, vec_len, vec_capacity};
 ghost use Rattle.spread_rules.specs.Journal.{IsLawful};
-ghost use Rattle.day_apply.specs.Sending.{sending_rules, stamp_of};
+ghost use Rattle.day_stages.specs.Sending.{sending_rules, stamp_of};
 ghost use Rattle.day_threads.specs.code.Starting.{AreReady};
 ghost use Rattle.session_threads.specs.code.Handing.{IsRoom};
 ghost use Rattle.day_conclusion.specs.Streams.{IsDayOfSessions, IsThreadsFault};

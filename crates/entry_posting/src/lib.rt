@@ -5,5 +5,6 @@
 mod posting;
 mod step;
 
+pub use day_apply::{ApplyFault, ReportedEntries};
 pub use posting::{PostedEntries, end_each};
 pub use step::{MatchEnd, match_one};

@@ -1,1 +1,2 @@
 pub mod EntryByEntry
+pub use Rattle.spread_match.proofs.journals.InRange

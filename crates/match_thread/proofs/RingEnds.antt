@@ -4,9 +4,9 @@ use Rattle.spread_rules.specs.declared.event.Entry.{Entry}
 use Rattle.stage_rings.specs.Feeding.{AreFeedPair, SameFeeder, SameMatcher}
 use Rattle.stage_rings.specs.declared.feed.Feeder.{Feeder}
 use Rattle.stage_rings.specs.declared.feed.Matcher.{Matcher}
-use Rattle.day_apply.specs.Applied.{IsApplyFault}
+use Rattle.entry_posting.specs.Applied.{IsApplyFault}
 use Rattle.spread_rulebook.specs.Rulebook.{Rules}
-use Rattle.day_apply.specs.Sending.{sending_rules}
+use Rattle.entry_posting.specs.Sending.{sending_rules}
 use Rattle.entry_posting.specs.code.Posting.{HasPosted, StepEnds}
 use Rattle.entry_posting.specs.declared.posting.PostedEntries.{PostedEntries}
 use Rattle.match_thread.specs.code.Matching.{MatchEnds}

@@ -1,7 +1,7 @@
 //! The matching thread: it takes the journal's entries from a ring, applies them, and gives what they send to the
 //! writers.
 ghost use Rattle.std.specs.Prelude.{◌≡◌, ◌≤◌, IfSome, length};
-ghost use Rattle.day_apply.specs.Sending.{sending_rules, stamp_of};
+ghost use Rattle.entry_posting.specs.Sending.{sending_rules, stamp_of};
 ghost use Rattle.match_thread.specs.code.Matching.{HasMatched, MatchEnds};
 ghost use Rattle.entry_posting.specs.code.Posting.{IsUnfed, SamePosters};
 ghost use Rattle.stage_rings.specs.Feeding.{SameMatcher, taken};

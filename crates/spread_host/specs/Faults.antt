@@ -3,8 +3,8 @@ use Rattle.std.specs.Prelude.{ℕ}
 use Rattle.spread_host.specs.declared.fault.HostFault.{HostFault}
 use Rattle.day_lines.specs.declared.lines.LinesFault.{LinesFault}
 use Rattle.day_lines.specs.declared.lines.LinesFault.TheVariants as lines
-use Rattle.day_stages.specs.declared.fault.ThreadsFault.{ThreadsFault}
-use Rattle.day_stages.specs.declared.fault.ThreadsFault.TheVariants as threads
+use Rattle.day_threads.specs.fault.ThreadsFault.{ThreadsFault}
+use Rattle.day_threads.specs.fault.ThreadsFault.TheVariants as threads
 use Rattle.journal_matching.specs.declared.fault.ApplyFault.{ApplyFault}
 use Rattle.journal_matching.specs.declared.fault.ApplyFault.TheVariants as apply
 use Rattle.day_text.specs.declared.fault.TextFault.{TextFault}

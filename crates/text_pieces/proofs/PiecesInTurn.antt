@@ -1,12 +1,12 @@
 -- Texts that are put by way of a piece, one after another.
-use Rattle.std.proofs.Common.{◌≡◌, ℕ, ◌+◌, ◌/◌, ◌%◌, ◌<◌, ◌≤◌, Bool, List, [], ◌∷◌, ◌++◌, length, map, take, decimal, Option, Result, Ok, Err, OnOk, OnErr, sym, ap, ◌∙◌, arith, subst, append_assoc, append-nil, length-append}
+use Rattle.std.proofs.Common.{◌≡◌, ℕ, ◌+◌, ◌/◌, ◌%◌, ◌<◌, ◌≤◌, Bool, true, List, [], ◌∷◌, ◌++◌, length, map, take, decimal, Option, Result, Ok, Err, IsErrAnd, OnOk, OnErr, sym, ap, ◌∙◌, arith, subst, append_assoc, append-nil, length-append}
 use Rattle.std.proofs.KnownBytes.{Appends-trans, Appends-nil}
 use Rattle.std.proofs.Math.Seq.{take-append-add}
 use Rattle.std.proofs.lemmas.Fmt.{decimal_step, decimal_digit}
 use Rattle.std.proofs.lemmas.List.{map-append, take-append-le}
 use Rattle.std.specs.Io.KnownBytes.{Appends}
 use Rattle.host_base.specs.Ends.{AppendsPrefix}
-use Rattle.text_pieces.specs.code.Pieces.{IsPut, Writes}
+use Rattle.text_pieces.specs.code.Pieces.{IsPut, Puts, Writes}
 
 -- of a call that failed, and of one whose result is handed on
 pub on_err_any : {T E P : Type 0} (r : Result T E) → P → OnErr r P
@@ -27,6 +27,21 @@ on_ok_any (Err e) p = tt
 pub on_ok : {T E P Q : Type 0} (r : Result T E) → (P → Q) → OnOk r P → OnOk r Q
 on_ok (Ok x) f p = f p
 on_ok (Err e) f p = tt
+
+-- of a call that hands on the fault that another met
+pub none_on_err : {T E : Type 0} (P : Type 0) (Q : E → Type 0) (r : Result T E) → IsErrAnd r Q → OnOk r P
+none_on_err P Q (Ok x) is = absurd is
+none_on_err P Q (Err e) is = tt
+
+pub put_stops : {T E : Type 0} {old new : Option (List ℕ)} {has_failed : Bool} {piece text : List ℕ} (Q : E → Type 0) (r : Result T E) → IsErrAnd r Q
+    → has_failed ≡ true → AppendsPrefix old new text → Puts r old new has_failed piece text
+put_stops Q (Ok x) is failed front = absurd is
+put_stops Q (Err e) is failed front = record { put = tt; sound = tt; failed = failed; front = front }
+
+pub write_stops : {T E : Type 0} {old new : Option (List ℕ)} {has_failed : Bool} {text : List ℕ} (Q : E → Type 0) (r : Result T E) → IsErrAnd r Q
+    → has_failed ≡ true → AppendsPrefix old new text → Writes r old new has_failed text
+write_stops Q (Ok x) is failed front = absurd is
+write_stops Q (Err e) is failed front = record { all = tt; sound = tt; failed = failed; front = front }
 
 -- a text was written, and a front of the next
 pub front_after : (a b c : Option (List ℕ)) (xs ys : List ℕ) → Appends a b xs → AppendsPrefix b c ys → AppendsPrefix a c (xs ++ ys)

@@ -5,8 +5,8 @@ use Rattle.gate_link.specs.Links.{IsLinkOf, room_of}
 use Rattle.gate_link.specs.Opening.{IsRefusal}
 use Rattle.session_rings.specs.Fresh.{AreFresh}
 use Rattle.stage_rings.specs.Feeding.{given, AreFeedPair}
-use Rattle.journal_matching.specs.declared.fault.ApplyFault.{ApplyFault}
-use Rattle.journal_matching.specs.declared.fault.ApplyFault.TheVariants as apply
+use Rattle.entry_posting.specs.fault.ApplyFault.{ApplyFault}
+use Rattle.entry_posting.specs.fault.ApplyFault.TheVariants as apply
 use Rattle.writer_threads.specs.code.Writing.{ArePostPairs}
 use Rattle.entry_posting.specs.code.Posting.{IsUnfed}
 use Rattle.day_stages.specs.declared.fault.ThreadsFault.{ThreadsFault}

@@ -4,8 +4,8 @@ use Rattle.std.specs.Prelude.{◌≡◌, ◌≤◌, List, length}
 use Rattle.spread_rules.specs.declared.event.Entry.{Entry}
 use Rattle.stage_rings.specs.Feeding.{taken, SameMatcher}
 use Rattle.stage_rings.specs.declared.feed.Matcher.{Matcher}
-use Rattle.day_apply.specs.Applied.{IsApplyFault}
-use Rattle.day_apply.specs.Sending.{sending_rules, stamp_of}
+use Rattle.entry_posting.specs.Applied.{IsApplyFault}
+use Rattle.entry_posting.specs.Sending.{sending_rules, stamp_of}
 use Rattle.entry_posting.specs.code.Posting.{HasPosted, SamePosters}
 use Rattle.match_thread.specs.declared.matching.Matched.{Matched}
 use Rattle.entry_posting.specs.declared.step.MatchEnd.{MatchEnd}

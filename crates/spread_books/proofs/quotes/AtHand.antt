@@ -8,10 +8,10 @@ use Rattle.spread_rules.specs.Candidates.{Pairs}
 use Rattle.resting_orders.specs.Pairs.{IsCheapest}
 use Rattle.resting_orders.specs.declared.pair.PairCost.{PairCost}
 use Rattle.candidate_search.specs.code.Cheapest.{IsInColumn, KeepsCost}
-use Rattle.quote_tables.specs.code.QuoteTable.{ChangesOneQueue}
-use Rattle.quote_tables.proofs.quotes.Columns.{kept_row}
-use Rattle.quote_tables.proofs.quotes.Costs.{others_when_it_comes}
-use Rattle.quote_tables.proofs.quotes.Tables.{column_kept}
+use Rattle.quoted_books.specs.code.QuoteTable.{ChangesOneQueue}
+use Rattle.quoted_books.proofs.quotes.Columns.{kept_row}
+use Rattle.quoted_books.proofs.quotes.Costs.{others_when_it_comes}
+use Rattle.quoted_books.proofs.quotes.Tables.{column_kept}
 
 -- with the newest order the others' fronts cost what they did, but for one queue
 pub with_newest : (xs zs : List Order) (newest : Option Order) (o : Order) → newest ≡ Some o → xs ++ option_to_list newest ≡ zs → ChangesOneQueue xs zs o.instrument o.side

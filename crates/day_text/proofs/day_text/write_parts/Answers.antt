@@ -1,4 +1,4 @@
-use Rattle.std.proofs.Common.{rules, ◌++◌, All, List, subst}
+use Rattle.std.proofs.Common.{◌++◌, All, List, subst}
 use Rattle.std.proofs.KnownBytes.{Appends-trans}
 use Rattle.std.specs.Io.KnownBytes.{Appends}
 use Rattle.host_base.specs.Ends.{AppendsPrefix}
@@ -6,7 +6,7 @@ use Rattle.spread_rules.specs.declared.event.Entry.{Entry}
 use Rattle.journal_parts.specs.JournalText.{journal_text, HasByteIds}
 use Rattle.message_lines.specs.Messages.{texts_of, outgoing_lines_from}
 use Rattle.fill_lines.specs.Fills.{fill_lines}
-use Rattle.text_pieces.proofs.PiecesInTurn.{front_after, front_of_more, on_err, on_err_any, on_ok, on_ok_any}
+use Rattle.text_pieces.proofs.PiecesInTurn.{front_after, front_of_more, on_err, on_ok, on_ok_any, write_stops, none_on_err}
 use Rattle.day_text.proofs.day_text.write_parts.Goals as goal
 
 pub returns-in_err-write_journal_lines : goal.returns-in_err-write_journal_lines
@@ -18,16 +18,11 @@ returns-in_err-write_journal_lines g c =
     let lines = outgoing_lines_from 0 (texts_of day.out.items) in
     let out = subst (λ (t : List _). AppendsPrefix (told c.args.sink.now) (told c.write_journal_lines.new.sink) (journal_text t)) c.deref.ensures.value c.in_err-write_journal_lines.ensures.writes.front in
     record {
-      writes = record {
-        all = search rules;
-        sound = search rules;
-        failed = search rules;
-        front = on_err_any c.from_residual.result
-            (front_of_more (told c.args.sink.now) (told c.write_journal_lines.new.sink) (before ++ fills ++ lines) c.args.months.items
-            (front_of_more (told c.args.sink.now) (told c.write_journal_lines.new.sink) (before ++ fills) lines
-            (front_of_more (told c.args.sink.now) (told c.write_journal_lines.new.sink) before fills out)));
-      };
-      bytes = search rules;
+      writes = write_stops _ c.from_residual.result c.from_residual.ensures.1 c.in_err-write_journal_lines.ensures.writes.failed
+          (front_of_more (told c.args.sink.now) (told c.write_journal_lines.new.sink) (before ++ fills ++ lines) c.args.months.items
+          (front_of_more (told c.args.sink.now) (told c.write_journal_lines.new.sink) (before ++ fills) lines
+          (front_of_more (told c.args.sink.now) (told c.write_journal_lines.new.sink) before fills out)));
+      bytes = none_on_err _ _ c.from_residual.result c.from_residual.ensures.1;
     }
 
 pub returns-in_err-write_fill_lines : goal.returns-in_err-write_fill_lines
@@ -40,16 +35,11 @@ returns-in_err-write_fill_lines g c =
     let first = subst (λ (t : List _). Appends (told c.args.sink.now) (told c.write_journal_lines.new.sink) (journal_text t)) c.deref.ensures.value c.in_ok-write_journal_lines.ensures.writes.all in
     let out = subst (λ (t : List _). AppendsPrefix (told c.write_journal_lines.new.sink) (told c.write_fill_lines.new.sink) (fill_lines c.args.rulebook.now t)) c.deref-2.ensures.value c.in_err-write_fill_lines.ensures.writes.front in
     record {
-      writes = record {
-        all = search rules;
-        sound = search rules;
-        failed = search rules;
-        front = on_err_any c.from_residual-in_err-write_fill_lines.result
-            (front_of_more (told c.args.sink.now) (told c.write_fill_lines.new.sink) (before ++ fills ++ lines) c.args.months.items
-            (front_of_more (told c.args.sink.now) (told c.write_fill_lines.new.sink) (before ++ fills) lines
-            (front_after (told c.args.sink.now) (told c.write_journal_lines.new.sink) (told c.write_fill_lines.new.sink) before fills first out)));
-      };
-      bytes = search rules;
+      writes = write_stops _ c.from_residual-in_err-write_fill_lines.result c.from_residual-in_err-write_fill_lines.ensures.1 c.in_err-write_fill_lines.ensures.writes.failed
+          (front_of_more (told c.args.sink.now) (told c.write_fill_lines.new.sink) (before ++ fills ++ lines) c.args.months.items
+          (front_of_more (told c.args.sink.now) (told c.write_fill_lines.new.sink) (before ++ fills) lines
+          (front_after (told c.args.sink.now) (told c.write_journal_lines.new.sink) (told c.write_fill_lines.new.sink) before fills first out)));
+      bytes = none_on_err _ _ c.from_residual-in_err-write_fill_lines.result c.from_residual-in_err-write_fill_lines.ensures.1;
     }
 
 pub returns-in_err-write_sessions : goal.returns-in_err-write_sessions
@@ -64,15 +54,10 @@ returns-in_err-write_sessions g c =
     let both = Appends-trans (told c.args.sink.now) (told c.write_journal_lines.new.sink) (told c.write_fill_lines.new.sink) before fills first second in
     let out = subst (λ (t : List _). AppendsPrefix (told c.write_fill_lines.new.sink) (told c.write_sessions.new.sink) (outgoing_lines_from 0 (texts_of t))) c.deref-3.ensures.value c.in_err-write_sessions.ensures.writes.front in
     record {
-      writes = record {
-        all = search rules;
-        sound = search rules;
-        failed = search rules;
-        front = on_err_any c.from_residual-in_err-write_sessions.result
-            (front_of_more (told c.args.sink.now) (told c.write_sessions.new.sink) (before ++ fills ++ lines) c.args.months.items
-            (front_after (told c.args.sink.now) (told c.write_fill_lines.new.sink) (told c.write_sessions.new.sink) (before ++ fills) lines both out));
-      };
-      bytes = search rules;
+      writes = write_stops _ c.from_residual-in_err-write_sessions.result c.from_residual-in_err-write_sessions.ensures.1 c.in_err-write_sessions.ensures.writes.failed
+          (front_of_more (told c.args.sink.now) (told c.write_sessions.new.sink) (before ++ fills ++ lines) c.args.months.items
+          (front_after (told c.args.sink.now) (told c.write_fill_lines.new.sink) (told c.write_sessions.new.sink) (before ++ fills) lines both out));
+      bytes = none_on_err _ _ c.from_residual-in_err-write_sessions.result c.from_residual-in_err-write_sessions.ensures.1;
     }
 
 pub returns : goal.returns
@@ -92,8 +77,8 @@ returns g c =
         all = on_ok c.take.result
             (λ last. Appends-trans (told c.args.sink.now) (told c.write_sessions.new.sink) (told c.take.new.self) (before ++ fills ++ lines) c.args.months.items three last)
             c.take.ensures.writes.all;
-        sound = search rules;
-        failed = search rules;
+        sound = c.take.ensures.writes.sound;
+        failed = c.take.ensures.writes.failed;
         front = on_err c.take.result
             (λ last. front_after (told c.args.sink.now) (told c.write_sessions.new.sink) (told c.take.new.self) (before ++ fills ++ lines) c.args.months.items three last)
             c.take.ensures.writes.front;

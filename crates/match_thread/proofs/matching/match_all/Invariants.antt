@@ -1,6 +1,6 @@
 use Rattle.std.proofs.Common.{◌≡◌, ◌≤◌, false, length}
 use Rattle.stage_rings.specs.Feeding.{taken, take_ended, SameMatcher}
-use Rattle.day_apply.specs.Sending.{sending_rules, stamp_of}
+use Rattle.entry_posting.specs.Sending.{sending_rules, stamp_of}
 use Rattle.entry_posting.specs.code.Posting.{CanPost, HasPosted, SamePosters}
 use Rattle.match_thread.proofs.matching.match_all.Given as goal
 

@@ -2,7 +2,7 @@ use Rattle.std.proofs.Common.{rules, ◌≡◌, ◌++◌, [], List, ℕ, map, sy
 use Rattle.std.proofs.lemmas.List.{map-append}
 use Rattle.message_lines.specs.Messages.{shown_byte}
 use Rattle.text_pieces.specs.code.Pieces.{IsPut}
-use Rattle.text_pieces.proofs.PiecesInTurn.{put_fails, put_more, put_after, front_of_more, on_err_any}
+use Rattle.text_pieces.proofs.PiecesInTurn.{put_fails, put_more, put_after, front_of_more, put_stops}
 use Rattle.message_lines.proofs.LinesInParts.{shown_more}
 use Rattle.message_lines.proofs.messages.put_part.Goals as goal
 
@@ -13,14 +13,9 @@ returns-in_err-make_room_shown-clause-puts g c =
     let old = map shown_byte c.args.piece.now.items in
     let mid = map shown_byte c.loop-rest.piece.items in
     let split = ap (λ (t : List ℕ). map shown_byte t) so_far.2 ∙ map-append shown_byte so_far.0 c.loop-rest.rest.now in
-    record {
-      put = search rules;
-      sound = search rules;
-      failed = search rules;
-      front = on_err_any c.from_residual.result
-          (put_fails (told c.args.sink.now) (told c.loop-rest.sink) (told c.make_room_shown.new.sink) old mid (map shown_byte so_far.0) [] (map shown_byte c.loop-rest.rest.now) (map shown_byte c.args.bytes.now)
-          so_far.1 (front_of_more (told c.loop-rest.sink) (told c.make_room_shown.new.sink) mid [] c.in_err-make_room_shown.ensures.puts.front) split);
-    }
+    put_stops _ c.from_residual.result c.from_residual.ensures.1 c.in_err-make_room_shown.ensures.puts.failed
+    (put_fails (told c.args.sink.now) (told c.loop-rest.sink) (told c.make_room_shown.new.sink) old mid (map shown_byte so_far.0) [] (map shown_byte c.loop-rest.rest.now) (map shown_byte c.args.bytes.now)
+    so_far.1 (front_of_more (told c.loop-rest.sink) (told c.make_room_shown.new.sink) mid [] c.in_err-make_room_shown.ensures.puts.front) split)
 
 pub loop-rest-preserved : goal.loop-rest-preserved
 loop-rest-preserved g c =

@@ -5,7 +5,7 @@ use Rattle.fix_frames.specs.Frames.{IsFrameRow}
 use Rattle.message_lines.specs.Messages.{shown_byte, session_lines, outgoing_lines_from}
 use Rattle.text_pieces.specs.code.Pieces.{IsPut}
 use Rattle.message_lines.proofs.SessionLines.{sessions_next_of, sessions_rest}
-use Rattle.text_pieces.proofs.PiecesInTurn.{put_after, put_fails, on_err_any}
+use Rattle.text_pieces.proofs.PiecesInTurn.{put_after, put_fails, put_stops}
 use Rattle.message_lines.proofs.messages.put_sessions.Goals as goal
 
 pub put_outgoing-requires-clause-row : goal.put_outgoing-requires-clause-row
@@ -29,14 +29,9 @@ returns-in_err-put_outgoing g c =
     let before = outgoing_lines_from 0 (take s texts) in
     let rest = sessions_rest texts 0 (s + 1) in
     record {
-      puts = record {
-        put = search rules;
-        sound = search rules;
-        failed = search rules;
-        front = on_err_any c.from_residual.result
-            (put_fails (told c.args.sink.now) (told c.loop-session.sink) (told c.put_outgoing.new.sink) (map shown_byte c.args.piece.now.items) (map shown_byte c.loop-session.piece.items) before line rest.0 (outgoing_lines_from 0 texts)
-            c.loop-session.invariant.0 c.in_err-put_outgoing.ensures.puts.front (rest.1 ∙ (ap (λ (t : List ℕ). t ++ rest.0) (sessions_next_of texts s c.deref.result.now bytes within) ∙ append_assoc before line rest.0)));
-      };
+      puts = put_stops _ c.from_residual.result c.from_residual.ensures.1 c.in_err-put_outgoing.ensures.puts.failed
+          (put_fails (told c.args.sink.now) (told c.loop-session.sink) (told c.put_outgoing.new.sink) (map shown_byte c.args.piece.now.items) (map shown_byte c.loop-session.piece.items) before line rest.0 (outgoing_lines_from 0 texts)
+          c.loop-session.invariant.0 c.in_err-put_outgoing.ensures.puts.front (rest.1 ∙ (ap (λ (t : List ℕ). t ++ rest.0) (sessions_next_of texts s c.deref.result.now bytes within) ∙ append_assoc before line rest.0)));
     }
 
 pub loop-session-preserved : goal.loop-session-preserved

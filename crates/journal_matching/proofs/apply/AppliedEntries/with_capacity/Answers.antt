@@ -1,5 +1,5 @@
 use Rattle.std.proofs.Common.{rules, [], sym, subst}
-use Rattle.market_state.specs.State.{MarketView}
+use Rattle.spread_match.specs.State.{MarketView}
 use Rattle.journal_matching.specs.Application.{HasApplied}
 use Rattle.journal_matching.proofs.apply.AppliedEntries.with_capacity.Goals as goal
 

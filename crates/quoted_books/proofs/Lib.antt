@@ -1,0 +1,1 @@
+pub use Rattle.quote_tables.proofs.quotes
