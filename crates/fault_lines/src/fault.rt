@@ -163,3 +163,11 @@ fn journal_line<'a>(fault: &JournalFault) -> (&'static str, Detail<'a>) {
         JournalFault::NoMemory => ("no memory", Detail::Nothing),
     }
 }
+
+/// Says why there is no text, where that is not said yet, and gives the status.
+pub fn tell(rt: &impl Eprint, fault: Fault<'_>) -> u8 {
+    if !matches!(fault, Fault::Claim) {
+        let _ = eprintln!(rt; "exchange: {}", fault);
+    }
+    fault.status()
+}

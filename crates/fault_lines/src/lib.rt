@@ -3,4 +3,4 @@
 
 mod fault;
 
-pub use fault::Fault;
+pub use fault::{Fault, tell};
