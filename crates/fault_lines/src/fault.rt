@@ -75,7 +75,7 @@ impl<'a> Fault<'a> {
     }
 
     /// The exit status.
-    pub fn status(&self) -> u8 {
+    fn status(&self) -> u8 {
         match self {
             Fault::Stamp | Fault::Phase => 2,
             Fault::File(_) => 3,

@@ -8,11 +8,7 @@ use Rattle.std.specs.Io.KnownBytes.{Appends}
 use Rattle.host_base.specs.Ends.{AppendsPrefix}
 use Rattle.text_pieces.specs.code.Pieces.{IsPut, Puts, Writes}
 
--- of a call that failed, and of one whose result is handed on
-pub on_err_any : {T E P : Type 0} (r : Result T E) → P → OnErr r P
-on_err_any (Ok x) p = tt
-on_err_any (Err e) p = p
-
+-- of a call whose result is handed on
 pub on_err : {T E P Q : Type 0} (r : Result T E) → (P → Q) → OnErr r P → OnErr r Q
 on_err (Ok x) f p = tt
 on_err (Err e) f p = f p
