@@ -2,9 +2,10 @@
 ghost use Rattle.std.specs.Prelude.{◌≤◌, length, OnOk};
 ghost use Rattle.host_base.specs.declared.limits.TheConstants.{SESSIONS};
 
-use crate::market::{time_match, time_report};
+use crate::sending::time_report;
 use host_base::limits::SESSIONS;
 use intake_phases::{BenchFault, Measured, time_judge, time_scan};
+use match_phase::time_match;
 use ring_phases::{AtOnce, time_threads};
 use std::alloc::AllocGlobal;
 use std::thread::Threads;

@@ -1,6 +1,6 @@
-//! The command line of `exchange`: its commands and options, and what they ask for.
+//! The command line of `exchange`: what its words ask for.
 #![tactic(auto)]
 
-mod words;
+mod request;
 
-pub use words::{Refused, Request, Task, read_words, refuse, words_of};
+pub use request::{Refused, Request, Task, read_words, refuse, words_of};

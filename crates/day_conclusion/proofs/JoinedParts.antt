@@ -27,10 +27,10 @@ use Rattle.stage_rings.specs.declared.post.Poster.{Poster}
 use Rattle.day_conclusion.specs.Streams.{IsThreadsFault}
 use Rattle.day_conclusion.specs.code.Concluding.{IsFaultOfEnds}
 use Rattle.day_stages.specs.code.Making.{of_apply}
-use Rattle.match_thread.specs.code.Matching.{MatchEnds}
+use Rattle.matching_turns.specs.code.Matching.{MatchEnds}
 use Rattle.day_stages.specs.declared.fault.ThreadsFault.{ThreadsFault}
 use Rattle.day_stages.specs.declared.fault.ThreadsFault.TheVariants as threads
-use Rattle.match_thread.specs.declared.matching.Matched.{Matched}
+use Rattle.matching_turns.specs.declared.turns.Matched.{Matched}
 use Rattle.entry_posting.specs.declared.step.MatchEnd.{MatchEnd}
 use Rattle.entry_posting.specs.declared.step.MatchEnd.TheVariants.{Fault}
 use Rattle.day_apply.specs.Sending.{sending_rules}

@@ -13,7 +13,7 @@ use day_apply::FillsAndMessages;
 use day_stages::{ThreadsFault, of_apply};
 use entry_posting::{MatchEnd, PostedEntries};
 use gate_link::{Poster, agree, finished};
-use match_thread::Matched;
+use matching_turns::Matched;
 use session_threads::{GivenStreams, SequenceEnd, Sequenced, Written};
 use spread_rules::Entry;
 use std::alloc::Allocator;
@@ -132,12 +132,6 @@ fn fault_of<A: Allocator + Copy>(
         return Some(ThreadsFault::NoMemory(place));
     }
     None
-}
-
-/// What was applied and posted goes, since threads give no day.
-pub fn let_go<A: Allocator + Copy>(posted: PostedEntries<'_, A>) {
-    let PostedEntries { reported, .. } = posted;
-    let FillsAndMessages { .. } = reported.into_parts();
 }
 
 /// The day, or of the faults that arose the one with the least number.

@@ -3,4 +3,4 @@
 
 mod conclusion;
 
-pub use conclusion::{SessionsDay, conclude, let_go};
+pub use conclusion::{SessionsDay, conclude};

@@ -4,7 +4,7 @@ ghost use Rattle.host_base.specs.declared.limits.TheConstants.{MAX_JOURNAL_ENTRI
 ghost use Rattle.spread_rules.specs.declared.codes.close_reason.TheConstants.{STREAM_ENDED};
 ghost use Rattle.spread_rules.specs.declared.event.Event.TheVariants.{Close};
 ghost use Rattle.fix_frames.specs.Frames.{frames};
-ghost use Rattle.fix_wire.specs.Pieces.{SplitsInto};
+ghost use Rattle.fix_framer.specs.Pieces.{SplitsInto};
 ghost use Rattle.session_judging.specs.Reading.{ReaderState, new_reader, IsBehind};
 ghost use Rattle.session_judging.specs.Steps.{events_said, events_at_end};
 ghost use Rattle.session_judging.specs.Streams.{events, stays_open};

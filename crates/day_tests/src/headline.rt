@@ -19,7 +19,7 @@ ghost use Rattle.journal_parts.specs.JournalText.{journal_text};
 ghost use Rattle.day_apply.specs.Applied.{outgoing_bytes, applied_entries, applied_journal};
 ghost use Rattle.day_lines.specs.Reading.{IsJournalOf, HasParts};
 ghost use Rattle.spread_host.specs.Days.{IsReplayFault, IsPartOut, text_of_day};
-ghost use Rattle.spread_host.specs.declared.fault.HostFault.{HostFault};
+ghost use Rattle.host_faults.specs.declared.fault.HostFault.{HostFault};
 
 use day_text::Day;
 use host_base::{Id, Sink, Source};

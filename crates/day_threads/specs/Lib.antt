@@ -1,2 +1,1 @@
-pub mod code
 pub use Rattle.day_stages.specs.declared.fault

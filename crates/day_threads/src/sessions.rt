@@ -1,71 +1,54 @@
-//! A thread for each session, one that matches, one for each writer, and the sequencer in the caller's.
-ghost use Rattle.std.specs.Prelude.{◌≡◌, ◌<◌, ◌≤◌, ℕ, length, IfOk, IfErr, OnOk, vec_len, vec_capacity};
+//! A day of sessions in threads: all are started, the journal is made in the caller's, and all are joined.
+ghost use Rattle.std.specs.Prelude.{◌≡◌, ◌≤◌, ℕ, length, IfOk, IfErr, OnOk};
 ghost use Rattle.spread_rules.specs.Journal.{IsLawful};
 ghost use Rattle.day_stages.specs.Sending.{sending_rules, stamp_of};
-ghost use Rattle.day_threads.specs.code.Starting.{AreReady};
-ghost use Rattle.session_threads.specs.code.Handing.{IsRoom};
+ghost use Rattle.day_start.specs.code.Starting.{AreReady, IsRunning};
 ghost use Rattle.day_conclusion.specs.Streams.{IsDayOfSessions, IsThreadsFault};
 ghost use Rattle.day_stages.specs.Limits.{IsWithinLimits};
-ghost use Rattle.day_stages.specs.declared.fault.ThreadsFault.TheVariants.{NoMemory, Spawn};
 
-use day_conclusion::{SessionsDay, conclude, let_go};
+use day_conclusion::{SessionsDay, conclude};
 use day_stages::{Caps, DayRules, Stages, ThreadsFault, stages_of};
-use match_thread::{Matched, start_matching};
-use session_threads::{
-    Gate, SequenceEnd, Shared, Started, StartedWriters, Workers, Writing, join_all, join_writers,
-    sequence, start_all, start_writers,
-};
-use std::alloc::{AllocError, Allocator};
+use day_start::{RunningDay, start_day};
+use session_threads::{Gate, GivenStreams, SequenceEnd, Shared, join_writers, sequence};
+use std::alloc::Allocator;
 use std::snapshot::Snapshot;
 use std::sync::Wait;
 use std::sync::atomic::{AtomicBool, Ordering};
 use std::thread;
 use std::thread::{Scope, Threads};
 
-/// The fault of a day whose stages found no room for their threads' handles.
-fn no_room<T: Drop>(_unused: T) -> ThreadsFault
-    ensures { result ≡ NoMemory 0 }
+/// Takes the sequencer's turns until the journal is whole, then joins all threads: the day that their parts make, or the
+/// fault with the least number.
+fn finish<R: Wait + Threads, A: Allocator + Copy>(
+    rt: &R,
+    stop: &AtomicBool,
+    running: RunningDay<'_, A>,
+    streams: &GivenStreams<A>,
+    room: usize,
+) -> Result<SessionsDay<A>, ThreadsFault>
+    requires { IsRunning room streams.now.value.items running }
+    ensures size { IfOk result (λ day. length day.journal.items ≤ room) }
+    ensures day { IfOk result (IsDayOfSessions
+        (sending_rules running.entry.matching.promise.posted.value.reported)
+        (stamp_of running.entry.matching.promise.posted.value.reported) streams.now.value.items) }
+    ensures fault { IfErr result (λ f. (ring : ℕ)
+        → IsThreadsFault (sending_rules running.entry.matching.promise.posted.value.reported)
+        streams.now.value.items ring room f) }
 {
-    ThreadsFault::NoMemory(0)
-}
-
-/// Tells the threads that run to stop, and joins them, since the one of this number could not be started. What no
-/// thread took goes.
-fn stop_workers<R: Threads, G, A: Allocator, T: Drop>(
-    shared: &Shared<'_, '_, R, G>,
-    workers: Workers<A>,
-    number: u8,
-    _unused: T,
-) -> ThreadsFault
-    requires { (vec_len workers.room ≡ 0) × (vec_len workers.handles ≤ vec_capacity workers.room) }
-    ensures { result ≡ Spawn number }
-{
-    shared.stop.store(true, Ordering::SeqCst);
-    drop(join_all(shared.rt, workers));
-    ThreadsFault::Spawn(number)
-}
-
-/// Room for the handles of the sessions' threads and of the writers', and for what they hand back.
-fn rooms_of<A: Allocator + Copy>(
-    alloc: A,
-    sessions: usize,
-) -> Result<(Workers<A>, Writing<A>), AllocError>
-    ensures workers { IfOk result (λ r.
-        IsRoom sessions (vec_len r.0.handles) (vec_capacity r.0.handles)
-        × IsRoom sessions (vec_len r.0.room) (vec_capacity r.0.room)) }
-    ensures writers { IfOk result (λ r.
-        IsRoom sessions (vec_len r.1.handles) (vec_capacity r.1.handles)
-        × IsRoom sessions (vec_len r.1.room) (vec_capacity r.1.room)) }
-{
-    let workers = Workers {
-        handles: Vec::with_capacity(alloc, sessions)?,
-        room: Vec::with_capacity(alloc, sessions)?,
-    };
-    let writing = Writing {
-        handles: Vec::with_capacity(alloc, sessions)?,
-        room: Vec::with_capacity(alloc, sessions)?,
-    };
-    Ok((workers, writing))
+    let RunningDay {
+        sequencer,
+        feeder,
+        workers,
+        matching,
+        writing,
+    } = running;
+    let sequenced = sequence(rt, stop, sequencer, feeder, workers, streams);
+    if sequenced.end != SequenceEnd::Whole {
+        stop.store(true, Ordering::SeqCst);
+    }
+    let matched = matching.join(rt);
+    let written = join_writers(rt, writing);
+    conclude(sequenced, matched, written, streams, room)
 }
 
 /// The sessions of a scope: a thread for each, one that matches, one for each writer, and the sequencer's turns in this
@@ -86,48 +69,11 @@ fn sessions_in<'r: 's, 's, E, R: Wait + Threads + Sync, G: Gate, A: Allocator + 
         streams.items ring stages.entry.room f) }
 {
     let given = Snapshot::of(&streams);
-    let sessions = stages.gateways.len();
-    let Stages {
-        gateways,
-        sequencer,
-        feeder,
-        matcher,
-        posted,
-        writers,
-        room: size,
-    } = stages;
-    let Ok((workers, writing)) = rooms_of(alloc, sessions) else {
-        let_go(posted);
-        let unused = (gateways, sequencer, feeder, matcher, writers, streams);
-        return Err(no_room(unused));
-    };
-    let Started { workers, refused } = start_all(scope, shared, gateways, streams, workers);
-    if let Some(session) = refused {
-        let_go(posted);
-        let unused = (sequencer, feeder, matcher, writers, writing);
-        return Err(stop_workers(shared, workers, session, unused));
+    let room = stages.room;
+    match start_day(scope, shared, stages, streams, alloc) {
+        Ok(running) => finish(shared.rt, shared.stop, running, &given, room),
+        Err(fault) => Err(fault),
     }
-    let Shared { rt, gate, stop, .. } = *shared;
-    let Some(matching) = start_matching(scope, rt, gate, stop, matcher, posted) else {
-        let unused = (sequencer, feeder, writers, writing);
-        return Err(stop_workers(shared, workers, sessions as u8, unused));
-    };
-    let StartedWriters { writing, refused } = start_writers(scope, shared, writers, writing);
-    if let Some(session) = refused {
-        let number = sessions as u8 + 1 + session;
-        let fault = stop_workers(shared, workers, number, (sequencer, feeder));
-        let Matched { posted, .. } = matching.join(rt);
-        let_go(posted);
-        drop(join_writers(rt, writing));
-        return Err(fault);
-    }
-    let sequenced = sequence(rt, stop, sequencer, feeder, workers, &given);
-    if sequenced.end != SequenceEnd::Whole {
-        stop.store(true, Ordering::SeqCst);
-    }
-    let matched = matching.join(rt);
-    let written = join_writers(rt, writing);
-    conclude(sequenced, matched, written, &given, size)
 }
 
 /// Runs a thread for each of 1 to 16 streams, session 0 first, one that matches, one for each session's writer, and

@@ -9,7 +9,7 @@ ghost use Rattle.explained_entries.specs.Told.{named_by, standing_at};
 
 use host_base::{Id, NoMemory};
 use journal_matching::{AppliedEntries, apply_entries};
-use spread_books::Book;
+use resting_orders::Book;
 use spread_rules::{Entry, Event, Order, Outcome, Rulebook};
 use std::alloc::{AllocError, Allocator};
 

@@ -2,10 +2,10 @@
 use bench::BenchFault;
 use day_explain::ExplainFault;
 use day_picture::DrawFault;
-use gate_link::LinkFault;
-use spread_host::HostFault;
+use host_faults::HostFault;
 use spread_journal::JournalFault;
 use spread_rules::RuleFault;
+use stage_rings::LinkFault;
 use std::fmt;
 
 /// Why the program ended without its text.

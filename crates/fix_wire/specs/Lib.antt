@@ -1,6 +1,2 @@
-pub mod code
-pub mod Next
-pub mod FramePlaces
 pub mod Layout
-pub mod Pieces
 pub mod Spelling

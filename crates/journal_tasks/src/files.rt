@@ -1,6 +1,6 @@
 //! The files that a command names, read.
 use fault_lines::Fault;
-use spread_host::HostFault;
+use host_faults::HostFault;
 use spread_rules::Rulebook;
 use std::fs::Files;
 use std::{fs, io};

@@ -11,9 +11,8 @@ ghost use Rattle.kind_table.specs.Table.{value_at, id_at, read_at, choice_at, ch
 ghost use Rattle.kind_table.specs.code.ByKind.{meaning_of_kind};
 ghost use Rattle.kind_table.specs.code.Shown.{bytes_behind, ticket_of, ticket_behind, stamped, passed_over, one_of, side_at, is_immediate_at};
 
-use fix_wire::{
-    Message, Unread, field_values, msg_types, read_number, read_price, read_quantity, tags,
-};
+use fix_frames::{Message, field_values, msg_types, tags};
+use fix_values::{Unread, read_number, read_price, read_quantity};
 use host_base::Id;
 use host_base::limits::FIRST_MSG_SEQ_NUM;
 use spread_rules::codes::session_reject_reason;

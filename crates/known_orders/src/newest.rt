@@ -11,7 +11,7 @@ ghost use Rattle.known_orders.specs.code.Known.{orders_after_trading, trading_of
 
 use order_clearing::trade;
 use order_statuses::Statuses;
-use spread_books::Book;
+use resting_orders::Book;
 use spread_rules::{Fill, Order, Rulebook};
 use std::alloc::Allocator;
 

@@ -9,7 +9,7 @@ ghost use Rattle.known_orders.specs.code.Known.{entered_status, AreKnown};
 use host_base::{Id, NoMemory};
 use order_rows::is_own;
 use order_statuses::Statuses;
-use spread_books::Book;
+use resting_orders::Book;
 use spread_rules::codes::ord_status;
 use spread_rules::{Order, OrderStatus};
 use std::alloc::Allocator;

@@ -26,7 +26,7 @@ use host_base::{Id, NoMemory};
 use known_orders::{add_order, resting_order, trade_newest};
 use order_rows::with_quantity;
 use order_statuses::Statuses;
-use spread_books::Book;
+use resting_orders::Book;
 use spread_rules::codes::{cxl_rej_reason, ord_rej_reason, ord_status};
 use spread_rules::{Entry, Event, Fill, Instrument, Order, OrderStatus, Outcome, Rulebook, Ticket};
 use std::alloc::Allocator;

@@ -4,7 +4,8 @@ ghost use Rattle.row_index.specs.Tables.{IsTableOf};
 
 use crate::expect::holds;
 use host_base::{IdKey, NoMemory};
-use row_index::{Hints, IdRows, IdTable, Noted};
+use placed_rows::Hints;
+use row_index::{IdRows, IdTable, Noted};
 use std::alloc::Allocator;
 use std::process::Abort;
 use test_support::{Refusing, id};

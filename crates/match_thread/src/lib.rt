@@ -3,4 +3,5 @@
 
 mod matching;
 
-pub use matching::{MatchPromise, Matched, start_matching};
+pub use matching::{MatchPromise, start_matching};
+pub use matching_turns::Matched;

@@ -7,7 +7,8 @@ ghost use Rattle.order_clearing.specs.code.Turns.{HaveLeft, AreApart};
 ghost use Rattle.spread_rulebook.specs.Rulebook.{implied, month_count, references_of};
 
 use crate::parts::turn_fills;
-use spread_books::{Book, best_candidate};
+use candidate_search::best_candidate;
+use resting_orders::Book;
 use spread_rules::{Candidate, Counterparty, Fill, Instrument, Order, Rulebook, quantity_with};
 use std::alloc::Allocator;
 

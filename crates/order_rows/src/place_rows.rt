@@ -18,7 +18,7 @@ use crate::amend::with_quantity;
 use crate::own::is_own;
 use crate::row::Row;
 use host_base::{Id, NoMemory};
-use row_index::{Hints, PlacedRows};
+use placed_rows::{Hints, PlacedRows};
 use spread_rules::Order;
 use std::alloc::Allocator;
 use std::marker::Model;

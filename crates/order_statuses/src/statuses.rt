@@ -9,8 +9,9 @@ ghost use Rattle.spread_rules.specs.Amended.{amended};
 ghost use Rattle.resting_orders.specs.Queues.{CanAmend};
 
 use host_base::{Id, IdKey, NoMemory};
-use row_index::{Hints, IdRows, IdTable, PlacedRows};
-use spread_books::Book;
+use placed_rows::{Hints, PlacedRows};
+use resting_orders::Book;
+use row_index::{IdRows, IdTable};
 use spread_rules::codes::ord_status;
 use spread_rules::{Fill, Order, OrderStatus};
 use std::alloc::Allocator;

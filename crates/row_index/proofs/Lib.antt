@@ -1,5 +1,4 @@
 pub mod Keys
 pub mod Lines
-pub mod Places
 pub mod TakenBack
 pub mod Tables

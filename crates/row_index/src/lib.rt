@@ -1,11 +1,9 @@
-//! Where rows stand: guesses by place, and a table by session and id. Nothing here knows of orders.
+//! Where the row of a session and an id stands: a table of ids. Nothing here knows of orders.
 #![tactic(auto)]
 
-mod hints;
 mod id_table;
 mod rows;
 mod spot;
 
-pub use hints::Hints;
 pub use id_table::{IdTable, Noted};
-pub use rows::{IdRows, PlacedRows};
+pub use rows::IdRows;

@@ -1,5 +1,5 @@
-//! Rows that are looked up by session and id, or by place.
-ghost use Rattle.std.specs.Prelude.{◌≡◌, ℕ, List, length, slice_get};
+//! Rows by session and id.
+ghost use Rattle.std.specs.Prelude.{◌≡◌, List, length, slice_get};
 ghost use Rattle.host_base.specs.declared.id_key.IdKey.{IdKey};
 
 use host_base::IdKey;
@@ -15,13 +15,4 @@ pub trait IdRows {
     /// How many rows there are. Takes no memory.
     fn len(&self) -> usize
         ensures { result ≡ length (keys self.now) };
-}
-
-/// Rows that are looked up by place, seen as the list of these in order of row.
-pub trait PlacedRows {
-    ghost places: { Self → List ℕ };
-
-    /// The place of a row. None where there are not so many rows. Takes no memory.
-    fn place_at(&self, row: usize) -> Option<u64>
-        ensures { result ≡ slice_get (places self.now) row };
 }

@@ -7,8 +7,8 @@ use Rattle.spread_rules.specs.declared.event.Event.{Event}
 use Rattle.spread_rules.specs.declared.event.Entry.{Entry}
 use Rattle.fix_frames.specs.Frames.{frames}
 use Rattle.fix_frames.specs.Held.{first_frame, after_first_frame}
-use Rattle.fix_wire.specs.Pieces.{SplitsInto}
-use Rattle.fix_wire.specs.FramePlaces.{EndsFirst}
+use Rattle.fix_framer.specs.Pieces.{SplitsInto}
+use Rattle.fix_framer.specs.FramePlaces.{EndsFirst}
 use Rattle.session_judging.specs.declared.session.Verdict.{Verdict}
 use Rattle.session_judging.specs.declared.session.Verdict.TheVariants.{Event as Says, Nothing}
 use Rattle.fix_frames.proofs.framing.FramesHeld.{pass_law}

@@ -4,7 +4,7 @@ use Rattle.spread_rules.specs.declared.event.Event.{Event}
 use Rattle.spread_rules.specs.declared.event.Entry.{Entry}
 use Rattle.fix_frames.specs.Frames.{frames}
 use Rattle.fix_frames.specs.Held.{after_first_frame}
-use Rattle.fix_wire.specs.Pieces.{SplitsInto}
+use Rattle.fix_framer.specs.Pieces.{SplitsInto}
 use Rattle.session_judging.specs.declared.session.Session.{Session}
 use Rattle.session_judging.specs.declared.ahead.Ahead.{Ahead}
 use Rattle.session_judging.specs.Steps.{judge, is_closed, events_said, session_after}

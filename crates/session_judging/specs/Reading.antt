@@ -4,7 +4,7 @@ use Rattle.spread_rules.specs.declared.event.Event.{Event}
 use Rattle.spread_rules.specs.declared.event.Entry.{Entry}
 use Rattle.fix_frames.specs.Frames.{frames}
 use Rattle.fix_frames.specs.Held.{first_frame, from_first_start, after_first_frame}
-use Rattle.fix_wire.specs.Pieces.{SplitsInto}
+use Rattle.fix_framer.specs.Pieces.{SplitsInto}
 use Rattle.session_judging.specs.declared.session.Session.{Session}
 use Rattle.session_judging.specs.declared.session.Verdict.{Verdict}
 use Rattle.session_judging.specs.Steps.{new_session, judge, events_said, session_after}

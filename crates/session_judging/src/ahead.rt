@@ -5,7 +5,8 @@ ghost use Rattle.session_judging.specs.Ahead.{IsAhead};
 ghost use Rattle.session_judging.specs.code.Judged.{JudgesOne};
 
 use crate::session::{Session, Verdict};
-use fix_wire::{FrameTable, Framer};
+use fix_framer::Framer;
+use fix_frames::FrameTable;
 use spread_rules::Entry;
 
 /// How far a reader has judged ahead.

@@ -11,7 +11,8 @@ ghost use Rattle.session_judging.specs.declared.session.Running.{Running};
 ghost use Rattle.session_judging.specs.code.Changes.{changed, judgement_in, judgement_of};
 ghost use Rattle.session_judging.specs.Steps.{new_session, running, closes, opens, step_below, step_above, step_due, step_running, verdict_of, judge, ended, is_closed};
 
-use fix_wire::{Message, msg_types, read_number, tags};
+use fix_frames::{Message, msg_types, tags};
+use fix_values::read_number;
 use host_base::Id;
 use host_base::limits::{FIRST_MSG_SEQ_NUM, MAX_MSG_SEQ_NUM};
 use kind_table::{Meaning, meaning_of_message, order_texts, ticket_of};

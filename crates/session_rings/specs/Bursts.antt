@@ -2,7 +2,7 @@
 use Rattle.std.specs.Prelude.{◌≡◌, ℕ, ◌+◌, ◌≤◌, ◌<◌, false, List, [], ◌++◌, length, min, if◌then◌else◌}
 use Rattle.spread_rules.specs.declared.event.Event.{Event}
 use Rattle.fix_frames.specs.Frames.{frames}
-use Rattle.fix_wire.specs.Pieces.{SplitsInto}
+use Rattle.fix_framer.specs.Pieces.{SplitsInto}
 use Rattle.session_judging.specs.Steps.{events_said, session_after}
 use Rattle.session_judging.specs.declared.ahead.Ahead.{Ahead}
 use Rattle.session_judging.specs.Ahead.{IsAhead, up_to_close, after_frames}

@@ -6,7 +6,7 @@ use Rattle.spread_rules.specs.declared.codes.close_reason.TheConstants.{STREAM_E
 use Rattle.spread_rules.specs.declared.event.Event.TheVariants.{Close}
 use Rattle.fix_frames.specs.Frames.{frames}
 use Rattle.fix_frames.specs.Held.{from_first_start, after_first_frame}
-use Rattle.fix_wire.specs.Pieces.{IsDrained}
+use Rattle.fix_framer.specs.Pieces.{IsDrained}
 use Rattle.session_judging.specs.declared.session.Session.{Session}
 use Rattle.session_judging.specs.Steps.{judge, event_in, is_closed}
 use Rattle.session_rings.specs.Owed.{events_left, Stands}

@@ -3,7 +3,7 @@ ghost use Rattle.std.specs.List.{list_any};
 ghost use Rattle.rtrb.specs.Ring.{sent};
 ghost use Rattle.spread_rules.specs.Journal.{is_close};
 ghost use Rattle.session_judging.specs.Steps.{is_closed};
-ghost use Rattle.fix_wire.specs.declared.framer.TheConstants.{BUFFER_BYTES};
+ghost use Rattle.fix_framer.specs.declared.framer.TheConstants.{BUFFER_BYTES};
 ghost use Rattle.fix_frames.specs.Frames.{frames};
 ghost use Rattle.session_rings.specs.Rows.{entry_events};
 ghost use Rattle.std.specs.Prelude.{◌≡◌, ◌-◌, ℕ, List, ◌++◌, length, take, min, true, if◌then◌else◌, is_some};

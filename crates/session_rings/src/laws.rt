@@ -8,8 +8,8 @@ ghost use Rattle.fix_frames.specs.Frames.{frames};
 ghost use Rattle.session_judging.specs.declared.session.Session.{Session};
 ghost use Rattle.session_judging.specs.Steps.{new_session, judge, event_in, is_closed};
 ghost use Rattle.session_judging.specs.Streams.{whole};
-ghost use Rattle.fix_wire.specs.Pieces.{SplitsInto, IsDrained};
-ghost use Rattle.fix_wire.specs.declared.framer.TheConstants.{BUFFER_BYTES};
+ghost use Rattle.fix_framer.specs.Pieces.{SplitsInto, IsDrained};
+ghost use Rattle.fix_framer.specs.declared.framer.TheConstants.{BUFFER_BYTES};
 ghost use Rattle.session_rings.specs.Owed.{events_left};
 
 use fix_session::laws::judged;

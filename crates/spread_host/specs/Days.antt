@@ -15,8 +15,8 @@ use Rattle.day_apply.specs.Applied.{outgoing_bytes, IsPlaceOf, IsSpentOf, applie
 use Rattle.fill_lines.specs.Fills.{fill_line}
 use Rattle.message_lines.specs.Messages.{outgoing_line}
 use Rattle.day_text.specs.Months.{month_line}
-use Rattle.spread_host.specs.declared.fault.HostFault.{HostFault}
-use Rattle.spread_host.specs.declared.fault.HostFault.TheVariants as faults
+use Rattle.host_faults.specs.declared.fault.HostFault.{HostFault}
+use Rattle.host_faults.specs.declared.fault.HostFault.TheVariants as faults
 
 -- what each of the sessions below n is sent over a journal
 abbrev pub texts_below : ℕ → Rules → List ℕ → List Entry → List (List ℕ)

@@ -1,4 +1,3 @@
-pub mod Faults
 pub mod Days
 pub mod Headline
 pub mod Checks

@@ -12,12 +12,12 @@ ghost use Rattle.day_text.specs.DayText.{AreShown, day_text, fills_text};
 ghost use Rattle.message_lines.specs.Messages.{texts_of};
 ghost use Rattle.month_totals.specs.Totals.{IsSummable};
 ghost use Rattle.spread_host.specs.Headline.{HasFills, HasOutgoing, BoughtIsSold, PaidIsReceived, IsAlwaysQuiet, IsDayOf};
-ghost use Rattle.spread_host.specs.declared.fault.HostFault.{HostFault};
+ghost use Rattle.host_faults.specs.declared.fault.HostFault.{HostFault};
 
-use crate::fault::HostFault;
 use day_apply::{ApplyFault, apply_journal};
 use day_text::{Day, TakesPieces, TextFault};
 use host_base::{Id, Sink};
+use host_faults::HostFault;
 use spread_match::laws::ranges;
 use spread_rules::{Entry, Fill, Rulebook};
 use std::alloc::Allocator;

@@ -2,8 +2,8 @@
 ghost use Rattle.std.specs.Prelude.{IfErr, OnOk};
 ghost use Rattle.spread_host.specs.Claims.{IsRight, IsAuditFault};
 
-use crate::fault::HostFault;
 use day_text::{Difference, first_difference, text_of_fills};
+use host_faults::HostFault;
 use journal_matching::fills_of_journal;
 use spread_journal::{JournalFault, read_journal};
 use spread_match::laws::ranges;

@@ -7,13 +7,13 @@ ghost use Rattle.day_input.specs.declared.reading.TheConstants.{CHUNK_BYTES};
 ghost use Rattle.journal_parts.specs.JournalText.{HasByteIds};
 ghost use Rattle.spread_host.specs.Headline.{IsJournalOfText, HasFills, HasOutgoing, BoughtIsSold, PaidIsReceived, IsAlwaysQuiet, IsDayOf};
 ghost use Rattle.spread_host.specs.Days.{IsReplayFault, IsPartOut, text_of_day};
-ghost use Rattle.spread_host.specs.declared.fault.HostFault.{HostFault};
+ghost use Rattle.host_faults.specs.declared.fault.HostFault.{HostFault};
 
 use crate::day::{day_of, write_day};
-use crate::fault::HostFault;
 use day_input::read_day_lines;
 use day_text::Day;
 use host_base::{Id, Sink, Source};
+use host_faults::HostFault;
 use spread_rules::Rulebook;
 use std::alloc::Allocator;
 

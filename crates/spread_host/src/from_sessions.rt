@@ -7,10 +7,10 @@ ghost use Rattle.stage_rings.specs.Faults.{Between};
 ghost use Rattle.spread_host.specs.Headline.{IsJournalOfStreams, HasFills, HasOutgoing, BoughtIsSold, PaidIsReceived, IsAlwaysQuiet, IsDayOf};
 ghost use Rattle.spread_host.specs.LiveDays.{IsRunDayFault};
 
-use crate::fault::HostFault;
 use day_text::Day;
 use day_threads::{Caps, DayRules, Gate, SessionsDay, run_sessions};
 use host_base::Id;
+use host_faults::HostFault;
 use spread_match::laws::ranges;
 use spread_rules::Rulebook;
 use std::alloc::Allocator;

@@ -6,7 +6,6 @@
 #![tactic(auto)]
 
 mod day;
-mod fault;
 mod from_claim;
 mod from_journal;
 mod from_lines;
@@ -15,8 +14,8 @@ mod from_sessions;
 pub use day::{day_of, write_day, write_fills};
 pub use day_text::{Day, Difference};
 pub use day_threads::{Caps, Gate};
-pub use fault::HostFault;
 pub use from_claim::{AuditFault, audit};
 pub use from_journal::check;
 pub use from_lines::replay;
 pub use from_sessions::run_day;
+pub use host_faults::HostFault;

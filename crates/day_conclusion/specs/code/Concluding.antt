@@ -14,11 +14,11 @@ use Rattle.session_threads.specs.declared.sequencing.SequenceEnd.{SequenceEnd}
 use Rattle.session_threads.specs.declared.sequencing.SequenceEnd.TheVariants.{JournalFull as Full}
 use Rattle.writer_threads.specs.declared.writing.Written.{Written}
 use Rattle.journal_matching.specs.declared.fault.ApplyFault.TheVariants as apply
-use Rattle.match_thread.specs.code.Matching.{MatchEnds}
+use Rattle.matching_turns.specs.code.Matching.{MatchEnds}
 use Rattle.entry_posting.specs.code.Posting.{HasPosted, posted_at}
 use Rattle.day_stages.specs.declared.fault.ThreadsFault.{ThreadsFault}
 use Rattle.day_stages.specs.declared.fault.ThreadsFault.TheVariants.{Link, Spawn, JournalFull, NoMemory, NumbersSpent}
-use Rattle.match_thread.specs.declared.matching.Matched.{Matched}
+use Rattle.matching_turns.specs.declared.turns.Matched.{Matched}
 use Rattle.entry_posting.specs.declared.step.MatchEnd.{MatchEnd}
 use Rattle.entry_posting.specs.declared.step.MatchEnd.TheVariants.{Fault}
 use Rattle.entry_posting.specs.declared.posting.PostedEntries.{PostedEntries}

@@ -20,7 +20,7 @@ ghost use Rattle.message_lines.specs.Messages.{texts_of};
 ghost use Rattle.session_threads.specs.Streams.{whole_at, all_events};
 ghost use Rattle.spread_host.specs.Days.{texts_below};
 ghost use Rattle.spread_host.specs.LiveDays.{IsRunDayFault};
-ghost use Rattle.spread_host.specs.declared.fault.HostFault.{HostFault};
+ghost use Rattle.host_faults.specs.declared.fault.HostFault.{HostFault};
 
 use day_text::Day;
 use host_base::Id;

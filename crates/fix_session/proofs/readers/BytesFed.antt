@@ -5,9 +5,9 @@ use Rattle.std.proofs.lemmas.List.{append-nil, append_assoc, take-append-drop, m
 use Rattle.spread_rules.specs.declared.event.Entry.{Entry}
 use Rattle.fix_frames.specs.Frames.{frames}
 use Rattle.fix_frames.specs.Held.{first_frame, from_first_start}
-use Rattle.fix_wire.specs.Pieces.{SplitsInto, IsDrained}
+use Rattle.fix_framer.specs.Pieces.{SplitsInto, IsDrained}
 use Rattle.fix_frames.proofs.framing.FramesHeld.{scan_start, start_frames, room_left}
-use Rattle.fix_wire.proofs.framing.OneTurn.{need_leaves, passed_leaves}
+use Rattle.fix_framer.proofs.framing.OneTurn.{need_leaves, passed_leaves}
 use Rattle.session_judging.specs.Steps.{judge, event_in, events_said, session_after}
 use Rattle.session_judging.specs.Reading.{ReaderState, first_message, session_past, after_skipping, after_passing, with_more, entries_of, Fed}
 use Rattle.session_judging.proofs.events.StateOfPlaces.{said_two, after_two}

@@ -5,7 +5,7 @@ use Rattle.std.proofs.lemmas.Option.{same_Some}
 use Rattle.fix_frames.specs.Frames.{frames, frame_at}
 use Rattle.fix_frames.specs.Held.{first_frame, from_first_start, past_frame, after_first_frame}
 use Rattle.fix_frames.proofs.framing.FrontStays.{frame_stays}
-use Rattle.fix_wire.proofs.framing.OneTurn.{on_true}
+use Rattle.fix_framer.proofs.framing.OneTurn.{on_true}
 use Rattle.fix_frames.proofs.framing.FramesHeld.{start_frame, start_again, start_frames, none_stands, no_frames, pass_law}
 use Rattle.session_judging.specs.declared.session.Session.{Session}
 use Rattle.session_judging.specs.declared.session.Verdict.{Verdict}

@@ -5,7 +5,7 @@ use Rattle.std.proofs.lemmas.List.Folds.{list_any-append}
 use Rattle.spread_rules.specs.Journal.{is_close}
 use Rattle.spread_rules.specs.declared.event.Event.{Event}
 use Rattle.fix_frames.specs.Frames.{frames}
-use Rattle.fix_wire.specs.Pieces.{SplitsInto}
+use Rattle.fix_framer.specs.Pieces.{SplitsInto}
 use Rattle.session_judging.specs.declared.session.Session.{Session}
 use Rattle.session_judging.specs.declared.session.Verdict.{Verdict}
 use Rattle.session_judging.specs.declared.session.Verdict.TheVariants.{Event as Says, Nothing}

@@ -14,7 +14,7 @@ use Rattle.session_judging.specs.declared.session.Verdict.TheVariants.{Event as 
 use Rattle.session_judging.specs.Steps.{judge, event_in, is_closed, is_closing, events_said, session_after, events_at_end}
 use Rattle.session_judging.proofs.events.StateOfPlaces.{cons_two}
 use Rattle.session_judging.proofs.events.ClosesOnce.{closed_silent, closes_with}
-use Rattle.fix_wire.specs.Pieces.{SplitsInto}
+use Rattle.fix_framer.specs.Pieces.{SplitsInto}
 use Rattle.session_rings.specs.Owed.{whole_from, events_left}
 
 -- what a session says to one message and then to others

@@ -9,7 +9,7 @@ use Rattle.session_threads.specs.Streams.{IsBeginningOf}
 use Rattle.session_threads.specs.code.Sequencing.{SequenceEnds}
 use Rattle.session_threads.specs.declared.sequencing.SequenceEnd.{SequenceEnd}
 use Rattle.day_stages.specs.declared.fault.ThreadsFault.{ThreadsFault}
-use Rattle.match_thread.specs.code.Matching.{MatchEnds}
+use Rattle.matching_turns.specs.code.Matching.{MatchEnds}
 use Rattle.entry_posting.specs.code.Posting.{HasPosted, posted_at}
 use Rattle.entry_posting.specs.declared.step.MatchEnd.{MatchEnd}
 use Rattle.day_conclusion.proofs.JoinedParts.{agrees_prefix, agrees_whole, parts_of_front, fault_of_day}

@@ -1,5 +1,5 @@
 use Rattle.std.proofs.Common.{length, map}
-use Rattle.fix_wire.specs.Pieces.{SameSplit}
+use Rattle.fix_framer.specs.Pieces.{SameSplit}
 use Rattle.session_judging.specs.Reading.{HasJudged}
 use Rattle.fix_session.proofs.pieces.pass_messages.Given as goal
 

@@ -1,5 +1,5 @@
 use Rattle.std.proofs.Common.{[], map, take}
-use Rattle.fix_wire.specs.Pieces.{joined, IsDrained, SameSplit}
+use Rattle.fix_framer.specs.Pieces.{joined, IsDrained, SameSplit}
 use Rattle.session_judging.specs.Reading.{HasJudged}
 use Rattle.fix_session.proofs.pieces.read_pieces.Given as goal
 

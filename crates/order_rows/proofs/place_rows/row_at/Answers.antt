@@ -1,6 +1,6 @@
 use Rattle.std.proofs.Common.{rules, Ok, Err}
 use Rattle.std.proofs.lemmas.List.Sorted.{answers_always}
-use Rattle.row_index.proofs.Places.{by_place}
+use Rattle.placed_rows.proofs.Places.{by_place}
 use Rattle.order_rows.specs.declared.row.Row.{Row}
 use Rattle.order_rows.proofs.place_rows.row_at.Goals as goal
 

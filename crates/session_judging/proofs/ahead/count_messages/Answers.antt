@@ -1,5 +1,5 @@
 use Rattle.std.proofs.Common.{drop, sym, arith}
-use Rattle.fix_wire.specs.FramePlaces.{frame_of}
+use Rattle.fix_framer.specs.FramePlaces.{frame_of}
 use Rattle.session_judging.proofs.JudgedAhead.{one_less}
 use Rattle.session_judging.proofs.ahead.count_messages.Goals as goal
 

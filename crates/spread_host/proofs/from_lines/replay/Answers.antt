@@ -8,7 +8,7 @@ use Rattle.spread_rules.specs.declared.event.Entry.{Entry}
 use Rattle.day_lines.specs.Reading.{IsJournalOf, HasParts}
 use Rattle.spread_host.specs.Days.{IsPartOut}
 use Rattle.spread_host.specs.Headline.{IsJournalOfText}
-use Rattle.spread_host.specs.declared.fault.HostFault.TheVariants as faults
+use Rattle.host_faults.specs.declared.fault.HostFault.TheVariants as faults
 use Rattle.spread_host.proofs.LawfulJournals.{text_is, if_some_both}
 use Rattle.spread_host.proofs.SixteenTexts.{sessions_sent}
 use Rattle.spread_host.proofs.from_lines.replay.Goals as goal

@@ -1,5 +1,5 @@
 use Rattle.std.proofs.Common.{length}
-use Rattle.fix_wire.specs.Pieces.{IsDrained}
+use Rattle.fix_framer.specs.Pieces.{IsDrained}
 use Rattle.session_judging.specs.Reading.{with_more, Fed}
 use Rattle.fix_session.proofs.reader.Reader.read.Given as goal
 

@@ -1,4 +1,4 @@
-use Rattle.fix_wire.specs.Pieces.{IsDrained}
+use Rattle.fix_framer.specs.Pieces.{IsDrained}
 use Rattle.layer_tests.proofs.session.reader.read_by.Given as goal
 
 abbrev pub invariant-loop-piece : goal.invariant-loop-piece

@@ -3,7 +3,7 @@ use Rattle.std.specs.List.{list_any}
 use Rattle.rtrb.specs.Ring.{sent}
 use Rattle.spread_rules.specs.Journal.{is_close}
 use Rattle.fix_frames.specs.Frames.{frames}
-use Rattle.fix_wire.proofs.framing.OneTurn.{no_first}
+use Rattle.fix_framer.proofs.framing.OneTurn.{no_first}
 use Rattle.session_judging.specs.Steps.{event_in, is_closed, is_closing}
 use Rattle.session_judging.specs.Reading.{first_verdict}
 use Rattle.session_judging.proofs.events.ClosesOnce.{closes_with}

@@ -1,0 +1,4 @@
+pub mod code
+pub mod Next
+pub mod FramePlaces
+pub mod Pieces

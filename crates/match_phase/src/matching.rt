@@ -1,0 +1,135 @@
+//! A journal's entries matched, measured.
+ghost use Rattle.std.specs.Prelude.{◌≡◌, ◌<◌, [], All, OnOk, IfOk};
+ghost use Rattle.spread_rules.specs.Journal.{FitsEntry};
+ghost use Rattle.market_state.specs.State.{empty_state};
+
+use host_base::NoMemory;
+use intake_phases::{BenchFault, Beside, Measured, RUNS, Timer};
+use spread_books::{Book, IndexBook};
+use spread_journal::read_journal;
+use spread_match::Market;
+use spread_rules::{Entry, Fill, Outcome, Rulebook};
+use std::alloc::{AllocGlobal, Allocator, Global};
+use std::time::CpuClock;
+
+/// A rulebook and a journal, of their texts.
+pub fn read_inputs(
+    alloc: Global,
+    rules: &[u8],
+    text: &[u8],
+) -> Result<(Rulebook, Vec<Entry>), BenchFault>
+    ensures { IfOk result (λ inputs. All FitsEntry inputs.1.items) }
+{
+    let rulebook = Rulebook::read(rules)?;
+    let journal = read_journal(alloc, text)?;
+    Ok((rulebook, journal))
+}
+
+/// Applies an entry that fits: a new order's price is then within the limits that the market asks for.
+pub fn apply_entry<B: Book, A: Allocator + Copy>(
+    market: &mut Market<'_, B, A>,
+    place: u64,
+    entry: &Entry,
+    fills: &mut Vec<Fill, A>,
+) -> Result<Outcome, NoMemory>
+    requires entry { FitsEntry entry.now }
+    requires place { market.old.state.last < place }
+    ensures { OnOk result (market.new.state.last ≡ place) }
+{
+    market.apply(place, entry, fills)
+}
+
+/// Applies an entry that fits, its fills over those of the one before, and counts them.
+fn match_entry<B: Book, A: Allocator + Copy>(
+    market: &mut Market<'_, B, A>,
+    place: u64,
+    entry: &Entry,
+    fills: &mut Vec<Fill, A>,
+) -> Result<u64, NoMemory>
+    requires entry { FitsEntry entry.now }
+    requires place { market.old.state.last < place }
+    ensures { OnOk result (market.new.state.last ≡ place) }
+{
+    fills.clear();
+    apply_entry(market, place, entry, fills)?;
+    Ok(fills.len() as u64)
+}
+
+/// Applies the entries of a journal in a market before its first entry, and counts the fills.
+fn match_each<B: Book, A: Allocator + Copy>(
+    market: &mut Market<'_, B, A>,
+    journal: &[Entry],
+    fills: &mut Vec<Fill, A>,
+) -> Result<u64, NoMemory>
+    requires first { market.old.state ≡ empty_state }
+    requires entries { All FitsEntry journal.now }
+{
+    market.reserve(journal.len())?;
+    let mut count = 0u64;
+    for n in 0..journal.len() {
+        let made = match_entry(market, n as u64 + 1, &journal[n], fills)?;
+        count = count.wrapping_add(made);
+    }
+    Ok(count)
+}
+
+/// How many fills the entries of a journal make, over an empty book. They are not kept.
+fn match_all<B: Book + Drop, A: Allocator + Copy>(
+    alloc: A,
+    rulebook: &Rulebook,
+    book: B,
+    journal: &[Entry],
+) -> Result<u64, NoMemory>
+    requires empty { B.orders book ≡ [] }
+    requires entries { All FitsEntry journal.now }
+{
+    let mut market = Market::new(alloc, rulebook, book);
+    let mut fills = Vec::new(alloc);
+    match_each(&mut market, journal, &mut fills)
+}
+
+/// The same over the book that the host has.
+fn match_indexed<A: Allocator + Copy>(
+    alloc: A,
+    rulebook: &Rulebook,
+    journal: &[Entry],
+) -> Result<u64, NoMemory>
+    requires { All FitsEntry journal.now }
+{
+    let book = IndexBook::new(alloc, rulebook)?;
+    match_all(alloc, rulebook, book, journal)
+}
+
+/// Applies the entries of a journal some times, and keeps neither fills nor outcomes.
+fn match_runs(
+    rt: &(impl CpuClock + AllocGlobal),
+    rulebook: &Rulebook,
+    journal: &[Entry],
+) -> Result<Measured, BenchFault>
+    requires { All FitsEntry journal.now }
+{
+    let mut fills = 0;
+    let mut least = u64::MAX;
+    for _ in 0..RUNS {
+        let timer = Timer::start(rt)?;
+        fills = match_indexed(rt.alloc(), rulebook, journal)?;
+        least = least.min(timer.used(rt)?);
+    }
+    Ok(Measured {
+        phase: "match",
+        count: journal.len() as u64,
+        unit: "entries",
+        nanos: least,
+        beside: Beside::Count(fills, "fills"),
+    })
+}
+
+/// Applies the entries of a journal, and keeps neither fills nor outcomes.
+pub fn time_match(
+    rt: &(impl CpuClock + AllocGlobal),
+    rules: &[u8],
+    text: &[u8],
+) -> Result<Measured, BenchFault> {
+    let (rulebook, journal) = read_inputs(rt.alloc(), rules, text)?;
+    match_runs(rt, &rulebook, &journal)
+}
