@@ -1,4 +1,5 @@
 pub mod FrontFrame
+pub mod RowOfFrames
 pub mod HeldPart
 pub mod OneTurn
 pub mod FrameFromAPlace

@@ -1,4 +1,3 @@
-pub mod RowOfFrames
 pub mod IntactFrame
 pub mod FrontStays
 pub mod HeaderDigits

@@ -128,7 +128,7 @@ fn header_after(rest: &[u8]) -> Option<FrameHeader>
 /// The header of a text, where it has one. A call of its own: within `scan_front` it would take registers from the look
 /// at the fields.
 #[inline(never)]
-pub(crate) fn header_of(text: &[u8]) -> Option<FrameHeader>
+pub fn header_of(text: &[u8]) -> Option<FrameHeader>
     ensures { result ≡ header text.now }
 {
     if has_front(text, &BEGIN_TEXT) {

@@ -5,7 +5,7 @@ ghost use Rattle.message_lines.specs.Messages.{texts_of, shown_byte, outgoing_li
 ghost use Rattle.message_lines.specs.code.LineLead.{line_lead};
 ghost use Rattle.text_pieces.specs.code.Pieces.{Puts, Writes};
 
-use fix_frames::first_of_row;
+use fix_framer::first_of_row;
 use host_base::Failed;
 use host_base::limits::SESSIONS;
 use std::alloc::Allocator;

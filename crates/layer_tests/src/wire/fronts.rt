@@ -1,7 +1,8 @@
 //! What stands at the front of a text, and its CheckSum.
 use crate::expect::holds;
 use fix_frames::{
-    BEGIN_TEXT, FrameTable, Message, Scan, checksum, checksum_digits, next_begin, scan_front,
+    BEGIN_TEXT, FrameTable, Message, Scan, checksum, checksum_digits, header_of, next_begin,
+    scan_front,
 };
 use test_support::FIRST_SELL;
 
@@ -21,6 +22,16 @@ fn fronts_of_texts(rt: HostRuntime) {
         }
         _ => holds(&rt, false),
     }
+}
+
+/// A header says where the body starts and how long it is. One that is cut says nothing.
+#[test]
+fn headers_of_texts(rt: HostRuntime) {
+    match header_of(b"8=FIX.4.2\x019=57\x0135=A\x01") {
+        Some(header) => holds(&rt, (header.body_start == 15) & (header.body_length == 57)),
+        None => holds(&rt, false),
+    }
+    holds(&rt, header_of(b"8=FIX.4.2\x019=57").is_none());
 }
 
 /// Sums are taken modulo 256 and spelled in three digits.

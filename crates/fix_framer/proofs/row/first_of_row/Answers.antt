@@ -1,8 +1,8 @@
 use Rattle.std.proofs.Common.{◌≡◌, ◌∷◌, [], List, ℕ, drop, Option, IfNone, sym, ap, ◌∙◌, subst}
 use Rattle.fix_frames.specs.declared.frame.FrameHeader.{FrameHeader}
 use Rattle.fix_frames.specs.Frames.{frames, frame_length, IsFrameRow}
-use Rattle.fix_frames.proofs.framing.RowOfFrames.{Reads, reads}
-use Rattle.fix_frames.proofs.row.first_of_row.Goals as goal
+use Rattle.fix_framer.proofs.framing.RowOfFrames.{Reads, reads}
+use Rattle.fix_framer.proofs.row.first_of_row.Goals as goal
 
 pub returns-in_err-header-clause-none : goal.returns-in_err-header-clause-none
 returns-in_err-header-clause-none c =

@@ -2,8 +2,7 @@
 ghost use Rattle.std.specs.Prelude.{◌≡◌, ◌<◌, [], ◌∷◌, length, IfSome, IfNone};
 ghost use Rattle.fix_frames.specs.Frames.{frames, IsFrameRow};
 
-use crate::frame::{CHECKSUM_BYTES, header_of};
-use crate::message::MAX_FRAME_BYTES;
+use fix_frames::{CHECKSUM_BYTES, MAX_FRAME_BYTES, header_of};
 
 /// The first frame of a row of whole frames, and the row after it. Its header says how long it is, and none of its other
 /// bytes is looked at.
