@@ -1,5 +1,5 @@
 //! Tests of what looks into a day that is over: `explained_turns`, `explained_entries` and `day_explain`; `day_course`,
-//! `day_page` and `day_picture`. And of the phases of `bench`.
+//! `day_page` and `day_picture`. And of the phases of `bench`, `match_phase` among them.
 #![tactic(auto)]
 
 #[cfg(test)]

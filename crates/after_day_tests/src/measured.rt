@@ -1,6 +1,11 @@
 //! The phases of the benchmark: what they count of the first trade, and the lines that tell it.
 use crate::expect::{holds, holds_for};
 use bench::{BenchFault, Beside, Measured, measure};
+use match_phase::{apply_entry, read_inputs};
+use spread_books::IndexBook;
+use spread_match::Market;
+use spread_rules::codes::close_reason;
+use spread_rules::{Entry, Event, Outcome};
 use std::alloc::{AllocError, Global};
 use test_support::{FIRST_TRADE, FIRST_TRADE_JOURNAL, THREE_MONTHS};
 
@@ -92,6 +97,25 @@ fn phases_of_the_first_trade(rt: HostRuntime) {
     }
     let refused = measure(&rt, "match", &streams);
     holds(&rt, matches!(refused, Err(BenchFault::Phase)));
+}
+
+/// What is read for the phases of a journal, and one entry applied, which trades nothing.
+#[test]
+fn inputs_of_the_first_trade(rt: HostRuntime) {
+    let read = read_inputs(rt.alloc(), THREE_MONTHS, FIRST_TRADE_JOURNAL);
+    let (rulebook, journal) = read.ok().expect(&rt, "inputs");
+    holds(&rt, rulebook.months() == 3 && journal.len() == 4);
+    let book = IndexBook::new(rt.alloc(), &rulebook).expect(&rt, "memory");
+    let mut market = Market::new(rt.alloc(), &rulebook, book);
+    let mut fills = Vec::new(rt.alloc());
+    let close = Entry {
+        session: 0,
+        event: Event::Close {
+            reason: close_reason::LOGOUT,
+        },
+    };
+    let outcome = apply_entry(&mut market, 1, &close, &mut fills).expect(&rt, "memory");
+    holds(&rt, matches!(outcome, Outcome::Session) && fills.is_empty());
 }
 
 #[test]
