@@ -1,6 +1,10 @@
 //! A journal's entries matched, measured.
-ghost use Rattle.std.specs.Prelude.{◌≡◌, ◌<◌, [], All, OnOk, IfOk};
+ghost use Rattle.std.specs.Prelude.{◌≡◌, ◌<◌, [], All, Ok, OnOk, OnErr, IfOk};
+ghost use Rattle.spread_journal.specs.Lawful.{IsTextOf};
+ghost use Rattle.spread_match.specs.Sound.{IsEntryApplied, IsStateOf};
 ghost use Rattle.spread_rules.specs.Journal.{FitsEntry};
+ghost use Rattle.spread_rules.specs.Meaning.{JournalState};
+ghost use Rattle.spread_rulebook.specs.RulebookText.{ReadsRulebook};
 ghost use Rattle.market_state.specs.State.{empty_state};
 
 use host_base::NoMemory;
@@ -18,14 +22,16 @@ pub fn read_inputs(
     rules: &[u8],
     text: &[u8],
 ) -> Result<(Rulebook, Vec<Entry>), BenchFault>
-    ensures { IfOk result (λ inputs. All FitsEntry inputs.1.items) }
+    ensures rules { IfOk result (λ inputs. ReadsRulebook rules.now (Ok inputs.0)) }
+    ensures entries { IfOk result (λ inputs. IsTextOf text.now inputs.1.items) }
+    ensures fits { IfOk result (λ inputs. All FitsEntry inputs.1.items) }
 {
     let rulebook = Rulebook::read(rules)?;
     let journal = read_journal(alloc, text)?;
     Ok((rulebook, journal))
 }
 
-/// Applies an entry that fits: a new order's price is then within the limits that the market asks for.
+/// Applies an entry that fits, as `Market::apply` does: a new order's price is then within the limits that it asks for.
 pub fn apply_entry<B: Book, A: Allocator + Copy>(
     market: &mut Market<'_, B, A>,
     place: u64,
@@ -34,7 +40,14 @@ pub fn apply_entry<B: Book, A: Allocator + Copy>(
 ) -> Result<Outcome, NoMemory>
     requires entry { FitsEntry entry.now }
     requires place { market.old.state.last < place }
-    ensures { OnOk result (market.new.state.last ≡ place) }
+    ensures meaning { IfOk result (λ outcome. (past : JournalState)
+        → IsStateOf market.old.rules market.old.state past
+        → IsEntryApplied market.old.rules past place entry.now outcome
+        fills.old.items fills.new.items market.new.state) }
+    ensures rules { market.new.rules ≡ market.old.rules }
+    ensures last { OnOk result (market.new.state.last ≡ place) }
+    ensures err { OnErr result (market.new.state ≡ market.old.state) }
+    ensures no_fills { OnErr result (fills.new.items ≡ fills.old.items) }
 {
     market.apply(place, entry, fills)
 }
