@@ -1,8 +1,7 @@
 //! Entries of journals, explained.
 use crate::expect::holds_for;
 use day_explain::explain;
-use host_base::TestSink;
-use spread_rules::Rulebook;
+use spread_rules::{Rulebook, TestSink};
 use std::alloc::Global;
 use std::process::Abort;
 

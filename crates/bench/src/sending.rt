@@ -4,12 +4,11 @@ ghost use Rattle.spread_rules.specs.Journal.{FitsEntry};
 ghost use Rattle.market_state.specs.State.{empty_state};
 
 use crate::reports::{Applied, send_all};
-use host_base::NoMemory;
 use intake_phases::{BenchFault, Beside, Measured, RUNS, Timer, bytes_of, scanned};
 use match_phase::{apply_entry, read_inputs};
 use spread_books::{Book, IndexBook};
 use spread_match::Market;
-use spread_rules::{Entry, Rulebook};
+use spread_rules::{Entry, NoMemory, Rulebook};
 use std::alloc::{AllocGlobal, Allocator, Global};
 use std::time::CpuClock;
 

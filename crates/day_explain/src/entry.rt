@@ -6,7 +6,7 @@ use crate::outcome_words::{put_loses_place, put_outcome};
 use crate::turn_words::put_turns;
 use entry_words::{Words, put_entry};
 use explained_entries::tell;
-use host_base::NoMemory;
+use host_ends::NoMemory;
 use spread_rules::{Entry, Rulebook};
 use std::alloc::Allocator;
 

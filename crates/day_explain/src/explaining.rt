@@ -5,7 +5,7 @@ ghost use Rattle.day_explain.specs.declared.fault.ExplainFault.{ExplainFault};
 
 use crate::entry::words_of_entry;
 use crate::fault::ExplainFault;
-use host_base::{Sink, write_all};
+use host_ends::{Sink, write_all};
 use spread_journal::{JournalFault, read_journal};
 use spread_rules::Rulebook;
 use std::alloc::Allocator;

@@ -2,7 +2,7 @@
 ghost use Rattle.std.specs.Prelude.{◌≡◌, ◌≢◌, ◌⊎◌, ◌+◌, ◌<◌, ◌≤◌, length, take, [], true, false, IfOk, IfErr, OnOk, OnErr, IfSome, IfNone, IsErrOf};
 ghost use Rattle.std.specs.Io.KnownBytes.{Consumes, IsAtEnd, Keeps};
 ghost use Rattle.host_base.specs.declared.limits.TheConstants.{MAX_INPUT_BYTES};
-ghost use Rattle.host_base.specs.Ends.{TakesAtMost};
+ghost use Rattle.host_ends.specs.Ends.{TakesAtMost};
 ghost use Rattle.fix_frames.specs.Texts.{with_soh};
 ghost use Rattle.spread_rules.specs.Journal.{IsLawful};
 ghost use Rattle.day_lines.specs.Reading.{IsJournalOf, HasParts, IsLinesFault};
@@ -10,7 +10,7 @@ ghost use Rattle.day_lines.specs.code.PiecesRead.{HasRead, IsReading};
 
 use day_lines::{DayReader, LinesFault};
 use host_base::limits::MAX_INPUT_BYTES;
-use host_base::{Failed, Source};
+use host_ends::{Failed, Source};
 use spread_rules::Entry;
 use std::alloc::Allocator;
 

@@ -11,7 +11,6 @@ ghost use Rattle.day_lines.specs.declared.lines.LinesFault.TheVariants.{NoMemory
 
 use host_base::bytes::SOH;
 use std::alloc::AllocError;
-use thiserror::Error;
 
 /// Some bytes of a session's stream.
 #[derive(Clone, Copy, PartialEq, Eq)]
@@ -71,18 +70,15 @@ pub fn read_line(line: &[u8]) -> Option<Line<'_>>
 }
 
 /// Why day lines gave no journal.
-#[derive(Clone, Copy, Debug, PartialEq, Eq, Error)]
+#[derive(Clone, Copy, Debug, PartialEq, Eq)]
 pub enum LinesFault {
     /// The source failed, or gave more than 16,777,216 bytes.
-    #[error("cannot read input")]
     Read,
     /// The first bad line, counted from 1 over all lines.
-    #[error("day line {0}")]
     BadLine(u64),
     /// The journal would have more than 1,000,000 entries.
-    #[error("journal full")]
     JournalFull,
-    #[error("no memory")]
+    /// A request for memory was refused.
     NoMemory,
 }
 

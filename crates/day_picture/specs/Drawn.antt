@@ -2,7 +2,7 @@
 use Rattle.std.specs.Prelude.{ℕ, List, Option, Err}
 use Rattle.std.specs.Io.KnownBytes.{Appends}
 use Rattle.spread_rules.specs.declared.event.Entry.{Entry}
-use Rattle.host_base.specs.Ends.{AppendsPrefix}
+use Rattle.host_ends.specs.Ends.{AppendsPrefix}
 use Rattle.spread_rules.specs.Journal.{IsLawful}
 use Rattle.spread_journal.specs.JournalReading.{ReadsJournal}
 use Rattle.spread_journal.specs.Lawful.{IsTextOf}

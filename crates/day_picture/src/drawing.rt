@@ -8,7 +8,7 @@ ghost use Rattle.spread_rules.specs.Journal.{FitsEntry};
 use crate::fault::DrawFault;
 use crate::watch::courses_of;
 use day_page::page_of;
-use host_base::{Failed, Sink, write_all};
+use host_ends::{Failed, Sink, write_all};
 use spread_journal::{JournalFault, read_journal};
 use spread_rules::{Entry, Rulebook};
 use std::alloc::{AllocError, Allocator};

@@ -2,10 +2,9 @@
 ghost use Rattle.piece_ring.specs.Ends.{IsUnread};
 ghost use Rattle.day_printing.specs.Printing.{IsPrintable};
 
-use host_base::{Failed, ToWriter};
 use piece_ring::{PieceSource, piece_ring};
 use spread_host::{Day, HostFault, write_day};
-use spread_rules::Rulebook;
+use spread_rules::{Failed, Rulebook, ToWriter};
 use std::alloc::Global;
 use std::sync::Wait;
 use std::thread::{JoinHandle, Scope, Threads};

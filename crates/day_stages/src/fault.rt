@@ -4,27 +4,21 @@ ghost use Rattle.day_stages.specs.code.Making.{of_apply};
 
 use entry_posting::ApplyFault;
 use gate_link::LinkFault;
-use thiserror::Error;
 
 /// Why threads gave no day.
-#[derive(Clone, Copy, Debug, PartialEq, Eq, Error)]
+#[derive(Clone, Copy, PartialEq, Eq)]
 pub enum ThreadsFault {
     /// The link of gateways and sequencer was refused.
-    #[error("link: {0}")]
     Link(LinkFault),
     /// A thread could not be started: a session's has the session's number, the matching thread the number of sessions,
     /// and the writer's of session s the number of sessions + 1 + s.
-    #[error("thread {0}")]
     Spawn(u8),
     /// The journal has its stated size, and there is more to enter.
-    #[error("journal full")]
     JournalFull,
     /// Memory ran out. The place is that of the first entry not worked through, 0 where none was begun; where a writer
     /// found none it is one more than the number of entries worked through.
-    #[error("no memory")]
     NoMemory(u64),
     /// A message of the entry of this place would bear a number above 999,999,999.
-    #[error("numbers spent")]
     NumbersSpent(u64),
 }
 

@@ -22,10 +22,10 @@ ghost use Rattle.spread_host.specs.Days.{IsReplayFault, IsPartOut, text_of_day};
 ghost use Rattle.host_faults.specs.declared.fault.HostFault.{HostFault};
 
 use day_text::Day;
-use host_base::{Id, Sink, Source};
+use host_base::Id;
 use spread_host::{HostFault, replay};
 use spread_journal::laws::read_back;
-use spread_rules::Rulebook;
+use spread_rules::{Rulebook, Sink, Source};
 use std::alloc::Allocator;
 
 /// A day of day lines.

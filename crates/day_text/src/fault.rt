@@ -1,11 +1,10 @@
 //! Why a text was not written.
-use thiserror::Error;
 
 /// Why a text was not written.
-#[derive(Clone, Copy, Debug, PartialEq, Eq, Error)]
+#[derive(Clone, Copy, Debug, PartialEq, Eq)]
 pub enum TextFault {
-    #[error("no memory")]
+    /// A request for memory was refused.
     NoMemory,
-    #[error("cannot write")]
+    /// The writer failed.
     Write,
 }

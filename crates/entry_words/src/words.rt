@@ -1,7 +1,6 @@
 //! Words, as they are put together.
-use host_base::NoMemory;
 use itoa::Buffer;
-use spread_rules::{Id, Instrument, Order, Rulebook, Side};
+use spread_rules::{Id, Instrument, NoMemory, Order, Rulebook, Side};
 use std::alloc::Allocator;
 
 /// Words so far, and the rulebook whose months they name. A first refusal of memory is kept and told at the end, as the

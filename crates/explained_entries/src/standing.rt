@@ -7,10 +7,9 @@ ghost use Rattle.spread_rules.specs.Meaning.{is_own};
 ghost use Rattle.journal_matching.specs.Application.{HasApplied, IsApplying, meaning_behind, rules_of};
 ghost use Rattle.explained_entries.specs.Told.{named_by, standing_at};
 
-use host_base::{Id, NoMemory};
 use journal_matching::{AppliedEntries, apply_entries};
 use resting_orders::Book;
-use spread_rules::{Entry, Event, Order, Outcome, Rulebook};
+use spread_rules::{Entry, Event, Id, NoMemory, Order, Outcome, Rulebook};
 use std::alloc::{AllocError, Allocator};
 
 /// The orders that rest before an entry, in order of place, and what comes of the entry.

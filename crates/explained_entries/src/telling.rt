@@ -10,9 +10,8 @@ ghost use Rattle.explained_entries.specs.Told.{IsNewOrder, IsTrader, named_by, o
 use crate::standing::{Standing, named_by, standing_at};
 use crate::told::{Told, Traded};
 use explained_turns::explain_order;
-use host_base::NoMemory;
 use spread_match::laws::ranges;
-use spread_rules::{Entry, Event, Order, Outcome, Rulebook, Ticket};
+use spread_rules::{Entry, Event, NoMemory, Order, Outcome, Rulebook, Ticket};
 use std::alloc::Allocator;
 
 /// The order that a new order asks for.

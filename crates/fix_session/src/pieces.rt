@@ -5,7 +5,7 @@ ghost use Rattle.fix_framer.specs.Pieces.{joined, IsDrained, SameSplit};
 ghost use Rattle.session_judging.specs.Reading.{first_message, after_passing, texts, IsBehind, HasJudged};
 
 use crate::reader::Reader;
-use host_base::NoMemory;
+use spread_rules::NoMemory;
 use std::alloc::Allocator;
 
 /// A copy of the first message, which is passed.

@@ -13,9 +13,8 @@ ghost use Rattle.session_judging.specs.code.Changes.{judgement_with};
 ghost use Rattle.fix_session.specs.code.ReaderFields.{IsKept};
 
 use fix_framer::{Framer, Next};
-use host_base::NoMemory;
 use session_judging::{Ahead, Change, Session, Verdict, count_messages, judge_ahead};
-use spread_rules::Entry;
+use spread_rules::{Entry, NoMemory};
 use std::alloc::{AllocError, Allocator};
 use std::marker::Model;
 

@@ -2,4 +2,3 @@ pub mod code
 pub mod Ids
 pub mod IdKeys
 pub mod Cut
-pub mod Ends

@@ -6,12 +6,11 @@ ghost use Rattle.spread_rules.specs.Candidates.{PlacesDiffer};
 ghost use Rattle.spread_rules.specs.Meaning.{has_id, is_own};
 ghost use Rattle.known_orders.specs.code.Known.{entered_status, AreKnown};
 
-use host_base::{Id, NoMemory};
 use order_rows::is_own;
 use order_statuses::Statuses;
 use resting_orders::Book;
 use spread_rules::codes::ord_status;
-use spread_rules::{Order, OrderStatus};
+use spread_rules::{Id, NoMemory, Order, OrderStatus};
 use std::alloc::Allocator;
 
 /// The new order stands in the book, and its entry among the statuses. Where its id was used it is refused, and the

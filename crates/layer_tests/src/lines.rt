@@ -5,7 +5,7 @@ use crate::expect::holds;
 use day_input::read_day_lines;
 use day_lines::laws::day_journal;
 use day_lines::{DayReader, LinesFault};
-use host_base::{FromReader, TestSource};
+use host_ends::{FromReader, TestSource};
 use spread_rules::{Entry, Event};
 use std::alloc::Global;
 use std::io::Read;

@@ -22,13 +22,15 @@ ghost use Rattle.market_state.specs.code.StateAfter.{with_order, with_refusal, r
 ghost use Rattle.known_orders.specs.code.Known.{AreKnown};
 ghost use Rattle.order_clearing.specs.code.Turns.{IsNewest};
 
-use host_base::{Id, NoMemory};
+use host_base::Id;
 use known_orders::{add_order, resting_order, trade_newest};
 use order_rows::with_quantity;
 use order_statuses::Statuses;
 use resting_orders::Book;
 use spread_rules::codes::{cxl_rej_reason, ord_rej_reason, ord_status};
-use spread_rules::{Entry, Event, Fill, Instrument, Order, OrderStatus, Outcome, Rulebook, Ticket};
+use spread_rules::{
+    Entry, Event, Fill, Instrument, NoMemory, Order, OrderStatus, Outcome, Rulebook, Ticket,
+};
 use std::alloc::Allocator;
 use std::marker::Model;
 use ticket_judging::{

@@ -3,9 +3,10 @@ ghost use Rattle.std.specs.Prelude.{[]};
 ghost use Rattle.row_index.specs.Tables.{IsTableOf};
 
 use crate::expect::holds;
-use host_base::{IdKey, NoMemory};
+use host_base::IdKey;
 use placed_rows::Hints;
 use row_index::{IdRows, IdTable, Noted};
+use spread_rules::NoMemory;
 use std::alloc::Allocator;
 use std::process::Abort;
 use test_support::{Refusing, id};

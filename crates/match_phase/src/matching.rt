@@ -7,12 +7,11 @@ ghost use Rattle.spread_rules.specs.Meaning.{JournalState};
 ghost use Rattle.spread_rulebook.specs.RulebookText.{ReadsRulebook};
 ghost use Rattle.market_state.specs.State.{empty_state};
 
-use host_base::NoMemory;
 use intake_phases::{BenchFault, Beside, Measured, RUNS, Timer};
 use spread_books::{Book, IndexBook};
 use spread_journal::read_journal;
 use spread_match::Market;
-use spread_rules::{Entry, Fill, Outcome, Rulebook};
+use spread_rules::{Entry, Fill, NoMemory, Outcome, Rulebook};
 use std::alloc::{AllocGlobal, Allocator, Global};
 use std::time::CpuClock;
 

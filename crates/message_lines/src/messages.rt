@@ -6,8 +6,8 @@ ghost use Rattle.message_lines.specs.code.LineLead.{line_lead};
 ghost use Rattle.text_pieces.specs.code.Pieces.{Puts, Writes};
 
 use fix_framer::first_of_row;
-use host_base::Failed;
 use host_base::limits::SESSIONS;
+use host_ends::Failed;
 use std::alloc::Allocator;
 use text_pieces::{PIECE_BYTES, TakesPieces, append};
 

@@ -7,10 +7,9 @@ ghost use Rattle.order_rows.specs.Places.{HasPlace, Ascends};
 ghost use Rattle.order_books.specs.code.FrontPrices.{may_be_at, becomes_front, is_ahead_of, HoldsPrices};
 
 use crate::heap_book::HeapBook;
-use host_base::{Id, NoMemory};
 use order_tables::{BestPrice, FrontTable};
 use resting_orders::Book;
-use spread_rules::{Instrument, Level, Order, Side};
+use spread_rules::{Id, Instrument, Level, NoMemory, Order, Side};
 use std::alloc::Allocator;
 use std::marker::Model;
 

@@ -6,10 +6,9 @@ ghost use Rattle.spread_rules.specs.Clearing.{reduced, removed};
 ghost use Rattle.order_rows.specs.Places.{HasMore, HasPlace, Ascends};
 ghost use Rattle.order_books.specs.code.FrontPrices.{IsBestPrice};
 
-use host_base::{Id, NoMemory};
 use order_tables::{BestPrice, PlaceRows, QueueHeaps, QueueRank, queue_number};
 use resting_orders::Book;
-use spread_rules::{Instrument, Order, Side};
+use spread_rules::{Id, Instrument, NoMemory, Order, Side};
 use std::alloc::Allocator;
 use std::marker::Model;
 

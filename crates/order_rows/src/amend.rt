@@ -2,8 +2,7 @@
 ghost use Rattle.std.specs.Prelude.{◌≡◌};
 ghost use Rattle.spread_rules.specs.Amended.{with_quantity};
 
-use host_base::Id;
-use spread_rules::Order;
+use spread_rules::{Id, Order};
 
 /// The order under that id and with that quantity, what is filled of it included: what is left is the rest of it.
 pub fn with_quantity(order: &Order, id: Id, quantity: u32) -> Order

@@ -2,8 +2,7 @@
 ghost use Rattle.std.specs.Prelude.{◌≡◌};
 ghost use Rattle.spread_rules.specs.Meaning.{is_own};
 
-use host_base::Id;
-use spread_rules::Order;
+use spread_rules::{Id, Order};
 
 /// Whether it is the session's with that id.
 pub fn is_own(order: &Order, session: u8, id: &Id) -> bool

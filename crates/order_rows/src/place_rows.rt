@@ -17,9 +17,8 @@ ghost use Rattle.order_rows.specs.code.Rows.{live, Rises};
 use crate::amend::with_quantity;
 use crate::own::is_own;
 use crate::row::Row;
-use host_base::{Id, NoMemory};
 use placed_rows::{Hints, PlacedRows};
-use spread_rules::Order;
+use spread_rules::{Id, NoMemory, Order};
 use std::alloc::Allocator;
 use std::marker::Model;
 

@@ -8,12 +8,12 @@ ghost use Rattle.order_statuses.specs.code.Statuses.{key_of_status, IsIndex, IsO
 ghost use Rattle.spread_rules.specs.Amended.{amended};
 ghost use Rattle.resting_orders.specs.Queues.{CanAmend};
 
-use host_base::{Id, IdKey, NoMemory};
+use host_base::{Id, IdKey};
 use placed_rows::{Hints, PlacedRows};
 use resting_orders::Book;
 use row_index::{IdRows, IdTable};
 use spread_rules::codes::ord_status;
-use spread_rules::{Fill, Order, OrderStatus};
+use spread_rules::{Fill, NoMemory, Order, OrderStatus};
 use std::alloc::Allocator;
 use std::marker::Model;
 

@@ -3,8 +3,7 @@ ghost use Rattle.std.specs.Prelude.{◌≡◌, ◌↔◌, [], None, OnOk, OnErr,
 ghost use Rattle.order_tables.specs.declared.front_table.TheConstants.{SLOTS};
 ghost use Rattle.order_tables.specs.FrontTable.{slot_of, known_price, with_known_price, best_price_of, level_at};
 
-use host_base::NoMemory;
-use spread_rules::{Instrument, Level, Order, Side};
+use spread_rules::{Instrument, Level, NoMemory, Order, Side};
 use std::alloc::Allocator;
 use std::marker::Model;
 

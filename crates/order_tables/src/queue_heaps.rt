@@ -8,9 +8,8 @@ ghost use Rattle.order_tables.specs.code.Heaps.{IsRankHeap, ranks_in, ranks_at, 
 ghost use Rattle.order_rows.specs.Places.{Ascends};
 
 use crate::queue_rank::{QueueRank, queue_number};
-use host_base::NoMemory;
 use order_rows::PlaceRows;
-use spread_rules::Order;
+use spread_rules::{NoMemory, Order};
 use std::alloc::Allocator;
 use std::cmp::Reverse;
 use std::collections::BinaryHeap;

@@ -2,17 +2,14 @@
 ghost use Rattle.std.specs.Prelude.{◌≡◌};
 ghost use Rattle.outbound_sessions.specs.Faults.{fault_number};
 
-use host_base::NoMemory;
-use thiserror::Error;
+use host_ends::NoMemory;
 
 /// Why messages were not sent: of one message, or of an entry. Nothing has changed then.
-#[derive(Clone, Copy, Debug, PartialEq, Eq, Error)]
+#[derive(Clone, Copy, Debug, PartialEq, Eq)]
 pub enum DeskFault {
     /// A request for memory was refused.
-    #[error("no memory")]
     NoMemory,
     /// A message would have to bear a number above the limit.
-    #[error("numbers spent")]
     NumbersSpent,
 }
 

@@ -6,7 +6,7 @@ use Rattle.std.proofs.lemmas.Grind.{flat_map-append}
 use Rattle.std.proofs.lemmas.List.{nil_from_length}
 use Rattle.std.specs.Io.KnownBytes.{Appends}
 use Rattle.std.specs.declared.vec.Vec.{Vec}
-use Rattle.host_base.specs.Ends.{AppendsPrefix}
+use Rattle.host_ends.specs.Ends.{AppendsPrefix}
 use Rattle.stage_rings.specs.Marks.{ends}
 use Rattle.stage_rings.proofs.Marks.{ends_more, ends_mark}
 use Rattle.text_pieces.specs.code.Pieces.{Writes}

@@ -6,7 +6,7 @@ ghost use Rattle.piece_ring.specs.Pieces.{is_mark};
 ghost use Rattle.text_pieces.specs.declared.pieces.TheConstants.{PIECE_BYTES};
 
 use crate::piece::{Emptied, Filled, Piece};
-use host_base::Failed;
+use host_ends::Failed;
 use rtrb::{Consumer, Producer, PushError};
 use sequencer_turns::rest;
 use std::alloc::Allocator;

@@ -5,7 +5,7 @@ ghost use Rattle.text_pieces.specs.declared.pieces.TheConstants.{PIECE_BYTES};
 ghost use Rattle.piece_ring.specs.Ends.{text_taken, IsUnread, IsRead};
 
 use crate::piece::{Emptied, Filled, Piece};
-use host_base::{Failed, Sink, write_all};
+use host_ends::{Failed, Sink, write_all};
 use rtrb::{Consumer, Producer};
 use sequencer_turns::{found, rest};
 use std::alloc::Allocator;

@@ -11,10 +11,9 @@ ghost use Rattle.quote_tables.specs.declared.front_costs.TheConstants.{NO_COST};
 ghost use Rattle.quote_tables.specs.code.QuoteTable.{ChangesOneQueue};
 
 use candidate_search::{MonthPairs, front_cost, is_pair_on};
-use host_base::NoMemory;
 use host_base::limits::MAX_MONTHS;
 use resting_orders::Book;
-use spread_rules::{Instrument, Order, Side};
+use spread_rules::{Instrument, NoMemory, Order, Side};
 use std::alloc::Allocator;
 use std::marker::Model;
 

@@ -13,10 +13,9 @@ ghost use Rattle.quote_tables.specs.declared.quote_table.Change.TheVariants.{Cam
 
 use crate::front_costs::{FrontCosts, NO_PAIR, ROW, cell, row_cell, sum_of_cells};
 use crate::renewal::{cheapest_of_row, is_sooner};
-use host_base::NoMemory;
 use host_base::limits::MAX_MONTHS;
 use resting_orders::PairCost;
-use spread_rules::{Instrument, Order, Side};
+use spread_rules::{Instrument, NoMemory, Order, Side};
 use std::alloc::Allocator;
 use std::marker::Model;
 

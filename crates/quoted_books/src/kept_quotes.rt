@@ -9,10 +9,9 @@ ghost use Rattle.quote_tables.specs.code.QuoteTable.{known_pair, no_quotes, AreQ
 ghost use Rattle.quote_tables.specs.declared.quote_table.Change.TheVariants.{Came, Left};
 
 use candidate_search::MonthPairs;
-use host_base::NoMemory;
 use order_books::{Book, PairCost};
 use quote_tables::{Change, FrontCosts, QuoteTable};
-use spread_rules::{Level, Order, Side};
+use spread_rules::{Level, NoMemory, Order, Side};
 use std::alloc::Allocator;
 use std::marker::Model;
 

@@ -8,11 +8,11 @@ ghost use Rattle.quote_tables.specs.code.QuoteTable.{IsListed};
 
 use crate::kept_quotes::Quotes;
 use candidate_search::MonthPairs;
+use host_base::Id;
 use host_base::limits::MAX_PRICE;
-use host_base::{Id, NoMemory};
 use order_books::{Book, FrontBook, PairCost};
 use quote_tables::{Change, is_all_on};
-use spread_rules::{Instrument, Level, Order, Rulebook, Side};
+use spread_rules::{Instrument, Level, NoMemory, Order, Rulebook, Side};
 use std::alloc::Allocator;
 use std::marker::Model;
 

@@ -13,8 +13,8 @@ ghost use Rattle.resting_orders.specs.Queues.{CanAmend, IsFront, IsFrontLevel};
 ghost use Rattle.order_rows.specs.Places.{HasMore, HasPlace};
 
 use crate::pair::PairCost;
-use host_base::{Id, NoMemory};
-use spread_rules::{Instrument, Level, Order, Rulebook, Side};
+use host_base::Id;
+use spread_rules::{Instrument, Level, NoMemory, Order, Rulebook, Side};
 
 /// Resting orders, seen as the list of them in order of place.
 pub trait Book {

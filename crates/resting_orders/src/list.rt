@@ -9,9 +9,9 @@ ghost use Rattle.resting_orders.specs.Queues.{is_in, front_step};
 
 use crate::book::Book;
 use crate::queue::{front_with, is_in};
-use host_base::{Id, NoMemory};
+use host_base::Id;
 use order_rows::{is_own, with_quantity};
-use spread_rules::{Instrument, Order, Side};
+use spread_rules::{Instrument, NoMemory, Order, Side};
 use std::alloc::Allocator;
 use std::marker::Model;
 

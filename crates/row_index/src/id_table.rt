@@ -12,7 +12,8 @@ ghost use Rattle.row_index.specs.code.Seeks.{EndsAt, IsSeek, with_number};
 
 use crate::rows::IdRows;
 use crate::spot::{Spot, spot_of};
-use host_base::{IdKey, NoMemory};
+use host_base::IdKey;
+use host_ends::NoMemory;
 use std::alloc::Allocator;
 use std::collections::BTreeMap;
 

@@ -9,7 +9,7 @@ ghost use Rattle.session_threads.specs.code.Workers.{IsUnused, HasSent, SameEven
 use crate::workers::WorkerHandle;
 use fix_session::Ahead;
 use gate_link::{Burst, Gateway, MAX_SLICE, Step};
-use host_base::release;
+use host_ends::release;
 use sequencer_turns::{found, rest};
 use std::alloc::Allocator;
 use std::snapshot::Snapshot;

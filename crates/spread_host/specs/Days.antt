@@ -7,7 +7,7 @@ use Rattle.spread_rulebook.specs.Rulebook.{Rules, names_of}
 use Rattle.fix_frames.specs.Frames.{frames}
 use Rattle.journal_parts.specs.JournalText.{journal_text}
 use Rattle.host_base.specs.declared.limits.TheConstants.{SESSIONS, MAX_JOURNAL_ENTRIES}
-use Rattle.host_base.specs.Ends.{AppendsPrefix}
+use Rattle.host_ends.specs.Ends.{AppendsPrefix}
 use Rattle.day_lines.specs.LineText.{day_lines_of}
 use Rattle.day_lines.specs.DayLines.{journal_of_lines}
 use Rattle.day_lines.specs.Reading.{IsJournalOf}

@@ -1,7 +1,7 @@
 //! The day of a journal, and the writing of its text.
 ghost use Rattle.std.specs.Prelude.{◌≡◌, ◌≤◌, ◌+◌, ◌⊎◌, IfOk, IfErr, OnOk, IsErrOf, ◌≢◌, All, length, true, false};
 ghost use Rattle.std.specs.Io.KnownBytes.{Appends};
-ghost use Rattle.host_base.specs.Ends.{AppendsPrefix};
+ghost use Rattle.host_ends.specs.Ends.{AppendsPrefix};
 ghost use Rattle.host_base.specs.declared.limits.TheConstants.{SESSIONS};
 ghost use Rattle.spread_rules.specs.Journal.{IsLawful};
 ghost use Rattle.spread_rulebook.specs.Rulebook.{IsListed};
@@ -16,7 +16,8 @@ ghost use Rattle.host_faults.specs.declared.fault.HostFault.{HostFault};
 
 use day_apply::{ApplyFault, apply_journal};
 use day_text::{Day, TakesPieces, TextFault};
-use host_base::{Id, Sink};
+use host_base::Id;
+use host_ends::Sink;
 use host_faults::HostFault;
 use spread_match::laws::ranges;
 use spread_rules::{Entry, Fill, Rulebook};

@@ -2,7 +2,7 @@
 ghost use Rattle.std.specs.Io.KnownBytes.{Appends, IsAtEnd};
 ghost use Rattle.std.specs.Prelude.{All, ◌≡◌, ◌<◌, ◌⊎◌, ◌+◌, ◌≢◌, IfOk, IfErr, IfSome, OnOk, IsErrOf, length, true, false};
 ghost use Rattle.host_base.specs.declared.limits.TheConstants.{MAX_INPUT_BYTES};
-ghost use Rattle.host_base.specs.Ends.{TakesAtMost};
+ghost use Rattle.host_ends.specs.Ends.{TakesAtMost};
 ghost use Rattle.day_input.specs.declared.reading.TheConstants.{CHUNK_BYTES};
 ghost use Rattle.journal_parts.specs.JournalText.{HasByteIds};
 ghost use Rattle.spread_host.specs.Headline.{IsJournalOfText, HasFills, HasOutgoing, BoughtIsSold, PaidIsReceived, IsAlwaysQuiet, IsDayOf};
@@ -12,7 +12,8 @@ ghost use Rattle.host_faults.specs.declared.fault.HostFault.{HostFault};
 use crate::day::{day_of, write_day};
 use day_input::read_day_lines;
 use day_text::Day;
-use host_base::{Id, Sink, Source};
+use host_base::Id;
+use host_ends::{Sink, Source};
 use host_faults::HostFault;
 use spread_rules::Rulebook;
 use std::alloc::Allocator;

@@ -13,7 +13,7 @@ mod from_sessions;
 
 pub use day::{day_of, write_day, write_fills};
 pub use day_text::{Day, Difference};
-pub use day_threads::{Caps, Gate};
+pub use day_threads::{Caps, DayRules, Gate, run_sessions};
 pub use from_claim::{AuditFault, audit};
 pub use from_journal::check;
 pub use from_lines::replay;

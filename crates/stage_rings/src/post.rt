@@ -5,8 +5,8 @@ ghost use Rattle.stage_rings.specs.Marks.{ends};
 ghost use Rattle.stage_rings.specs.Pieces.{bytes_in, bytes_of_piece, is_mark};
 ghost use Rattle.stage_rings.specs.declared.post.TheConstants.{PIECE_BYTES};
 
-use host_base::NoMemory;
 use rtrb::{Consumer, Producer};
+use spread_rules::NoMemory;
 use std::alloc::Allocator;
 
 /// How many bytes a piece has at most: with its length it fills 256 bytes.

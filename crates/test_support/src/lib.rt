@@ -11,7 +11,6 @@ mod samples;
 
 pub use chance::Chance;
 pub use events::{first_logon, first_order};
-pub use host_base::{TestSink, TestSource};
 pub use messages::{FIRST_BUY, FIRST_LOGON, FIRST_LOGOUT, FIRST_MESSAGES, FIRST_SELL};
 pub use ranges::{fit_fills, fits_outcome};
 pub use refusing::Refusing;
@@ -19,3 +18,4 @@ pub use samples::{
     FIRST_TRADE, FIRST_TRADE_JOURNAL, FIRST_TRADE_LINES, FIRST_TRADE_SENT, FIRST_TRADE_TEXT,
     THREE_MONTHS, id, is_first_sent, stamp,
 };
+pub use spread_rules::{TestSink, TestSource};

@@ -2,7 +2,7 @@
 use crate::expect::holds;
 use crate::rules::three_months;
 use day_picture::{draw, put_bytes};
-use host_base::TestSink;
+use spread_rules::TestSink;
 use std::alloc::Global;
 use std::process::Abort;
 use test_support::FIRST_TRADE_JOURNAL;

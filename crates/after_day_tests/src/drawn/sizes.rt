@@ -3,7 +3,7 @@ use super::pictures::count_of;
 use crate::expect::holds;
 use crate::rules::three_months;
 use day_picture::draw;
-use host_base::TestSink;
+use spread_rules::TestSink;
 use std::alloc::{AllocError, Global};
 use std::fmt::Write;
 use test_support::Chance;

@@ -2,9 +2,8 @@
 use crate::expect::holds;
 use crate::rules::three_months;
 use day_explain::{ExplainFault, explain};
-use host_base::TestSink;
 use spread_journal::JournalFault;
-use spread_rules::Rulebook;
+use spread_rules::{Rulebook, TestSink};
 use std::alloc::{Allocator, Global};
 use std::process::Abort;
 use test_support::{FIRST_TRADE_JOURNAL, Refusing};

@@ -2,10 +2,9 @@
 use super::replaces::{ORDERS_FILLS, ORDERS_JOURNAL};
 use crate::expect::holds;
 use crate::rules::three_months;
-use host_base::TestSink;
 use spread_host::{HostFault, check};
 use spread_journal::JournalFault;
-use spread_rules::Rulebook;
+use spread_rules::{Rulebook, TestSink};
 use std::alloc::Global;
 use std::process::Abort;
 

@@ -2,9 +2,8 @@
 use super::check::{DIRECT_BEFORE_IMPLIED, DIRECT_BEFORE_IMPLIED_TEXT};
 use crate::expect::holds;
 use crate::rules::three_months;
-use host_base::{TestSink, TestSource};
 use spread_host::{HostFault, check, replay};
-use spread_rules::Rulebook;
+use spread_rules::{Rulebook, TestSink, TestSource};
 use std::alloc::{Allocator, Global};
 use std::process::Abort;
 use test_support::{Refusing, stamp};

@@ -2,9 +2,8 @@
 use crate::expect::holds;
 use crate::headline::day_of_lines;
 use crate::rules::three_months;
-use host_base::{TestSink, TestSource};
 use spread_host::HostFault;
-use spread_rules::Rulebook;
+use spread_rules::{Rulebook, TestSink, TestSource};
 use std::alloc::Global;
 use std::process::Abort;
 use test_support::{FIRST_TRADE_LINES, FIRST_TRADE_TEXT, stamp};

@@ -1,5 +1,5 @@
 //! A gate that sees a day, and holds its threads.
-use day_threads::Gate;
+use spread_host::Gate;
 use std::sync::atomic::{AtomicU32, AtomicU64, Ordering};
 use std::thread;
 

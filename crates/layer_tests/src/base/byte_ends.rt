@@ -2,7 +2,7 @@
 ghost use Rattle.std.specs.Prelude.{◌≡◌, false};
 
 use crate::expect::holds;
-use host_base::{Failed, FromReader, Sink, Source, TestSink, TestSource, ToWriter, write_all};
+use host_ends::{Failed, FromReader, Sink, Source, TestSink, TestSource, ToWriter, write_all};
 use std::io;
 use std::io::{ErrorKind, Read};
 

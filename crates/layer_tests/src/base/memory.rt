@@ -1,6 +1,6 @@
 //! Memory that is let go.
 use crate::expect::holds;
-use host_base::release;
+use host_ends::release;
 use std::process::Abort;
 use test_support::Refusing;
 

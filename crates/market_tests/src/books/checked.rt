@@ -4,10 +4,10 @@ ghost use Rattle.spread_rules.specs.declared.order.Order.{Order};
 ghost use Rattle.spread_rules.specs.Amended.{done};
 
 use crate::expect::holds;
+use host_base::Id;
 use host_base::limits::MAX_ORDER_QTY;
-use host_base::{Id, NoMemory};
 use spread_books::Book;
-use spread_rules::Order;
+use spread_rules::{NoMemory, Order};
 use std::process::Abort;
 
 /// Whether that order's place is below this one.

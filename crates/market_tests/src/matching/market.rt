@@ -4,11 +4,10 @@ ghost use Rattle.market_state.specs.State.{empty_state};
 
 use super::{H6_M6, applied, buy, rulebook, sell};
 use crate::expect::holds;
-use host_base::NoMemory;
 use spread_books::ListBook;
 use spread_match::Market;
 use spread_match::laws::{lawful, ranges, without_replace};
-use spread_rules::{Choice, Entry, Fill, Members, Order, Outcome, Side};
+use spread_rules::{Choice, Entry, Fill, Members, NoMemory, Order, Outcome, Side};
 use std::alloc::Global;
 use std::process::Abort;
 use test_support::{Refusing, THREE_MONTHS, id};

@@ -8,8 +8,7 @@ use gate_link::{
     Feeder, Give, LinkFault, Matcher, Post, Poster, Taken, Writer, Wrote, agree, feed_ring,
     finished, post_ring,
 };
-use host_base::NoMemory;
-use spread_rules::{Entry, Event};
+use spread_rules::{Entry, Event, NoMemory};
 use std::alloc::Allocator;
 use std::process::Abort;
 use test_support::Refusing;

@@ -5,8 +5,7 @@ ghost use Rattle.day_text.specs.DayText.{AreShown};
 use crate::expect::holds;
 use crate::rules::three_months;
 use day_text::{MonthTotals, TextFault, month_totals, text_of_fills, write_fills};
-use host_base::TestSink;
-use spread_rules::{Fill, Instrument, Rulebook, Side};
+use spread_rules::{Fill, Instrument, Rulebook, Side, TestSink};
 use std::alloc::Global;
 use std::process::Abort;
 

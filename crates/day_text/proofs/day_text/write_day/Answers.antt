@@ -1,7 +1,7 @@
 use Rattle.std.proofs.Common.{◌≡◌, ◌++◌, Bool, true, List, ℕ, sym, ap, subst, ◌∙◌}
 use Rattle.spread_rules.specs.declared.event.Entry.{Entry}
 use Rattle.spread_rules.specs.declared.fill.Fill.{Fill}
-use Rattle.host_base.specs.Ends.{AppendsPrefix}
+use Rattle.host_ends.specs.Ends.{AppendsPrefix}
 use Rattle.journal_parts.specs.JournalText.{journal_text}
 use Rattle.day_text.specs.DayText.{day_text}
 use Rattle.message_lines.specs.Messages.{texts_of, outgoing_lines_from}

@@ -1,7 +1,7 @@
 use Rattle.std.proofs.Common.{◌++◌, All, List, subst}
 use Rattle.std.proofs.KnownBytes.{Appends-trans}
 use Rattle.std.specs.Io.KnownBytes.{Appends}
-use Rattle.host_base.specs.Ends.{AppendsPrefix}
+use Rattle.host_ends.specs.Ends.{AppendsPrefix}
 use Rattle.spread_rules.specs.declared.event.Entry.{Entry}
 use Rattle.journal_parts.specs.JournalText.{journal_text, HasByteIds}
 use Rattle.message_lines.specs.Messages.{texts_of, outgoing_lines_from}

@@ -3,7 +3,7 @@ use Rattle.std.specs.Prelude.{IsErrOf}
 use Rattle.std.specs.Io.KnownBytes.{Appends}
 use Rattle.std.proofs.lemmas.Option.{IfSome_then}
 use Rattle.std.proofs.lemmas.Result.{err_from_is_err_and}
-use Rattle.host_base.specs.Ends.{AppendsPrefix}
+use Rattle.host_ends.specs.Ends.{AppendsPrefix}
 use Rattle.spread_rules.specs.declared.event.Entry.{Entry}
 use Rattle.day_lines.specs.Reading.{IsJournalOf, HasParts}
 use Rattle.spread_host.specs.Days.{IsPartOut}

@@ -2,7 +2,7 @@ use Rattle.std.proofs.Common.{rules, take, drop}
 use Rattle.std.proofs.Math.Seq.{take-add}
 use Rattle.std.proofs.lemmas.List.{take_rest}
 use Rattle.std.proofs.KnownBytes.{Appends-trans}
-use Rattle.host_base.proofs.whole.write_all.Goals as goal
+use Rattle.host_ends.proofs.whole.write_all.Goals as goal
 
 pub loop-at-preserved : goal.loop-at-preserved
 loop-at-preserved g c =

@@ -1,6 +1,6 @@
 use Rattle.std.proofs.Common.{length, take, ◌-◌, ◌≡◌, ◌≤◌, false}
 use Rattle.std.specs.Io.KnownBytes.{Appends}
-use Rattle.host_base.proofs.whole.write_all.Given as goal
+use Rattle.host_ends.proofs.whole.write_all.Given as goal
 
 abbrev pub invariant-loop-at : goal.invariant-loop-at
 invariant-loop-at g l =

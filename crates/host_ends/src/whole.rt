@@ -2,7 +2,7 @@
 
 ghost use Rattle.std.specs.Prelude.{◌≡◌, true, false, OnOk, OnErr};
 ghost use Rattle.std.specs.Io.KnownBytes.{Appends};
-ghost use Rattle.host_base.specs.Ends.{AppendsPrefix};
+ghost use Rattle.host_ends.specs.Ends.{AppendsPrefix};
 
 use crate::sink::Sink;
 use crate::source::Failed;

@@ -1,6 +1,6 @@
 use Rattle.std.proofs.Common.{◌≡◌, false}
 use Rattle.std.specs.Io.KnownBytes.{Keeps}
-use Rattle.host_base.proofs.source.FromReaderSource.read.Given as goal
+use Rattle.host_ends.proofs.source.FromReaderSource.read.Given as goal
 
 -- an interrupted read took nothing
 abbrev pub invariant-loop : goal.invariant-loop
