@@ -5,7 +5,7 @@ ghost use Rattle.explained_turns.specs.Explained.{IsPoint};
 use spread_rules::{Candidate, Order, ranking};
 
 /// The points of rank, the first that counts first.
-#[derive(Clone, Copy, PartialEq, Eq)]
+#[derive(Clone, Copy)]
 pub enum Point {
     /// The better price for the new order.
     Price,

@@ -1,7 +1,7 @@
 //! Why a journal was not applied.
 
 /// Why a journal was not applied.
-#[derive(Clone, Copy, Debug, PartialEq, Eq)]
+#[derive(Clone, Copy, Debug)]
 pub enum ApplyFault {
     /// Memory ran out. The place is that of the first entry not worked through, 0 where none was begun.
     NoMemory(u64),

@@ -2,14 +2,14 @@
 use host_base::Id;
 
 /// The CompIDs of a session: it calls itself `client` and the exchange `host`.
-#[derive(Clone, Copy, PartialEq, Eq)]
+#[derive(Clone, Copy)]
 pub struct CompIds {
     pub client: Id,
     pub host: Id,
 }
 
 /// What the next message to a session bears.
-#[derive(Clone, Copy, PartialEq, Eq)]
+#[derive(Clone, Copy)]
 pub struct OutboundSession {
     /// Its number (MsgSeqNum, tag 34).
     pub next: u64,

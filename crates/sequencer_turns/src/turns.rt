@@ -19,7 +19,7 @@ use std::sync::atomic::{AtomicBool, Ordering};
 const TURN: u32 = 8;
 
 /// What a turn of each session came to.
-#[derive(Clone, Copy, PartialEq, Eq)]
+#[derive(Clone, Copy)]
 pub enum Round {
     /// The close of each session was taken.
     AllDone,
@@ -32,7 +32,7 @@ pub enum Round {
 }
 
 /// How the turns ended.
-#[derive(Clone, Copy, PartialEq, Eq)]
+#[derive(Clone, Copy)]
 pub enum TurnsEnd {
     /// The close of each session was taken.
     AllDone,

@@ -417,7 +417,8 @@ fn each_message_once(rt: HostRuntime) {
         stamp: stamp(),
     };
     let streams = streams_of(rt.alloc(), 1, FIRST_TRADE).expect(&rt, "memory");
-    let day = run_sessions(&rt, rt.alloc(), &rules, streams, &watch, USUAL).expect(&rt, "a day");
+    let day = run_sessions(&rt, rt.alloc(), &rules, streams, &watch, USUAL);
+    let day = day.ok().expect(&rt, "a day");
     holds(&rt, watch.messages() == 4);
     holds(&rt, watch.messages_at_first() == 4);
     holds(&rt, watch.in_turn());
