@@ -6,6 +6,7 @@ use Rattle.day_apply.proofs.HandedOn.{behind_length}
 use Rattle.entry_posting.specs.code.Posting.{NoneEnded, SamePosters, posted_at}
 use Rattle.entry_posting.specs.declared.posting.PostedEntries.{PostedEntries}
 use Rattle.entry_posting.proofs.OneEntryMore.{posted_more}
+use Rattle.entry_posting.proofs.Posters.{same_posters_refl}
 use Rattle.entry_posting.proofs.step.match_one.Goals as goal
 use Rattle.entry_posting.proofs.step.match_one.Goals.{After-post_each}
 
@@ -23,6 +24,15 @@ rings g c = (
   subst NoneEnded (sym (posters g c)) c.post_each.ensures.open,
   omega (arith, (same g c).0, c.requires.rings.few),
 )
+
+pub apply-requires-clause-reported : goal.apply-requires-clause-reported
+apply-requires-clause-reported g c = (posted_at c.args.posted.now.posters.items, (c.requires.posted.0, c.requires.posted.1.reported))
+
+pub returns-in-Err-clause-rings : goal.returns-in-Err-clause-rings
+returns-in-Err-clause-rings g c = record { open_ = c.requires.rings.open_; few = c.requires.rings.few }
+
+pub returns-in-Err-clause-writers : goal.returns-in-Err-clause-writers
+returns-in-Err-clause-writers g c = same_posters_refl c.args.posted.now.posters.items
 
 pub returns-then-not-post_each-clause-rings : goal.returns-then-not-post_each-clause-rings
 returns-then-not-post_each-clause-rings g c = let r = rings g (goal.at.returns-then-not-post_each-clause-rings g c).After-post_each in record { open_ = r.0; few = r.1 }
