@@ -70,6 +70,11 @@ returns-in_default-push-clause-step g c =
       full = full.2;
     }
 
+pub invariant_of-self-in_default-push : goal.invariant_of-self-in_default-push
+invariant_of-self-in_default-push g c =
+    let sent_is = ap (λ es. list_any is_close (entry_events es)) c.in_default-push.ensures.full.1 in
+    record { close_sent = ap (λ r. is_closed r.session) c.look.ensures.skipped ∙ (c.args.self.now.close_sent ∙ sym sent_is) }
+
 -- the message has an event, which was pushed
 pub returns-clause-step : goal.returns-clause-step
 returns-clause-step g c =
