@@ -81,7 +81,6 @@ returns-clause-step g c =
     let a = c.args.self.now in
     let e = c.in-Event.event in
     let mid = c.look.new.self in
-    let new = c.pass-2.new.self in
     let m = verdict_some a.reader c.in-Some.verdict (sym c.in-Some.ensures.says) in
     let says = ap event_in (m.1.1 ∙ c.in-Event.is) in record {
       event = e;
@@ -89,8 +88,8 @@ returns-clause-step g c =
       passes = message_passed a _ mid m.0 (Some e) c.look.ensures.skipped m.1.0 c.pass-2.ensures.passed says;
       sent = ap entry_events c.in-Ok.ensures.ok.0 ∙ events_later (sent a.producer) (entry a.session e);
       room = c.in-Ok.ensures.ok.1;
-      pending = owed_event a.reader.session new.session m.0 a.reader.held new.held e (leaves_passed a.reader mid new m.0 c.look.ensures.skipped m.1.0 c.pass-2.ensures.passed).0
-          (session_passed a.reader mid new m.0 c.look.ensures.skipped m.1.0 c.pass-2.ensures.passed) says;
+      pending = owed_event a.reader.session c.pass-2.new.self.session m.0 a.reader.held c.pass-2.new.self.held e (leaves_passed a.reader mid c.pass-2.new.self m.0 c.look.ensures.skipped m.1.0 c.pass-2.ensures.passed).0
+          (session_passed a.reader mid c.pass-2.new.self m.0 c.look.ensures.skipped m.1.0 c.pass-2.ensures.passed) says;
     }
 
 -- it is closed now exactly where that event is a close
