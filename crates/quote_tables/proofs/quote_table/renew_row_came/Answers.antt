@@ -32,17 +32,24 @@ spread_told g c =
     ∙ (ap (cost_at (costs_of c.spread_cells-spreads.result.now)) c.row_cell.ensures
     ∙ ap (λ (cs : List (Option ℤ)). cost_at cs (row_cell c.args.side c.loop-month.month c.args.via)) c.spread_cells-spreads.ensures.costs)
 
+pub bounds-spreads-row_cell : goal.bounds-spreads-row_cell
+bounds-spreads-row_cell g c = spread_within g c
+
 pub sum_of_cells-cost-requires-clause-first : goal.sum_of_cells-cost-requires-clause-first
 sum_of_cells-cost-requires-clause-first g c =
     let small = spread_small g (goal.at.sum_of_cells-cost-requires-clause-first g c).After-row_cell in
     subst (λ (a : ℤ). IfSome (cost_of_cell a) IsOrderPrice) (sym (cell_whole (get_or c.spread_cells-spreads.result.now c.row_cell.result (pos 0)) small)) small
 
-cell_within : (g : _) (c : goal.After-offer g) → cell_of c.args.side c.loop-month.month < length c.loop-month.cells
+cell_within : (g : _) (c : After-row_cell g) → cell_of c.args.side c.loop-month.month < length c.loop-month.cells
 cell_within g c =
     let under = c.loop-month-test.true in
     let first = c.min.ensures in
     let both = c.min-count.ensures in
     subst (λ (n : ℕ). cell_of c.args.side c.loop-month.month < n) (sym c.loop-month.invariant.count) (c.side_count.ensures.within c.loop-month.month (omega (arith, under, first, both)))
+
+pub bounds-cells-cell : goal.bounds-cells-cell
+bounds-cells-cell g c =
+    subst (λ (n : ℕ). n < length c.loop-month.cells) (sym c.cell.ensures) (cell_within g (goal.at.bounds-cells-cell g c).After-row_cell)
 
 pub loop-month-preserved : goal.loop-month-preserved
 loop-month-preserved g c =
@@ -73,7 +80,7 @@ loop-month-preserved g c =
                 let renewed : IsCheapest on ys s k months (pair_of_cell new) =
                 subst (λ (p : PairCost). IsCheapest on ys s k months (pair_of_cell p)) (sym (c.offer.ensures ∙ ap (λ (z : ℤ). sooner_of z c.args.via held) sum))
                 (came_told on xs ys s k months c.args.via here c.requires.within among c.args.costs.now held a b told (subst (λ (j : ℕ). j < months) e lt) (spread_told g d) c.outright_cell-outright.ensures.cost
-                (spread_small g d) c.outright_cell-outright.ensures.small (held_there on months xs cells s k n none at (subst (λ (i : ℕ). i < length cells) (sym at) (cell_within g c)) mine)) in
+                (spread_small g d) c.outright_cell-outright.ensures.small (held_there on months xs cells s k n none at (subst (λ (i : ℕ). i < length cells) (sym at) (cell_within g d)) mine)) in
                 subst (λ (j : ℕ). HasCheapest on months ys (pairs_of (slice_set cells n new)) s j) (sym e) (put_there on months ys cells s k n new at renewed)
           ];
     }
