@@ -11,7 +11,7 @@ use Rattle.std.proofs.lemmas.Option.{cond_some}
 use Rattle.fix_values.specs.Digits.{number_of}
 use Rattle.fix_frames.specs.declared.frame.FrameHeader.{FrameHeader}
 use Rattle.fix_frames.specs.Texts.{stripped, is_cut_short, is_soh}
-use Rattle.fix_frames.specs.declared.frame.Scan.TheVariants.{Incomplete}
+use Rattle.fix_frames.specs.declared.frame.Scan.TheVariants.{Incomplete, Frame}
 use Rattle.fix_frames.specs.Frames.{begin_text, header, header_after, is_body_length, is_length_open, is_front_open, is_unfinished, is_intact, is_body, body_at, frame_length, intact_length}
 use Rattle.fix_frames.specs.code.Scans.{is_header_open, scan_front, scan_with}
 use Rattle.fix_frames.proofs.texts.WordAtTheFront.{behind_is, some_where, eqb_swap, ltb_suc}
@@ -120,3 +120,9 @@ front_cut_short text h e l =
     ∙ (ap (λ v. scan_with (is_front_open text || v) (then_some (is_intact text h) (frame_length h))) less
     ∙ (ap (λ v. scan_with (is_front_open text || true) (then_some v (frame_length h))) lost
     ∙ ap (λ v. scan_with v None) (or_true (is_front_open text))))
+
+-- a header whose frame stands there
+pub front_intact : (text : List ℕ) (h : FrameHeader) → header text ≡ Some h → is_intact text h ≡ true → scan_front text ≡ Frame (frame_length h)
+front_intact text h e intact =
+    ap (λ o. scan_with (is_front_open text || is_unfinished text o) (option_and_then (intact_length text) o)) e
+    ∙ ap (λ v. scan_with (is_front_open text || is_unfinished text (Some h)) (then_some v (frame_length h))) intact
