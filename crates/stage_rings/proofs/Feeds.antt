@@ -1,6 +1,7 @@
 -- Entries and the end mark among the items of the ring to the thread that matches.
-use Rattle.std.proofs.Common.{◌≡◌, ◌∙◌, sym, ap, refl, arith, ℕ, suc, ◌+◌, ◌-◌, ◌<◌, ◌≤◌, Bool, true, false, List, [], ◌∷◌, ◌++◌, length, get_or, take, drop, map, append-nil, append_assoc, take_at, length-append, length-take, length-drop, subst}
+use Rattle.std.proofs.Common.{◌≡◌, ◌∙◌, sym, ap, refl, arith, ℕ, suc, ◌+◌, ◌-◌, ◌<◌, ◌≤◌, Bool, true, false, List, [], ◌∷◌, ◌++◌, length, get_or, take, drop, set, map, append-nil, append_assoc, take_at, length-append, length-take, length-drop, subst}
 use Rattle.std.proofs.lemmas.List.{drop_more}
+use Rattle.std.proofs.lemmas.Grind.{common_steps}
 use Rattle.spread_rules.specs.declared.event.Entry.{Entry}
 use Rattle.stage_rings.specs.declared.feed.Fed.{Fed}
 use Rattle.stage_rings.specs.declared.feed.Fed.TheVariants.{Entry as Item, End}
@@ -30,6 +31,11 @@ ends_items : (xs : List Fed) (es : List Entry) → ends is_end xs false ≡ true
 ends_items xs [] h = subst (λ t. ends is_end t false ≡ true) (sym (append-nil xs)) h
 ends_items xs (e ∷ es) h =
     subst (λ t. ends is_end t false ≡ true) (append_assoc xs (Item e ∷ []) (items_of es)) (ends_items (xs ++ Item e ∷ []) es (ends_more is_end xs (Item e) h refl))
+
+-- the next of the entries, put where the next of the items stands
+pub item_more : (is : List Fed) (es : List Entry) (i : ℕ) (e : Entry) → i < length is → i < length es → e ≡ get_or es i e → take i is ≡ items_of (take i es)
+    → take (i + 1) (set is i (Item e)) ≡ items_of (take (i + 1) es)
+item_more is es i e within few at done = grind (arith, common_steps)
 
 -- an entry more
 pub entry_more : (xs ys : List Fed) (x : Fed) (e : Entry) (b : Bool) → ends is_end xs b ≡ true → b ≡ false → ys ≡ xs ++ x ∷ [] → x ≡ Item e

@@ -1,9 +1,10 @@
-use Rattle.std.proofs.Common.{true, arith, List, ◌≡◌, ◌∙◌, ap, length, ◌≤◌, ◌++◌, take, subst}
+use Rattle.std.proofs.Common.{true, arith, List, ◌≡◌, ◌∙◌, ap, refl, length, ◌<◌, ◌≤◌, ◌++◌, take, subst}
+use Rattle.std.proofs.lemmas.List.{length-set}
 use Rattle.rtrb.specs.Ring.{sent}
 use Rattle.stage_rings.specs.Feeds.{entries, is_end}
 use Rattle.stage_rings.specs.declared.feed.Fed.{Fed}
 use Rattle.stage_rings.specs.Marks.{ends}
-use Rattle.stage_rings.proofs.Feeds.{items_of, slice_more}
+use Rattle.stage_rings.proofs.Feeds.{items_of, item_more, slice_more}
 use Rattle.stage_rings.proofs.Giving.{left, length-left, gave, front_prefix, gave_length}
 use Rattle.stage_rings.proofs.feed.Feeder.give.Goals as goal
 use Rattle.stage_rings.proofs.feed.Feeder.give.Goals.{In-Ok}
@@ -47,3 +48,26 @@ returns-clause-prefix g c =
     let c = (goal.at.returns-clause-prefix g c).In-Ok in
     let given = entries (sent f.producer) in
     rw ((pushed g c).1 ∙ gave given c.args.journal.now f.count c.min-most.result c.requires f.counted) (front_prefix _ c.args.journal.now)
+
+pub loop-i-preserved : goal.loop-i-preserved
+loop-i-preserved g c =
+    let few : c.loop-i.i < length (left c.args.journal.now c.args.self.now.count) = omega (arith, c.loop-i-test.true, c.min-most.ensures, c.min.ensures) in
+    let within : c.loop-i.i < length c.loop-i.items = omega (arith, few, c.loop-i-test.true, c.min-most.ensures, c.min.ensures, c.loop-i.invariant.long) in
+    record {
+      done = item_more c.loop-i.items (left c.args.journal.now c.args.self.now.count) c.loop-i.i c.index-rest-i.result within few c.index-rest-i.is c.loop-i.invariant.done;
+      long = length-set c.loop-i.items c.loop-i.i _ ∙ c.loop-i.invariant.long;
+    }
+
+pub invariant_of-self : goal.invariant_of-self
+invariant_of-self g c =
+    let same = c.has_room.ensures.looked.1 in
+    record { shape = rw same c.args.self.now.shape; counted = rw same c.args.self.now.counted }
+
+pub returns-then-not-has_room-clause-give : goal.returns-then-not-has_room-clause-give
+returns-then-not-has_room-clause-give g c =
+    let f = c.args.self.now in (
+      c.if-self.false,
+      (λ same. c.if-self-journal.false (f.counted ∙ ap length same)),
+      omega (arith, c.if-not-has_room.ensures.room, c.min-most.ensures, c.min.ensures, c.capacity.ensures, length-left c.args.journal.now f.count, f.counted),
+      (ap entries c.has_room.ensures.looked.1, refl),
+    )
