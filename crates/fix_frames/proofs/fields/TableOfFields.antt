@@ -1,5 +1,5 @@
 -- A table of fields, one field after another.
-use Rattle.std.proofs.Common.{is_some, true, false, cond, eqb, subst, unwrap_or, ◌≡◌, ◌≢◌, ℕ, ◌+◌, ◌*◌, ◌%◌, ◌^◌, ◌<◌, ◌≤◌, w64, Bool, List, ◌++◌, Option, Some, None, set, get_or, length, take, drop, refl, sym, ap, ◌∙◌, arith}
+use Rattle.std.proofs.Common.{is_some, true, false, cond, eqb, subst, unwrap_or, ◌≡◌, ◌≢◌, ℕ, ◌+◌, ◌*◌, ◌/◌, ◌%◌, ◌^◌, ◌<◌, ◌≤◌, w64, Bool, List, ◌++◌, Option, Some, None, set, get_or, length, take, drop, refl, sym, ap, ◌∙◌, arith}
 use Rattle.std.specs.Prelude.{slice_range}
 use Rattle.std.proofs.lemmas.List.{drop_all, drop-take, take-take, length-drop, length-set, get_or-set_same, get_or-set_other, drop-append-le, take-append-le}
 use Rattle.std.proofs.lemmas.List.Sums.{passes_at_first}
@@ -7,7 +7,8 @@ use Rattle.std.proofs.lemmas.Nat.Bits.{bit_at-zero, bit_at_set_same, bit_at_set_
 use Rattle.std.specs.Int.{bit_at}
 use Rattle.std.proofs.Math.Pow.{pow-lt}
 use Rattle.std.proofs.Math.Nat.{mod-eq_of_lt}
-use Rattle.std.specs.Int.RustNames.{bit_or}
+use Rattle.std.specs.Int.RustNames.{bit_and, bit_or}
+use Rattle.std.proofs.lemmas.Grind.{common_steps}
 use Rattle.std.proofs.lemmas.Bool.{eqb-true, eqb-false, false≢true}
 use Rattle.fix_frames.specs.declared.frame.LeadingField.{LeadingField}
 use Rattle.fix_frames.specs.declared.table.FieldPlace.{FieldPlace}
@@ -187,3 +188,20 @@ table_stays text more n t e known =
       header = header_stays text more h known.header;
       fields = subst (λ (x : List ℕ). IsTable x t.fields) (sym body) known.fields;
     })
+
+-- ---- what stands at a tabled tag
+
+-- whether there is a place with this index, by one bit
+pub place_stands : (present i : ℕ) → bit_and (present / 2 ^ i) 1 ≢ 0 → has_place present i ≡ true
+place_stands present i h = grind (arith, common_steps)
+
+pub no_place : (present i : ℕ) → bit_and (present / 2 ^ i) 1 ≡ 0 → has_place present i ≡ false
+no_place present i h = grind (arith, common_steps)
+
+-- the value of a tabled tag, where it is known whether it has a place
+pub tabled_value : (body : List ℕ) (t : FieldTable) (tag i : ℕ) (b : Bool) → IsTable body t → i ≡ index_of tag → i < 23 → has_place t.present i ≡ b
+    → cond b (Some (slice_range body (place_at t.places i).start (place_at t.places i).end)) None ≡ value_of tag body
+tabled_value body t tag i b table at within here =
+    ap (λ v. cond v (Some (slice_range body (place_at t.places i).start (place_at t.places i).end)) None) (sym here)
+    ∙ ap (value_at body t) at
+    ∙ table.value tag (subst (λ n. n < 23) at within)
