@@ -1,6 +1,7 @@
 //! Rows: steps of one book after another, and what the book must answer.
 use super::checked::{add, amend, clear, reduce, remove};
 use crate::expect::holds;
+use host_base::Id;
 use quoted_books::QuotedBook;
 use spread_books::{Book, FrontBook, HeapBook, IndexBook, ListBook};
 use spread_rules::{Instrument, Order, Rulebook, Side};
@@ -8,11 +9,15 @@ use std::alloc::Global;
 use std::process::Abort;
 use test_support::{THREE_MONTHS, id};
 
+/// An id: its letter, and how many bytes 0 stand behind it, two at most. A text for each id of a row is dear.
+#[derive(Clone, Copy)]
+pub(super) struct Name(pub(super) u8, pub(super) u8);
+
 /// An order: its place, its session, its id, its instrument, its side, its price, its quantity, and what is left of it.
 pub(super) struct Lot(
     pub(super) u64,
     pub(super) u8,
-    pub(super) &'static [u8],
+    pub(super) Name,
     pub(super) Instrument,
     pub(super) Side,
     pub(super) i64,
@@ -27,9 +32,9 @@ pub(super) enum Step {
     /// The n-th order is lessened by so many lots.
     Reduce(usize, u32),
     /// The n-th order takes that id and that quantity.
-    Amend(usize, &'static [u8], u32),
+    Amend(usize, Name, u32),
     /// The n-th order does not take that id and that quantity.
-    NotAmend(usize, &'static [u8], u32),
+    NotAmend(usize, Name, u32),
     /// The n-th order leaves.
     Remove(usize),
     /// So many orders rest.
@@ -45,7 +50,7 @@ pub(super) enum Step {
     /// This order is found by its session and its id.
     Found(Lot),
     /// No order of that session has that id.
-    NotFound(u8, &'static [u8]),
+    NotFound(u8, Name),
 }
 
 /// Steps of a book that is empty at first. All orders leave it at the end.
@@ -54,11 +59,20 @@ pub(super) struct Row {
     pub(super) steps: &'static [Step],
 }
 
+fn id_of(name: Name) -> Id {
+    let Name(letter, zeros) = name;
+    match zeros {
+        0 => id(&[letter]),
+        1 => id(&[letter, 0]),
+        _ => id(&[letter, 0, 0]),
+    }
+}
+
 fn order_of(lot: &Lot) -> Order {
     Order {
         place: lot.0,
         session: lot.1,
-        id: id(lot.2),
+        id: id_of(lot.2),
         instrument: lot.3,
         side: lot.4,
         price: lot.5,
@@ -97,10 +111,10 @@ fn goes_as_said<B: Book>(rt: &impl Abort, book: &mut B, step: &Step) -> bool {
         Step::Add(lot) => add(book, order_of(lot)).expect(rt, "memory"),
         Step::Reduce(n, by) => reduce(book, *n, *by),
         Step::Amend(n, name, quantity) => {
-            amend(book, *n, id(name), *quantity).expect(rt, "memory")
+            amend(book, *n, id_of(*name), *quantity).expect(rt, "memory")
         }
         Step::NotAmend(n, name, quantity) => {
-            !amend(book, *n, id(name), *quantity).expect(rt, "memory")
+            !amend(book, *n, id_of(*name), *quantity).expect(rt, "memory")
         }
         Step::Remove(n) => remove(book, *n),
         Step::Count(count) => book.len() == *count,
@@ -109,7 +123,7 @@ fn goes_as_said<B: Book>(rt: &impl Abort, book: &mut B, step: &Step) -> bool {
         Step::Front(lot) => is_front(book, &order_of(lot)),
         Step::NoFront(instrument, side) => none_stands(book, *instrument, *side),
         Step::Found(lot) => is_found(book, &order_of(lot)),
-        Step::NotFound(session, name) => book.find(*session, &id(name)).is_none(),
+        Step::NotFound(session, name) => book.find(*session, &id_of(*name)).is_none(),
     }
 }
 

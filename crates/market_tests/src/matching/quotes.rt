@@ -1,5 +1,5 @@
 //! Implied quotes of a market's book.
-ghost use Rattle.std.specs.Prelude.{◌≡◌};
+ghost use Rattle.std.specs.Prelude.{◌≡◌, []};
 ghost use Rattle.market_state.specs.State.{empty_state};
 
 use super::cases::Came::{Cancelled, Rested, Session};
@@ -22,13 +22,26 @@ pub(super) struct QuoteCase {
     pub(super) quotes: &'static [(Instrument, Option<(i64, u64, u64)>)],
 }
 
-fn quote_of(
-    market: &Market<'_, IndexBook<'_, Global>, Global>,
-    instrument: Instrument,
-    side: Side,
-) -> Option<Choice> {
-    let book = market.book();
-    book.quote(instrument, side)
+/// A book that has implied quotes: a function that has a market over any such book is cheaper than one that has a market
+/// over the index book.
+trait Quoting: Book {
+    /// The quote of that queue.
+    fn quote_of(
+        market: &Market<'_, Self, Global>,
+        instrument: Instrument,
+        side: Side,
+    ) -> Option<Choice>;
+}
+
+impl Quoting for IndexBook<'_, Global> {
+    fn quote_of(
+        market: &Market<'_, Self, Global>,
+        instrument: Instrument,
+        side: Side,
+    ) -> Option<Choice> {
+        let book = market.book();
+        book.quote(instrument, side)
+    }
 }
 
 fn choice_of(wanted: Option<(i64, u64, u64)>) -> Option<Choice> {
@@ -42,20 +55,20 @@ fn choice_of(wanted: Option<(i64, u64, u64)>) -> Option<Choice> {
     }
 }
 
-fn expect_quotes_of(
+fn expect_quotes_of<B: Quoting>(
     rt: &impl Abort,
-    market: &Market<'_, IndexBook<'_, Global>, Global>,
+    market: &Market<'_, B, Global>,
     quotes: &[(Instrument, Option<(i64, u64, u64)>)],
 ) {
     for (instrument, wanted) in quotes {
         holds(
             rt,
-            quote_of(market, *instrument, Side::Buy) == choice_of(*wanted),
+            B::quote_of(market, *instrument, Side::Buy) == choice_of(*wanted),
         );
     }
 }
 
-/// What is done in a market over the index book. One function has all of these markets, as each that has one is dear.
+/// What is done in a market over the index book. One function has all of these books, as each that has one is dear.
 #[derive(Clone, Copy)]
 enum Course<'c> {
     /// What must come of the case comes of it, and the book has the quotes at the end.
@@ -65,9 +78,9 @@ enum Course<'c> {
 }
 
 /// Takes that course in a market before its first entry.
-fn take(
+fn take<B: Quoting>(
     rt: &impl Abort,
-    market: &mut Market<'_, IndexBook<'_, Global>, Global>,
+    market: &mut Market<'_, B, Global>,
     rules: &Rulebook,
     course: Course<'_>,
     fills: &mut Vec<Fill>,
@@ -87,11 +100,24 @@ fn take(
     }
 }
 
+/// The same in a market over that book.
+fn take_over<B: Quoting + Drop>(
+    rt: &impl Abort,
+    alloc: Global,
+    rules: &Rulebook,
+    book: B,
+    course: Course<'_>,
+)
+    requires { B.orders book ≡ [] }
+{
+    let mut market = Market::new(alloc, rules, book);
+    take(rt, &mut market, rules, course, &mut Vec::new(alloc))
+}
+
 /// The same in a market over the index book.
 fn take_over_index(rt: &impl Abort, alloc: Global, rules: &Rulebook, course: Course<'_>) {
     let book = IndexBook::new(alloc, rules).expect(rt, "memory");
-    let mut market = Market::new(alloc, rules, book);
-    take(rt, &mut market, rules, course, &mut Vec::new(alloc))
+    take_over(rt, alloc, rules, book, course)
 }
 
 /// The cases over the list book, and with their quotes over the index book.
