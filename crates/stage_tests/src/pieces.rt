@@ -18,12 +18,11 @@ const LINE: &[u8] = b"abcdefghi\n";
 fn give_lines<R: Wait + Abort, A: Allocator>(
     rt: &R,
     alloc: A,
-    sink: PieceSink<'_, R, A>,
+    mut sink: PieceSink<'_, R, A>,
     lines: u32,
 )
     requires { sink.ended ≡ false }
 {
-    let mut sink = sink;
     let mut piece = Vec::with_capacity(alloc, PIECE_BYTES).expect(rt, "memory");
     for _ in 0..lines {
         piece.extend_from_slice(LINE).expect(rt, "memory");
@@ -37,13 +36,12 @@ fn give_lines<R: Wait + Abort, A: Allocator>(
 /// Takes a text to its end, into a sink that fails at that call: says whether it was written whole.
 fn take_text<R: Wait + Abort>(
     rt: &R,
-    source: PieceSource<Global>,
+    mut source: PieceSource<Global>,
     alloc: Global,
     fail: u32,
 ) -> (TestSink, bool)
     requires { IsUnread source }
 {
-    let mut source = source;
     let mut out = TestSink::new(alloc, 100_000, fail).expect(rt, "memory");
     let whole = source.write_to(rt, &mut out).is_ok();
     (out, whole)
@@ -122,8 +120,7 @@ fn give_piece<R: Wait + Abort, A: Allocator + Copy>(
 /// A piece of less room than the others has, one without bytes, and one of more.
 #[test]
 fn pieces_of_each_size(rt: HostRuntime) {
-    let (sink, source) = piece_ring(&rt, rt.alloc()).expect(&rt, "memory");
-    let mut sink = sink;
+    let (mut sink, source) = piece_ring(&rt, rt.alloc()).expect(&rt, "memory");
     give_piece(&rt, rt.alloc(), &mut sink, LINE);
     give_piece(&rt, rt.alloc(), &mut sink, b"");
     give_piece(&rt, rt.alloc(), &mut sink, &[b'x'; 90_000]);
@@ -146,13 +143,18 @@ fn pieces_of_a_sink(rt: HostRuntime) {
     holds(&rt, out.bytes() == LINE);
 }
 
+/// Whether a ring is made whose memory is the heap's.
+fn is_made<R: Wait + Abort, A: Allocator + Copy>(rt: &R, heap: A) -> bool {
+    piece_ring(rt, heap).is_ok()
+}
+
 /// Two rings and the pieces.
 #[test]
 fn piece_ring_refused_memory(rt: HostRuntime) {
     let mut refused = 0u32;
     for number in 1..20u64 {
         let heap = Refusing::new(rt.alloc(), number);
-        let made = piece_ring(&rt, &heap).is_ok();
+        let made = is_made(&rt, &heap);
         holds(&rt, made != heap.has_refused());
         if !made {
             refused = refused.saturating_add(1);

@@ -225,12 +225,12 @@ impl<A: Allocator + Copy> Run<A> {
         if session >= self.lists.len() {
             return false;
         }
-        let sent = &self.lists[session];
+        let sent = self.lists[session].as_slice();
         if sent.len() != want.len() {
             return false;
         }
-        for (byte, shown) in sent.iter().zip(want) {
-            if *byte != (if *shown == b'|' { 1 } else { *shown }) {
+        for n in 0..want.len() {
+            if sent[n] != (if want[n] == b'|' { 1 } else { want[n] }) {
                 return false;
             }
         }

@@ -40,112 +40,106 @@ pub struct Day {
     pub says: &'static [Says],
 }
 
-fn put_letters<A: Allocator>(rt: &impl Abort, gateway: &mut Gateway<A>)
+fn takes_letters<A: Allocator>(gateway: &mut Gateway<A>) -> bool
     ensures { SameGateway gateway.old gateway.new }
 {
-    let letters = [b'x'; 8192];
-    holds(rt, gateway.put(&letters) == 8192);
+    gateway.put(&[b'x'; 8192]) == 8192
 }
 
-fn expect_steps_over<A: Allocator>(
-    rt: &impl Abort,
-    gateway: &mut Gateway<A>,
-    frames: u32,
-    want: Burst,
-)
+fn steps_over_as<A: Allocator>(gateway: &mut Gateway<A>, frames: u32, want: Burst) -> bool
     ensures { SameGateway gateway.old gateway.new }
 {
-    holds(rt, 1 <= frames && frames <= 64);
-    holds(rt, gateway.step_many(frames) == want);
+    1 <= frames && frames <= 64 && gateway.step_many(frames) == want
 }
 
-fn expect_judged<A: Allocator>(
-    rt: &impl Abort,
+fn is_judged_and_sent<A: Allocator>(
     gateway: &mut Gateway<A>,
     frames: u32,
     messages: usize,
     want: Burst,
-)
+) -> bool
     ensures { SameGateway gateway.old gateway.new }
 {
-    holds(rt, frames <= 64);
+    if frames > 64 {
+        return false;
+    }
     let ahead = gateway.judge_many(frames);
-    holds(rt, ahead.messages == messages);
-    holds(rt, 0 < ahead.messages);
-    holds(rt, gateway.send_judged(frames, &ahead) == want);
+    0 < ahead.messages && ahead.messages == messages && gateway.send_judged(frames, &ahead) == want
 }
 
-fn expect_gateway_act<A: Allocator>(rt: &impl Abort, gateway: &mut Gateway<A>, act: &Act)
+/// Whether an act of a gateway comes to what it should.
+fn gateway_act_holds<A: Allocator>(gateway: &mut Gateway<A>, act: &Act) -> bool
     ensures { SameGateway gateway.old gateway.new }
 {
     match act {
-        Act::Put(bytes, taken) => holds(rt, gateway.put(bytes) == *taken),
-        Act::PutLetters => put_letters(rt, gateway),
-        Act::Stands(stands) => holds(rt, gateway.stands() == *stands),
-        Act::Steps(step) => holds(rt, gateway.step() == *step),
-        Act::Ends(step) => holds(rt, gateway.end() == *step),
-        Act::Standing(most, count) => holds(rt, gateway.standing(*most) == *count),
-        Act::StepsOver(frames, burst) => expect_steps_over(rt, gateway, *frames, *burst),
+        Act::Put(bytes, taken) => gateway.put(bytes) == *taken,
+        Act::PutLetters => takes_letters(gateway),
+        Act::Stands(stands) => gateway.stands() == *stands,
+        Act::Steps(step) => gateway.step() == *step,
+        Act::Ends(step) => gateway.end() == *step,
+        Act::Standing(most, count) => gateway.standing(*most) == *count,
+        Act::StepsOver(frames, burst) => steps_over_as(gateway, *frames, *burst),
         Act::JudgesAndSends(frames, messages, burst) => {
-            expect_judged(rt, gateway, *frames, *messages, *burst);
+            is_judged_and_sent(gateway, *frames, *messages, *burst)
         }
-        Act::IsClosed(is_closed) => holds(rt, gateway.is_closed() == *is_closed),
-        _ => holds_for(rt, false, "no act of a gateway"),
+        Act::IsClosed(is_closed) => gateway.is_closed() == *is_closed,
+        _ => false,
     }
 }
 
-/// A turn of the one session.
-pub fn expect_turn<A: Allocator>(rt: &impl Abort, sequencer: &mut Sequencer<A>, want: Turn)
+/// Whether a turn of the one session comes to that.
+fn turns_as<A: Allocator>(sequencer: &mut Sequencer<A>, want: Turn) -> bool
     ensures { SameLink sequencer.old sequencer.new }
 {
-    holds(rt, sequencer.sessions() == 1);
-    holds(rt, sequencer.turn(0) == want);
+    sequencer.sessions() == 1 && sequencer.turn(0) == want
 }
 
-fn expect_turn_for<A: Allocator>(
-    rt: &impl Abort,
-    sequencer: &mut Sequencer<A>,
-    most: u32,
-    want: Takes,
-)
+fn turns_for_as<A: Allocator>(sequencer: &mut Sequencer<A>, most: u32, want: Takes) -> bool
     ensures { SameLink sequencer.old sequencer.new }
 {
-    holds(rt, sequencer.sessions() == 1);
-    holds(rt, 1 <= most && most <= 64);
-    holds(rt, sequencer.turn_many(0, most) == want);
+    sequencer.sessions() == 1 && 1 <= most && most <= 64 && sequencer.turn_many(0, most) == want
 }
 
-/// Any act but Settles.
-pub fn expect_of_two<A: Allocator>(
-    rt: &impl Abort,
+/// Whether any act but Settles comes to what it should.
+fn act_of_two_holds<A: Allocator>(
     gateway: &mut Gateway<A>,
     sequencer: &mut Sequencer<A>,
     act: &Act,
-)
+) -> bool
     ensures gate { SameGateway gateway.old gateway.new }
     ensures link { SameLink sequencer.old sequencer.new }
 {
     match act {
-        Act::Turns(turn) => expect_turn(rt, sequencer, *turn),
-        Act::TurnsFor(most, takes) => expect_turn_for(rt, sequencer, *most, *takes),
-        _ => expect_gateway_act(rt, gateway, act),
+        Act::Turns(turn) => turns_as(sequencer, *turn),
+        Act::TurnsFor(most, takes) => turns_for_as(sequencer, *most, *takes),
+        _ => gateway_act_holds(gateway, act),
     }
 }
 
-fn expect_act<A: Allocator>(
+/// Any acts but Settles.
+pub fn expect_acts_of_two<A: Allocator>(
     rt: &impl Abort,
+    gateway: &mut Gateway<A>,
+    sequencer: &mut Sequencer<A>,
+    acts: &[Act],
+) {
+    for act in acts {
+        holds(rt, act_of_two_holds(gateway, sequencer, act));
+    }
+}
+
+fn act_holds<A: Allocator>(
     gateways: &mut [Gateway<A>],
     sequencer: &mut Sequencer<A>,
     act: &Act,
-)
+) -> bool
     requires { IsLinkOf sequencer.old gateways.old }
     ensures { IsLinkOf sequencer.new gateways.new }
 {
-    holds(rt, gateways.len() == 1);
-    match act {
-        Act::Settles(settle) => holds(rt, sequencer.settle(gateways) == *settle),
-        _ => expect_of_two(rt, &mut gateways[0], sequencer, act),
+    if let Act::Settles(settle) = act {
+        return sequencer.settle(gateways) == *settle;
     }
+    gateways.len() == 1 && act_of_two_holds(&mut gateways[0], sequencer, act)
 }
 
 fn expect_acts<A: Allocator>(
@@ -157,7 +151,8 @@ fn expect_acts<A: Allocator>(
     requires { IsLinkOf sequencer.old gateways.old }
 {
     for act in day.acts {
-        expect_act(rt, gateways, sequencer, act);
+        let held = act_holds(gateways, sequencer, act);
+        holds_for(rt, held, day.name);
     }
     holds(rt, gateways.len() == 1);
     holds(rt, gateways[0].session() == 0);

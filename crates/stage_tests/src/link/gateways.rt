@@ -1,6 +1,6 @@
 //! A gateway looks at messages, sends their events and waits for room.
 use super::days::Act::{Ends, IsClosed, Put, PutLetters, Settles, Stands, Steps, Turns};
-use super::days::{Day, expect_day, expect_turn};
+use super::days::{Act, Day, expect_acts_of_two, expect_day};
 use super::{FIRST_TRADE_SAYS, Says, expect_journal};
 use crate::expect::holds;
 use gate_link::{Gateway, Sequencer, Settle, Step, Turn, link};
@@ -108,6 +108,23 @@ fn days_in_steps(rt: HostRuntime) {
     }
 }
 
+/// Before the first byte.
+static AT_FIRST: &[Act] = &[Stands(false), Steps(Step::Need)];
+
+/// A message stands, and the ring is full.
+static FULL: &[Act] = &[Steps(Step::Full), Stands(true), Turns(Turn::Took)];
+
+/// A message stands, and the ring has room.
+static SENT: &[Act] = &[Steps(Step::Sent), Stands(false)];
+
+/// Behind the last byte.
+static AT_LAST: &[Act] = &[
+    IsClosed(true),
+    Steps(Step::Closed),
+    Turns(Turn::Took),
+    Turns(Turn::Done),
+];
+
 /// Puts a byte, and steps over the message that stands then, if one does; where the ring is full, after a turn.
 fn put_byte<A: Allocator>(
     rt: &impl Abort,
@@ -122,12 +139,9 @@ fn put_byte<A: Allocator>(
         return is_full;
     }
     if is_full {
-        holds(rt, gateway.step() == Step::Full);
-        holds(rt, gateway.stands());
-        expect_turn(rt, sequencer, Turn::Took);
+        expect_acts_of_two(rt, gateway, sequencer, FULL);
     }
-    holds(rt, gateway.step() == Step::Sent);
-    holds(rt, !gateway.stands());
+    expect_acts_of_two(rt, gateway, sequencer, SENT);
     true
 }
 
@@ -136,16 +150,12 @@ fn put_each_byte<A: Allocator>(
     gateway: &mut Gateway<A>,
     sequencer: &mut Sequencer<A>,
 ) {
-    holds(rt, !gateway.stands());
-    holds(rt, gateway.step() == Step::Need);
+    expect_acts_of_two(rt, gateway, sequencer, AT_FIRST);
     let mut is_full = false;
     for byte in FIRST_TRADE.chunks(1) {
         is_full = put_byte(rt, gateway, sequencer, byte, is_full);
     }
-    holds(rt, gateway.is_closed());
-    holds(rt, gateway.step() == Step::Closed);
-    expect_turn(rt, sequencer, Turn::Took);
-    expect_turn(rt, sequencer, Turn::Done);
+    expect_acts_of_two(rt, gateway, sequencer, AT_LAST);
     expect_journal(rt, sequencer.journal(), FIRST_TRADE_SAYS.as_slice());
 }
 

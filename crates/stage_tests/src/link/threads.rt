@@ -7,7 +7,7 @@ ghost use Rattle.std.specs.declared.alloc.Global.{Global};
 ghost use denote.Param.Send.{IsSync};
 
 use super::days::Act::{Ends, IsClosed, Steps, Turns};
-use super::days::{Act, expect_of_two};
+use super::days::{Act, expect_acts_of_two};
 use super::{FIRST_TRADE_SAYS, expect_journal, is_said};
 use crate::expect::holds;
 use gate_link::{Gateway, Sequencer, Settle, Step, Turn, link};
@@ -147,9 +147,7 @@ fn second_half<A: Allocator>(
     sequencer: &mut Sequencer<A>,
 ) {
     holds(rt, gateway.put(&FIRST_TRADE[250..]) == 150);
-    for act in SECOND_HALF {
-        expect_of_two(rt, gateway, sequencer, act);
-    }
+    expect_acts_of_two(rt, gateway, sequencer, SECOND_HALF);
     expect_journal(rt, sequencer.journal(), FIRST_TRADE_SAYS.as_slice());
 }
 
