@@ -100,15 +100,14 @@ fn expect_months(
 /// There are sixteen lists. So many of them begin with the answer to a Logon, and the others are empty.
 fn expect_logons_first(rt: &impl Abort, out: &[Vec<u8>], sessions: u8) {
     holds(rt, out.len() == 16);
-    for (list, session) in out.iter().zip(0..16u8) {
-        if session < sessions {
-            holds(
-                rt,
-                list.starts_with(b"8=FIX.4.2\x019=57\x0135=A\x0134=1\x01"),
-            );
+    for session in 0..16 {
+        let list = out[session].as_slice();
+        let is_said = if session < usize::from(sessions) {
+            list.starts_with(b"8=FIX.4.2\x019=57\x0135=A\x0134=1\x01")
         } else {
-            holds(rt, list.is_empty());
-        }
+            list.is_empty()
+        };
+        holds(rt, is_said);
     }
 }
 
@@ -278,8 +277,8 @@ fn trade_bytes(rt: &impl Abort, alloc: Global, before: usize) -> Vec<u8> {
 fn expect_held(rt: &impl Abort, meeting: Meeting, journal: &[Entry]) {
     if let Meeting::Held(Point::Message(held, _), _) = meeting {
         holds(rt, journal.len() == 8);
-        for entry in journal.iter().take(2) {
-            holds(rt, entry.session != held);
+        for n in 0..2 {
+            holds(rt, journal[n].session != held);
         }
     }
 }
