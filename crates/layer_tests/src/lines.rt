@@ -47,9 +47,9 @@ fn sessions_of_lines(rt: HostRuntime) {
 /// The journal has one close of each session, for the end of its bytes, in this order.
 fn expect_closes(rt: &impl Abort, journal: &[Entry], sessions: &[u8]) {
     holds(rt, journal.len() == sessions.len());
-    for (entry, session) in journal.iter().zip(sessions) {
-        holds(rt, entry.session == *session);
-        holds(rt, entry.event == Event::Close { reason: 5 });
+    for n in 0..sessions.len() {
+        holds(rt, journal[n].session == sessions[n]);
+        holds(rt, journal[n].event == Event::Close { reason: 5 });
     }
 }
 

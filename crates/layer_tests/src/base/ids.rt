@@ -27,9 +27,9 @@ fn expect_keys(rt: &impl Abort, one: &[u8], other: &[u8], are_one: bool) {
 
 #[test]
 fn keys_of_ids(rt: HostRuntime) {
-    for (i, one) in IDS.iter().enumerate() {
-        for (j, other) in IDS.iter().enumerate() {
-            expect_keys(&rt, one, other, i == j);
+    for i in 0..IDS.len() {
+        for j in 0..IDS.len() {
+            expect_keys(&rt, IDS[i], IDS[j], i == j);
         }
     }
     one_key();

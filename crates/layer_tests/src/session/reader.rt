@@ -152,9 +152,9 @@ fn read_by<A: Allocator + Copy>(
 /// The entries are the first trade's, of the session with that number.
 fn expect_first_trade(rt: &impl Abort, entries: &[Entry], session: u8) {
     holds(rt, entries.len() == 4);
-    for (entry, says) in entries.iter().zip(FIRST_TRADE_SAYS.as_slice()) {
-        holds(rt, entry.session == session);
-        expect_said(rt, Verdict::Event(entry.event), says);
+    for n in 0..4 {
+        holds(rt, entries[n].session == session);
+        expect_said(rt, Verdict::Event(entries[n].event), &FIRST_TRADE_SAYS[n]);
     }
 }
 
