@@ -2,7 +2,7 @@
 ghost use Rattle.std.specs.Prelude.{◌≡◌, ◌<◌, [], ◌∷◌, length, IfSome, IfNone};
 ghost use Rattle.fix_frames.specs.Frames.{frames, IsFrameRow};
 
-use fix_frames::{CHECKSUM_BYTES, MAX_FRAME_BYTES, header_of};
+use fix_frames::{CHECKSUM_BYTES, header_of_begun};
 
 /// The first frame of a row of whole frames, and the row after it. Its header says how long it is, and none of its other
 /// bytes is looked at.
@@ -13,6 +13,9 @@ pub fn first_of_row(row: &[u8]) -> Option<(&[u8], &[u8])>
     ensures less { IfSome result (λ r. length r.1.now < length row.now) }
     ensures none { IfNone result (frames row.now ≡ []) }
 {
-    let header = header_of(&row[..row.len().min(MAX_FRAME_BYTES)])?;
+    if row.is_empty() {
+        return None;
+    }
+    let header = header_of_begun(row)?;
     Some(row.split_at(header.body_start + header.body_length + CHECKSUM_BYTES))
 }

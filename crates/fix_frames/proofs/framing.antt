@@ -4,3 +4,4 @@ pub mod HeaderDigits
 pub mod FramesHeld
 pub mod FrameStarts
 pub mod FrameBody
+pub mod ShortLength

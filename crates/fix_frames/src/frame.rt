@@ -3,7 +3,7 @@ ghost use Rattle.std.specs.Prelude.{◌≡◌, ℕ, ◌+◌, ◌%◌, ◌≤◌,
 ghost use Rattle.std.specs.List.{position_or_len, starts_with};
 ghost use Rattle.std.specs.Str.{bytes_eq};
 ghost use Rattle.memchr.specs.Find.{is_byte};
-ghost use Rattle.fix_frames.specs.Frames.{header, header_after, body_at, is_body, is_intact, checksum_field, frame_length};
+ghost use Rattle.fix_frames.specs.Frames.{begin_text, header, header_after, body_at, is_body, is_intact, checksum_field, frame_length};
 ghost use Rattle.fix_frames.specs.Fields.{field_of_text};
 ghost use Rattle.fix_frames.specs.Held.{from_first_start};
 ghost use Rattle.fix_frames.specs.code.Marked.{IsMarked};
@@ -109,7 +109,8 @@ fn header_read(digits: usize, number: usize) -> Option<FrameHeader>
 }
 
 /// The header of a text that begins as a frame does, from BodyLength on: byte by byte.
-fn header_after(rest: &[u8]) -> Option<FrameHeader>
+#[inline(never)]
+fn header_by_byte(rest: &[u8]) -> Option<FrameHeader>
     ensures { result ≡ header_after rest.now }
 {
     let mut number: usize = 0;
@@ -125,6 +126,46 @@ fn header_after(rest: &[u8]) -> Option<FrameHeader>
     None
 }
 
+/// The BodyLength of three digits that the text begins with, if it does. What a byte that is no digit adds to the number
+/// is seen by the number, as in `short_tag`.
+#[inline(always)]
+fn short_length(rest: &[u8]) -> Option<usize>
+    ensures { IfSome result (λ n. header_read 3 n ≡ header_after rest.now) }
+{
+    if rest.len() < 4 || rest[3] != SOH {
+        return None;
+    }
+    let hundreds = usize::from(rest[0].wrapping_sub(b'0'));
+    let tens = usize::from(rest[1].wrapping_sub(b'0'));
+    let units = usize::from(rest[2].wrapping_sub(b'0'));
+    let number = hundreds * 100 + tens * 10 + units;
+    if tens > 9 || units > 9 || number < MIN_BODY_LENGTH || number > 999 {
+        return None;
+    }
+    Some(number)
+}
+
+/// The header of a text that begins as a frame does, from BodyLength on. Most lengths have three digits, and those are
+/// read without a loop.
+#[inline(always)]
+fn header_after(rest: &[u8]) -> Option<FrameHeader>
+    ensures { result ≡ header_after rest.now }
+{
+    match short_length(rest) {
+        Some(number) => header_read(3, number),
+        None => header_by_byte(rest),
+    }
+}
+
+/// The header of a text that begins as each frame does. BeginString is not looked at again.
+#[inline(always)]
+pub fn header_of_begun(text: &[u8]) -> Option<FrameHeader>
+    requires { starts_with nat_eq text.now begin_text ≡ true }
+    ensures { result ≡ header text.now }
+{
+    header_after(&text[BEGIN_BYTES..])
+}
+
 /// The header of a text, where it has one. A call of its own: within `scan_front` it would take registers from the look
 /// at the fields.
 #[inline(never)]
@@ -132,7 +173,7 @@ pub fn header_of(text: &[u8]) -> Option<FrameHeader>
     ensures { result ≡ header text.now }
 {
     if has_front(text, &BEGIN_TEXT) {
-        header_after(&text[BEGIN_BYTES..])
+        header_of_begun(text)
     } else {
         None
     }

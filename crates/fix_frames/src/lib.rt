@@ -12,7 +12,7 @@ pub mod tags;
 
 pub use frame::{
     BEGIN_BYTES, BEGIN_TEXT, CHECKSUM_BYTES, FrameHeader, Scan, checksum, checksum_digits,
-    header_of, next_begin, scan_front,
+    header_of, header_of_begun, next_begin, scan_front,
 };
 pub use message::{MAX_FRAME_BYTES, Message};
 pub use table::FrameTable;

@@ -1,11 +1,15 @@
 -- A row of whole frames.
-use Rattle.std.proofs.Common.{◌≡◌, ℕ, zero, suc, ◌<◌, ◌≤◌, List, [], ◌∷◌, ◌++◌, length, take, drop, min, Option, Some, None, refl, sym, ap, subst, ◌∙◌, arith, ◌⊎◌, inl, inr}
-use Rattle.std.specs.List.{AllByRecursion, concat}
-use Rattle.std.proofs.lemmas.List.{take-append-drop, take-take, length-take-le}
+use Rattle.std.proofs.Common.{◌≡◌, ℕ, ◌<◌, ◌≤◌, true, false, eqb, List, [], ◌∷◌, length, take, drop, nat_eq, Option, Some, None, sym, ap, subst, ◌∙◌, arith, ◌⊎◌, inl, inr}
+use Rattle.std.specs.List.{AllByRecursion, concat, starts_with}
+use Rattle.std.proofs.lemmas.Bool.{false≢true}
+use Rattle.std.proofs.lemmas.Option.{cond_some, option_and_then_some}
 use Rattle.std.proofs.Math.Seq.{drop-append_seam}
 use Rattle.fix_frames.specs.declared.frame.FrameHeader.{FrameHeader}
-use Rattle.fix_frames.specs.Frames.{header, frame_at, frame_length, frames, IsFrame, IsFrameRow}
-use Rattle.fix_frames.proofs.framing.FrontStays.{frame_stays, frame_within, frame_alone, frame_short, frame_parts}
+use Rattle.fix_frames.specs.Frames.{begin_text, header, header_after, frame_at, frame_length, frames, IsFrame, IsFrameRow}
+use Rattle.fix_frames.specs.Texts.{stripped}
+use Rattle.fix_frames.proofs.texts.WordAtTheFront.{behind_is}
+use Rattle.fix_frames.proofs.texts.HeaderAtTheFront.{header_is}
+use Rattle.fix_frames.proofs.framing.FrontStays.{frame_stays, frame_within, frame_parts}
 use Rattle.fix_frames.proofs.framing.FramesHeld.{frames_frame}
 
 -- it begins with a frame, and goes on as a row
@@ -26,16 +30,22 @@ row_begins (m ∷ ms) text whole joined = inr (record {
   };
 })
 
-pub begins : (text : List ℕ) → IsFrameRow text → (text ≡ []) ⊎ Begins text
-begins text r = row_begins r.row text r.whole r.joined
+pub begins : (text : List ℕ) → IsFrameRow text → false ≡ eqb (length text) 0 → Begins text
+begins text r some = by_start (row_begins r.row text r.whole r.joined)
+  where
+    by_start : (text ≡ []) ⊎ Begins text → Begins text
+    by_start (inl none) = absurd (false≢true (some ∙ ap (λ (t : List ℕ). eqb (length t) 0) none))
+    by_start (inr b) = b
 
--- The frame at the front of a text is seen in so many bytes as it has.
-pub seen : (text : List ℕ) (n k : ℕ) → frame_at text ≡ Some n → n ≤ k → frame_at (take k text) ≡ Some n
-seen text n k e enough =
-    let within = frame_within text n e in
-    let whole = ap (λ (t : List ℕ). t ++ drop n (take k text)) (sym (take-take n k text enough)) ∙ take-append-drop n (take k text) in
-    subst (λ (t : List ℕ). frame_at t ≡ Some (length (take n text))) whole (frame_stays (take n text) (drop n (take k text)) (length (take n text)) (frame_alone text n e))
-    ∙ ap Some (length-take-le n text within.1)
+header_begins : (text : List ℕ) (h : FrameHeader) → header text ≡ Some h → starts_with nat_eq text begin_text ≡ true
+header_begins text h e =
+    option_and_then_some header_after (stripped begin_text text) h (sym (header_is text) ∙ e) (λ rest stands says.
+    (cond_some (starts_with nat_eq text begin_text) (drop (length begin_text) text) rest (sym (behind_is begin_text text) ∙ stands)).0)
+
+-- a row that is not empty begins as each frame does
+pub row_opens : (text : List ℕ) → IsFrameRow text → false ≡ eqb (length text) 0 → starts_with nat_eq text begin_text ≡ true
+row_opens text r some =
+    let b = begins text r some in frame_parts text b.size b.first (λ h head keeps len fits. header_begins text h head)
 
 -- what its header says of a row, where it has one
 abbrev pub Reads : List ℕ → Option FrameHeader → Type 0
@@ -44,26 +54,12 @@ Reads text (Some h) =
     (0 < frame_length h) × (frame_length h ≤ length text) × (frames text ≡ take (frame_length h) text ∷ frames (drop (frame_length h) text))
     × IsFrameRow (drop (frame_length h) text)
 
-reads_nothing : (k : ℕ) (o : Option FrameHeader) → o ≡ header (take k []) → Reads [] o
-reads_nothing zero None e = refl
-reads_nothing (suc k) None e = refl
-reads_nothing zero (Some h) e = cc
-reads_nothing (suc k) (Some h) e = cc
-
-reads_first : (text : List ℕ) (k : ℕ) → k ≡ min (length text) 4124 → Begins text → (o : Option FrameHeader) → o ≡ header (take k text) → Reads text o
-reads_first text k near b o e =
+pub reads : (text : List ℕ) → IsFrameRow text → false ≡ eqb (length text) 0 → (o : Option FrameHeader) → o ≡ header text → Reads text o
+reads text r some o e =
+    let b = begins text r some in
     let within = frame_within text b.size b.first in
-    let short = frame_short text b.size b.first in
     let first = frames_frame text b.size b.first (omega (arith, within.0)) in
-    let at = seen text b.size k b.first (omega (arith, near, within.1, short)) in
-    frame_parts (take k text) b.size at (λ c head keeps len fits.
+    frame_parts text b.size b.first (λ c head keeps len fits.
     subst (Reads text) (sym (e ∙ head))
     (subst (λ (n : ℕ). (0 < n) × (n ≤ length text) × (frames text ≡ take n text ∷ frames (drop n text)) × IsFrameRow (drop n text)) (sym len)
     (omega (arith, within.0), within.1, first, b.behind)))
-
-pub reads : (text : List ℕ) (k : ℕ) → k ≡ min (length text) 4124 → IsFrameRow text → (o : Option FrameHeader) → o ≡ header (take k text) → Reads text o
-reads text k near r o e = by_start (begins text r)
-  where
-    by_start : (text ≡ []) ⊎ Begins text → Reads text o
-    by_start (inl none) = subst (λ (t : List ℕ). Reads t o) (sym none) (reads_nothing k o (e ∙ ap (λ (t : List ℕ). header (take k t)) none))
-    by_start (inr b) = reads_first text k near b o e

@@ -93,8 +93,8 @@ fronts (p ∷ ps) (b ∷ bs) =
 pub front_is : (text : List ℕ) → is_front_open text ≡ is_header_open text
 front_is text = fronts begin_text text
 
-pub header_when : (text : List ℕ) (b : Bool) → b ≡ starts_with nat_eq text begin_text → b ≡ true → header text ≡ header_after (drop 12 text)
-header_when text b e t = header_is text ∙ ap (option_and_then header_after) (behind_is begin_text text ∙ ap (λ x. cond x (Some (drop 12 text)) None) (sym e ∙ t))
+pub header_when : (text : List ℕ) → starts_with nat_eq text begin_text ≡ true → header text ≡ header_after (drop 12 text)
+header_when text begins = header_is text ∙ ap (option_and_then header_after) (behind_is begin_text text ∙ ap (λ x. cond x (Some (drop 12 text)) None) begins)
 
 -- what stands at the front of a text without a header
 pub front_without_header : (text : List ℕ) (open_ : Bool) → header text ≡ None → is_header_open text ≡ open_ → scan_front text ≡ scan_with open_ None

@@ -2,7 +2,7 @@ use Rattle.std.proofs.Common.{◌≡◌, ℕ, ◌<◌, ◌≤◌, get_or, eqb, t
 use Rattle.std.specs.Char.{is_ascii_digit}
 use Rattle.std.specs.List.{list_all}
 use Rattle.fix_values.specs.Digits.{number_of}
-use Rattle.fix_frames.proofs.frame.header_after.Given as goal
+use Rattle.fix_frames.proofs.frame.header_by_byte.Given as goal
 
 abbrev pub invariant-loop-i : goal.invariant-loop-i
 invariant-loop-i l =

@@ -4,8 +4,8 @@ use Rattle.std.proofs.lemmas.List.{length-take-le}
 use Rattle.fix_values.proofs.SpelledNumbers.{number_of_more, nine_digits}
 use Rattle.fix_values.proofs.FirstPlace.{before_more, first_here}
 use Rattle.fix_frames.proofs.framing.HeaderDigits.{header_found, header_without_end, header_not_spelled, too_many, other_byte}
-use Rattle.fix_frames.proofs.frame.header_after.Goals as goal
-use Rattle.fix_frames.proofs.frame.header_after.Goals.{then-i-eq-MAX_LENGTH_DIGITS-via-then-i-eq-MAX_LENGTH_DIGITS, then-i-eq-MAX_LENGTH_DIGITS-via-else-i-eq-MAX_LENGTH_DIGITS+then-not-is_ascii_digit}
+use Rattle.fix_frames.proofs.frame.header_by_byte.Goals as goal
+use Rattle.fix_frames.proofs.frame.header_by_byte.Goals.{then-i-eq-MAX_LENGTH_DIGITS-via-then-i-eq-MAX_LENGTH_DIGITS, then-i-eq-MAX_LENGTH_DIGITS-via-else-i-eq-MAX_LENGTH_DIGITS+then-not-is_ascii_digit}
 
 pub returns-then-rest-i-eq-SOH : goal.returns-then-rest-i-eq-SOH
 returns-then-rest-i-eq-SOH c =
