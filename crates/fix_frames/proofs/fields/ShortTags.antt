@@ -28,10 +28,10 @@ two_digits (a ∷ b ∷ c ∷ r) tag l d first f e v =
     field_found (a ∷ b ∷ c ∷ r) 2 tag place (omega arith) (omega arith) (omega arith) first digits (omega (arith, v))
 
 -- a byte of which another was taken away, modulo 256, where nothing was borrowed
-pub taken_back : (b k t : ℕ) → b < 256 → k ≤ 256 → t ≡ (b + (256 - k)) % 256 → t + k < 256 → b ≡ t + k
+taken_back : (b k t : ℕ) → b < 256 → k ≤ 256 → t ≡ (b + (256 - k)) % 256 → t + k < 256 → b ≡ t + k
 taken_back b k t small most e low = omega (arith, small, most, e, low)
 
-pub is_digit : (b t : ℕ) → b ≡ t + 48 → t ≤ 9 → is_ascii_digit b ≡ true
+is_digit : (b t : ℕ) → b ≡ t + 48 → t ≤ 9 → is_ascii_digit b ≡ true
 is_digit b t e low = grind (arith, nat_tests)
 
 -- the same as the code tests it: what is left of each byte, and the number that both make

@@ -1,12 +1,11 @@
 -- BodyLength of three digits.
-use Rattle.std.proofs.Common.{◌≡◌, ℕ, ◌+◌, ◌*◌, ◌-◌, ◌%◌, ◌≤◌, ◌<◌, true, ◌&&◌, List, [], ◌∷◌, length, take, get_or, ap, ◌∙◌, arith}
+use Rattle.std.proofs.Common.{◌≡◌, ℕ, ◌+◌, ◌*◌, ◌-◌, ◌≤◌, true, ◌&&◌, List, [], ◌∷◌, length, take, get_or, ap, ◌∙◌, arith}
 use Rattle.std.specs.Char.{is_ascii_digit}
 use Rattle.std.specs.List.{list_all}
 use Rattle.std.proofs.lemmas.Bool.Decides.{nat_tests}
 use Rattle.fix_values.proofs.FirstPlace.{first_here, before_more}
 use Rattle.fix_frames.specs.Frames.{header_after}
 use Rattle.fix_frames.specs.code.Scans.{header_read}
-use Rattle.fix_frames.proofs.fields.ShortTags.{taken_back, is_digit}
 use Rattle.fix_frames.proofs.framing.HeaderDigits.{header_found}
 
 three_digits : (rest : List ℕ) (number : ℕ) → 4 ≤ length rest → is_ascii_digit (get_or rest 0 0) ≡ true → is_ascii_digit (get_or rest 1 0) ≡ true → is_ascii_digit (get_or rest 2 0) ≡ true → get_or rest 3 0 ≡ 1 →
@@ -24,12 +23,18 @@ three_digits (a ∷ b ∷ c ∷ s ∷ r) number l d e f soh v =
     no_soh : (b : ℕ) → is_ascii_digit b ≡ true → b ≡ 1 → ⊥
     no_soh b d e = grind (arith, nat_tests)
 
--- the same as the code tests it: what is left of each byte, and the number that they make
-pub three_digits_left : (rest : List ℕ) (hundreds tens units : ℕ) → 4 ≤ length rest → ((i : ℕ) → get_or rest i 0 < 256) → hundreds ≡ (get_or rest 0 0 + 208) % 256 → tens ≡ (get_or rest 1 0 + 208) % 256 → units ≡ (get_or rest 2 0 + 208) % 256 → get_or rest 3 0 ≡ 1 →
-    tens ≤ 9 → units ≤ 9 → hundreds * 100 + tens * 10 + units ≤ 999 → header_read 3 (hundreds * 100 + tens * 10 + units) ≡ header_after rest
-three_digits_left rest hundreds tens units l small h t u soh few less high =
-    let first = taken_back (get_or rest 0 0) 48 hundreds (small 0) (omega arith) h (omega (arith, high)) in
-    let second = taken_back (get_or rest 1 0) 48 tens (small 1) (omega arith) t (omega (arith, few)) in
-    let third = taken_back (get_or rest 2 0) 48 units (small 2) (omega arith) u (omega (arith, less)) in
-    three_digits rest (hundreds * 100 + tens * 10 + units) l (is_digit (get_or rest 0 0) hundreds first (omega (arith, high)))
-    (is_digit (get_or rest 1 0) tens second few) (is_digit (get_or rest 2 0) units third less) soh (omega (arith, first, second, third))
+digit_bounds : (b : ℕ) → is_ascii_digit b ≡ true → (48 ≤ b) × (b ≤ 57)
+digit_bounds b d = (grind (arith, nat_tests), grind (arith, nat_tests))
+
+is_digit : (b : ℕ) → 48 ≤ b → b ≤ 57 → is_ascii_digit b ≡ true
+is_digit b low high = grind (arith, nat_tests)
+
+-- the same as the code tests it: two bytes are digits, and the sum of all three is in range
+pub three_digits_summed : (rest : List ℕ) (sum : ℕ) → 4 ≤ length rest → get_or rest 3 0 ≡ 1 → is_ascii_digit (get_or rest 1 0) ≡ true → is_ascii_digit (get_or rest 2 0) ≡ true →
+    sum ≡ get_or rest 0 0 * 100 + get_or rest 1 0 * 10 + get_or rest 2 0 → 5333 ≤ sum → sum ≤ 6327 → header_read 3 (sum - 5328) ≡ header_after rest
+three_digits_summed rest sum l soh e f v low high =
+    let tens = digit_bounds (get_or rest 1 0) e in
+    let units = digit_bounds (get_or rest 2 0) f in
+    let least : 48 ≤ get_or rest 0 0 = omega (arith, tens.1, units.1, v, low) in
+    let most : get_or rest 0 0 ≤ 57 = omega (arith, tens.0, units.0, v, high) in
+    three_digits rest (sum - 5328) l (is_digit (get_or rest 0 0) least most) e f soh (omega (arith, tens.0, units.0, least, v))
