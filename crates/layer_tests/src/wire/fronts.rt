@@ -1,8 +1,8 @@
 //! What stands at the front of a text, and its CheckSum.
 use crate::expect::holds;
 use fix_frames::{
-    BEGIN_TEXT, FrameTable, Message, Scan, checksum, checksum_digits, header_of, next_begin,
-    scan_front,
+    BEGIN_TEXT, FrameHeader, FrameTable, Message, Scan, checksum, checksum_digits, header_of,
+    header_of_begun, next_begin, scan_front,
 };
 use test_support::FIRST_SELL;
 
@@ -24,14 +24,32 @@ fn fronts_of_texts(rt: HostRuntime) {
     }
 }
 
-/// A header says where the body starts and how long it is. One that is cut says nothing.
+/// Whether a header was found, and says that the body starts there and is so long.
+fn says(header: Option<FrameHeader>, start: usize, length: usize) -> bool {
+    match header {
+        Some(found) => (found.body_start == start) & (found.body_length == length),
+        None => false,
+    }
+}
+
+/// A header says where the body starts and how long it is. One that is cut, or has another byte among its digits, says
+/// nothing.
 #[test]
 fn headers_of_texts(rt: HostRuntime) {
-    match header_of(b"8=FIX.4.2\x019=57\x0135=A\x01") {
-        Some(header) => holds(&rt, (header.body_start == 15) & (header.body_length == 57)),
-        None => holds(&rt, false),
-    }
+    holds(&rt, says(header_of(b"8=FIX.4.2\x019=57\x0135="), 15, 57));
+    holds(&rt, says(header_of(b"8=FIX.4.2\x019=178\x01"), 16, 178));
+    holds(&rt, says(header_of(b"8=FIX.4.2\x019=0178\x01"), 17, 178));
     holds(&rt, header_of(b"8=FIX.4.2\x019=57").is_none());
+    holds(&rt, header_of(b"8=FIX.4.2\x019=1:8\x01").is_none());
+}
+
+/// The same of texts that begin as each frame does.
+#[test]
+fn headers_of_begun_texts(rt: HostRuntime) {
+    let two = header_of_begun(b"8=FIX.4.2\x019=57\x0135=");
+    let three = header_of_begun(b"8=FIX.4.2\x019=178\x01");
+    holds(&rt, says(two, 15, 57) & says(three, 16, 178));
+    holds(&rt, header_of_begun(b"8=FIX.4.2\x019=178").is_none());
 }
 
 /// Sums are taken modulo 256 and spelled in three digits.
