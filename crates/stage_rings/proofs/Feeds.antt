@@ -38,7 +38,7 @@ pub item_more : (is : List Fed) (es : List Entry) (i : ℕ) (e : Entry) → i < 
 item_more is es i e within few at done = grind (arith, common_steps)
 
 -- an entry more
-pub entry_more : (xs ys : List Fed) (x : Fed) (e : Entry) (b : Bool) → ends is_end xs b ≡ true → b ≡ false → ys ≡ xs ++ x ∷ [] → x ≡ Item e
+entry_more : (xs ys : List Fed) (x : Fed) (e : Entry) (b : Bool) → ends is_end xs b ≡ true → b ≡ false → ys ≡ xs ++ x ∷ [] → x ≡ Item e
     → (ends is_end ys b ≡ true) × (entries ys ≡ entries xs ++ e ∷ [])
 entry_more xs ys x e true was not all is = absurd (cc not)
 entry_more xs ys x e false was not all is = rw (all, is) (ends_items xs (e ∷ []) was, entries_more xs (e ∷ []))
@@ -48,6 +48,16 @@ pub end_more : (xs ys : List Fed) (x : Fed) (b : Bool) → ends is_end xs b ≡ 
     → (ends is_end ys true ≡ true) × (entries ys ≡ entries xs)
 end_more xs ys x true was not all is = absurd (cc not)
 end_more xs ys x false was not all is = rw (all, is) (ends_mark is_end xs End was refl, entries-append xs (End ∷ []) ∙ append-nil (entries xs))
+
+-- an item more, whichever it is
+pub one_more : (xs ys : List Fed) (x : Fed) (b : Bool) → ends is_end xs b ≡ true → b ≡ false → ys ≡ xs ++ x ∷ []
+    → (ends is_end ys (is_end x) ≡ true) × (entries ys ≡ entries xs ++ entries (x ∷ []))
+one_more xs ys (Item e) b was not all =
+    let more = entry_more xs ys (Item e) e b was not all refl in
+    (subst (λ t. ends is_end ys t ≡ true) not more.0, more.1)
+one_more xs ys End b was not all =
+    let more = end_more xs ys End b was not all refl in
+    (more.0, more.1 ∙ sym (append-nil (entries xs)))
 
 -- several entries more
 pub slice_more : (xs ys is : List Fed) (es : List Entry) (b : Bool) → ends is_end xs b ≡ true → b ≡ false → ys ≡ xs ++ is → is ≡ items_of es

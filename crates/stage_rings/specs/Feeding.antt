@@ -12,6 +12,8 @@ use Rattle.stage_rings.specs.declared.feed.Give.{Give}
 use Rattle.stage_rings.specs.declared.feed.Give.TheVariants.{Gave, Full, Level, Ended}
 use Rattle.stage_rings.specs.declared.feed.Taken.{Taken}
 use Rattle.stage_rings.specs.declared.feed.Taken.TheVariants.{Entry as Got, Empty, Ended as Over}
+use Rattle.stage_rings.specs.declared.feed.Lent.{Lent}
+use Rattle.stage_rings.specs.declared.feed.Lent.TheVariants.{Entry as LentEntry, Empty as LentEmpty, Ended as LentEnd}
 
 -- the entries given so far, by its ring end's own list
 abbrev pub given : {A : Type 0} → Feeder A → List Entry
@@ -80,6 +82,12 @@ abbrev pub Takes : {A : Type 0} → Taken → Matcher A → Matcher A → Type 0
 Takes (Got e) a b = (take_ended a ≡ false) × (taken b ≡ taken a ++ e ∷ []) × (take_ended b ≡ false)
 Takes Empty a b = (take_ended a ≡ false) × (taken b ≡ taken a) × (take_ended b ≡ false)
 Takes Over a b = (taken b ≡ taken a) × (take_ended b ≡ true)
+
+-- the answer of `take` that says the same as this answer of `lend`
+abbrev pub taken_of : Lent → Taken
+taken_of (LentEntry e) = Got e.now
+taken_of LentEmpty = Empty
+taken_of LentEnd = Over
 
 -- what both ends in one thread say: the end mark was taken, and then what was taken is what was given; else it is a beginning
 abbrev pub Agrees : Bool → Bool → List Entry → List Entry → Type 0

@@ -1,5 +1,5 @@
 //! The ring to the thread that matches: its items are the journal's entries, and one mark that ends them.
-ghost use Rattle.std.specs.Prelude.{◌≡◌, ◌-◌, ◌<◌, ◌≤◌, ◌++◌, [], length, take, true};
+ghost use Rattle.std.specs.Prelude.{◌≡◌, ◌-◌, ◌<◌, ◌≤◌, ◌++◌, [], length, take, true, ⊤};
 ghost use Rattle.std.specs.Bool.{OnFalse};
 ghost use Rattle.rtrb.specs.Ring.{sent, received, known_free, ProducerLooked};
 ghost use Rattle.stage_rings.specs.Marks.{ends};
@@ -21,6 +21,14 @@ pub const HELD: usize = 32;
 pub(crate) enum Fed {
     Entry(Entry),
     End,
+}
+
+impl Fed {
+    fn is_end(&self) -> bool
+        ensures { result ≡ is_end self.now }
+    {
+        matches!(self, Fed::End)
+    }
 }
 
 /// The end that gives entries. It may move to another thread.
@@ -68,6 +76,16 @@ pub enum Give {
 #[derive(Clone, Copy, PartialEq, Eq)]
 pub enum Taken {
     Entry(Entry),
+    /// No item is there yet.
+    Empty,
+    /// The end mark was taken.
+    Ended,
+}
+
+/// What taking did, where the entry stays where it is held.
+#[derive(Clone, Copy)]
+pub enum Lent<'a> {
+    Entry(&'a Entry),
     /// No item is there yet.
     Empty,
     /// The end mark was taken.
@@ -150,7 +168,11 @@ impl<A: Allocator> Feeder<A> {
 impl<A: Allocator> Matcher<A> {
     ghost use Rattle.std.specs.Prelude.{false};
     ghost use Rattle.std.specs.Bool.{OnTrue};
-    ghost use Rattle.stage_rings.specs.Feeding.{handed, take_ended, SameMatcher, Takes};
+    ghost use Rattle.std.specs.Borrow.{sem};
+    ghost use mathlib.Core.Option.{none};
+    ghost use denote.Follow.{follows_so};
+    ghost use Rattle.stage_rings.specs.contracts.feed.Matcher.{the_row};
+    ghost use Rattle.stage_rings.specs.Feeding.{handed, take_ended, SameMatcher, Takes, taken_of};
 
     pub(crate) fn new(consumer: Consumer<Fed, A>) -> Matcher<A>
         requires { received consumer ≡ [] }
@@ -180,25 +202,39 @@ impl<A: Allocator> Matcher<A> {
         0 < self.filled
     }
 
+    /// Takes the next entry, if one is there, and lends it where it is held.
+    pub fn lend(&mut self) -> Lent<'_>
+        ensures* after { sem 𝓛 (follows_so (the_row A.row A.Allocator) (the_row A.row A.Allocator)
+            self.entry.ghost_name none (λ _ _. ⊤)
+            (λ n. SameMatcher self.old n × Takes (taken_of result) self.old n)) }
+    {
+        if self.ended {
+            return Lent::Ended;
+        }
+        if !self.fill() {
+            return Lent::Empty;
+        }
+        let at = self.next;
+        let items = &self.items;
+        let is_end = items[at].is_end();
+        self.next += 1;
+        self.ended = is_end;
+        let held = &*self;
+        match &held.items[at] {
+            Fed::Entry(entry) => Lent::Entry(entry),
+            Fed::End => Lent::Ended,
+        }
+    }
+
     /// Takes the next entry, if one is there.
     pub fn take(&mut self) -> Taken
         ensures ring { SameMatcher self.old self.new }
         ensures take { Takes result self.old self.new }
     {
-        if self.ended {
-            return Taken::Ended;
-        }
-        if !self.fill() {
-            return Taken::Empty;
-        }
-        let item = self.items[self.next];
-        self.next += 1;
-        match item {
-            Fed::Entry(entry) => Taken::Entry(entry),
-            Fed::End => {
-                self.ended = true;
-                Taken::Ended
-            }
+        match self.lend() {
+            Lent::Entry(entry) => Taken::Entry(*entry),
+            Lent::Empty => Taken::Empty,
+            Lent::Ended => Taken::Ended,
         }
     }
 }

@@ -10,7 +10,7 @@ mod post_pair;
 mod range;
 
 pub use fault::LinkFault;
-pub use feed::{Feeder, Give, Matcher, Taken};
+pub use feed::{Feeder, Give, Lent, Matcher, Taken};
 pub use feed_pair::{agree, feed_ring};
 pub use post::{Post, Poster, Writer, Wrote};
 pub use post_pair::{finished, post_ring};
