@@ -7,7 +7,7 @@ ghost use Rattle.stage_rings.specs.Feeding.{SameMatcher, taken};
 
 use entry_posting::{MatchEnd, PostedEntries, end_each, match_one};
 use sequencer_turns::{found, rest};
-use stage_rings::{Matcher, Taken};
+use stage_rings::{Lent, Matcher};
 use std::alloc::Allocator;
 use std::sync::Wait;
 use std::sync::atomic::{AtomicBool, Ordering};
@@ -47,8 +47,8 @@ pub fn match_all<R: Wait, G: Gate, A: Allocator + Copy>(
         if stop.load(Ordering::SeqCst) {
             return (worked, MatchEnd::Stopped);
         }
-        match matcher.take() {
-            Taken::Entry(entry) => match match_one(rt, stop, posted, &entry) {
+        match matcher.lend() {
+            Lent::Entry(entry) => match match_one(rt, stop, posted, entry) {
                 MatchEnd::Whole => {
                     looks = found(looks);
                     worked = posted.reported.count();
@@ -59,8 +59,8 @@ pub fn match_all<R: Wait, G: Gate, A: Allocator + Copy>(
                     return (worked, end);
                 }
             },
-            Taken::Empty => looks = rest(rt, looks),
-            Taken::Ended => {
+            Lent::Empty => looks = rest(rt, looks),
+            Lent::Ended => {
                 end_each(rt, stop, posted.posters.as_mut_slice());
                 return (worked, MatchEnd::Whole);
             }

@@ -2,7 +2,9 @@ use Rattle.std.proofs.Common.{◌≡◌, ◌∙◌, refl, sym, ap, subst, List, 
 use Rattle.std.proofs.lemmas.List.{with_items_is}
 use Rattle.std.specs.Vec.{with_items}
 use Rattle.spread_rules.specs.declared.event.Entry.{Entry}
-use Rattle.stage_rings.specs.Feeding.{taken, SameMatcher}
+use Rattle.stage_rings.specs.Feeding.{taken, taken_of, Takes, SameMatcher}
+use Rattle.stage_rings.specs.declared.feed.Lent.{Lent}
+use Rattle.stage_rings.specs.declared.feed.Lent.TheVariants.{Entry as LentEntry, Ended as LentEnd}
 use Rattle.stage_rings.specs.declared.post.Poster.{Poster}
 use Rattle.matching_turns.specs.code.Matching.{MatchEnds}
 use Rattle.entry_posting.specs.code.Posting.{HasPosted, SamePosters, posted_at}
@@ -11,22 +13,26 @@ use Rattle.entry_posting.proofs.Posters.{same_posters_trans}
 use Rattle.entry_posting.proofs.OneEntryMore.{posted_still}
 use Rattle.matching_turns.proofs.RingEnds.{same_matcher_trans, step_ends}
 use Rattle.matching_turns.proofs.turns.match_all.Goals as goal
-use Rattle.matching_turns.proofs.turns.match_all.Goals.{After-take, After-match_one}
+use Rattle.matching_turns.proofs.turns.match_all.Goals.{After-lend, After-match_one}
 
-ring : (g : _) (c : After-take g) → SameMatcher c.args.matcher.now c.take.new.self
-ring g c = same_matcher_trans c.args.matcher.now c.loop.matcher c.take.new.self c.loop.invariant.ring c.take.ensures.ring
+ring : (g : _) (c : After-lend g) → SameMatcher c.args.matcher.now c.lend.follows.lender-at-none
+ring g c = same_matcher_trans c.args.matcher.now c.loop.matcher c.lend.follows.lender-at-none c.loop.invariant.ring c.lend.follows.holds-at-none.0
+
+-- What lending did, where this was its answer.
+took_by : (g : _) (c : After-lend g) (r : Lent) → c.lend.result ≡ r → Takes (taken_of r) c.loop.matcher c.lend.follows.lender-at-none
+took_by g c r is = subst (λ (t : Lent). Takes (taken_of t) c.loop.matcher c.lend.follows.lender-at-none) is c.lend.follows.holds-at-none.1
 
 writers : (g : _) (c : After-match_one g) → SamePosters c.args.posted.now.posters.items c.match_one.new.posted.posters.items
 writers g c = same_posters_trans c.args.posted.now.posters.items c.loop.posted.posters.items c.match_one.new.posted.posters.items c.loop.invariant.writers c.match_one.ensures.writers
 
 pub loop-preserved-in-Whole : goal.loop-preserved-in-Whole
 loop-preserved-in-Whole g c =
-    let took = c.in-Entry.ensures.take in
+    let took = took_by g (goal.at.loop-preserved-in-Whole g c).After-lend (LentEntry c.in-Entry.entry) c.in-Entry.is in
     let was = c.loop.invariant in
     let next = c.in-Whole.ensures.step (taken c.loop.matcher) was.posted in
-    let now : HasPosted (taken c.take.new.self) c.match_one.new.posted = subst (λ (es : List Entry). HasPosted es c.match_one.new.posted) (sym took.1) next in
+    let now : HasPosted (taken c.lend.follows.lender-at-none) c.match_one.new.posted = subst (λ (es : List Entry). HasPosted es c.match_one.new.posted) (sym took.1) next in
     record {
-      ring = ring g (goal.at.loop-preserved-in-Whole g c).After-take;
+      ring = ring g (goal.at.loop-preserved-in-Whole g c).After-lend;
       writers = writers g (goal.at.loop-preserved-in-Whole g c).After-match_one;
       rules = c.match_one.ensures.rules ∙ was.rules;
       stamp = c.match_one.ensures.stamp ∙ was.stamp;
@@ -38,16 +44,16 @@ loop-preserved-in-Whole g c =
 
 pub returns-in_default : goal.returns-in_default
 returns-in_default g c =
-    let took = c.in-Entry.ensures.take in
+    let took = took_by g (goal.at.returns-in_default g c).After-lend (LentEntry c.in-Entry.entry) c.in-Entry.is in
     let was = c.loop.invariant in
     let es = taken c.loop.matcher in
-    let ends = step_ends c.match_one.result es c.in-Entry.entry c.loop.posted c.match_one.new.posted c.match_one.ensures.rules c.match_one.ensures.step was.posted in
+    let ends = step_ends c.match_one.result es c.in-Entry.entry.now c.loop.posted c.match_one.new.posted c.match_one.ensures.rules c.match_one.ensures.step was.posted in
     record {
-      ring = ring g (goal.at.returns-in_default g c).After-take;
+      ring = ring g (goal.at.returns-in_default g c).After-lend;
       writers = writers g (goal.at.returns-in_default g c).After-match_one;
       rules = c.match_one.ensures.rules ∙ was.rules;
       stamp = c.match_one.ensures.stamp ∙ was.stamp;
-      few = omega (arith, was.few, ap length took.1, length-append es (c.in-Entry.entry ∷ []));
+      few = omega (arith, was.few, ap length took.1, length-append es (c.in-Entry.entry.now ∷ []));
       ends = subst (λ (xs : List Entry). MatchEnds c.match_one.result xs c.match_one.new.posted) (sym took.1) ends;
     }
 
@@ -58,7 +64,7 @@ returns-then-load g c =
 
 pub returns-in-Ended : goal.returns-in-Ended
 returns-in-Ended g c =
-    let took = c.in-Ended.ensures.take in
+    let took = took_by g (goal.at.returns-in-Ended g c).After-lend LentEnd c.in-Ended.is in
     let was = c.loop.invariant in
     let old = c.loop.posted.posters in
     let new = c.end_each.new.posters in
@@ -72,7 +78,7 @@ returns-in-Ended g c =
     posted_still (taken c.loop.matcher) c.loop.posted p was.posted refl (ap length is ∙ same.0)
     (λ s. ap (λ (ps : List (Poster g.row.A.Denot)). posted_at ps s) is ∙ (c.end_each.ensures.posted s ∙ ap (λ (ps : List (Poster g.row.A.Denot)). posted_at ps s) value)) in
     record {
-      ring = ring g (goal.at.returns-in-Ended g c).After-take;
+      ring = ring g (goal.at.returns-in-Ended g c).After-lend;
       writers = all;
       rules = was.rules;
       stamp = was.stamp;
