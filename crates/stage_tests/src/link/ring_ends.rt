@@ -9,6 +9,7 @@ use gate_link::{
     finished, post_ring,
 };
 use spread_rules::{Entry, Event, NoMemory};
+use stage_rings::Lent;
 use std::alloc::Allocator;
 use std::process::Abort;
 use test_support::Refusing;
@@ -45,6 +46,12 @@ enum EntryAct {
     TakeNone,
     /// The end mark is taken.
     TakeEnd,
+    /// The entries from this number to that one are lent, one by one.
+    Lend(u32, u32),
+    /// None is there to be lent.
+    LendNone,
+    /// The end mark is taken, by who would be lent an entry.
+    LendEnd,
     /// Whether all that was given was taken.
     Agree(bool),
 }
@@ -57,7 +64,7 @@ struct EntryCase {
     acts: &'static [EntryAct],
 }
 
-static ENTRY_CASES: [EntryCase; 4] = [
+static ENTRY_CASES: [EntryCase; 5] = [
     EntryCase {
         shows: "entries are given in slices",
         entries: 3,
@@ -99,6 +106,24 @@ static ENTRY_CASES: [EntryCase; 4] = [
         ],
     },
     EntryCase {
+        shows: "entries are lent in their order, before and behind others that are taken",
+        entries: 4,
+        ring: 3,
+        acts: &[
+            EntryAct::LendNone,
+            EntryAct::Give(Give::Gave(3)),
+            EntryAct::Lend(1, 1),
+            EntryAct::Take(2, 2),
+            EntryAct::Give(Give::Gave(1)),
+            EntryAct::End(Give::Gave(0)),
+            EntryAct::Lend(3, 4),
+            EntryAct::LendEnd,
+            EntryAct::LendEnd,
+            EntryAct::TakeEnd,
+            EntryAct::Agree(true),
+        ],
+    },
+    EntryCase {
         shows: "what was taken is what was given where the end mark was taken, and only there",
         entries: 1,
         ring: 1,
@@ -129,6 +154,22 @@ fn are_taken<A: Allocator>(matcher: &mut Matcher<A>, first: u32, last: u32) -> b
     true
 }
 
+/// Whether the entries from this number to that one are lent.
+fn are_lent<A: Allocator>(matcher: &mut Matcher<A>, first: u32, last: u32) -> bool
+    ensures { SameMatcher matcher.old matcher.new }
+{
+    for number in first..=last {
+        let same = match matcher.lend() {
+            Lent::Entry(lent) => *lent == entry(number),
+            Lent::Empty | Lent::Ended => false,
+        };
+        if !same {
+            return false;
+        }
+    }
+    true
+}
+
 /// Whether an act comes to what it should.
 fn entry_act_holds<A: Allocator>(
     feeder: &mut Feeder<A>,
@@ -147,6 +188,9 @@ fn entry_act_holds<A: Allocator>(
         EntryAct::Take(first, last) => are_taken(matcher, first, last),
         EntryAct::TakeNone => matcher.take() == Taken::Empty,
         EntryAct::TakeEnd => matcher.take() == Taken::Ended,
+        EntryAct::Lend(first, last) => are_lent(matcher, first, last),
+        EntryAct::LendNone => matches!(matcher.lend(), Lent::Empty),
+        EntryAct::LendEnd => matches!(matcher.lend(), Lent::Ended),
         EntryAct::Agree(want) => agree(feeder, matcher) == want,
     }
 }
