@@ -31,13 +31,12 @@ impl OutboundSessions {
         ensures lists_kept { OnErr result (KeepsBytes lists.old lists.new) }
     {
         let at = session as usize;
-        let outbound = self.sessions[at];
-        let comp_ids = outbound.comp_ids;
-        match comp_ids {
+        match self.comp_ids[at] {
             None => Ok(()),
             Some(ids) => {
+                let next = self.numbers[at];
                 let number = u64::from(first);
-                if number >= outbound.next {
+                if number >= next {
                     return Ok(());
                 }
                 let head = Head {
@@ -48,9 +47,9 @@ impl OutboundSessions {
                     target: ids.client,
                     stamp: self.stamp,
                 };
-                let next = new_seq_no(outbound.next, u64::from(last));
+                let new_number = new_seq_no(next, u64::from(last));
                 let fields = [
-                    number_field!(tags::NEW_SEQ_NO, next),
+                    number_field!(tags::NEW_SEQ_NO, new_number),
                     text_field!(tags::GAP_FILL_FLAG, Id::of(b"Y")),
                 ];
                 write_message(&mut lists[at], &head, &fields)?;

@@ -1,20 +1,19 @@
 //! The CompIDs of the sessions, spelled for their messages.
 ghost use Rattle.std.specs.Prelude.{◌≡◌, Some, length};
 ghost use Rattle.fix_wire.specs.Layout.{SpellsParties};
-ghost use Rattle.outbound_sessions.specs.declared.session.CompIds.{CompIds};
 ghost use Rattle.outbound_sessions.specs.code.Sending.{AreSpelled};
 
-use crate::session::OutboundSession;
+use crate::session::CompIds;
 use fix_wire::SpelledParties;
 use host_base::Id;
 use host_base::limits::SESSIONS;
 
 /// The CompIDs of a session, if it has them, and the stamp, spelled.
-pub fn spelled_parties(outbound: &OutboundSession, stamp: &Id) -> SpelledParties
-    ensures { (ids : CompIds) → outbound.now.comp_ids ≡ Some ids
+pub fn spelled_parties(comp_ids: &Option<CompIds>, stamp: &Id) -> SpelledParties
+    ensures { (ids : CompIds) → comp_ids.now ≡ Some ids
         → SpellsParties result ids.host ids.client stamp.now }
 {
-    match &outbound.comp_ids {
+    match comp_ids {
         None => SpelledParties::new(stamp, stamp, stamp),
         Some(ids) => SpelledParties::new(&ids.host, &ids.client, stamp),
     }
@@ -23,13 +22,13 @@ pub fn spelled_parties(outbound: &OutboundSession, stamp: &Id) -> SpelledParties
 /// Spells those of all sessions.
 pub fn spell_parties(
     parties: &mut [SpelledParties; SESSIONS],
-    sessions: &[OutboundSession; SESSIONS],
+    comp_ids: &[Option<CompIds>; SESSIONS],
     stamp: &Id,
 )
     ensures size { length parties.new ≡ SESSIONS }
-    ensures spelled { AreSpelled stamp.now sessions.now parties.new }
+    ensures spelled { AreSpelled stamp.now comp_ids.now parties.new }
 {
     for s in 0..SESSIONS {
-        parties[s] = spelled_parties(&sessions[s], stamp);
+        parties[s] = spelled_parties(&comp_ids[s], stamp);
     }
 }

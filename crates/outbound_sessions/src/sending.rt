@@ -7,7 +7,7 @@ ghost use Rattle.outbound_sessions.specs.code.Sending.{Sends};
 
 use crate::fault::DeskFault;
 use crate::parties::{spell_parties, spelled_parties};
-use crate::session::{CompIds, OutboundSession};
+use crate::session::CompIds;
 use fix_wire::{Body, Field, FieldList, SpelledHead, SpelledParties, write_body};
 use host_base::Id;
 use host_base::limits::{MAX_MSG_SEQ_NUM, SESSIONS};
@@ -22,7 +22,10 @@ const MESSAGE_ROOM: usize = 1408;
 #[derive(Drop)]
 pub struct OutboundSessions {
     pub(crate) stamp: Id,
-    pub(crate) sessions: [OutboundSession; SESSIONS],
+    // The next number of each session. They stand beside each other, since a mark copies them all before each entry.
+    pub(crate) numbers: [u64; SESSIONS],
+    // None before a session's Logon.
+    pub(crate) comp_ids: [Option<CompIds>; SESSIONS],
     // Of each session that has CompIDs, these and the stamp, as its messages bear them.
     pub(crate) parties: [SpelledParties; SESSIONS],
     // Each message is written here first.
@@ -45,16 +48,7 @@ impl OutboundSessions {
     pub fn new(stamp: Id) -> OutboundSessions
         ensures { result ≡ sessions_starting stamp 1 }
     {
-        let outbound = OutboundSession {
-            next: 1,
-            comp_ids: None,
-        };
-        OutboundSessions {
-            stamp,
-            sessions: [outbound; SESSIONS],
-            parties: [spelled_parties(&outbound, &stamp); SESSIONS],
-            room: [0; MESSAGE_ROOM],
-        }
+        numbered_from(stamp, 1)
     }
 
     /// The same, each session's first message bearing this number. None where it is 0 or above the limit.
@@ -62,16 +56,7 @@ impl OutboundSessions {
         ensures { result ≡ sessions_at stamp next }
     {
         if 1 <= next && next <= MAX_MSG_SEQ_NUM {
-            let outbound = OutboundSession {
-                next: u64::from(next),
-                comp_ids: None,
-            };
-            Some(OutboundSessions {
-                stamp,
-                sessions: [outbound; SESSIONS],
-                parties: [spelled_parties(&outbound, &stamp); SESSIONS],
-                room: [0; MESSAGE_ROOM],
-            })
+            Some(numbered_from(stamp, u64::from(next)))
         } else {
             None
         }
@@ -86,8 +71,8 @@ impl OutboundSessions {
             then record (outbound_at self.old.sessions s) { comp_ids = Some comp_ids }
             else outbound_at self.old.sessions s) }
     {
-        self.sessions[session as usize].comp_ids = Some(comp_ids);
-        spell_parties(&mut self.parties, &self.sessions, &self.stamp);
+        self.comp_ids[session as usize] = Some(comp_ids);
+        spell_parties(&mut self.parties, &self.comp_ids, &self.stamp);
     }
 
     /// Appends a message that bears the session's next number to its list, and uses that number; before its Logon a session
@@ -110,10 +95,10 @@ impl OutboundSessions {
         ensures lists_kept { OnErr result (KeepsBytes lists.old lists.new) }
     {
         let at = session as usize;
-        match self.sessions[at].comp_ids {
+        match self.comp_ids[at] {
             None => Ok(()),
             Some(_) => {
-                let number = self.sessions[at].next;
+                let number = self.numbers[at];
                 if number > u64::from(MAX_MSG_SEQ_NUM) {
                     return Err(DeskFault::NumbersSpent);
                 }
@@ -124,7 +109,7 @@ impl OutboundSessions {
                     parties: &self.parties[at],
                 };
                 write_body(&mut self.room, &mut lists[at], &head, body)?;
-                self.sessions[at].next = number + 1;
+                self.numbers[at] = number + 1;
                 Ok(())
             }
         }
@@ -149,5 +134,18 @@ impl OutboundSessions {
         ensures lists_kept { OnErr result (KeepsBytes lists.old lists.new) }
     {
         self.send_body(lists, session, kind, &FieldList { fields })
+    }
+}
+
+/// Nobody has logged on, and each session's first message bears this number.
+fn numbered_from(stamp: Id, next: u64) -> OutboundSessions
+    ensures { result ≡ sessions_starting stamp next }
+{
+    OutboundSessions {
+        stamp,
+        numbers: [next; SESSIONS],
+        comp_ids: [None; SESSIONS],
+        parties: [spelled_parties(&None, &stamp); SESSIONS],
+        room: [0; MESSAGE_ROOM],
     }
 }

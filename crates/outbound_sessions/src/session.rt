@@ -8,7 +8,8 @@ pub struct CompIds {
     pub host: Id,
 }
 
-/// What the next message to a session bears.
+/// What the next message to a session bears. Contracts see each session as one; the code keeps the numbers of all sessions
+/// in one array and their CompIDs in another, and makes no value of this type.
 #[derive(Clone, Copy)]
 pub struct OutboundSession {
     /// Its number (MsgSeqNum, tag 34).

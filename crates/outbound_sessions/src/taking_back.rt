@@ -1,11 +1,11 @@
 //! What was sent is taken back where an entry is refused.
-ghost use Rattle.std.specs.Prelude.{◌≡◌, ℕ, ◌<◌, ◌==◌, List, length, take, slice_index_or, if◌then◌else◌};
+ghost use Rattle.std.specs.Prelude.{◌≡◌, ℕ, ◌<◌, List, length, take, slice_index_or};
 ghost use Rattle.host_base.specs.declared.limits.TheConstants.{SESSIONS};
-ghost use Rattle.outbound_sessions.specs.Sessions.{OutboundState, bytes_of, texts_of, session_text, outbound_at};
+ghost use Rattle.outbound_sessions.specs.Sessions.{OutboundState, bytes_of, texts_of, session_text};
 
 use crate::parties::spell_parties;
 use crate::sending::OutboundSessions;
-use crate::session::{CompIds, OutboundSession};
+use crate::session::CompIds;
 use host_base::limits::SESSIONS;
 use std::alloc::Allocator;
 
@@ -17,6 +17,7 @@ pub struct Mark {
     session: u8,
     comp_ids: Option<CompIds>,
     ghost in_range: { session < SESSIONS },
+    ghost counted: { length numbers ≡ SESSIONS },
 }
 
 impl OutboundSessions {
@@ -30,9 +31,9 @@ impl OutboundSessions {
     {
         Mark {
             lengths: lengths_of(lists),
-            numbers: numbers_of(&self.sessions),
+            numbers: self.numbers,
             session,
-            comp_ids: self.sessions[session as usize].comp_ids,
+            comp_ids: self.comp_ids[session as usize],
         }
     }
 
@@ -49,13 +50,9 @@ impl OutboundSessions {
         ensures stamp { self.new.stamp ≡ self.old.stamp }
         ensures count { length lists.new ≡ SESSIONS }
     {
-        restore(
-            &mut self.sessions,
-            &mark.numbers,
-            mark.session,
-            mark.comp_ids,
-        );
-        spell_parties(&mut self.parties, &self.sessions, &self.stamp);
+        self.numbers = mark.numbers;
+        self.comp_ids[mark.session as usize] = mark.comp_ids;
+        spell_parties(&mut self.parties, &self.comp_ids, &self.stamp);
         cut_back(lists, &mark.lengths);
     }
 }
@@ -73,7 +70,8 @@ fn cut_back<A: Allocator>(lists: &mut [Vec<u8, A>], lengths: &[usize; SESSIONS])
     }
 }
 
-/// How long each list is.
+/// How long each list is. It is not inlined: it then writes each length into its place, and keeps none of them meanwhile.
+#[inline(never)]
 fn lengths_of<A: Allocator>(lists: &[Vec<u8, A>]) -> [usize; SESSIONS]
     requires { length lists.now ≡ SESSIONS }
     ensures { (s : ℕ) → s < SESSIONS → slice_index_or result s 0 ≡ length (bytes_of lists.now s) }
@@ -84,52 +82,4 @@ fn lengths_of<A: Allocator>(lists: &[Vec<u8, A>]) -> [usize; SESSIONS]
         lengths[s] = count;
     }
     lengths
-}
-
-/// The next number of each session.
-fn numbers_of(sessions: &[OutboundSession; SESSIONS]) -> [u64; SESSIONS]
-    ensures { (s : ℕ) → s < SESSIONS
-        → slice_index_or result s 0 ≡ (outbound_at sessions.now s).next }
-{
-    let mut numbers = [0; SESSIONS];
-    for s in 0..SESSIONS {
-        numbers[s] = sessions[s].next;
-    }
-    numbers
-}
-
-/// Gives each session that next number.
-fn renumber(sessions: &mut [OutboundSession; SESSIONS], numbers: &[u64; SESSIONS])
-    ensures size { length sessions.new ≡ SESSIONS }
-    ensures numbered { (s : ℕ) → s < SESSIONS → outbound_at sessions.new s
-        ≡ record {
-          next = slice_index_or numbers.now s 0;
-          comp_ids = (outbound_at sessions.old s).comp_ids;
-        } }
-{
-    for s in 0..SESSIONS {
-        let comp_ids = sessions[s].comp_ids;
-        sessions[s] = OutboundSession {
-            next: numbers[s],
-            comp_ids,
-        };
-    }
-}
-
-/// Gives each session that next number, and one of them those CompIDs.
-fn restore(
-    sessions: &mut [OutboundSession; SESSIONS],
-    numbers: &[u64; SESSIONS],
-    session: u8,
-    comp_ids: Option<CompIds>,
-)
-    requires { session < SESSIONS }
-    ensures size { length sessions.new ≡ SESSIONS }
-    ensures restored { (s : ℕ) → s < SESSIONS → outbound_at sessions.new s ≡ record {
-      next = slice_index_or numbers.now s 0;
-      comp_ids = if session == s then comp_ids else (outbound_at sessions.old s).comp_ids;
-    } }
-{
-    sessions[session as usize].comp_ids = comp_ids;
-    renumber(sessions, numbers);
 }

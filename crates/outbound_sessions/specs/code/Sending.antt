@@ -1,6 +1,6 @@
 -- What sending some messages does to the sessions, `a` before and `b` after, and to their lists, `x` before and `y`
 -- after. Words of the code alone.
-use Rattle.std.specs.Prelude.{◌≡◌, ℕ, ◌<◌, true, false, List, ◌++◌, length, take, slice_index_or, Some, Result, Ok, Err}
+use Rattle.std.specs.Prelude.{◌≡◌, ℕ, ◌<◌, true, false, List, [], ◌∷◌, ◌++◌, length, take, slice_index_or, Option, Some, None, Result, Ok, Err}
 use Rattle.std.specs.declared.vec.Vec.{Vec}
 use Rattle.host_base.specs.declared.limits.TheConstants.{SESSIONS}
 use Rattle.fix_wire.specs.declared.parties.SpelledParties.{SpelledParties}
@@ -15,20 +15,27 @@ use Rattle.outbound_sessions.specs.Rows.{IsRow}
 use Rattle.outbound_sessions.specs.code.PerSession.{messages_bytes, texts_to, outbound_after, spends}
 use Rattle.outbound_sessions.specs.Sessions.{OutboundState, bytes_of, outbound_at}
 
+-- each session with its next number and its CompIDs
+abbrev pub sessions_of : List ℕ → List (Option CompIds) → List OutboundSession
+sessions_of [] os = []
+sessions_of (n ∷ ns) [] = []
+sessions_of (n ∷ ns) (o ∷ os) = record { next = n; comp_ids = o } ∷ sessions_of ns os
+
 -- what callers see of the sessions
 abbrev pub state_of : Inside → OutboundState
-state_of d = record { stamp = d.stamp; sessions = d.sessions }
+state_of d = record { stamp = d.stamp; sessions = sessions_of d.numbers d.comp_ids }
 
 -- of each session that has CompIDs, these and the stamp are spelled
-abbrev pub AreSpelled : List ℕ → List OutboundSession → List SpelledParties → Type 0
-AreSpelled stamp sessions parties = (s : ℕ) → s < SESSIONS → (ids : CompIds)
-    → (outbound_at sessions s).comp_ids ≡ Some ids → (p : SpelledParties)
+abbrev pub AreSpelled : List ℕ → List (Option CompIds) → List SpelledParties → Type 0
+AreSpelled stamp comp_ids parties = (s : ℕ) → s < SESSIONS → (ids : CompIds)
+    → slice_index_or comp_ids s None ≡ Some ids → (p : SpelledParties)
     → SpellsParties (slice_index_or parties s p) ids.host ids.client stamp
 
--- each session has a state, and its CompIDs are spelled where it has them
+-- each session has a number and may have CompIDs, which are spelled then
 pub record AreKept (d : Inside) : Type 0 where
-  pub count : length d.sessions ≡ SESSIONS
-  pub spelled : AreSpelled d.stamp d.sessions d.parties
+  pub numbers : length d.numbers ≡ SESSIONS
+  pub comp_ids : length d.comp_ids ≡ SESSIONS
+  pub spelled : AreSpelled d.stamp d.comp_ids d.parties
 
 -- to each session exactly what these messages send it was appended, a row of whole frames, and its
 -- outbound state went on with them; its CompIDs stayed

@@ -1,5 +1,8 @@
 use Rattle.std.proofs.Common.{◌≡◌, ℕ, sym, ap, ◌∙◌}
+use Rattle.std.proofs.Math.ListN.{set}
 use Rattle.outbound_sessions.specs.Sessions.{OutboundState, outbound_at}
+use Rattle.outbound_sessions.specs.code.Sending.{sessions_of}
+use Rattle.outbound_sessions.proofs.SessionsOf.{comp_ids_of}
 use Rattle.outbound_sessions.proofs.TakenBack.{sessions_back, state_back}
 use Rattle.outbound_sessions.proofs.sending.OutboundSessions.take_back.Goals as goal
 
@@ -7,9 +10,10 @@ pub returns-clause-sessions : goal.returns-clause-sessions
 returns-clause-sessions g c = λ session before texts marked since.
     let i = c.self.inside in
     let m = c.args.mark.now in
-    let back : c.restore.new.sessions ≡ before.sessions =
-    sessions_back before.sessions i.sessions c.restore.new.sessions m.numbers m.session m.comp_ids marked.count c.restore.ensures.size m.in_range
+    let back : sessions_of m.numbers (set i.comp_ids m.session m.comp_ids) ≡ before.sessions =
+    sessions_back before.sessions m.numbers i.comp_ids m.session m.comp_ids marked.count m.counted c.self.invariant.comp_ids m.in_range
     (marked.comp_ids ∙ ap (λ (k : ℕ). (outbound_at before.sessions k).comp_ids) (sym marked.own)) marked.numbers
-    (λ s below apart. ap (λ (d : OutboundState). (outbound_at d.sessions s).comp_ids) c.self.view_is ∙ since.comp_ids s below (λ e. apart (e ∙ sym marked.own)))
-    c.restore.ensures.restored in
-    state_back before i.stamp c.restore.new.sessions (ap (λ (d : OutboundState). d.stamp) c.self.view_is ∙ since.stamp) back
+    (λ s below apart.
+    comp_ids_of i.numbers i.comp_ids c.self.invariant.numbers c.self.invariant.comp_ids s
+    ∙ (ap (λ (d : OutboundState). (outbound_at d.sessions s).comp_ids) c.self.view_is ∙ since.comp_ids s below (λ e. apart (e ∙ sym marked.own)))) in
+    state_back before i.stamp (sessions_of m.numbers (set i.comp_ids m.session m.comp_ids)) (ap (λ (d : OutboundState). d.stamp) c.self.view_is ∙ since.stamp) back
