@@ -35,7 +35,7 @@ numbered_again (m ∷ ns) (p ∷ os) zero n = refl
 numbered_again (m ∷ ns) (p ∷ os) (suc i) n = ap (λ (l : List OutboundSession). session_of m p ∷ l) (numbered_again ns os i n)
 
 module _ (ns : List ℕ) (os : List (Option CompIds)) (in_ns : length ns ≡ 16) (in_os : length os ≡ 16) where
-  pub both : length ns ≡ length os
+  both : length ns ≡ length os
   both = in_ns ∙ sym in_os
 
   pub in_sessions : length (sessions_of ns os) ≡ 16

@@ -29,15 +29,20 @@ impl OutboundSessions {
         requires session { session < SESSIONS }
         ensures { IsMark result session self.now (texts_of lists.now) }
     {
-        Mark {
-            lengths: lengths_of(lists),
+        let mut mark = Mark {
+            lengths: [0; SESSIONS],
             numbers: self.numbers,
             session,
             comp_ids: self.comp_ids[session as usize],
-        }
+        };
+        note_lengths(lists, &mut mark.lengths);
+        mark
     }
 
-    /// Takes back what was sent since the mark: the sessions and all lists are as they were then.
+    /// Takes back what was sent since the mark: the sessions and all lists are as they were then. It is called only where an
+    /// entry is refused, and stands apart from the code of the others.
+    #[cold]
+    #[inline(never)]
     pub fn take_back<A: Allocator>(&mut self, lists: &mut [Vec<u8, A>], mark: &Mark)
         requires { length lists.old ≡ SESSIONS }
         ensures sessions { (session : ℕ) (before : OutboundState) (texts : List (List ℕ)) →
@@ -70,16 +75,15 @@ fn cut_back<A: Allocator>(lists: &mut [Vec<u8, A>], lengths: &[usize; SESSIONS])
     }
 }
 
-/// How long each list is. It is not inlined: it then writes each length into its place, and keeps none of them meanwhile.
+/// Notes how long each list is. It is not inlined: a mark is made before each entry, and beside other code the compiler reads
+/// all sixteen lengths before it writes one, and has no registers for so many.
 #[inline(never)]
-fn lengths_of<A: Allocator>(lists: &[Vec<u8, A>]) -> [usize; SESSIONS]
+fn note_lengths<A: Allocator>(lists: &[Vec<u8, A>], lengths: &mut [usize; SESSIONS])
     requires { length lists.now ≡ SESSIONS }
-    ensures { (s : ℕ) → s < SESSIONS → slice_index_or result s 0 ≡ length (bytes_of lists.now s) }
+    ensures { (s : ℕ) → s < SESSIONS → slice_index_or lengths.new s 0 ≡ length (bytes_of lists.now s) }
 {
-    let mut lengths = [0; SESSIONS];
     for s in 0..SESSIONS {
         let count = lists[s].len();
         lengths[s] = count;
     }
-    lengths
 }

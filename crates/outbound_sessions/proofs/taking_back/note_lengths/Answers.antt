@@ -2,7 +2,7 @@ use Rattle.std.proofs.Common.{ℕ, ◌<◌, length, ap, ◌∙◌, arith}
 use Rattle.std.specs.declared.vec.Vec.{Vec}
 use Rattle.std.proofs.lemmas.List.{length-set}
 use Rattle.outbound_sessions.proofs.TakenBack.{lengths_more}
-use Rattle.outbound_sessions.proofs.taking_back.lengths_of.Goals as goal
+use Rattle.outbound_sessions.proofs.taking_back.note_lengths.Goals as goal
 
 pub loop-s-preserved : goal.loop-s-preserved
 loop-s-preserved g c =

@@ -1,6 +1,6 @@
 use Rattle.std.proofs.Common.{◌≡◌, ℕ, ◌<◌, length, get_or}
 use Rattle.outbound_sessions.specs.Sessions.{bytes_of}
-use Rattle.outbound_sessions.proofs.taking_back.lengths_of.Given as goal
+use Rattle.outbound_sessions.proofs.taking_back.note_lengths.Given as goal
 
 abbrev pub invariant-loop-s : goal.invariant-loop-s
 invariant-loop-s g l = record {
