@@ -61,7 +61,7 @@ fn run_live<'a>(
     let rulebook = read_rules(rt, rules)?;
     let streams = read_files(rt, sessions)?;
     let day = run_day(rt, rt.alloc(), &rulebook, stamp, streams, &Open, caps)?;
-    print_day(rt, &rulebook, &day)?;
+    print_day(rt, &rulebook, day)?;
     Ok(())
 }
 

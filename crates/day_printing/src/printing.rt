@@ -1,4 +1,5 @@
 //! A day's text on standard output: this thread makes it, and another writes it.
+ghost use Rattle.std.specs.Prelude.{IfErr};
 ghost use Rattle.piece_ring.specs.Ends.{IsUnread};
 ghost use Rattle.day_printing.specs.Printing.{IsPrintable};
 
@@ -29,47 +30,55 @@ fn start_writing<'s, E, R: Print + Threads + Wait + Sync>(
     started.ok()
 }
 
-/// Makes the text of a day while another thread writes it; none, where there is no memory for the ring or no thread.
+/// Makes the text of a day while another thread writes it, and lets the day go while that thread writes the last of it. The
+/// day comes back where there is no memory for the ring or no thread.
 fn print_beside<'s, E, R: Print + AllocGlobal + Threads + Wait + Sync>(
     scope: &Scope<'s, E>,
     rt: &'s R,
     rulebook: &Rulebook,
-    day: &Day<Global>,
-) -> Option<Result<(), HostFault>>
-    requires { IsPrintable rulebook.now day.now }
+    day: Day<Global>,
+) -> Result<Result<(), HostFault>, Day<Global>>
+    requires { IsPrintable rulebook.now day }
+    ensures { IfErr result (IsPrintable rulebook.now) }
 {
-    let (sink, source) = piece_ring(rt, rt.alloc()).ok()?;
-    let writing = start_writing(scope, rt, source)?;
+    let Ok((sink, source)) = piece_ring(rt, rt.alloc()) else {
+        return Err(day);
+    };
+    let Some(writing) = start_writing(scope, rt, source) else {
+        return Err(day);
+    };
     let mut sink = sink;
-    let made = write_day(rt.alloc(), rulebook, day, false, &mut sink);
+    let made = write_day(rt.alloc(), rulebook, &day, false, &mut sink);
     sink.end();
+    drop(day);
     let written = writing.join(rt);
     if made.is_ok() && written.is_err() {
-        return Some(Err(HostFault::Write));
+        return Ok(Err(HostFault::Write));
     }
-    Some(made)
+    Ok(made)
 }
 
-/// Writes the text of a day to standard output.
+/// Writes the text of a day to standard output, and lets the day go.
 pub fn print_day<R: Print + AllocGlobal + Threads + Wait + Sync>(
     rt: &R,
     rulebook: &Rulebook,
-    day: &Day<Global>,
+    day: Day<Global>,
 ) -> Result<(), HostFault>
-    requires { IsPrintable rulebook.now day.now }
+    requires { IsPrintable rulebook.now day }
 {
     let printed = thread::scope(
         thread::scope_env(),
         rt,
-        |scope| -> Option<Result<(), HostFault>>
-            requires { IsPrintable rulebook.now day.now }
+        |scope| -> Result<Result<(), HostFault>, Day<Global>>
+            requires { IsPrintable rulebook.now day }
+            ensures { IfErr result (IsPrintable rulebook.entry.now) }
         { print_beside(scope, rt, rulebook, day) },
     );
     match printed {
-        Some(result) => result,
-        None => {
+        Ok(result) => result,
+        Err(day) => {
             let mut sink = ToWriter::new(io::writer(rt));
-            write_day(rt.alloc(), rulebook, day, false, &mut sink)
+            write_day(rt.alloc(), rulebook, &day, false, &mut sink)
         }
     }
 }

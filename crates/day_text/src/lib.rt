@@ -11,6 +11,6 @@ pub use day_text::{Day, text_of_fills, write_day, write_fills};
 pub use difference::{Difference, first_difference};
 pub use fault::TextFault;
 pub use message_lines::write_sessions;
-pub use month_totals::{MonthTotals, month_totals};
+pub use month_totals::{MonthTotals, add_fill, month_totals, no_totals};
 pub use months::put_months;
 pub use text_pieces::TakesPieces;

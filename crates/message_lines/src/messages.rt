@@ -73,7 +73,8 @@ fn put_part<K: TakesPieces<A>, A: Allocator>(
     ensures puts { Puts result (K.written sink.old) (K.written sink.new) (K.has_failed sink.new)
         (map shown_byte piece.new.items)
         (map shown_byte piece.old.items ++ map shown_byte bytes.now) }
-    ensures some { OnOk result (0 < vec_capacity piece.new) }
+    ensures room { OnOk result
+        (min PIECE_BYTES (vec_capacity piece.old) ≤ vec_capacity piece.new) }
 {
     let mut rest = bytes;
     while !rest.is_empty() {
@@ -125,7 +126,8 @@ fn put_long_message<K: TakesPieces<A>, A: Allocator>(
     ensures puts { Puts result (K.written sink.old) (K.written sink.new) (K.has_failed sink.new)
         (map shown_byte piece.new.items)
         (map shown_byte piece.old.items ++ outgoing_line session message.now) }
-    ensures some { OnOk result (0 < vec_capacity piece.new) }
+    ensures room { OnOk result
+        (min PIECE_BYTES (vec_capacity piece.old) ≤ vec_capacity piece.new) }
 {
     put_part(piece, sink, lead(session))?;
     put_part(piece, sink, message)?;
@@ -156,7 +158,8 @@ fn put_message<K: TakesPieces<A>, A: Allocator>(
     ensures puts { Puts result (K.written sink.old) (K.written sink.new) (K.has_failed sink.new)
         (map shown_byte piece.new.items)
         (map shown_byte piece.old.items ++ outgoing_line session message.now) }
-    ensures some { OnOk result (0 < vec_capacity piece.new) }
+    ensures room { OnOk result
+        (min PIECE_BYTES (vec_capacity piece.old) ≤ vec_capacity piece.new) }
 {
     let lead = lead(session);
     let line = lead.len().saturating_add(message.len()).saturating_add(1);
@@ -182,7 +185,8 @@ fn put_outgoing<K: TakesPieces<A>, A: Allocator>(
     ensures puts { Puts result (K.written sink.old) (K.written sink.new) (K.has_failed sink.new)
         (map shown_byte piece.new.items)
         (map shown_byte piece.old.items ++ session_lines session bytes.now) }
-    ensures some { OnOk result (0 < vec_capacity piece.new) }
+    ensures room { OnOk result
+        (min PIECE_BYTES (vec_capacity piece.old) ≤ vec_capacity piece.new) }
 {
     let mut rest = bytes;
     while let Some((message, later)) = first_of_row(rest) {
@@ -205,6 +209,8 @@ fn put_sessions<K: TakesPieces<A>, A: Allocator, B: Allocator>(
     ensures puts { Puts result (K.written sink.old) (K.written sink.new) (K.has_failed sink.new)
         (map shown_byte piece.new.items)
         (map shown_byte piece.old.items ++ outgoing_lines_from 0 (texts_of lists.now)) }
+    ensures room { OnOk result
+        (min PIECE_BYTES (vec_capacity piece.old) ≤ vec_capacity piece.new) }
 {
     for (session, bytes) in lists.iter().enumerate() {
         put_outgoing(piece, sink, session as u8, bytes)?;
@@ -228,6 +234,8 @@ pub fn write_sessions<K: TakesPieces<A>, A: Allocator, B: Allocator>(
     ensures writes { Writes result (K.written sink.old) (K.written sink.new) (K.has_failed sink.new)
         (outgoing_lines_from 0 (texts_of lists.now)) }
     ensures emptied { OnOk result (piece.new.items ≡ []) }
+    ensures room { OnOk result
+        (min PIECE_BYTES (vec_capacity piece.old) ≤ vec_capacity piece.new) }
 {
     put_sessions(piece, sink, lists)?;
     give_shown(piece, sink)

@@ -285,6 +285,21 @@ room_far ts us month s f is sum h =
 pub sums_taken : (fs : List Fill) (n : ℕ) (ts : List MonthTotals) → ts ≡ fold with_fill empty_months (take n fs) → length fs ≤ n → AreTotals fs ts
 sums_taken fs n ts is end = let all = take_all n fs end in subst (λ (t : List MonthTotals). AreTotals fs t) (sym (is ∙ ap (λ (xs : List Fill). fold with_fill empty_months xs) all)) (sums_are fs)
 
+-- one fill more
+fold_next : (fs : List Fill) (i : ℕ) (d : Fill) (ts : List MonthTotals) → i < length fs → fold with_fill ts (take (i + 1) fs) ≡ with_fill (fold with_fill ts (take i fs)) (get_or fs i d)
+fold_next [] i d ts lt = absurd (omega arith)
+fold_next (f ∷ fs) zero d ts lt = refl
+fold_next (f ∷ fs) (suc i) d ts lt =
+    let e : suc i + 1 ≡ suc (i + 1) = omega arith in
+    ap (λ (n : ℕ). fold with_fill ts (take n (f ∷ fs))) e ∙ fold_next fs i d (with_fill ts f) (omega (arith, lt))
+
+pub fill_added : (fs : List Fill) (i : ℕ) (f : Fill) (before after : List MonthTotals) → f ≡ get_or fs i f → i < length fs
+    → before ≡ fold with_fill empty_months (take i fs) → after ≡ with_fill before f → after ≡ fold with_fill empty_months (take (i + 1) fs)
+fill_added fs i f before after is lt was added =
+    added
+    ∙ (ap (λ (ts : List MonthTotals). with_fill ts f) was
+    ∙ (ap (λ (x : Fill). with_fill (fold with_fill empty_months (take i fs)) x) is ∙ sym (fold_next fs i f empty_months lt)))
+
 pub room_taken : (fs : List Fill) (n : ℕ) (ts : List MonthTotals) → ts ≡ fold with_fill empty_months (take n fs) → All IsSummable fs → n < 2 ^ 64 → All (HasRoom (2 ^ 66)) ts
 room_taken fs n ts is all few =
     let start : All (HasRoom 0) empty_months = λ k d lt. subst (HasRoom 0) (sym (none_summed k d lt)) (room_none 0) in

@@ -3,4 +3,4 @@
 
 mod totals;
 
-pub use totals::{MonthTotals, month_totals};
+pub use totals::{AllTotals, MonthTotals, add_fill, month_totals, no_totals};

@@ -3,7 +3,7 @@ ghost use Rattle.std.specs.Prelude.{◌≡◌, ◌<◌, ◌≤◌, ◌^◌, All}
 ghost use Rattle.spread_rules.specs.Legs.{other_side};
 ghost use Rattle.spread_rulebook.specs.Prices.{IsLegPrice};
 ghost use Rattle.month_totals.specs.Totals.{AreTotals, IsSummable, IsBelow};
-ghost use Rattle.month_totals.specs.code.Sums.{plus_leg, with_leg, HasRoom, with_fill};
+ghost use Rattle.month_totals.specs.code.Sums.{plus_leg, with_leg, HasRoom, with_fill, empty_months};
 
 use host_base::limits::{MAX_MONTHS, MAX_ORDER_QTY};
 use spread_rules::{Fill, Instrument, Side};
@@ -42,12 +42,22 @@ impl MonthTotals {
 /// A slot for each month that a rulebook can have.
 const MONTHS: usize = MAX_MONTHS as usize;
 
+/// The sums of all months, the first month first.
+pub type AllTotals = [MonthTotals; MONTHS];
+
 const NOTHING: MonthTotals = MonthTotals {
     bought: 0,
     sold: 0,
     paid: 0,
     received: 0,
 };
+
+/// The sums of no fill.
+pub fn no_totals() -> AllTotals
+    ensures { result ≡ empty_months }
+{
+    [NOTHING; MONTHS]
+}
 
 fn other(side: Side) -> Side
     ensures { result ≡ other_side side }
@@ -59,7 +69,7 @@ fn other(side: Side) -> Side
 }
 
 /// One more leg of that month.
-fn add_leg(totals: &mut [MonthTotals; MONTHS], month: u8, side: Side, quantity: u32, price: i64)
+fn add_leg(totals: &mut AllTotals, month: u8, side: Side, quantity: u32, price: i64)
     requires month { month < MAX_MONTHS }
     requires quantity { quantity ≤ MAX_ORDER_QTY }
     requires price { IsLegPrice price }
@@ -70,8 +80,9 @@ fn add_leg(totals: &mut [MonthTotals; MONTHS], month: u8, side: Side, quantity: 
     totals[month as usize].add(side, quantity, price);
 }
 
-/// The legs of one more fill.
-fn add_fill(totals: &mut [MonthTotals; MONTHS], fill: &Fill)
+/// One more fill: its leg, or the two legs of a spread. Its months are those of a rulebook, its quantity is at most the
+/// greatest of an order, and its prices are in their range.
+pub fn add_fill(totals: &mut AllTotals, fill: &Fill)
     requires months { IsBelow MAX_MONTHS fill.now.instrument }
     requires summable { IsSummable fill.now }
     requires room { All (HasRoom (2 ^ 66)) totals.old }
@@ -90,12 +101,12 @@ fn add_fill(totals: &mut [MonthTotals; MONTHS], fill: &Fill)
 
 /// The sums of each month, the first month first. Each fill's months are those of a rulebook, its quantity is at most the
 /// greatest of an order, and its price and leg prices are in their range.
-pub fn month_totals(fills: &[Fill]) -> [MonthTotals; MONTHS]
+pub fn month_totals(fills: &[Fill]) -> AllTotals
     requires months { All (λ f. IsBelow MAX_MONTHS f.instrument) fills.now }
     requires summable { All IsSummable fills.now }
     ensures { AreTotals fills.now result }
 {
-    let mut totals = [NOTHING; MONTHS];
+    let mut totals = no_totals();
     for fill in fills {
         add_fill(&mut totals, fill);
     }

@@ -4,7 +4,9 @@ ghost use Rattle.day_text.specs.DayText.{AreShown};
 
 use crate::expect::holds;
 use crate::rules::three_months;
-use day_text::{MonthTotals, TextFault, month_totals, text_of_fills, write_fills};
+use day_text::{
+    MonthTotals, TextFault, add_fill, month_totals, no_totals, text_of_fills, write_fills,
+};
 use spread_rules::{Fill, Instrument, Rulebook, Side, TestSink};
 use std::alloc::Global;
 use std::process::Abort;
@@ -93,6 +95,9 @@ fn spread_lifts_two_months(rt: HostRuntime) {
         &rt,
         totals[0] == one_each(10000) && totals[1] == one_each(9800),
     );
+    let mut sums = no_totals();
+    add_fill(&mut sums, &fills[1]);
+    holds(&rt, sums[0].sold == 1 && sums[0].received == 10000);
     let rules = three_months(&rt);
     let room = (1000, 0, text.len());
     expect_text(&rt, rt.alloc(), &rules, &fills, text, &room);

@@ -9,7 +9,7 @@ use Rattle.fill_lines.specs.Fills.{fill_lines}
 use Rattle.day_text.specs.Months.{month_lines}
 use Rattle.text_pieces.proofs.PiecesInTurn.{of_err}
 use Rattle.day_text.proofs.day_text.write_day.Goals as goal
-use Rattle.day_text.proofs.day_text.write_day.Goals.{then-journal_only, else-journal_only+in-Ok-text_of_months}
+use Rattle.day_text.proofs.day_text.write_day.Goals.{then-journal_only, else-journal_only}
 
 pub returns-clause-write : goal.returns-clause-write
 returns-clause-write g c e =
@@ -25,10 +25,9 @@ returns-clause-write g c e =
           let same = ap (λ (es : List Entry). journal_text es) w.deref.ensures.value ∙ sym (ap text w.if-journal_only.true) in
           subst (λ (k : _). (g.K.TakesPieces.has_failed k ≡ true) × AppendsPrefix (told c.args.sink.now) (told k) (text c.args.journal_only)) (sym w.sink-is)
           (of_err _ _ failed w.write_journal_lines-written.ensures.writes.failed, subst (λ (t : List ℕ). AppendsPrefix (told c.args.sink.now) (told w.write_journal_lines-written.new.sink) t) same (of_err _ _ failed w.write_journal_lines-written.ensures.writes.front))
-      | else-journal_only+in-Ok-text_of_months w ↦
+      | else-journal_only w ↦
           let failed = sym w.written-is ∙ c.in-Err.is in
-          let months = w.in-Ok-text_of_months.ensures ∙ ap (λ (fs : List Fill). month_lines rules fs) w.deref-else-journal_only.ensures.value in
-          let all = ap (λ (t : List ℕ). journal_text day.journal.items ++ fill_lines rules fills ++ outgoing_lines_from 0 texts ++ t) months ∙ sym (ap text w.if-journal_only.false) in
+          let all = sym (ap text w.if-journal_only.false) in
           subst (λ (k : _). (g.K.TakesPieces.has_failed k ≡ true) × AppendsPrefix (told c.args.sink.now) (told k) (text c.args.journal_only)) (sym w.sink-is)
           (of_err _ _ failed w.write_parts-written.ensures.writes.failed, subst (λ (t : List ℕ). AppendsPrefix (told c.args.sink.now) (told w.write_parts-written.new.sink) t) all (of_err _ _ failed w.write_parts-written.ensures.writes.front))
     ]

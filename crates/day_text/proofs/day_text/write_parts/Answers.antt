@@ -1,4 +1,5 @@
-use Rattle.std.proofs.Common.{◌++◌, All, List, subst}
+use Rattle.std.proofs.Common.{◌++◌, All, List, subst, arith}
+use Rattle.std.proofs.lemmas.List.{length-map}
 use Rattle.std.proofs.KnownBytes.{Appends-trans}
 use Rattle.std.specs.Io.KnownBytes.{Appends}
 use Rattle.host_ends.specs.Ends.{AppendsPrefix}
@@ -6,6 +7,11 @@ use Rattle.spread_rules.specs.declared.event.Entry.{Entry}
 use Rattle.journal_parts.specs.JournalText.{journal_text, HasByteIds}
 use Rattle.message_lines.specs.Messages.{texts_of, outgoing_lines_from}
 use Rattle.fill_lines.specs.Fills.{fill_lines}
+use Rattle.spread_rulebook.specs.declared.rulebook.Month.{Month}
+use Rattle.spread_rulebook.specs.Rulebook.{names_of}
+use Rattle.day_text.proofs.MonthLines.{lines_of_fills}
+use Rattle.month_totals.specs.Totals.{AreTotals}
+use Rattle.day_text.specs.Months.{month_lines}
 use Rattle.text_pieces.proofs.PiecesInTurn.{front_after, front_of_more, on_err, on_ok, on_ok_any, write_stops, none_on_err}
 use Rattle.day_text.proofs.day_text.write_parts.Goals as goal
 
@@ -16,10 +22,11 @@ returns-in_err-write_journal_lines g c =
     let before = journal_text day.journal.items in
     let fills = fill_lines c.args.rulebook.now day.fills.items in
     let lines = outgoing_lines_from 0 (texts_of day.out.items) in
+    let months = month_lines c.args.rulebook.now day.fills.items in
     let out = subst (λ (t : List _). AppendsPrefix (told c.args.sink.now) (told c.write_journal_lines.new.sink) (journal_text t)) c.deref.ensures.value c.in_err-write_journal_lines.ensures.writes.front in
     record {
       writes = write_stops _ c.from_residual.result c.from_residual.ensures.1 c.in_err-write_journal_lines.ensures.writes.failed
-          (front_of_more (told c.args.sink.now) (told c.write_journal_lines.new.sink) (before ++ fills ++ lines) c.args.months.items
+          (front_of_more (told c.args.sink.now) (told c.write_journal_lines.new.sink) (before ++ fills ++ lines) months
           (front_of_more (told c.args.sink.now) (told c.write_journal_lines.new.sink) (before ++ fills) lines
           (front_of_more (told c.args.sink.now) (told c.write_journal_lines.new.sink) before fills out)));
       bytes = none_on_err _ _ c.from_residual.result c.from_residual.ensures.1;
@@ -32,11 +39,12 @@ returns-in_err-write_fill_lines g c =
     let before = journal_text day.journal.items in
     let fills = fill_lines c.args.rulebook.now day.fills.items in
     let lines = outgoing_lines_from 0 (texts_of day.out.items) in
+    let months = month_lines c.args.rulebook.now day.fills.items in
     let first = subst (λ (t : List _). Appends (told c.args.sink.now) (told c.write_journal_lines.new.sink) (journal_text t)) c.deref.ensures.value c.in_ok-write_journal_lines.ensures.writes.all in
     let out = subst (λ (t : List _). AppendsPrefix (told c.write_journal_lines.new.sink) (told c.write_fill_lines.new.sink) (fill_lines c.args.rulebook.now t)) c.deref-2.ensures.value c.in_err-write_fill_lines.ensures.writes.front in
     record {
       writes = write_stops _ c.from_residual-in_err-write_fill_lines.result c.from_residual-in_err-write_fill_lines.ensures.1 c.in_err-write_fill_lines.ensures.writes.failed
-          (front_of_more (told c.args.sink.now) (told c.write_fill_lines.new.sink) (before ++ fills ++ lines) c.args.months.items
+          (front_of_more (told c.args.sink.now) (told c.write_fill_lines.new.sink) (before ++ fills ++ lines) months
           (front_of_more (told c.args.sink.now) (told c.write_fill_lines.new.sink) (before ++ fills) lines
           (front_after (told c.args.sink.now) (told c.write_journal_lines.new.sink) (told c.write_fill_lines.new.sink) before fills first out)));
       bytes = none_on_err _ _ c.from_residual-in_err-write_fill_lines.result c.from_residual-in_err-write_fill_lines.ensures.1;
@@ -49,13 +57,14 @@ returns-in_err-write_sessions g c =
     let before = journal_text day.journal.items in
     let fills = fill_lines c.args.rulebook.now day.fills.items in
     let lines = outgoing_lines_from 0 (texts_of day.out.items) in
+    let months = month_lines c.args.rulebook.now day.fills.items in
     let first = subst (λ (t : List _). Appends (told c.args.sink.now) (told c.write_journal_lines.new.sink) (journal_text t)) c.deref.ensures.value c.in_ok-write_journal_lines.ensures.writes.all in
     let second = subst (λ (t : List _). Appends (told c.write_journal_lines.new.sink) (told c.write_fill_lines.new.sink) (fill_lines c.args.rulebook.now t)) c.deref-2.ensures.value c.in_ok-write_fill_lines.ensures.writes.all in
     let both = Appends-trans (told c.args.sink.now) (told c.write_journal_lines.new.sink) (told c.write_fill_lines.new.sink) before fills first second in
     let out = subst (λ (t : List _). AppendsPrefix (told c.write_fill_lines.new.sink) (told c.write_sessions.new.sink) (outgoing_lines_from 0 (texts_of t))) c.deref-3.ensures.value c.in_err-write_sessions.ensures.writes.front in
     record {
       writes = write_stops _ c.from_residual-in_err-write_sessions.result c.from_residual-in_err-write_sessions.ensures.1 c.in_err-write_sessions.ensures.writes.failed
-          (front_of_more (told c.args.sink.now) (told c.write_sessions.new.sink) (before ++ fills ++ lines) c.args.months.items
+          (front_of_more (told c.args.sink.now) (told c.write_sessions.new.sink) (before ++ fills ++ lines) months
           (front_after (told c.args.sink.now) (told c.write_fill_lines.new.sink) (told c.write_sessions.new.sink) (before ++ fills) lines both out));
       bytes = none_on_err _ _ c.from_residual-in_err-write_sessions.result c.from_residual-in_err-write_sessions.ensures.1;
     }
@@ -67,22 +76,28 @@ returns g c =
     let before = journal_text day.journal.items in
     let fills = fill_lines c.args.rulebook.now day.fills.items in
     let lines = outgoing_lines_from 0 (texts_of day.out.items) in
+    let months = month_lines c.args.rulebook.now day.fills.items in
     let first = subst (λ (t : List _). Appends (told c.args.sink.now) (told c.write_journal_lines.new.sink) (journal_text t)) c.deref.ensures.value c.in_ok-write_journal_lines.ensures.writes.all in
     let second = subst (λ (t : List _). Appends (told c.write_journal_lines.new.sink) (told c.write_fill_lines.new.sink) (fill_lines c.args.rulebook.now t)) c.deref-2.ensures.value c.in_ok-write_fill_lines.ensures.writes.all in
     let third = subst (λ (t : List _). Appends (told c.write_fill_lines.new.sink) (told c.write_sessions.new.sink) (outgoing_lines_from 0 (texts_of t))) c.deref-3.ensures.value c.in_ok-write_sessions.ensures.writes.all in
     let both = Appends-trans (told c.args.sink.now) (told c.write_journal_lines.new.sink) (told c.write_fill_lines.new.sink) before fills first second in
     let three = Appends-trans (told c.args.sink.now) (told c.write_fill_lines.new.sink) (told c.write_sessions.new.sink) (before ++ fills) lines both third in
+    let sums = subst (λ (t : List _). AreTotals t c.write_fill_lines.new.totals) c.deref-2.ensures.value c.in_ok-write_fill_lines.ensures.totals in
+    let few = length-map c.args.rulebook.now.months (λ (m : Month). m.name) in
+    let same = lines_of_fills (names_of c.args.rulebook.now) 0 day.fills.items c.write_fill_lines.new.totals sums (omega (arith, few, c.months.ensures.count, c.months.ensures.most)) in
     record {
       writes = record {
-        all = on_ok c.take.result
-            (λ last. Appends-trans (told c.args.sink.now) (told c.write_sessions.new.sink) (told c.take.new.self) (before ++ fills ++ lines) c.args.months.items three last)
-            c.take.ensures.writes.all;
-        sound = c.take.ensures.writes.sound;
-        failed = c.take.ensures.writes.failed;
-        front = on_err c.take.result
-            (λ last. front_after (told c.args.sink.now) (told c.write_sessions.new.sink) (told c.take.new.self) (before ++ fills ++ lines) c.args.months.items three last)
-            c.take.ensures.writes.front;
+        all = on_ok c.write_months.result
+            (λ out. Appends-trans (told c.args.sink.now) (told c.write_sessions.new.sink) (told c.write_months.new.sink) (before ++ fills ++ lines) months three
+            (subst (λ (t : List _). Appends (told c.write_sessions.new.sink) (told c.write_months.new.sink) t) same out))
+            c.write_months.ensures.writes.all;
+        sound = c.write_months.ensures.writes.sound;
+        failed = c.write_months.ensures.writes.failed;
+        front = on_err c.write_months.result
+            (λ out. front_after (told c.args.sink.now) (told c.write_sessions.new.sink) (told c.write_months.new.sink) (before ++ fills ++ lines) months three
+            (subst (λ (t : List _). AppendsPrefix (told c.write_sessions.new.sink) (told c.write_months.new.sink) t) same out))
+            c.write_months.ensures.writes.front;
       };
-      bytes = on_ok_any c.take.result
+      bytes = on_ok_any c.write_months.result
           (subst (λ (es : List Entry). All (λ (e : Entry). HasByteIds e.event) es) c.deref.ensures.value c.in_ok-write_journal_lines.ensures.bytes);
     }

@@ -2,6 +2,7 @@ use Rattle.std.proofs.Common.{take, arith}
 use Rattle.fill_lines.specs.Fills.{fill_line}
 use Rattle.text_pieces.proofs.LinesInTurn.{line_put, line_fails}
 use Rattle.text_pieces.proofs.PiecesInTurn.{put_stops}
+use Rattle.month_totals.proofs.MonthSums.{room_taken, sums_taken, fill_added}
 use Rattle.fill_lines.proofs.fills.put_all.Goals as goal
 
 pub returns-in_err-put_whole-clause-puts : goal.returns-in_err-put_whole-clause-puts
@@ -22,4 +23,11 @@ loop-fill-preserved g c =
           c.in_ok-put_whole.ensures.puts.put,
       c.in_ok-put_whole.ensures.puts.sound,
       omega (arith, c.in_ok-put_whole.ensures.capacity, c.loop-fill.invariant.2),
+      fill_added c.args.fills.now c.loop-fill.fill-index c.fill-item.result c.loop-fill.totals c.add_fill.new.totals c.fill-item.is c.loop-fill-test.true c.loop-fill.invariant.3 c.add_fill.ensures,
     )
+
+pub add_fill-requires-clause-room : goal.add_fill-requires-clause-room
+add_fill-requires-clause-room g c = room_taken c.args.fills.now c.loop-fill.fill-index c.loop-fill.totals c.loop-fill.invariant.3 c.requires.summable (omega arith)
+
+pub returns-clause-totals : goal.returns-clause-totals
+returns-clause-totals g c = sums_taken c.args.fills.now c.loop-fill.fill-index c.loop-fill.totals c.loop-fill.invariant.3 (omega arith)

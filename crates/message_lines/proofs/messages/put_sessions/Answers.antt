@@ -16,8 +16,8 @@ put_outgoing-requires-clause-row g c =
     ∙ sym (get_or-map (λ (v : Vec ℕ g.row.B.Denot). v.items) c.args.lists.now c.loop-session.session c.index-lists-session.result [] c.loop-session-test.true))))
     (All-get_or IsFrameRow texts c.loop-session.session [] (simp length-map c.loop-session-test.true) c.requires.rows)
 
-pub returns-in_err-put_outgoing : goal.returns-in_err-put_outgoing
-returns-in_err-put_outgoing g c =
+pub returns-in_err-put_outgoing-clause-puts : goal.returns-in_err-put_outgoing-clause-puts
+returns-in_err-put_outgoing-clause-puts g c =
     let told = λ (k : _). g.K.TakesPieces.written k in
     let texts = map (λ (v : Vec ℕ g.row.B.Denot). v.items) c.args.lists.now in
     let s = c.loop-session.session in
@@ -28,11 +28,9 @@ returns-in_err-put_outgoing g c =
     let line = session_lines s c.deref.result.now in
     let before = outgoing_lines_from 0 (take s texts) in
     let rest = sessions_rest texts 0 (s + 1) in
-    record {
-      puts = put_stops _ c.from_residual.result c.from_residual.ensures.1 c.in_err-put_outgoing.ensures.puts.failed
-          (put_fails (told c.args.sink.now) (told c.loop-session.sink) (told c.put_outgoing.new.sink) (map shown_byte c.args.piece.now.items) (map shown_byte c.loop-session.piece.items) before line rest.0 (outgoing_lines_from 0 texts)
-          c.loop-session.invariant.0 c.in_err-put_outgoing.ensures.puts.front (rest.1 ∙ (ap (λ (t : List ℕ). t ++ rest.0) (sessions_next_of texts s c.deref.result.now bytes within) ∙ append_assoc before line rest.0)));
-    }
+    put_stops _ c.from_residual.result c.from_residual.ensures.1 c.in_err-put_outgoing.ensures.puts.failed
+    (put_fails (told c.args.sink.now) (told c.loop-session.sink) (told c.put_outgoing.new.sink) (map shown_byte c.args.piece.now.items) (map shown_byte c.loop-session.piece.items) before line rest.0 (outgoing_lines_from 0 texts)
+    c.loop-session.invariant.0 c.in_err-put_outgoing.ensures.puts.front (rest.1 ∙ (ap (λ (t : List ℕ). t ++ rest.0) (sessions_next_of texts s c.deref.result.now bytes within) ∙ append_assoc before line rest.0)))
 
 pub loop-session-preserved : goal.loop-session-preserved
 loop-session-preserved g c =
