@@ -152,7 +152,7 @@ fn is_made<R: Wait + Abort, A: Allocator + Copy>(rt: &R, heap: A) -> bool {
 #[test]
 fn piece_ring_refused_memory(rt: HostRuntime) {
     let mut refused = 0u32;
-    for number in 1..20u64 {
+    for number in 1..40u64 {
         let heap = Refusing::new(rt.alloc(), number);
         let made = is_made(&rt, &heap);
         holds(&rt, made != heap.has_refused());
@@ -160,5 +160,5 @@ fn piece_ring_refused_memory(rt: HostRuntime) {
             refused = refused.saturating_add(1);
         }
     }
-    holds(&rt, 4 < refused && refused < 19);
+    holds(&rt, 16 < refused && refused < 39);
 }
