@@ -30,8 +30,8 @@ fn start_writing<'s, E, R: Print + Threads + Wait + Sync>(
     started.ok()
 }
 
-/// Makes the text of a day while another thread writes it, and lets the day go while that thread writes the last of it. The
-/// day comes back where there is no memory for the ring or no thread.
+/// Makes the text of a day while another thread writes it, and lets the day go while that thread writes the last of it.
+/// The day comes back where there is no memory for the ring or no thread.
 fn print_beside<'s, E, R: Print + AllocGlobal + Threads + Wait + Sync>(
     scope: &Scope<'s, E>,
     rt: &'s R,

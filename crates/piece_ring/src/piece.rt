@@ -5,8 +5,8 @@ ghost use Rattle.text_pieces.specs.declared.pieces.TheConstants.{PIECE_BYTES};
 use rtrb::Protocol;
 use std::alloc::Allocator;
 
-/// How many pieces there are: while one is written and one is made, the others let either thread run ahead, the one that makes
-/// the text so far that it has the time to let the day go.
+/// How many pieces there are: while one is written and one is made, the others let either thread run ahead, the one that
+/// makes the text so far that it has the time to let the day go.
 pub const PIECES: usize = 16;
 
 /// A part of a text. A piece without bytes marks the end.
