@@ -1,4 +1,5 @@
-//! A day's text on standard output: one thread makes it while another writes it.
+//! A day's text on standard output: one thread makes and writes the journal, and then writes what stands behind it,
+//! which another makes meanwhile.
 #![tactic(auto)]
 
 mod printing;

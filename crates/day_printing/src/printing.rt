@@ -1,61 +1,106 @@
-//! A day's text on standard output: this thread makes it, and another writes it.
-ghost use Rattle.std.specs.Prelude.{IfErr};
+//! A day's text on standard output: another thread makes and writes the journal, while this one makes what stands
+//! behind it; then that one writes it.
+ghost use Rattle.std.specs.Prelude.{◌≡◌, ◌≤◌, [], IfOk, IfErr, vec_capacity};
 ghost use Rattle.piece_ring.specs.Ends.{IsUnread};
-ghost use Rattle.day_printing.specs.Printing.{IsPrintable};
+ghost use Rattle.text_pieces.specs.declared.pieces.TheConstants.{PIECE_BYTES};
+ghost use Rattle.day_printing.specs.Printing.{ArePrintable, IsPrintable};
 
+use day_text::{write_behind_journal, write_journal_lines};
 use piece_ring::{PieceSource, piece_ring};
 use spread_host::{Day, HostFault, write_day};
-use spread_rules::{Failed, Rulebook, ToWriter};
-use std::alloc::Global;
+use spread_rules::{Entry, Failed, Fill, Rulebook, ToWriter};
+use std::alloc::{AllocError, Global};
 use std::sync::Wait;
 use std::thread::{JoinHandle, Scope, Threads};
 use std::{io, thread};
+use text_pieces::PIECE_BYTES;
 
-/// Starts the thread that writes the pieces of a text as they come.
+/// What stands behind the journal in a day's text: the fills, and what each session is sent.
+#[derive(Drop)]
+struct BehindJournal {
+    fills: Vec<Fill, Global>,
+    out: Vec<Vec<u8, Global>, Global>,
+}
+
+/// A piece in which nothing stands yet.
+fn empty_piece(alloc: Global) -> Result<Vec<u8, Global>, AllocError>
+    ensures { IfOk result (λ p. (p.items ≡ []) × (PIECE_BYTES ≤ vec_capacity p)) }
+{
+    Vec::with_capacity(alloc, PIECE_BYTES)
+}
+
+/// Makes and writes the lines of the journal, and then writes the pieces of the text behind it as they come.
+fn write_text<R: Print + Wait>(
+    rt: &R,
+    journal: &[Entry],
+    piece: Vec<u8, Global>,
+    source: PieceSource<Global>,
+) -> Result<(), Failed>
+    requires empty { piece.items ≡ [] }
+    requires room { PIECE_BYTES ≤ vec_capacity piece }
+    requires unread { IsUnread source }
+{
+    let mut piece = piece;
+    let mut source = source;
+    let mut sink = ToWriter::new(io::writer(rt));
+    let so_far = write_journal_lines(&mut piece, &mut sink, journal);
+    source.write_to(rt, &mut sink, so_far)
+}
+
+/// Starts the thread that writes the text.
 fn start_writing<'s, E, R: Print + Threads + Wait + Sync>(
     scope: &Scope<'s, E>,
     rt: &'s R,
+    journal: &'s [Entry],
+    piece: Vec<u8, Global>,
     source: PieceSource<Global>,
 ) -> Option<JoinHandle<Result<(), Failed>>>
-    requires { IsUnread source }
+    requires empty { piece.items ≡ [] }
+    requires room { PIECE_BYTES ≤ vec_capacity piece }
+    requires unread { IsUnread source }
 {
     let started = scope.spawn(
         move || -> Result<(), Failed>
-            requires { IsUnread source }
-        {
-            let mut source = source;
-            source.write_to(rt, &mut ToWriter::new(io::writer(rt)))
-        },
+            requires empty { piece.items ≡ [] }
+            requires room { PIECE_BYTES ≤ vec_capacity piece }
+            requires unread { IsUnread source }
+        { write_text(rt, journal, piece, source) },
     );
     started.ok()
 }
 
-/// Makes the text of a day while another thread writes it, and lets the day go while that thread writes the last of it.
-/// The day comes back where there is no memory for the ring or no thread.
+/// Makes what stands behind the journal while another thread makes and writes the journal, and lets it go while that
+/// thread writes the last of it. It comes back where there is no memory for the pieces or no thread.
 fn print_beside<'s, E, R: Print + AllocGlobal + Threads + Wait + Sync>(
     scope: &Scope<'s, E>,
     rt: &'s R,
     rulebook: &Rulebook,
-    day: Day<Global>,
-) -> Result<Result<(), HostFault>, Day<Global>>
-    requires { IsPrintable rulebook.now day }
-    ensures { IfErr result (IsPrintable rulebook.now) }
+    journal: &'s [Entry],
+    behind: BehindJournal,
+) -> Result<Result<(), HostFault>, BehindJournal>
+    requires { ArePrintable rulebook.now behind.fills.items behind.out.items }
+    ensures { IfErr result (λ b. ArePrintable rulebook.now b.fills.items b.out.items) }
 {
-    let Ok((sink, source)) = piece_ring(rt, rt.alloc()) else {
-        return Err(day);
+    let alloc = rt.alloc();
+    let (Ok(first), Ok(second)) = (empty_piece(alloc), empty_piece(alloc)) else {
+        return Err(behind);
     };
-    let Some(writing) = start_writing(scope, rt, source) else {
-        return Err(day);
+    let Ok((sink, source)) = piece_ring(rt, alloc) else {
+        return Err(behind);
     };
+    let Some(writing) = start_writing(scope, rt, journal, first, source) else {
+        return Err(behind);
+    };
+    let mut piece = second;
     let mut sink = sink;
-    let made = write_day(rt.alloc(), rulebook, &day, false, &mut sink);
+    let made = write_behind_journal(&mut piece, &mut sink, rulebook, &behind.fills, &behind.out);
     sink.end();
-    drop(day);
+    drop(behind);
     let written = writing.join(rt);
-    if made.is_ok() && written.is_err() {
-        return Ok(Err(HostFault::Write));
+    match (made, written) {
+        (Ok(()), Ok(())) => Ok(Ok(())),
+        _ => Ok(Err(HostFault::Write)),
     }
-    Ok(made)
 }
 
 /// Writes the text of a day to standard output, and lets the day go.
@@ -66,17 +111,28 @@ pub fn print_day<R: Print + AllocGlobal + Threads + Wait + Sync>(
 ) -> Result<(), HostFault>
     requires { IsPrintable rulebook.now day }
 {
+    let Day {
+        journal,
+        fills,
+        out,
+    } = day;
+    let behind = BehindJournal { fills, out };
     let printed = thread::scope(
         thread::scope_env(),
         rt,
-        |scope| -> Result<Result<(), HostFault>, Day<Global>>
-            requires { IsPrintable rulebook.now day }
-            ensures { IfErr result (IsPrintable rulebook.entry.now) }
-        { print_beside(scope, rt, rulebook, day) },
+        |scope| -> Result<Result<(), HostFault>, BehindJournal>
+            requires { ArePrintable rulebook.now behind.fills.items behind.out.items }
+            ensures { IfErr result (λ b. ArePrintable rulebook.entry.now b.fills.items b.out.items) }
+        { print_beside(scope, rt, rulebook, &journal, behind) },
     );
     match printed {
         Ok(result) => result,
-        Err(day) => {
+        Err(BehindJournal { fills, out }) => {
+            let day = Day {
+                journal,
+                fills,
+                out,
+            };
             let mut sink = ToWriter::new(io::writer(rt));
             write_day(rt.alloc(), rulebook, &day, false, &mut sink)
         }

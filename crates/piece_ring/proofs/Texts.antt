@@ -50,6 +50,11 @@ writes_no_more (Ok u) a b has_failed text bytes is w = absurd (cc is)
 writes_no_more (Err e) a b has_failed text bytes is w =
     record { all = tt; sound = tt; failed = w.failed; front = front_of_more a b text bytes w.front }
 
+-- where the text before could not be written, no write goes well
+pub none_failed : {T U E F : Type 0} (P Q : Type 0) (before : Result T E) (r : Result U F) → OnErr before ((is_ok r ≡ false) × P) → is_ok r ≡ true → OnErr before Q
+none_failed P Q (Ok u) r kept is = tt
+none_failed P Q (Err e) r kept is = absurd (cc (kept.0, is))
+
 -- a list that was looked at
 pub none_of : {A : Type 0} (p : Vec ℕ A) (b : Bool) → b ≡ (vec_len p == 0) → b ≡ true → p.items ≡ []
 none_of p b test is =

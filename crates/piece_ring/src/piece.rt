@@ -5,9 +5,10 @@ ghost use Rattle.text_pieces.specs.declared.pieces.TheConstants.{PIECE_BYTES};
 use rtrb::Protocol;
 use std::alloc::Allocator;
 
-/// How many pieces there are: while one is written and one is made, the others let either thread run ahead, the one that
-/// makes the text so far that it has the time to let the day go.
-pub const PIECES: usize = 16;
+/// How many pieces there are: four million bytes. So far ahead the thread that makes the text can be while the other
+/// one has something else to write before it, and at the end, where it then has the time to let go of what the text
+/// tells.
+pub const PIECES: usize = 64;
 
 /// A part of a text. A piece without bytes marks the end.
 pub type Piece<A> = Vec<u8, A>;

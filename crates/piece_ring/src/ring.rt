@@ -22,7 +22,7 @@ fn put_empty<A: Allocator + Copy>(
     Ok(())
 }
 
-/// The two ends, and all memory that they take: a million bytes.
+/// The two ends, and all memory that they take: four million bytes.
 pub fn piece_ring<'r, R: Wait, A: Allocator + Copy>(
     rt: &'r R,
     alloc: A,

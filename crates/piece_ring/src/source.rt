@@ -1,5 +1,5 @@
 //! The end that the thread has that writes a text.
-ghost use Rattle.std.specs.Prelude.{◌≡◌, ◌≤◌, false, vec_capacity};
+ghost use Rattle.std.specs.Prelude.{◌≡◌, ◌≤◌, true, false, is_ok, OnOk, OnErr, vec_capacity};
 ghost use Rattle.text_pieces.specs.code.Pieces.{Writes};
 ghost use Rattle.text_pieces.specs.declared.pieces.TheConstants.{PIECE_BYTES};
 ghost use Rattle.piece_ring.specs.Ends.{text_taken, IsUnread, IsRead};
@@ -29,15 +29,23 @@ fn give_back<A: Allocator>(emptied: &mut Producer<Piece<A>, A, Emptied>, piece: 
 }
 
 impl<A: Allocator> PieceSource<A> {
-    /// Writes the pieces as they come, up to the mark. Behind a write that failed the others are taken, not written.
-    pub fn write_to<R: Wait, K: Sink>(&mut self, rt: &R, sink: &mut K) -> Result<(), Failed>
-        requires works { K.has_failed sink.old ≡ false }
+    /// Writes the pieces as they come, up to the mark, behind a text whose writing ended so. Behind a write that
+    /// failed, that one's or one of its own, the others are taken, not written.
+    pub fn write_to<R: Wait, K: Sink>(
+        &mut self,
+        rt: &R,
+        sink: &mut K,
+        so_far: Result<(), Failed>,
+    ) -> Result<(), Failed>
+        requires works { OnOk so_far (K.has_failed sink.old ≡ false) }
+        requires failed { OnErr so_far (K.has_failed sink.old ≡ true) }
         requires unread { IsUnread self.old }
         ensures read { IsRead self.new }
         ensures writes { Writes result (K.written sink.old) (K.written sink.new) (K.has_failed sink.new)
             (text_taken self.new) }
+        ensures kept { OnErr so_far ((is_ok result ≡ false) × (sink.new ≡ sink.old)) }
     {
-        let mut result = Ok(());
+        let mut result = so_far;
         let mut looks = 0u32;
         for _ in rt.forever() {
             match self.filled.pop() {

@@ -43,7 +43,7 @@ fn take_text<R: Wait + Abort>(
     requires { IsUnread source }
 {
     let mut out = TestSink::new(alloc, 100_000, fail).expect(rt, "memory");
-    let whole = source.write_to(rt, &mut out).is_ok();
+    let whole = source.write_to(rt, &mut out, Ok(())).is_ok();
     (out, whole)
 }
 
@@ -102,6 +102,20 @@ fn a_text_whose_writing_fails(rt: HostRuntime) {
     expect_lines(&rt, out.bytes(), 2);
 }
 
+/// A text behind one that could not be written: its pieces are taken, and none is written.
+#[test]
+fn a_text_behind_a_failed_write(rt: HostRuntime) {
+    let (sink, mut source) = piece_ring(&rt, rt.alloc()).expect(&rt, "memory");
+    give_lines(&rt, rt.alloc(), sink, 3);
+    let mut out = TestSink::new(rt.alloc(), 100, 1).expect(&rt, "memory");
+    let mut piece = Vec::new(rt.alloc());
+    piece.extend_from_slice(LINE).expect(&rt, "memory");
+    let so_far = out.take(&mut piece);
+    holds(&rt, so_far.is_err());
+    holds(&rt, source.write_to(&rt, &mut out, so_far).is_err());
+    holds(&rt, out.bytes().is_empty());
+}
+
 /// Gives these bytes on as one piece, which has room for no more.
 fn give_piece<R: Wait + Abort, A: Allocator + Copy>(
     rt: &R,
@@ -152,7 +166,7 @@ fn is_made<R: Wait + Abort, A: Allocator + Copy>(rt: &R, heap: A) -> bool {
 #[test]
 fn piece_ring_refused_memory(rt: HostRuntime) {
     let mut refused = 0u32;
-    for number in 1..40u64 {
+    for number in 1..100u64 {
         let heap = Refusing::new(rt.alloc(), number);
         let made = is_made(&rt, &heap);
         holds(&rt, made != heap.has_refused());
@@ -160,5 +174,5 @@ fn piece_ring_refused_memory(rt: HostRuntime) {
             refused = refused.saturating_add(1);
         }
     }
-    holds(&rt, 16 < refused && refused < 39);
+    holds(&rt, 64 < refused && refused < 99);
 }

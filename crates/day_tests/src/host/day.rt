@@ -7,7 +7,7 @@ ghost use Rattle.message_lines.specs.Messages.{texts_of};
 use super::read_again;
 use crate::expect::holds;
 use crate::rules::three_months;
-use day_text::{Day, write_sessions};
+use day_text::{Day, write_behind_journal, write_journal_lines, write_sessions};
 use spread_host::{day_of, write_day};
 use spread_rules::{Rulebook, TestSink};
 use std::alloc::Global;
@@ -78,6 +78,23 @@ fn expect_sent(rt: &impl Abort, alloc: Global, day: &Day<Global>, room: usize, w
     holds(rt, sink.bytes() == want);
 }
 
+/// The journal, and then what stands behind it, by way of a small piece.
+fn expect_parts(rt: &impl Abort, alloc: Global, rules: &Rulebook, day: &Day<Global>, want: &Written)
+    requires lists { length day.now.out.items ≤ 16 }
+    requires rows { All IsFrameRow (texts_of day.now.out.items) }
+    requires shown { AreShown rules.now day.now.fills.items }
+{
+    let mut sink = TestSink::new(alloc, 4096, 0).expect(rt, "memory");
+    let mut piece = Vec::with_capacity(alloc, 512).expect(rt, "memory");
+    write_journal_lines(&mut piece, &mut sink, &day.journal).expect(rt, "a sink that works");
+    holds(rt, sink.bytes() == want.alone);
+    write_behind_journal(&mut piece, &mut sink, rules, &day.fills, &day.out).expect(
+        rt,
+        "a sink that works",
+    );
+    holds(rt, sink.bytes() == want.whole);
+}
+
 /// All that is written of the day. The lines are the same in pieces of any size.
 fn expect_written(
     rt: &impl Abort,
@@ -92,6 +109,7 @@ fn expect_written(
 {
     expect_text(rt, alloc, rules, day, true, want.alone);
     expect_text(rt, alloc, rules, day, false, want.whole);
+    expect_parts(rt, alloc, rules, day, want);
     expect_sent(rt, alloc, day, 4096, want.sent);
     expect_sent(rt, alloc, day, 100, want.sent);
     expect_sent(rt, alloc, day, 1, want.sent);

@@ -1,12 +1,9 @@
-use Rattle.std.proofs.Common.{◌≡◌, ◌++◌, Bool, true, List, ℕ, sym, ap, subst, ◌∙◌}
+use Rattle.std.proofs.Common.{◌≡◌, Bool, true, List, ℕ, sym, ap, subst, ◌∙◌}
 use Rattle.spread_rules.specs.declared.event.Entry.{Entry}
-use Rattle.spread_rules.specs.declared.fill.Fill.{Fill}
 use Rattle.host_ends.specs.Ends.{AppendsPrefix}
 use Rattle.journal_parts.specs.JournalText.{journal_text}
 use Rattle.day_text.specs.DayText.{day_text}
-use Rattle.message_lines.specs.Messages.{texts_of, outgoing_lines_from}
-use Rattle.fill_lines.specs.Fills.{fill_lines}
-use Rattle.day_text.specs.Months.{month_lines}
+use Rattle.message_lines.specs.Messages.{texts_of}
 use Rattle.text_pieces.proofs.PiecesInTurn.{of_err}
 use Rattle.day_text.proofs.day_text.write_day.Goals as goal
 use Rattle.day_text.proofs.day_text.write_day.Goals.{then-journal_only, else-journal_only}

@@ -1,7 +1,7 @@
 use Rattle.std.proofs.Common.{refl, sym, ◌∙◌, false, append-nil}
 use Rattle.rtrb.specs.Ring.{received}
 use Rattle.piece_ring.specs.Pieces.{text_in}
-use Rattle.piece_ring.proofs.Texts.{text_more, is_mark_of, no_mark_of, none_of, some_of, plain_more, mark_more, writes_more, writes_no_more}
+use Rattle.piece_ring.proofs.Texts.{text_more, is_mark_of, no_mark_of, none_of, some_of, plain_more, mark_more, writes_more, writes_no_more, none_failed}
 use Rattle.piece_ring.proofs.source.PieceSource.write_to.Goals as goal
 use Rattle.piece_ring.proofs.source.PieceSource.write_to.Goals.{then-is_ok, else-is_ok}
 
@@ -39,5 +39,10 @@ loop-preserved-in-Ok g c =
                 rw (w.result-is, w.sink-is, text)
                 (writes_no_more c.loop.result (told c.args.sink.now) (told c.loop.sink) (g.K.Sink.has_failed c.loop.sink) (text_in (received was)) p.items
                 (sym c.is_ok.ensures.value ∙ w.if-is_ok.false) c.loop.invariant.writes)
+          ];
+      kept =
+          elim c.if-is_ok.branch [
+            | then-is_ok w ↦ none_failed _ _ c.args.so_far c.loop.result c.loop.invariant.kept (sym c.is_ok.ensures.value ∙ w.if-is_ok.true)
+            | else-is_ok w ↦ rw (w.result-is, w.sink-is) c.loop.invariant.kept
           ];
     }

@@ -1,4 +1,4 @@
-use Rattle.std.proofs.Common.{◌≡◌, true, false}
+use Rattle.std.proofs.Common.{◌≡◌, true, false, is_ok, OnErr}
 use Rattle.rtrb.specs.Ring.{received}
 use Rattle.stage_rings.specs.Marks.{ends}
 use Rattle.text_pieces.specs.code.Pieces.{Writes}
@@ -11,4 +11,5 @@ invariant-loop g l = record {
   writes :
       Writes l.result (g.K.Sink.written l.fn.sink) (g.K.Sink.written l.sink) (g.K.Sink.has_failed l.sink)
       (text_in (received l.self.filled));
+  kept : OnErr l.fn.so_far ((is_ok l.result ≡ false) × (l.sink ≡ l.fn.sink));
 }
