@@ -8,7 +8,7 @@ use std::alloc::Allocator;
 /// How many pieces there are: four million bytes. So far ahead the thread that makes the text can be while the other
 /// one has something else to write before it, and at the end, where it then has the time to let go of what the text
 /// tells.
-pub const PIECES: usize = 64;
+pub const PIECES: usize = 16;
 
 /// A part of a text. A piece without bytes marks the end.
 pub type Piece<A> = Vec<u8, A>;

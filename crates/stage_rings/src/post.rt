@@ -18,8 +18,8 @@ const MARK: u16 = 255;
 /// How many bytes `Poster::post` gives at most.
 pub const POST_BYTES: usize = 63;
 
-/// How many pieces are given at once at most.
-pub const MANY_PIECES: usize = 4;
+/// How many pieces are given at once at most. Few entries send a session more than these take.
+pub const MANY_PIECES: usize = 16;
 
 /// An item of the ring: so many of its first bytes, or the end mark. The bytes come first, so that they are written and
 /// read again in the same parts of 16.
@@ -146,7 +146,7 @@ impl<A: Allocator> Poster<A> {
         Post::Posted(n)
     }
 
-    /// Gives the first bytes at once, as many as 4 pieces take and the ring can hold, and says how many. Full, and
+    /// Gives the first bytes at once, as many as 16 pieces take and the ring can hold, and says how many. Full, and
     /// none given, where the ring has no room for all of these.
     pub fn post_many(&mut self, bytes: &[u8]) -> Post
         ensures ring { SamePoster self.old self.new }

@@ -42,7 +42,7 @@ fn take_text<R: Wait + Abort>(
 ) -> (TestSink, bool)
     requires { IsUnread source }
 {
-    let mut out = TestSink::new(alloc, 100_000, fail).expect(rt, "memory");
+    let mut out = TestSink::new(alloc, 400_000, fail).expect(rt, "memory");
     let whole = source.write_to(rt, &mut out, Ok(())).is_ok();
     (out, whole)
 }
@@ -137,10 +137,10 @@ fn pieces_of_each_size(rt: HostRuntime) {
     let (mut sink, source) = piece_ring(&rt, rt.alloc()).expect(&rt, "memory");
     give_piece(&rt, rt.alloc(), &mut sink, LINE);
     give_piece(&rt, rt.alloc(), &mut sink, b"");
-    give_piece(&rt, rt.alloc(), &mut sink, &[b'x'; 90_000]);
+    give_piece(&rt, rt.alloc(), &mut sink, &[b'x'; 300_000]);
     sink.end();
     let (out, whole) = take_text(&rt, source, rt.alloc(), 0);
-    holds(&rt, whole && out.bytes().len() == 90_010);
+    holds(&rt, whole && out.bytes().len() == 300_010);
     holds(&rt, out.bytes().starts_with(b"abcdefghi\nxx"));
     holds(&rt, out.bytes().ends_with(b"xx"));
 }
@@ -166,7 +166,7 @@ fn is_made<R: Wait + Abort, A: Allocator + Copy>(rt: &R, heap: A) -> bool {
 #[test]
 fn piece_ring_refused_memory(rt: HostRuntime) {
     let mut refused = 0u32;
-    for number in 1..100u64 {
+    for number in 1..40u64 {
         let heap = Refusing::new(rt.alloc(), number);
         let made = is_made(&rt, &heap);
         holds(&rt, made != heap.has_refused());
@@ -174,5 +174,5 @@ fn piece_ring_refused_memory(rt: HostRuntime) {
             refused = refused.saturating_add(1);
         }
     }
-    holds(&rt, 64 < refused && refused < 99);
+    holds(&rt, 16 < refused && refused < 39);
 }

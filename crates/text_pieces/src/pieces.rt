@@ -5,8 +5,8 @@ ghost use Rattle.text_pieces.specs.code.Pieces.{Puts, Writes};
 use host_ends::{Failed, Sink, write_all};
 use std::alloc::Allocator;
 
-/// How many bytes a piece has room for.
-pub const PIECE_BYTES: usize = 65_536;
+/// How many bytes a piece has room for. The system takes larger pieces faster.
+pub const PIECE_BYTES: usize = 262_144;
 
 /// What takes a text piece by piece. Once a write has failed no further piece is given.
 pub trait TakesPieces<A: Allocator> {

@@ -287,12 +287,12 @@ static BYTE_CASES: [ByteCase; 4] = [
         taken: 512,
     },
     ByteCase {
-        shows: "four pieces at most, and no more than a ring of 8 holds",
-        ring: 8,
+        shows: "sixteen pieces at most, and no more than a ring of 32 holds",
+        ring: 32,
         acts: &[
-            ByteAct::PostMany(Part(0, 1200), Post::Posted(1016)),
-            ByteAct::PostMany(Part(0, 1200), Post::Posted(1016)),
-            ByteAct::PostMany(Part(0, 1200), Post::Full),
+            ByteAct::PostMany(Part(0, 4100), Post::Posted(4064)),
+            ByteAct::PostMany(Part(0, 4100), Post::Posted(4064)),
+            ByteAct::PostMany(Part(0, 4100), Post::Full),
             ByteAct::Take(Wrote::Bytes(254)),
         ],
         taken: 254,
@@ -316,9 +316,9 @@ static BYTE_CASES: [ByteCase; 4] = [
 ];
 
 /// A text in which no piece is like the one before it.
-fn text() -> [u8; 1200] {
-    let mut text = [0; 1200];
-    for n in 0..1200 {
+fn text() -> [u8; 4100] {
+    let mut text = [0; 4100];
+    for n in 0..4100 {
         text[n] = (n % 251) as u8;
     }
     text
