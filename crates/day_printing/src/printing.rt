@@ -1,14 +1,16 @@
 //! A day's text on standard output: another thread makes and writes the journal, while this one makes what stands
 //! behind it; then that one writes it.
-ghost use Rattle.std.specs.Prelude.{◌≡◌, ◌≤◌, [], IfOk, IfErr, vec_capacity};
-ghost use Rattle.piece_ring.specs.Ends.{IsUnread};
+ghost use Rattle.std.specs.Prelude.{◌≡◌, ◌≤◌, ◌++◌, [], IfOk, IfErr, vec_capacity, false};
+ghost use Rattle.journal_parts.specs.JournalText.{journal_text};
+ghost use Rattle.piece_ring.specs.Ends.{text_taken, IsUnread, IsRead};
+ghost use Rattle.text_pieces.specs.code.Pieces.{Writes};
 ghost use Rattle.text_pieces.specs.declared.pieces.TheConstants.{PIECE_BYTES};
 ghost use Rattle.day_printing.specs.Printing.{ArePrintable, IsPrintable};
 
 use day_text::{write_behind_journal, write_journal_lines};
 use piece_ring::{PieceSource, piece_ring};
 use spread_host::{Day, HostFault, write_day};
-use spread_rules::{Entry, Failed, Fill, Rulebook, ToWriter};
+use spread_rules::{Entry, Failed, Fill, Rulebook, Sink, ToWriter};
 use std::alloc::{AllocError, Global};
 use std::sync::Wait;
 use std::thread::{JoinHandle, Scope, Threads};
@@ -30,21 +32,23 @@ fn empty_piece(alloc: Global) -> Result<Vec<u8, Global>, AllocError>
 }
 
 /// Makes and writes the lines of the journal, and then writes the pieces of the text behind it as they come.
-fn write_text<R: Print + Wait>(
+fn write_text<R: Wait, K: Sink>(
     rt: &R,
+    sink: &mut K,
     journal: &[Entry],
-    piece: Vec<u8, Global>,
-    source: PieceSource<Global>,
+    piece: &mut Vec<u8, Global>,
+    source: &mut PieceSource<Global>,
 ) -> Result<(), Failed>
-    requires empty { piece.items ≡ [] }
-    requires room { PIECE_BYTES ≤ vec_capacity piece }
-    requires unread { IsUnread source }
+    requires works { K.has_failed sink.old ≡ false }
+    requires empty { piece.old.items ≡ [] }
+    requires room { PIECE_BYTES ≤ vec_capacity piece.old }
+    requires unread { IsUnread source.old }
+    ensures writes { Writes result (K.written sink.old) (K.written sink.new) (K.has_failed sink.new)
+        (journal_text journal.now ++ text_taken source.new) }
+    ensures read { IsRead source.new }
 {
-    let mut piece = piece;
-    let mut source = source;
-    let mut sink = ToWriter::new(io::writer(rt));
-    let so_far = write_journal_lines(&mut piece, &mut sink, journal);
-    source.write_to(rt, &mut sink, so_far)
+    let so_far = write_journal_lines(piece, sink, journal);
+    source.write_to(rt, sink, so_far)
 }
 
 /// Starts the thread that writes the text.
@@ -64,13 +68,18 @@ fn start_writing<'s, E, R: Print + Threads + Wait + Sync>(
             requires empty { piece.items ≡ [] }
             requires room { PIECE_BYTES ≤ vec_capacity piece }
             requires unread { IsUnread source }
-        { write_text(rt, journal, piece, source) },
+        {
+            let mut piece = piece;
+            let mut source = source;
+            let mut sink = ToWriter::new(io::writer(rt));
+            write_text(rt, &mut sink, journal, &mut piece, &mut source)
+        },
     );
     started.ok()
 }
 
 /// Makes what stands behind the journal while another thread makes and writes the journal, and lets it go while that
-/// thread writes the last of it. It comes back where there is no memory for the pieces or no thread.
+/// thread still writes. It comes back where there is no memory for the pieces or no thread.
 fn print_beside<'s, E, R: Print + AllocGlobal + Threads + Wait + Sync>(
     scope: &Scope<'s, E>,
     rt: &'s R,
@@ -93,9 +102,10 @@ fn print_beside<'s, E, R: Print + AllocGlobal + Threads + Wait + Sync>(
     };
     let mut piece = second;
     let mut sink = sink;
-    let made = write_behind_journal(&mut piece, &mut sink, rulebook, &behind.fills, &behind.out);
+    let BehindJournal { fills, out } = behind;
+    let made = write_behind_journal(&mut piece, &mut sink, rulebook, fills, &out);
     sink.end();
-    drop(behind);
+    drop(out);
     let written = writing.join(rt);
     match (made, written) {
         (Ok(()), Ok(())) => Ok(Ok(())),

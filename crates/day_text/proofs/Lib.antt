@@ -1,3 +1,4 @@
 pub mod MonthLines
 pub mod FirstLines
 pub mod JournalLines
+pub mod PartsInTurn

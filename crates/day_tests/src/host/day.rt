@@ -88,10 +88,9 @@ fn expect_parts(rt: &impl Abort, alloc: Global, rules: &Rulebook, day: &Day<Glob
     let mut piece = Vec::with_capacity(alloc, 512).expect(rt, "memory");
     write_journal_lines(&mut piece, &mut sink, &day.journal).expect(rt, "a sink that works");
     holds(rt, sink.bytes() == want.alone);
-    write_behind_journal(&mut piece, &mut sink, rules, &day.fills, &day.out).expect(
-        rt,
-        "a sink that works",
-    );
+    let fills = day.fills.to_vec(alloc).expect(rt, "memory");
+    let behind = write_behind_journal(&mut piece, &mut sink, rules, fills, &day.out);
+    holds(rt, behind.is_ok());
     holds(rt, sink.bytes() == want.whole);
 }
 
