@@ -1,5 +1,5 @@
 use Rattle.message_lines.specs.Messages.{texts_of, outgoing_lines_from}
-use Rattle.text_pieces.proofs.PiecesInTurn.{front_of_more, write_stops}
+use Rattle.text_pieces.proofs.PiecesInTurn.{front_of_more, write_stops, none_on_err}
 use Rattle.day_text.specs.code.LineParts.{totals_lines}
 use Rattle.day_text.proofs.PartsInTurn.{then_writes}
 use Rattle.day_text.proofs.day_text.write_behind_fills.Goals as goal
@@ -11,6 +11,7 @@ returns-in_err-write_sessions g c =
       writes = write_stops _ c.from_residual.result c.from_residual.ensures.1 c.in_err-write_sessions.ensures.writes.failed
           (front_of_more (told c.args.sink.now) (told c.write_sessions.new.sink) (outgoing_lines_from 0 (texts_of c.args.out.now)) (totals_lines c.args.rulebook.now c.args.totals.now)
           c.in_err-write_sessions.ensures.writes.front);
+      emptied = none_on_err _ _ c.from_residual.result c.from_residual.ensures.1;
     }
 
 pub returns : goal.returns
@@ -19,4 +20,5 @@ returns g c =
     record {
       writes = then_writes c.write_months.result (told c.args.sink.now) (told c.write_sessions.new.sink) (told c.write_months.new.sink) (g.K.TakesPieces.has_failed c.write_months.new.sink)
           (outgoing_lines_from 0 (texts_of c.args.out.now)) (totals_lines c.args.rulebook.now c.args.totals.now) c.in_ok-write_sessions.ensures.writes.all c.write_months.ensures.writes;
+      emptied = c.write_months.ensures.emptied;
     }

@@ -10,7 +10,7 @@ use Rattle.spread_rulebook.specs.Rulebook.{names_of}
 use Rattle.day_text.specs.Months.{month_lines}
 use Rattle.day_text.specs.code.LineParts.{totals_lines}
 use Rattle.text_pieces.specs.code.Pieces.{Writes}
-use Rattle.text_pieces.proofs.PiecesInTurn.{front_of_more, write_stops}
+use Rattle.text_pieces.proofs.PiecesInTurn.{front_of_more, write_stops, none_on_err}
 use Rattle.day_text.proofs.MonthLines.{lines_of_fills}
 use Rattle.day_text.proofs.PartsInTurn.{then_writes, behind_first}
 use Rattle.day_text.proofs.day_text.write_behind_journal.Goals as goal
@@ -26,6 +26,7 @@ returns-in_err-write_fill_lines g c =
       writes = write_stops _ c.from_residual.result c.from_residual.ensures.1 c.in_err-write_fill_lines.ensures.writes.failed
           (front_of_more (told c.args.sink.now) (told c.write_fill_lines.new.sink) (fills ++ lines) (month_lines rules c.args.fills.items)
           (front_of_more (told c.args.sink.now) (told c.write_fill_lines.new.sink) fills lines out));
+      emptied = none_on_err _ _ c.from_residual.result c.from_residual.ensures.1;
     }
 
 pub returns : goal.returns
@@ -45,4 +46,5 @@ returns g c =
           (behind_first fills lines (totals_lines rules c.write_fill_lines.new.totals) ∙ ap (λ (t : List ℕ). fills ++ lines ++ t) same)
           (then_writes last.result (told c.args.sink.now) (told c.write_fill_lines.new.sink) (told last.new.sink) (g.K.TakesPieces.has_failed last.new.sink)
           fills (lines ++ totals_lines rules c.write_fill_lines.new.totals) first last.ensures.writes);
+      emptied = last.ensures.emptied;
     }

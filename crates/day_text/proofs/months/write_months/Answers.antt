@@ -8,4 +8,5 @@ returns g c =
     record {
       writes = put_and_given c.take.result (told c.args.sink.now) (told c.put_all.new.sink) (told c.take.new.self) (g.K.TakesPieces.has_failed c.take.new.self) c.args.piece.now.items c.put_all.new.piece.items
           (totals_lines c.args.rulebook.now c.args.totals.now) c.requires.empty c.in_ok-put_all.ensures.puts.put c.take.ensures.writes;
+      emptied = c.take.ensures.items;
     }
