@@ -1,4 +1,4 @@
-//! A day's text on standard output: one thread makes and writes the journal, and then writes what stands behind it,
+//! A day's text on standard output: one thread makes and writes the first half of the journal, and then writes the rest,
 //! which another makes meanwhile.
 #![tactic(auto)]
 
