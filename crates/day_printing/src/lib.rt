@@ -1,4 +1,4 @@
-//! A day's text on standard output: one thread makes and writes the first half of the journal, and then writes the rest,
+//! A day's text on standard output: one thread makes and writes the journal, and then writes what stands behind it,
 //! which another makes meanwhile.
 #![tactic(auto)]
 

@@ -1,16 +1,13 @@
-//! A day's text on standard output: another thread makes and writes the first half of the journal, while this one makes
-//! the second half and what stands behind it; then that one writes these.
-ghost use Rattle.std.specs.Prelude.{◌≡◌, ◌≤◌, ◌++◌, ◌/◌, [], IfOk, IfErr, take, drop, length, vec_capacity, false};
-ghost use Rattle.fill_lines.specs.Fills.{fill_lines};
-ghost use Rattle.message_lines.specs.Messages.{texts_of, outgoing_lines_from};
-ghost use Rattle.day_text.specs.Months.{month_lines};
-ghost use Rattle.day_text.specs.code.JournalParts.{journal_beginning, journal_end};
+//! A day's text on standard output: another thread makes and writes the journal, while this one makes what stands
+//! behind it; then that one writes it.
+ghost use Rattle.std.specs.Prelude.{◌≡◌, ◌≤◌, ◌++◌, [], IfOk, IfErr, vec_capacity, false};
+ghost use Rattle.journal_parts.specs.JournalText.{journal_text};
 ghost use Rattle.piece_ring.specs.Ends.{text_taken, IsUnread, IsRead};
 ghost use Rattle.text_pieces.specs.code.Pieces.{Writes};
 ghost use Rattle.text_pieces.specs.declared.pieces.TheConstants.{PIECE_BYTES};
 ghost use Rattle.day_printing.specs.Printing.{ArePrintable, IsPrintable};
 
-use day_text::{write_behind_journal, write_journal_beginning, write_journal_end};
+use day_text::{write_behind_journal, write_journal_lines};
 use piece_ring::{PieceSource, piece_ring};
 use spread_host::{Day, HostFault, write_day};
 use spread_rules::{Entry, Failed, Fill, Rulebook, Sink, ToWriter};
@@ -18,7 +15,7 @@ use std::alloc::{AllocError, Global};
 use std::sync::Wait;
 use std::thread::{JoinHandle, Scope, Threads};
 use std::{io, thread};
-use text_pieces::{PIECE_BYTES, TakesPieces};
+use text_pieces::PIECE_BYTES;
 
 /// What stands behind the journal in a day's text: the fills, and what each session is sent.
 #[derive(Drop)]
@@ -34,7 +31,7 @@ fn empty_piece(alloc: Global) -> Result<Vec<u8, Global>, AllocError>
     Vec::with_capacity(alloc, PIECE_BYTES)
 }
 
-/// Makes and writes the first half of the journal, and then writes the pieces of the text behind it as they come.
+/// Makes and writes the lines of the journal, and then writes the pieces of the text behind it as they come.
 fn write_text<R: Wait, K: Sink>(
     rt: &R,
     sink: &mut K,
@@ -47,35 +44,11 @@ fn write_text<R: Wait, K: Sink>(
     requires room { PIECE_BYTES ≤ vec_capacity piece.old }
     requires unread { IsUnread source.old }
     ensures writes { Writes result (K.written sink.old) (K.written sink.new) (K.has_failed sink.new)
-        (journal_beginning (take (length journal.now / 2) journal.now) ++ text_taken source.new) }
+        (journal_text journal.now ++ text_taken source.new) }
     ensures read { IsRead source.new }
 {
-    let (first, _) = journal.split_at(journal.len() / 2);
-    let so_far = write_journal_beginning(piece, sink, first);
+    let so_far = write_journal_lines(piece, sink, journal);
     source.write_to(rt, sink, so_far)
-}
-
-/// Makes the second half of the journal, and what stands behind it, and lets the fills go.
-fn make_rest<K: TakesPieces<Global>>(
-    piece: &mut Vec<u8, Global>,
-    sink: &mut K,
-    rulebook: &Rulebook,
-    journal: &[Entry],
-    fills: Vec<Fill, Global>,
-    out: &[Vec<u8, Global>],
-) -> Result<(), Failed>
-    requires works { K.has_failed sink.old ≡ false }
-    requires empty { piece.old.items ≡ [] }
-    requires room { PIECE_BYTES ≤ vec_capacity piece.old }
-    requires printable { ArePrintable rulebook.now fills.items out.now }
-    ensures writes { Writes result (K.written sink.old) (K.written sink.new) (K.has_failed sink.new)
-        (journal_end (drop (length journal.now / 2) journal.now) (length journal.now)
-        ++ (fill_lines rulebook.now fills.items ++ outgoing_lines_from 0 (texts_of out.now)
-        ++ month_lines rulebook.now fills.items)) }
-{
-    let (_, second) = journal.split_at(journal.len() / 2);
-    write_journal_end(piece, sink, second, journal.len() as u64)?;
-    write_behind_journal(piece, sink, rulebook, fills, out)
 }
 
 /// Starts the thread that writes the text.
@@ -105,9 +78,8 @@ fn start_writing<'s, E, R: Print + Threads + Wait + Sync>(
     started.ok()
 }
 
-/// Makes the journal's second half and what stands behind it while another thread makes and writes the first, and lets
-/// what stands behind it go while that thread still writes. It comes back where there is no memory for the pieces or no
-/// thread.
+/// Makes what stands behind the journal while another thread makes and writes the journal, and lets it go while that
+/// thread still writes. It comes back where there is no memory for the pieces or no thread.
 fn print_beside<'s, E, R: Print + AllocGlobal + Threads + Wait + Sync>(
     scope: &Scope<'s, E>,
     rt: &'s R,
@@ -131,7 +103,7 @@ fn print_beside<'s, E, R: Print + AllocGlobal + Threads + Wait + Sync>(
     let mut piece = second;
     let mut sink = sink;
     let BehindJournal { fills, out } = behind;
-    let made = make_rest(&mut piece, &mut sink, rulebook, journal, fills, &out);
+    let made = write_behind_journal(&mut piece, &mut sink, rulebook, fills, &out);
     sink.end();
     drop(out);
     let written = writing.join(rt);

@@ -1,3 +1,2 @@
 -- Words of the code alone: no public promise needs them to be read.
 pub mod LineParts
-pub mod JournalParts

@@ -10,7 +10,7 @@ mod months;
 pub use day_text::{Day, text_of_fills, write_behind_journal, write_day, write_fills};
 pub use difference::{Difference, first_difference};
 pub use fault::TextFault;
-pub use journal::{in_two_parts, write_journal_beginning, write_journal_end};
+pub use journal::write_journal_lines;
 pub use message_lines::write_sessions;
 pub use month_totals::{MonthTotals, add_fill, month_totals, no_totals};
 pub use months::put_months;

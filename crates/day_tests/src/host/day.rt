@@ -7,10 +7,7 @@ ghost use Rattle.message_lines.specs.Messages.{texts_of};
 use super::read_again;
 use crate::expect::holds;
 use crate::rules::three_months;
-use day_text::{
-    Day, in_two_parts, write_behind_journal, write_journal_beginning, write_journal_end,
-    write_sessions,
-};
+use day_text::{Day, write_behind_journal, write_journal_lines, write_sessions};
 use spread_host::{day_of, write_day};
 use spread_rules::{Rulebook, TestSink};
 use std::alloc::Global;
@@ -81,7 +78,7 @@ fn expect_sent(rt: &impl Abort, alloc: Global, day: &Day<Global>, room: usize, w
     holds(rt, sink.bytes() == want);
 }
 
-/// The two halves of the journal, and then what stands behind it, by way of a small piece.
+/// The journal, and then what stands behind it, by way of a small piece.
 fn expect_parts(rt: &impl Abort, alloc: Global, rules: &Rulebook, day: &Day<Global>, want: &Written)
     requires lists { length day.now.out.items ≤ 16 }
     requires rows { All IsFrameRow (texts_of day.now.out.items) }
@@ -89,12 +86,7 @@ fn expect_parts(rt: &impl Abort, alloc: Global, rules: &Rulebook, day: &Day<Glob
 {
     let mut sink = TestSink::new(alloc, 4096, 0).expect(rt, "memory");
     let mut piece = Vec::with_capacity(alloc, 512).expect(rt, "memory");
-    let entries = day.journal.len();
-    let (first, second) = day.journal.split_at(entries / 2);
-    let begun = write_journal_beginning(&mut piece, &mut sink, first);
-    begun.expect(rt, "a sink that works");
-    let ended = write_journal_end(&mut piece, &mut sink, second, entries as u64);
-    ended.expect(rt, "a sink that works");
+    write_journal_lines(&mut piece, &mut sink, &day.journal).expect(rt, "a sink that works");
     holds(rt, sink.bytes() == want.alone);
     let fills = day.fills.to_vec(alloc).expect(rt, "memory");
     let behind = write_behind_journal(&mut piece, &mut sink, rules, fills, &day.out);
@@ -127,11 +119,6 @@ fn expect_day(rt: &impl Abort, alloc: Global, rules: &Rulebook, want: &Written) 
     let journal = read_again(rt, alloc, want.journal);
     let day = day_of(alloc, rules, stamp(), journal).expect(rt, "a day");
     expect_written(rt, alloc, rules, &day, want);
-}
-
-#[test]
-fn law_is_called() {
-    in_two_parts();
 }
 
 #[test]

@@ -1,7 +1,6 @@
-use Rattle.std.proofs.Common.{◌++◌, List, ap, subst}
-use Rattle.day_text.specs.code.JournalParts.{journal_beginning}
+use Rattle.std.proofs.Common.{ap}
+use Rattle.journal_parts.specs.JournalText.{journal_text}
 use Rattle.piece_ring.specs.Ends.{text_taken}
-use Rattle.text_pieces.specs.code.Pieces.{Writes}
 use Rattle.text_pieces.proofs.PiecesInTurn.{on_err}
 use Rattle.day_printing.proofs.TextInTurn.{both_written}
 use Rattle.day_printing.proofs.printing.write_text.Goals as goal
@@ -9,10 +8,8 @@ use Rattle.day_printing.proofs.printing.write_text.Goals as goal
 pub returns-clause-writes : goal.returns-clause-writes
 returns-clause-writes g c =
     let told = λ (k : _). g.K.Sink.written k in
-    let first = c.write_journal_beginning-so_far in
+    let first = c.write_journal_lines-so_far in
     let last = c.write_to in
-    let taken = text_taken last.new.self in
-    subst (λ (es : List _). Writes last.result (told c.args.sink.now) (told last.new.sink) (g.K.Sink.has_failed last.new.sink) (journal_beginning es ++ taken)) c.split_at.ensures.front
-    (both_written first.result last.result (told c.args.sink.now) (told first.new.sink) (told last.new.sink) (g.K.Sink.has_failed first.new.sink) (g.K.Sink.has_failed last.new.sink)
-    (journal_beginning c.split_at.result.0.now) taken first.ensures.writes last.ensures.writes
-    (on_err first.result (λ kept. (kept.0, ap told kept.1)) last.ensures.kept))
+    both_written first.result last.result (told c.args.sink.now) (told first.new.sink) (told last.new.sink) (g.K.Sink.has_failed first.new.sink) (g.K.Sink.has_failed last.new.sink)
+    (journal_text c.args.journal.now) (text_taken last.new.self) first.ensures.writes last.ensures.writes
+    (on_err first.result (λ kept. (kept.0, ap told kept.1)) last.ensures.kept)
