@@ -1,11 +1,14 @@
 //! An entry told: what came of it, and how its order was traded.
+ghost use Rattle.std.specs.Option.{option_map};
 ghost use Rattle.std.specs.Prelude.{◌≡◌, ◌+◌, All, IfOk, IfSome, length};
 ghost use Rattle.spread_rules.specs.Candidates.{HasOrderPrice};
 ghost use Rattle.spread_rules.specs.Clearing.{removed};
 ghost use Rattle.spread_rules.specs.Journal.{FitsEntry};
+ghost use Rattle.spread_rules.specs.Meaning.{order_of};
+ghost use Rattle.spread_rulebook.specs.Rulebook.{find_symbol};
 ghost use Rattle.journal_matching.specs.Application.{meaning_behind};
-ghost use Rattle.explained_turns.specs.Explained.{AreTurns, HaveLegPrices};
-ghost use Rattle.explained_entries.specs.Told.{IsNewOrder, IsTrader, named_by, others_of, standing_at};
+ghost use Rattle.explained_turns.specs.Explained.{AreTurns, HaveLegPrices, IsBeyond};
+ghost use Rattle.explained_entries.specs.Told.{cleared, named_by, others_of, standing_at, trader_of};
 
 use crate::standing::{Standing, named_by, standing_at};
 use crate::told::{Told, Traded};
@@ -16,7 +19,8 @@ use std::alloc::Allocator;
 
 /// The order that a new order asks for.
 fn new_order(rulebook: &Rulebook, place: u64, session: u8, ticket: &Ticket) -> Option<Order>
-    ensures { IfSome result (IsNewOrder rulebook.now place session ticket.now) }
+    ensures { result
+        ≡ option_map (order_of place session ticket.now) (find_symbol rulebook.now ticket.now.symbol) }
 {
     let instrument = rulebook.find(ticket.symbol.bytes())?;
     Some(Order {
@@ -34,14 +38,13 @@ fn new_order(rulebook: &Rulebook, place: u64, session: u8, ticket: &Ticket) -> O
 /// The order with which an entry of that place trades, where it trades.
 fn trader_of(rulebook: &Rulebook, place: u64, entry: &Entry, outcome: &Outcome) -> Option<Order>
     requires { FitsEntry entry.now }
-    ensures trader { IfSome result
-        (IsTrader rulebook.now place entry.now.session entry.now.event outcome.now) }
+    ensures trader { result
+        ≡ trader_of rulebook.now place entry.now.session entry.now.event outcome.now }
     ensures small { IfSome result HasOrderPrice }
 {
     match (&entry.event, outcome) {
-        (Event::New(ticket), Outcome::Rested | Outcome::Filled | Outcome::Ended { .. }) => {
-            new_order(rulebook, place, entry.session, ticket)
-        }
+        (Event::New(_), Outcome::Refused(_)) => None,
+        (Event::New(ticket), _) => new_order(rulebook, place, entry.session, ticket),
         (Event::Replace { ticket, .. }, Outcome::Replaced(order)) if order.place == place => {
             Some(Order {
                 price: ticket.price,
@@ -82,13 +85,20 @@ pub fn tell<A: Allocator + Copy>(
         t.outcome ≡ (meaning_behind rulebook.now before.now entry.now).outcome) }
     ensures named { IfOk result (λ t. t.named ≡ named_by entry.now.session entry.now.event
         (standing_at rulebook.now before.now)) }
-    ensures trader { IfOk result (λ t. IfSome t.traded (λ x.
-        IsTrader rulebook.now (length before.now + 1) entry.now.session entry.now.event
-        t.outcome x.new)) }
+    ensures trader { IfOk result (λ t. option_map (λ x. x.new) t.traded
+        ≡ trader_of rulebook.now (length before.now + 1) entry.now.session entry.now.event
+        t.outcome) }
     ensures turns { IfOk result (λ t. IfSome t.traded (λ x. AreTurns rulebook.now x.new
         (others_of t.named (standing_at rulebook.now before.now)) x.explanation.turns.items)) }
     ensures small { IfOk result (λ t. IfSome t.traded (λ x.
         All HaveLegPrices x.explanation.turns.items)) }
+    ensures left { IfOk result (λ t. IfSome t.traded (λ x. x.explanation.left
+        ≡ (cleared rulebook.now x.new
+        (others_of t.named (standing_at rulebook.now before.now))).new.leaves)) }
+    ensures beyond { IfOk result (λ t. IfSome t.traded (λ x. IsBeyond rulebook.now
+        (cleared rulebook.now x.new (others_of t.named (standing_at rulebook.now before.now))).new
+        (cleared rulebook.now x.new (others_of t.named (standing_at rulebook.now before.now))).orders
+        x.explanation.beyond)) }
 {
     // Cites the ranges of a journal's orders, and that a rulebook is lawful.
     ranges();
