@@ -1,7 +1,5 @@
--- Which entry was explained, what was written, and why none was.
-use Rattle.std.specs.Prelude.{◌≡◌, ℕ, ◌<◌, ◌≤◌, ◌⊎◌, List, length, Option, Err}
-use Rattle.std.specs.Io.KnownBytes.{Appends}
-use Rattle.host_ends.specs.Ends.{AppendsPrefix}
+-- Which entry was explained, and why none was.
+use Rattle.std.specs.Prelude.{◌≡◌, ℕ, ◌<◌, ◌≤◌, ◌⊎◌, List, length, Err}
 use Rattle.spread_rules.specs.declared.event.Entry.{Entry}
 use Rattle.spread_journal.specs.JournalReading.{ReadsJournal}
 use Rattle.spread_journal.specs.Lawful.{IsTextOf}
@@ -12,16 +10,6 @@ use Rattle.day_explain.specs.declared.fault.ExplainFault.TheVariants as faults
 abbrev pub HasEntryAt : List ℕ → ℕ → Type 0
 HasEntryAt text place =
     (journal : List Entry) × IsTextOf text journal × (1 ≤ place) × (place ≤ length journal)
-
--- some words were written behind what stood there
-pub record IsSaid (old new : Option (List ℕ)) : Type 0 where
-  pub words : List ℕ
-  pub appended : Appends old new words
-
--- a front of some words was
-pub record IsPartSaid (old new : Option (List ℕ)) : Type 0 where
-  pub words : List ℕ
-  pub part : AppendsPrefix old new words
 
 -- the text is that of a journal that has none
 abbrev pub LacksEntryAt : List ℕ → ℕ → Type 0
