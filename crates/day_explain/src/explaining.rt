@@ -1,7 +1,6 @@
 //! The entry of a place, explained in words.
-ghost use Rattle.std.specs.Io.KnownBytes.{Appends};
-ghost use Rattle.std.specs.Prelude.{◌≡◌, ◌≢◌, List, ℕ, IfErr, IsErrOf, OnOk, true, false};
-ghost use Rattle.host_ends.specs.Ends.{AppendsPrefix};
+ghost use Rattle.std.specs.Prelude.{◌≡◌, ◌≢◌, IfErr, IsErrOf, OnOk, true, false};
+ghost use Rattle.host_ends.specs.Ends.{AppendsSome};
 ghost use Rattle.day_explain.specs.Faults.{HasEntryAt, IsExplainFault};
 ghost use Rattle.day_explain.specs.declared.fault.ExplainFault.{ExplainFault};
 
@@ -26,12 +25,10 @@ pub fn explain<K: Sink, A: Allocator + Copy>(
 ) -> Result<(), ExplainFault>
     requires { K.has_failed sink.old ≡ false }
     ensures explained { OnOk result (HasEntryAt text.now place) }
-    ensures said { OnOk result ((words : List ℕ)
-        × Appends (K.written sink.old) (K.written sink.new) words) }
+    ensures said { OnOk result (AppendsSome (K.written sink.old) (K.written sink.new)) }
     ensures sound { OnOk result (K.has_failed sink.new ≡ false) }
     ensures write { IsErrOf result ExplainFault.Write → (K.has_failed sink.new ≡ true)
-        × HasEntryAt text.now place
-        × ((words : List ℕ) × AppendsPrefix (K.written sink.old) (K.written sink.new) words) }
+        × HasEntryAt text.now place × AppendsSome (K.written sink.old) (K.written sink.new) }
     ensures nothing_written { IfErr result (λ f. f ≢ ExplainFault.Write → sink.new ≡ sink.old) }
     ensures fault { IfErr result (IsExplainFault text.now place) }
 {

@@ -1,7 +1,6 @@
 //! A journal text drawn: read again, applied again, its picture written.
-ghost use Rattle.std.specs.Io.KnownBytes.{Appends};
-ghost use Rattle.std.specs.Prelude.{◌≡◌, ◌≢◌, All, List, ℕ, IfErr, OnOk, IsErrOf, true, false};
-ghost use Rattle.host_ends.specs.Ends.{AppendsPrefix};
+ghost use Rattle.std.specs.Prelude.{◌≡◌, ◌≢◌, All, IfErr, OnOk, IsErrOf, true, false};
+ghost use Rattle.host_ends.specs.Ends.{AppendsSome};
 ghost use Rattle.day_picture.specs.Drawn.{IsRead, IsDrawFault};
 ghost use Rattle.day_picture.specs.declared.fault.DrawFault.{DrawFault};
 ghost use Rattle.spread_rules.specs.Journal.{FitsEntry};
@@ -40,12 +39,10 @@ pub fn draw<K: Sink, A: Allocator + Copy>(
 ) -> Result<(), DrawFault>
     requires { K.has_failed sink.old ≡ false }
     ensures read { OnOk result (IsRead text.now) }
-    ensures drawn { OnOk result ((picture : List ℕ)
-        × Appends (K.written sink.old) (K.written sink.new) picture) }
+    ensures drawn { OnOk result (AppendsSome (K.written sink.old) (K.written sink.new)) }
     ensures sound { OnOk result (K.has_failed sink.new ≡ false) }
     ensures write { IsErrOf result DrawFault.Write → (K.has_failed sink.new ≡ true)
-        × IsRead text.now
-        × ((picture : List ℕ) × AppendsPrefix (K.written sink.old) (K.written sink.new) picture) }
+        × IsRead text.now × AppendsSome (K.written sink.old) (K.written sink.new) }
     ensures nothing_written { IfErr result (λ f. f ≢ DrawFault.Write → sink.new ≡ sink.old) }
     ensures fault { IfErr result (IsDrawFault text.now) }
 {

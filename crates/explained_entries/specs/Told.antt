@@ -8,9 +8,9 @@ use Rattle.spread_rules.specs.declared.event.Event.{Event}
 use Rattle.spread_rules.specs.declared.event.Event.TheVariants.{New, Cancel, Replace}
 use Rattle.spread_rules.specs.declared.outcome.Outcome.{Outcome}
 use Rattle.spread_rules.specs.declared.outcome.Outcome.TheVariants.{Replaced, Refused}
-use Rattle.spread_rules.specs.Clearing.{Trading, clear, removed}
+use Rattle.spread_rules.specs.Clearing.{removed}
 use Rattle.spread_rules.specs.Meaning.{is_own, meaning_of_journal, order_of}
-use Rattle.spread_rulebook.specs.Rulebook.{Rules, find_symbol, implied, references_of}
+use Rattle.spread_rulebook.specs.Rulebook.{Rules, find_symbol}
 
 -- the orders that rest behind these entries
 abbrev pub standing_at : Rules → List Entry → List Order
@@ -27,8 +27,8 @@ abbrev pub others_of : Option Order → List Order → List Order
 others_of None xs = xs
 others_of (Some r) xs = removed r.place xs
 
--- The order with which an entry of that place trades, where it does: what a new order asks for that is not refused; of a
--- replace the order that takes the place of another and loses its own, at the price that it asks for.
+-- The order that an entry of that place brings to be matched, where it brings one: what a new order asks for that is
+-- not refused; of a replace the order that stands for another and loses its place, at the price that it asks for.
 abbrev pub trader_of : Rules → ℕ → ℕ → Event → Outcome → Option Order
 trader_of rules place session (New t) (Refused reason) = None
 trader_of rules place session (New t) _ =
@@ -36,7 +36,3 @@ trader_of rules place session (New t) _ =
 trader_of rules place session (Replace original t) (Replaced r) =
     if r.place == place then Some (record r { price = t.price }) else None
 trader_of rules place session _ _ = None
-
--- a new order traded against these, as far as it goes
-abbrev pub cleared : Rules → Order → List Order → Trading
-cleared rules n xs = clear (implied rules) (references_of rules) n xs

@@ -7,8 +7,8 @@ ghost use Rattle.spread_rules.specs.Journal.{FitsEntry};
 ghost use Rattle.spread_rules.specs.Meaning.{order_of};
 ghost use Rattle.spread_rulebook.specs.Rulebook.{find_symbol};
 ghost use Rattle.journal_matching.specs.Application.{meaning_behind};
-ghost use Rattle.explained_turns.specs.Explained.{AreTurns, HaveLegPrices, IsBeyond};
-ghost use Rattle.explained_entries.specs.Told.{cleared, named_by, others_of, standing_at, trader_of};
+ghost use Rattle.explained_turns.specs.Explained.{AreTurns, HaveLegPrices, LiesBeyond, after_all_turns};
+ghost use Rattle.explained_entries.specs.Told.{named_by, others_of, standing_at, trader_of};
 
 use crate::standing::{Standing, named_by, standing_at};
 use crate::told::{Told, Traded};
@@ -35,7 +35,7 @@ fn new_order(rulebook: &Rulebook, place: u64, session: u8, ticket: &Ticket) -> O
     })
 }
 
-/// The order with which an entry of that place trades, where it trades.
+/// The order that an entry of that place brings to be matched, where it brings one.
 fn trader_of(rulebook: &Rulebook, place: u64, entry: &Entry, outcome: &Outcome) -> Option<Order>
     requires { FitsEntry entry.now }
     ensures trader { result
@@ -93,12 +93,10 @@ pub fn tell<A: Allocator + Copy>(
     ensures small { IfOk result (λ t. IfSome t.traded (λ x.
         All HaveLegPrices x.explanation.turns.items)) }
     ensures left { IfOk result (λ t. IfSome t.traded (λ x. x.explanation.left
-        ≡ (cleared rulebook.now x.new
+        ≡ (after_all_turns rulebook.now x.new
         (others_of t.named (standing_at rulebook.now before.now))).new.leaves)) }
-    ensures beyond { IfOk result (λ t. IfSome t.traded (λ x. IsBeyond rulebook.now
-        (cleared rulebook.now x.new (others_of t.named (standing_at rulebook.now before.now))).new
-        (cleared rulebook.now x.new (others_of t.named (standing_at rulebook.now before.now))).orders
-        x.explanation.beyond)) }
+    ensures beyond { IfOk result (λ t. IfSome t.traded (λ x. LiesBeyond rulebook.now x.new
+        (others_of t.named (standing_at rulebook.now before.now)) x.explanation.beyond)) }
 {
     // Cites the ranges of a journal's orders, and that a rulebook is lawful.
     ranges();

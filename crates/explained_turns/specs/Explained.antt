@@ -71,13 +71,17 @@ pub record HaveLegPrices (t : Turn) : Type 0 where
 abbrev pub after_turns : Rules → Order → List Order → ℕ → Trading
 after_turns rules n xs k = turns (implied rules) (references_of rules) k (begin n xs)
 
+-- all turns of a new order against these
+abbrev pub after_all_turns : Rules → Order → List Order → Trading
+after_all_turns rules n xs = clear (implied rules) (references_of rules) n xs
+
 -- the turns of a new order against these, one after another, until there is no next candidate
 pub record AreTurns (rules : Rules) (n : Order) (xs : List Order) (ts : List Turn) : Type 0 where
   pub each :
       (k : ℕ) (d : Turn) → k < length ts → IsTurn rules (after_turns rules n xs k) (get_or ts k d)
   pub last : next_candidate (implied rules) (after_turns rules n xs (length ts)) ≡ None
   pub cleared :
-      after_turns rules n xs (length ts) ≡ clear (implied rules) (references_of rules) n xs
+      after_turns rules n xs (length ts) ≡ after_all_turns rules n xs
 
 -- ---- what lies beyond the limit
 
@@ -102,6 +106,11 @@ IsBeyond rules n xs (Some b) =
     (0 < n.leaves)
     × IsBest (implied rules) (without_limit n) xs (Some b.candidate)
     × (b.ticks ≡ ticks_between rules b.candidate.price n.price)
+
+-- what lies beyond the limit of a new order that had all its turns against these
+abbrev pub LiesBeyond : Rules → Order → List Order → Option Beyond → Type 0
+LiesBeyond rules n xs beyond =
+    IsBeyond rules (after_all_turns rules n xs).new (after_all_turns rules n xs).orders beyond
 
 -- ---- why a candidate ranks behind another
 

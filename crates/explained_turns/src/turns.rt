@@ -1,9 +1,8 @@
 //! The turns of a new order, one after another.
 ghost use Rattle.std.specs.Prelude.{◌≡◌, ◌-◌, All, IfOk, fold};
 ghost use Rattle.spread_rules.specs.Candidates.{HasOrderPrice, members};
-ghost use Rattle.spread_rules.specs.Clearing.{after_fill, clear};
-ghost use Rattle.spread_rulebook.specs.Rulebook.{implied, references_of};
-ghost use Rattle.explained_turns.specs.Explained.{AreTurns, HaveLegPrices, IsBeyond};
+ghost use Rattle.spread_rules.specs.Clearing.{after_fill};
+ghost use Rattle.explained_turns.specs.Explained.{AreTurns, HaveLegPrices, LiesBeyond, after_all_turns};
 ghost use Rattle.explained_turns.specs.code.Turns.{IsAfter};
 
 use crate::beyond::beyond_limit;
@@ -73,12 +72,9 @@ pub fn explain_order<A: Allocator + Copy>(
     requires limit { HasOrderPrice new.now }
     ensures turns { IfOk result (λ e. AreTurns rules.now new.now orders.items e.turns.items) }
     ensures small { IfOk result (λ e. All HaveLegPrices e.turns.items) }
-    ensures left { IfOk result (λ e. e.left
-        ≡ (clear (implied rules.now) (references_of rules.now) new.now orders.items).new.leaves) }
-    ensures beyond { IfOk result (λ e. IsBeyond rules.now
-        (clear (implied rules.now) (references_of rules.now) new.now orders.items).new
-        (clear (implied rules.now) (references_of rules.now) new.now orders.items).orders
-        e.beyond) }
+    ensures left { IfOk result (λ e.
+        e.left ≡ (after_all_turns rules.now new.now orders.items).new.leaves) }
+    ensures beyond { IfOk result (λ e. LiesBeyond rules.now new.now orders.items e.beyond) }
 {
     let mut orders = orders;
     let told = tell_turns(alloc, rules, &mut orders, new)?;
