@@ -5,5 +5,5 @@ mod phases;
 mod reports;
 mod sending;
 
-pub use intake_phases::{BenchFault, Beside, Measured};
+pub use bench_phases::{BenchFault, Beside, Measured};
 pub use phases::measure;

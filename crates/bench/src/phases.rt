@@ -1,10 +1,10 @@
 //! The phases by their names.
 ghost use Rattle.std.specs.Prelude.{◌≤◌, length, OnOk};
-ghost use Rattle.host_base.specs.declared.limits.TheConstants.{SESSIONS};
+ghost use Rattle.spread_rules_ids.specs.declared.limits.TheConstants.{SESSIONS};
 
 use crate::sending::time_report;
-use host_base::limits::SESSIONS;
-use intake_phases::{BenchFault, Measured, time_judge, time_scan};
+use spread_rules_ids::limits::SESSIONS;
+use bench_phases::{BenchFault, Measured, time_judge, time_scan};
 use match_phase::time_match;
 use ring_phases::{AtOnce, time_threads};
 use std::alloc::AllocGlobal;

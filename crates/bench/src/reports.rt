@@ -1,13 +1,13 @@
 //! What the sessions of an applied journal are sent.
 ghost use Rattle.std.specs.Prelude.{◌≤◌, length};
 
-use host_base::Id;
-use intake_phases::BenchFault;
+use spread_rules_ids::Id;
+use bench_phases::BenchFault;
 use spread_journal::JournalFault;
 use spread_report::{Desk, DeskFault};
 use spread_rules::{Entry, Fill, Outcome, Rulebook};
 use std::alloc::{AllocError, Allocator};
-use test_support::{fit_fills, fits_outcome};
+use tests_shared::{fit_fills, fits_outcome};
 
 /// All fills of a journal's entries, and each entry's outcome.
 #[derive(Drop)]

@@ -1,10 +1,10 @@
 //! What the sessions of a journal are sent, measured.
 ghost use Rattle.std.specs.Prelude.{◌≡◌, [], All};
 ghost use Rattle.spread_rules.specs.Journal.{FitsEntry};
-ghost use Rattle.market_state.specs.State.{empty_state};
+ghost use Rattle.spread_match_state.specs.State.{empty_state};
 
 use crate::reports::{Applied, send_all};
-use intake_phases::{BenchFault, Beside, Measured, RUNS, Timer, bytes_of, scanned};
+use bench_phases::{BenchFault, Beside, Measured, RUNS, Timer, bytes_of, scanned};
 use match_phase::{apply_entry, read_inputs};
 use spread_books::{Book, IndexBook};
 use spread_match::Market;

@@ -1,7 +1,7 @@
 //! What the command line asks for.
 use clap::error::ErrorKind;
 use clap::{ArgMatches, Error};
-use command_words::exchange_command;
+use exchange_words::exchange_command;
 use std::alloc::{AllocError, AllocGlobal, Global};
 use std::env::Env;
 use std::{env, io};

@@ -2,14 +2,14 @@
 use Rattle.std.proofs.Common.{◌≡◌, ◌∙◌, sym, ap, ℕ, ◌<◌, ◌≤◌, List, ◌++◌, length, inl, inr, arith, append-nil}
 use Rattle.std.proofs.lemmas.Bool.{cases_lt}
 use Rattle.spread_rules.specs.declared.event.Entry.{Entry}
-use Rattle.outbound_sessions.specs.Sessions.{session_text}
-use Rattle.session_rings.proofs.PartOfASession.{row_past}
-use Rattle.stage_rings.specs.Posting.{posted}
-use Rattle.day_apply.specs.Applied.{outgoing_bytes}
-use Rattle.day_apply.specs.Sending.{sending_rules, stamp_of}
-use Rattle.day_apply.proofs.HandedOn.{behind_at, behind_length}
-use Rattle.entry_posting.specs.code.Posting.{HasPosted, posted_at}
-use Rattle.entry_posting.specs.declared.posting.PostedEntries.{PostedEntries}
+use Rattle.spread_report_outbound.specs.Sessions.{session_text}
+use Rattle.gate_link_sessions.proofs.PartOfASession.{row_past}
+use Rattle.gate_link_stages.specs.Posting.{posted}
+use Rattle.apply_desk.specs.Applied.{outgoing_bytes}
+use Rattle.apply_desk.specs.Sending.{sending_rules, stamp_of}
+use Rattle.apply_desk.proofs.HandedOn.{behind_at, behind_length}
+use Rattle.live_matching.specs.code.Posting.{HasPosted, posted_at}
+use Rattle.live_matching.specs.declared.posting.PostedEntries.{PostedEntries}
 
 pub collected : {A : Type 0} (es : List Entry) (p : PostedEntries A) (out : ℕ → List ℕ) → HasPosted es p
     → ((s : ℕ) → s < length p.posters.items → out s ≡ posted_at p.posters.items s)

@@ -5,25 +5,25 @@ use Rattle.std.proofs.lemmas.Bool.{cases_eq}
 use mathlib.Core.List.{IsPrefix}
 use Rattle.spread_rules.specs.declared.event.Entry.{Entry}
 use Rattle.spread_rules.specs.Journal.{restricted}
-use Rattle.spread_rulebook.specs.Rulebook.{Rules}
+use Rattle.spread_rules_rulebook.specs.Rulebook.{Rules}
 use Rattle.gate_link.proofs.links.SeveralCalls.{prefix_trans}
-use Rattle.session_rings.proofs.PartOfASession.{row_other, row_same}
-use Rattle.session_rings.specs.Rows.{row}
+use Rattle.gate_link_sessions.proofs.PartOfASession.{row_other, row_same}
+use Rattle.gate_link_sessions.specs.Rows.{row}
 use Rattle.spread_rules.proofs.journals.SessionParts.{restricted-append}
-use Rattle.stage_rings.specs.Feeding.{Agrees}
-use Rattle.stage_rings.specs.Posting.{Finishes}
-use Rattle.day_apply.specs.Applied.{IsApplyFault}
-use Rattle.journal_matching.specs.declared.fault.ApplyFault.{ApplyFault}
-use Rattle.journal_matching.specs.declared.fault.ApplyFault.TheVariants.{NoMemory, NumbersSpent}
-use Rattle.session_threads.specs.Streams.{IsBeginningOf, whole_at}
-use Rattle.session_threads.specs.code.Sequencing.{SequenceEnds}
-use Rattle.writer_threads.specs.code.Writing.{AreJoinedPairs}
-use Rattle.session_threads.specs.declared.sequencing.Sequenced.{Sequenced}
-use Rattle.session_threads.specs.declared.sequencing.SequenceEnd.{SequenceEnd}
-use Rattle.writer_threads.specs.declared.writing.Written.{Written}
-use Rattle.stage_rings.specs.Feeding.{taken}
-use Rattle.stage_rings.specs.Posting.{ArePostPair}
-use Rattle.stage_rings.specs.declared.post.Poster.{Poster}
+use Rattle.gate_link_stages.specs.Feeding.{Agrees}
+use Rattle.gate_link_stages.specs.Posting.{Finishes}
+use Rattle.apply_desk.specs.Applied.{IsApplyFault}
+use Rattle.apply_market.specs.declared.fault.ApplyFault.{ApplyFault}
+use Rattle.apply_market.specs.declared.fault.ApplyFault.TheVariants.{NoMemory, NumbersSpent}
+use Rattle.live_sessions.specs.Streams.{IsBeginningOf, whole_at}
+use Rattle.live_sessions.specs.code.Sequencing.{SequenceEnds}
+use Rattle.live_writers.specs.code.Writing.{AreJoinedPairs}
+use Rattle.live_sessions.specs.declared.sequencing.Sequenced.{Sequenced}
+use Rattle.live_sessions.specs.declared.sequencing.SequenceEnd.{SequenceEnd}
+use Rattle.live_writers.specs.declared.writing.Written.{Written}
+use Rattle.gate_link_stages.specs.Feeding.{taken}
+use Rattle.gate_link_stages.specs.Posting.{ArePostPair}
+use Rattle.gate_link_stages.specs.declared.post.Poster.{Poster}
 use Rattle.day_conclusion.specs.Streams.{IsThreadsFault}
 use Rattle.day_conclusion.specs.code.Concluding.{IsFaultOfEnds}
 use Rattle.day_stages.specs.code.Making.{of_apply}
@@ -31,9 +31,9 @@ use Rattle.matching_turns.specs.code.Matching.{MatchEnds}
 use Rattle.day_stages.specs.declared.fault.ThreadsFault.{ThreadsFault}
 use Rattle.day_stages.specs.declared.fault.ThreadsFault.TheVariants as threads
 use Rattle.matching_turns.specs.declared.turns.Matched.{Matched}
-use Rattle.entry_posting.specs.declared.step.MatchEnd.{MatchEnd}
-use Rattle.entry_posting.specs.declared.step.MatchEnd.TheVariants.{Fault}
-use Rattle.day_apply.specs.Sending.{sending_rules}
+use Rattle.live_matching.specs.declared.step.MatchEnd.{MatchEnd}
+use Rattle.live_matching.specs.declared.step.MatchEnd.TheVariants.{Fault}
+use Rattle.apply_desk.specs.Sending.{sending_rules}
 
 pub agrees_prefix : (b ended : Bool) (gave took : List Entry) → Agrees b ended gave took → IsPrefix took gave
 agrees_prefix true ended gave took h = ([], append-nil took ∙ h.1)

@@ -1,15 +1,15 @@
 -- The day of streams in threads, and why it has none.
 use Rattle.std.specs.Prelude.{◌≡◌, ℕ, ◌+◌, ◌<◌, ◌≤◌, ◌⊎◌, List, length, Vec}
-use Rattle.host_base.specs.declared.limits.TheConstants.{SESSIONS}
+use Rattle.spread_rules_ids.specs.declared.limits.TheConstants.{SESSIONS}
 use Rattle.spread_rules.specs.Journal.{restricted}
 use Rattle.spread_rules.specs.Meaning.{meaning_of_journal}
-use Rattle.spread_rulebook.specs.Rulebook.{Rules}
-use Rattle.outbound_sessions.specs.Rows.{IsRow}
+use Rattle.spread_rules_rulebook.specs.Rulebook.{Rules}
+use Rattle.spread_report_outbound.specs.Rows.{IsRow}
 use Rattle.spread_report.specs.Messages.{messages_to}
-use Rattle.outbound_sessions.specs.Sessions.{bytes_of}
-use Rattle.day_apply.specs.Applied.{IsPlaceOf, IsSpentOf, applied_entries, outgoing_bytes}
+use Rattle.spread_report_outbound.specs.Sessions.{bytes_of}
+use Rattle.apply_desk.specs.Applied.{IsPlaceOf, IsSpentOf, applied_entries, outgoing_bytes}
 use Rattle.gate_link.specs.Opening.{IsRefusal}
-use Rattle.session_threads.specs.Streams.{IsBeginningOf, all_events, whole_at}
+use Rattle.live_sessions.specs.Streams.{IsBeginningOf, all_events, whole_at}
 use Rattle.day_stages.specs.declared.fault.ThreadsFault.{ThreadsFault}
 use Rattle.day_stages.specs.declared.fault.ThreadsFault.TheVariants.{Link, Spawn, JournalFull, NoMemory, NumbersSpent}
 use Rattle.day_conclusion.specs.declared.conclusion.SessionsDay.{SessionsDay}

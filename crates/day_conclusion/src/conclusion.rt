@@ -1,20 +1,20 @@
 //! A day from the joined parts of its threads.
 ghost use Rattle.std.specs.Prelude.{◌≡◌, ◌≤◌, ◌<◌, ℕ, length, true, IfOk, IfErr, IfSome, IfNone, vec_len};
-ghost use Rattle.outbound_sessions.specs.Sessions.{bytes_of};
-ghost use Rattle.day_apply.specs.Sending.{sending_rules, stamp_of};
+ghost use Rattle.spread_report_outbound.specs.Sessions.{bytes_of};
+ghost use Rattle.apply_desk.specs.Sending.{sending_rules, stamp_of};
 ghost use Rattle.day_conclusion.specs.Streams.{IsDayOfSessions, IsThreadsFault};
 ghost use Rattle.day_conclusion.specs.code.Concluding.{AreJoined, IsFaultOfEnds, IsWhole};
-ghost use Rattle.entry_posting.specs.declared.step.MatchEnd.TheVariants as matched_end;
-ghost use Rattle.entry_posting.specs.code.Posting.{posted_at};
-ghost use Rattle.session_threads.specs.declared.sequencing.SequenceEnd.TheVariants as sequence_end;
-ghost use Rattle.writer_threads.specs.code.Writing.{AreJoinedPairs, written_at};
+ghost use Rattle.live_matching.specs.declared.step.MatchEnd.TheVariants as matched_end;
+ghost use Rattle.live_matching.specs.code.Posting.{posted_at};
+ghost use Rattle.live_sessions.specs.declared.sequencing.SequenceEnd.TheVariants as sequence_end;
+ghost use Rattle.live_writers.specs.code.Writing.{AreJoinedPairs, written_at};
 
-use day_apply::FillsAndMessages;
+use apply_desk::FillsAndMessages;
 use day_stages::{ThreadsFault, of_apply};
-use entry_posting::{MatchEnd, PostedEntries};
+use live_matching::{MatchEnd, PostedEntries};
 use gate_link::{Poster, agree, finished};
 use matching_turns::Matched;
-use session_threads::{GivenStreams, SequenceEnd, Sequenced, Written};
+use live_sessions::{GivenStreams, SequenceEnd, Sequenced, Written};
 use spread_rules::Entry;
 use std::alloc::Allocator;
 

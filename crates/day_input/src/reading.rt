@@ -1,16 +1,16 @@
 //! A source of day lines, read to its end, to its journal.
 ghost use Rattle.std.specs.Prelude.{◌≡◌, ◌≢◌, ◌⊎◌, ◌+◌, ◌<◌, ◌≤◌, length, take, [], true, false, IfOk, IfErr, OnOk, OnErr, IfSome, IfNone, IsErrOf};
 ghost use Rattle.std.specs.Io.KnownBytes.{Consumes, IsAtEnd, Keeps};
-ghost use Rattle.host_base.specs.declared.limits.TheConstants.{MAX_INPUT_BYTES};
-ghost use Rattle.host_ends.specs.Ends.{TakesAtMost};
-ghost use Rattle.fix_frames.specs.Texts.{with_soh};
+ghost use Rattle.spread_rules_ids.specs.declared.limits.TheConstants.{MAX_INPUT_BYTES};
+ghost use Rattle.spread_rules_ends.specs.Ends.{TakesAtMost};
+ghost use Rattle.fix_wire_frames.specs.Texts.{with_soh};
 ghost use Rattle.spread_rules.specs.Journal.{IsLawful};
-ghost use Rattle.day_lines.specs.Reading.{IsJournalOf, HasParts, IsLinesFault};
-ghost use Rattle.day_lines.specs.code.PiecesRead.{HasRead, IsReading};
+ghost use Rattle.intake_lines.specs.Reading.{IsJournalOf, HasParts, IsLinesFault};
+ghost use Rattle.intake_lines.specs.code.PiecesRead.{HasRead, IsReading};
 
-use day_lines::{DayReader, LinesFault};
-use host_base::limits::MAX_INPUT_BYTES;
-use host_ends::{Failed, Source};
+use intake_lines::{DayReader, LinesFault};
+use spread_rules_ids::limits::MAX_INPUT_BYTES;
+use spread_rules_ends::{Failed, Source};
 use spread_rules::Entry;
 use std::alloc::Allocator;
 

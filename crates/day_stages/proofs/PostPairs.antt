@@ -3,14 +3,14 @@ use Rattle.std.proofs.Common.{◌≡◌, ◌∙◌, sym, ap, ◌<◌, ◌≤◌,
 use Rattle.std.proofs.lemmas.List.{get_or_append_left, get_or_push, get_or_default, get_or-map, get_or_past, length-map}
 use Rattle.std.proofs.lemmas.Bool.{cases_lt}
 use Rattle.std.specs.declared.thread.PromisedHandle.{PromisedHandle}
-use Rattle.session_rings.proofs.inboxes.OneMore.{snoc_cases}
-use Rattle.stage_rings.specs.declared.post.Poster.{Poster}
-use Rattle.stage_rings.specs.declared.post.Writer.{Writer}
-use Rattle.stage_rings.specs.Posting.{post_ended, ArePostPair, SamePoster, SameWriter}
-use Rattle.entry_posting.specs.code.Posting.{NoneEnded, SamePosters}
-use Rattle.writer_threads.specs.code.Writing.{AreJoinedPairs, ArePostPairs, AreWriting, AreWritten}
-use Rattle.writer_threads.specs.declared.writing.Written.{Written}
-use Rattle.writer_threads.specs.declared.writing.WritePromise.{WritePromise}
+use Rattle.gate_link_sessions.proofs.inboxes.OneMore.{snoc_cases}
+use Rattle.gate_link_stages.specs.declared.post.Poster.{Poster}
+use Rattle.gate_link_stages.specs.declared.post.Writer.{Writer}
+use Rattle.gate_link_stages.specs.Posting.{post_ended, ArePostPair, SamePoster, SameWriter}
+use Rattle.live_matching.specs.code.Posting.{NoneEnded, SamePosters}
+use Rattle.live_writers.specs.code.Writing.{AreJoinedPairs, ArePostPairs, AreWriting, AreWritten}
+use Rattle.live_writers.specs.declared.writing.Written.{Written}
+use Rattle.live_writers.specs.declared.writing.WritePromise.{WritePromise}
 
 pub posts_snoc : {A : Type 0} (ps : List (Poster A)) (ws : List (Writer A)) (p : Poster A) (w : Writer A) → ArePostPairs ps ws → ArePostPair p w → ArePostPairs (ps ++ p ∷ []) (ws ++ w ∷ [])
 posts_snoc ps ws p w pairs here =

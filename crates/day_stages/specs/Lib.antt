@@ -1,3 +1,3 @@
 pub mod Limits
 pub mod code
-pub use Rattle.entry_posting.specs.Sending
+pub use Rattle.live_matching.specs.Sending

@@ -2,7 +2,7 @@
 ghost use Rattle.std.specs.Prelude.{◌≡◌};
 ghost use Rattle.day_stages.specs.code.Making.{of_apply};
 
-use entry_posting::ApplyFault;
+use live_matching::ApplyFault;
 use gate_link::LinkFault;
 
 /// Why threads gave no day.

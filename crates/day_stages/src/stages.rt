@@ -1,18 +1,18 @@
 //! What the threads of a day work with, made before any of them is started.
 ghost use Rattle.std.specs.Prelude.{◌≡◌, ℕ, [], length, IfOk, IfErr, OnOk, vec_len};
-ghost use Rattle.entry_posting.specs.Sending.{sending_rules, stamp_of};
-ghost use Rattle.stage_rings.specs.Faults.{IsRingRefusal, IsRingSize};
+ghost use Rattle.live_matching.specs.Sending.{sending_rules, stamp_of};
+ghost use Rattle.gate_link_stages.specs.Faults.{IsRingRefusal, IsRingSize};
 ghost use Rattle.day_stages.specs.Limits.{IsWithinLimits};
 ghost use Rattle.day_stages.specs.code.Making.{IsMade, IsStagesFault};
-ghost use Rattle.entry_posting.specs.code.Posting.{NoneEnded, posted_at};
-ghost use Rattle.writer_threads.specs.code.Writing.{ArePostPairs};
+ghost use Rattle.live_matching.specs.code.Posting.{NoneEnded, posted_at};
+ghost use Rattle.live_writers.specs.code.Writing.{ArePostPairs};
 
 use crate::fault::{ThreadsFault, of_apply};
-use entry_posting::{PostedEntries, ReportedEntries};
+use live_matching::{PostedEntries, ReportedEntries};
 use gate_link::{
     Feeder, Gateway, LinkFault, Matcher, Poster, Sequencer, Writer, feed_ring, link, post_ring,
 };
-use host_base::Id;
+use spread_rules_ids::Id;
 use spread_rules::Rulebook;
 use std::alloc::Allocator;
 

@@ -1,21 +1,21 @@
 //! A thread for each session, one that matches, and one for each writer, started in this order.
 ghost use Rattle.std.specs.Prelude.{◌≡◌, ◌≤◌, length, IfOk, IfErr, vec_len, vec_capacity};
 ghost use Rattle.day_start.specs.code.Starting.{AreReady, IsRunning, IsStartFault};
-ghost use Rattle.session_threads.specs.code.Handing.{IsRoom};
+ghost use Rattle.live_sessions.specs.code.Handing.{IsRoom};
 ghost use Rattle.day_stages.specs.declared.fault.ThreadsFault.TheVariants.{NoMemory, Spawn};
 
-use day_apply::FillsAndMessages;
+use apply_desk::FillsAndMessages;
 use day_stages::{Stages, ThreadsFault};
-use entry_posting::PostedEntries;
+use live_matching::PostedEntries;
 use gate_link::Sequencer;
 use match_thread::{MatchPromise, Matched, start_matching};
-use session_threads::{Gate, Shared, Started, Workers, join_all, start_all};
-use stage_rings::Feeder;
+use live_sessions::{Gate, Shared, Started, Workers, join_all, start_all};
+use gate_link_stages::Feeder;
 use std::alloc::{AllocError, Allocator};
 use std::sync::Wait;
 use std::sync::atomic::Ordering;
 use std::thread::{PromisedHandle, Scope, Threads};
-use writer_threads::{StartedWriters, Writing, join_writers, start_writers};
+use live_writers::{StartedWriters, Writing, join_writers, start_writers};
 
 /// A day all of whose threads were started: their handles, and what the sequencer works with.
 #[derive(Drop)]

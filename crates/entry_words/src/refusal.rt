@@ -1,6 +1,6 @@
 //! Why an entry was refused, and what that rests on.
 use crate::words::Words;
-use host_base::limits::MAX_ORDER_QTY;
+use spread_rules_ids::limits::MAX_ORDER_QTY;
 use spread_rules::codes::ord_status;
 use spread_rules::{Entry, Event, Id, Order, Ticket};
 use std::alloc::Allocator;

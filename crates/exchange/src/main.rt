@@ -2,8 +2,8 @@
 #![tactic(auto)]
 
 use command_line::{read_words, refuse, words_of};
-use commands::run;
-use fault_lines::tell;
+use exchange_commands::run;
+use exchange_faults::tell;
 use std::process::ExitCode;
 
 fn main(rt: HostRuntime) -> ExitCode {

@@ -6,4 +6,4 @@ mod reader;
 
 pub use pieces::read_pieces;
 pub use reader::Reader;
-pub use session_judging::{Ahead, Session, Verdict, laws};
+pub use fix_session_judging::{Ahead, Session, Verdict, laws};

@@ -1,8 +1,8 @@
 //! The messages of a stream that comes in pieces.
 ghost use Rattle.std.specs.Prelude.{◌≡◌, ◌<◌, ◌++◌, IfOk, OnOk, option_map, None};
-ghost use Rattle.fix_frames.specs.Frames.{frames};
-ghost use Rattle.fix_framer.specs.Pieces.{joined, IsDrained, SameSplit};
-ghost use Rattle.session_judging.specs.Reading.{first_message, after_passing, texts, IsBehind, HasJudged};
+ghost use Rattle.fix_wire_frames.specs.Frames.{frames};
+ghost use Rattle.fix_wire_framer.specs.Pieces.{joined, IsDrained, SameSplit};
+ghost use Rattle.fix_session_judging.specs.Reading.{first_message, after_passing, texts, IsBehind, HasJudged};
 
 use crate::reader::Reader;
 use spread_rules::NoMemory;

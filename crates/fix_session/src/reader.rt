@@ -1,19 +1,19 @@
 //! Reads one session's stream: it looks at a message, judges it and passes it.
 ghost use Rattle.std.specs.Prelude.{◌≡◌, ◌-◌, ◌<◌, ◌≤◌, length, take, drop, min, is_some, option_map, IfOk, OnOk};
 ghost use Rattle.std.specs.Bool.{OnTrue, OnFalse};
-ghost use Rattle.fix_framer.specs.declared.framer.TheConstants.{BUFFER_BYTES};
-ghost use Rattle.fix_frames.specs.Frames.{frames};
-ghost use Rattle.fix_frames.specs.Held.{first_frame, from_first_start};
-ghost use Rattle.fix_framer.specs.Pieces.{IsDrained};
-ghost use Rattle.session_judging.specs.Steps.{judge, ended, is_closed};
-ghost use Rattle.session_judging.specs.Reading.{ReaderState, new_reader, with_more, first_message, first_verdict, after_skipping, after_passing, Fed};
-ghost use Rattle.fix_framer.specs.FramePlaces.{FollowsFrames};
-ghost use Rattle.session_judging.specs.Ahead.{IsAhead, after_ahead};
-ghost use Rattle.session_judging.specs.code.Changes.{judgement_with};
+ghost use Rattle.fix_wire_framer.specs.declared.framer.TheConstants.{BUFFER_BYTES};
+ghost use Rattle.fix_wire_frames.specs.Frames.{frames};
+ghost use Rattle.fix_wire_frames.specs.Held.{first_frame, from_first_start};
+ghost use Rattle.fix_wire_framer.specs.Pieces.{IsDrained};
+ghost use Rattle.fix_session_judging.specs.Steps.{judge, ended, is_closed};
+ghost use Rattle.fix_session_judging.specs.Reading.{ReaderState, new_reader, with_more, first_message, first_verdict, after_skipping, after_passing, Fed};
+ghost use Rattle.fix_wire_framer.specs.FramePlaces.{FollowsFrames};
+ghost use Rattle.fix_session_judging.specs.Ahead.{IsAhead, after_ahead};
+ghost use Rattle.fix_session_judging.specs.code.Changes.{judgement_with};
 ghost use Rattle.fix_session.specs.code.ReaderFields.{IsKept};
 
-use fix_framer::{Framer, Next};
-use session_judging::{Ahead, Change, Session, Verdict, count_messages, judge_ahead};
+use fix_wire_framer::{Framer, Next};
+use fix_session_judging::{Ahead, Change, Session, Verdict, count_messages, judge_ahead};
 use spread_rules::{Entry, NoMemory};
 use std::alloc::{AllocError, Allocator};
 use std::marker::Model;
@@ -30,7 +30,7 @@ pub struct Reader {
 }
 
 impl Model for Reader {
-    ghost use Rattle.session_judging.specs.Reading.{ReaderState};
+    ghost use Rattle.fix_session_judging.specs.Reading.{ReaderState};
     ghost use Rattle.fix_session.specs.code.ReaderFields.{state_of, IsKept};
 
     ghost Value = { ReaderState };

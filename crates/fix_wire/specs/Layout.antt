@@ -1,11 +1,11 @@
 -- How a message is written, and that it is read back.
 use Rattle.std.specs.Prelude.{◌≡◌, ◌≢◌, ℕ, ◌%◌, ◌<◌, ◌≤◌, ◌^◌, Bool, true, if◌then◌else◌, Option, Some, None, option_map, take, List, [], ◌∷◌, ◌++◌, map, length, sum, decimal, unsigned_abs, codes}
 use Rattle.std.specs.List.{flat_map, AllByRecursion}
-use Rattle.host_base.specs.declared.bytes.TheConstants.{EQUALS, HYPHEN_MINUS, SOH}
-use Rattle.host_base.specs.declared.limits.TheConstants.{MAX_BODY_LENGTH}
-use Rattle.host_base.specs.Ids.{is_plain}
-use Rattle.fix_frames.specs.declared.frame.TheConstants.{MAX_TAG_DIGITS}
-use Rattle.fix_frames.specs.declared.tags.TheConstants as tags
+use Rattle.spread_rules_ids.specs.declared.bytes.TheConstants.{EQUALS, HYPHEN_MINUS, SOH}
+use Rattle.spread_rules_ids.specs.declared.limits.TheConstants.{MAX_BODY_LENGTH}
+use Rattle.spread_rules_ids.specs.Ids.{is_plain}
+use Rattle.fix_wire_frames.specs.declared.frame.TheConstants.{MAX_TAG_DIGITS}
+use Rattle.fix_wire_frames.specs.declared.tags.TheConstants as tags
 use Rattle.fix_wire.specs.declared.writer.Value.{Value}
 use Rattle.fix_wire.specs.declared.writer.Value.TheVariants.{Text, Number, Price, Pair}
 use Rattle.fix_wire.specs.declared.writer.Field as given
@@ -13,10 +13,10 @@ use Rattle.fix_wire.specs.declared.writer.Head.{Head}
 use Rattle.fix_wire.specs.declared.writer.SpelledHead.{SpelledHead}
 use Rattle.fix_wire.specs.declared.parties.SpelledParties.{SpelledParties}
 use Rattle.fix_wire.specs.declared.parties.TheConstants.{MAX_PARTIES_LENGTH}
-use Rattle.fix_values.specs.Values.{price_text}
-use Rattle.fix_frames.specs.Fields.{TagValue}
-use Rattle.fix_frames.specs.Frames.{begin_text, checksum_field, IsFrame, frames}
-use Rattle.fix_frames.specs.Messages.{fields}
+use Rattle.fix_wire_values.specs.Values.{price_text}
+use Rattle.fix_wire_frames.specs.Fields.{TagValue}
+use Rattle.fix_wire_frames.specs.Frames.{begin_text, checksum_field, IsFrame, frames}
+use Rattle.fix_wire_frames.specs.Messages.{fields}
 
 -- what a field's value is written as; a pair is `a-b`
 abbrev pub value_text : Value → List ℕ

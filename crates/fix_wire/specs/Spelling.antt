@@ -2,8 +2,8 @@
 -- `write_body` says by these words what it writes of a head that is spelled already.
 use Rattle.std.specs.Prelude.{ℕ, Bool, if◌then◌else◌, List, [], ◌∷◌, ◌++◌, take, decimal, codes, Option, Some, None, is_some}
 use Rattle.std.specs.List.{flat_map}
-use Rattle.host_base.specs.declared.bytes.TheConstants.{SOH}
-use Rattle.fix_frames.specs.Texts.{with_soh}
+use Rattle.spread_rules_ids.specs.declared.bytes.TheConstants.{SOH}
+use Rattle.fix_wire_frames.specs.Texts.{with_soh}
 use Rattle.fix_wire.specs.declared.parties.SpelledParties.{SpelledParties}
 use Rattle.fix_wire.specs.declared.writer.SpelledHead.{SpelledHead}
 use Rattle.fix_wire.specs.declared.writer.Field as given

@@ -1,13 +1,13 @@
 //! Laws over the definitions alone.
 ghost use Rattle.std.specs.Prelude.{◌≡◌, List, ℕ, ◌∷◌, ◌++◌, Some, None, false, ◌+◌, ◌<◌, length, drop};
-ghost use Rattle.fix_frames.specs.Frames.{IsFrame, frame_at, may_begin, frames};
-ghost use Rattle.fix_frames.specs.Held.{first_frame, from_first_start, after_first_frame};
-ghost use Rattle.fix_frames.specs.Messages.{fields};
+ghost use Rattle.fix_wire_frames.specs.Frames.{IsFrame, frame_at, may_begin, frames};
+ghost use Rattle.fix_wire_frames.specs.Held.{first_frame, from_first_start, after_first_frame};
+ghost use Rattle.fix_wire_frames.specs.Messages.{fields};
 ghost use Rattle.fix_wire.specs.Layout.{FitsMessage, all_fields, message_text};
 ghost use Rattle.fix_wire.specs.declared.writer.Head.{Head};
 ghost use Rattle.fix_wire.specs.declared.writer.Field.{Field};
 
-pub use fix_frames::laws::{frame_by_frame, msg_types, tags};
+pub use fix_wire_frames::laws::{frame_by_frame, msg_types, tags};
 
 /// The bytes that `next` lets go have no part in any frame, whatever follows; and what `pass` takes away is the first
 /// frame and nothing else.

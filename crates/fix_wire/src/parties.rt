@@ -2,9 +2,9 @@
 ghost use Rattle.fix_wire.specs.Layout.{SpellsParties};
 
 use crate::spelling::put_id;
-use fix_values::{put, put_byte};
-use host_base::Id;
-use host_base::bytes::SOH;
+use fix_wire_values::{put, put_byte};
+use spread_rules_ids::Id;
+use spread_rules_ids::bytes::SOH;
 
 /// The greatest length of the three fields.
 pub const MAX_PARTIES_LENGTH: usize = 108;

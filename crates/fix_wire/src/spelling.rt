@@ -2,22 +2,22 @@
 //! it ended: so the place stays in a register, which a list's own length would not.
 ghost use Rattle.std.specs.Prelude.{◌≡◌, ◌++◌, ◌∷◌, [], ◌<◌, ◌≤◌, ◌*◌, ◌+◌, ◌%◌, true, is_some, sum, set, take, drop, length, decimal, ◌/◌, ◌^◌};
 ghost use Rattle.std.specs.List.{flat_map, AllByRecursion};
-ghost use Rattle.host_base.specs.declared.limits.TheConstants.{MAX_ID_LENGTH};
-ghost use Rattle.fix_frames.specs.Frames.{begin_text, checksum_field};
-ghost use Rattle.host_base.specs.declared.bytes.TheConstants.{DIGIT_ZERO, EQUALS};
+ghost use Rattle.spread_rules_ids.specs.declared.limits.TheConstants.{MAX_ID_LENGTH};
+ghost use Rattle.fix_wire_frames.specs.Frames.{begin_text, checksum_field};
+ghost use Rattle.spread_rules_ids.specs.declared.bytes.TheConstants.{DIGIT_ZERO, EQUALS};
 ghost use Rattle.fix_wire.specs.declared.writer.Value.TheVariants.{Text};
-ghost use Rattle.host_base.specs.Ids.{is_plain};
+ghost use Rattle.spread_rules_ids.specs.Ids.{is_plain};
 ghost use Rattle.fix_wire.specs.Layout.{value_text, field_text, orig_time, summed_text, FitsValueOf, FitsValue};
 ghost use Rattle.fix_wire.specs.Spelling.{kind_text, orig_text, spelled, spelled_head, spelled_body};
 
 use crate::body::Body;
 use crate::parties::{MAX_PARTIES_LENGTH, PARTIES_ROOM, SpelledParties};
 use crate::writer::{Field, SpelledHead, Value};
-use fix_frames::{BEGIN_BYTES, BEGIN_TEXT, CHECKSUM_BYTES, checksum, checksum_digits};
-use fix_values::{put, put_byte, put_number, put_price};
-use host_base::Id;
-use host_base::bytes::SOH;
-use host_base::limits::MAX_ID_LENGTH;
+use fix_wire_frames::{BEGIN_BYTES, BEGIN_TEXT, CHECKSUM_BYTES, checksum, checksum_digits};
+use fix_wire_values::{put, put_byte, put_number, put_price};
+use spread_rules_ids::Id;
+use spread_rules_ids::bytes::SOH;
+use spread_rules_ids::limits::MAX_ID_LENGTH;
 
 /// An id. All 32 bytes that hold it are copied, since a length that is known costs less than a short one.
 #[inline(always)]

@@ -9,8 +9,8 @@ ghost use Rattle.fix_wire.specs.Spelling.{spelled_body};
 use crate::body::{Body, FieldList};
 use crate::parties::{MAX_PARTIES_LENGTH, SpelledParties};
 use crate::spelling::{put_checksum, put_summed};
-use host_base::Id;
-use host_ends::NoMemory;
+use spread_rules_ids::Id;
+use spread_rules_ends::NoMemory;
 use std::alloc::Allocator;
 
 /// What a field holds. A price is in hundredths and prints with two places; a pair prints as `a-b`.

@@ -1,9 +1,9 @@
 -- What `link` refuses.
 use Rattle.std.specs.Prelude.{ℕ, ◌<◌, ◌≤◌}
-use Rattle.host_base.specs.declared.limits.TheConstants.{SESSIONS, MAX_RING, MAX_JOURNAL_ENTRIES}
-use Rattle.stage_rings.specs.Faults.{Between, Outside}
-use Rattle.stage_rings.specs.declared.fault.LinkFault.{LinkFault}
-use Rattle.stage_rings.specs.declared.fault.LinkFault.TheVariants.{Sessions, Ring, NoMemory, Journal}
+use Rattle.spread_rules_ids.specs.declared.limits.TheConstants.{SESSIONS, MAX_RING, MAX_JOURNAL_ENTRIES}
+use Rattle.gate_link_stages.specs.Faults.{Between, Outside}
+use Rattle.gate_link_stages.specs.declared.fault.LinkFault.{LinkFault}
+use Rattle.gate_link_stages.specs.declared.fault.LinkFault.TheVariants.{Sessions, Ring, NoMemory, Journal}
 
 -- why a link was refused
 abbrev pub IsRefusal : LinkFault → ℕ → ℕ → ℕ → Type 0

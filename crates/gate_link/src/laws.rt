@@ -2,10 +2,10 @@
 ghost use Rattle.std.specs.Prelude.{◌≡◌, ℕ, ◌<◌, List, ◌∷◌, ◌++◌};
 ghost use Rattle.spread_rules.specs.declared.event.Event.{Event};
 ghost use Rattle.spread_rules.specs.Journal.{restricted};
-ghost use Rattle.session_judging.specs.Streams.{whole};
+ghost use Rattle.fix_session_judging.specs.Streams.{whole};
 ghost use Rattle.gate_link.specs.Schedules.{ScheduleStep, send, take, ScheduleState, no_events, Leads, IsClosed, IsInOrder, in_a_row, SentTogether, TakenTogether};
 
-pub use session_rings::laws::{owed, takes_more};
+pub use gate_link_sessions::laws::{owed, takes_more};
 
 /// In every schedule, of each session the journal has a beginning of what was sent, in its order, and that is a
 /// beginning of all its events. Once all were sent and taken, the three are equal.

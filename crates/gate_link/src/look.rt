@@ -1,9 +1,9 @@
 //! Over all gateways of a link: the first that is open.
 ghost use Rattle.std.specs.Prelude.{◌≤◌, length, IfSome, IfNone};
-ghost use Rattle.host_base.specs.declared.limits.TheConstants.{SESSIONS};
+ghost use Rattle.spread_rules_ids.specs.declared.limits.TheConstants.{SESSIONS};
 ghost use Rattle.gate_link.specs.Links.{AllClosed, IsFirstOpen};
 
-use session_rings::Gateway;
+use gate_link_sessions::Gateway;
 use std::alloc::Allocator;
 
 /// The first gateway that is not closed.

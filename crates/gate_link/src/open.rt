@@ -2,13 +2,13 @@
 ghost use Rattle.std.specs.Prelude.{◌≡◌, ◌≤◌, ◌<◌, [], IfOk, IfErr, vec_len};
 ghost use Rattle.gate_link.specs.Links.{IsLinkOf, journal_of, room_of, session_count};
 ghost use Rattle.gate_link.specs.Opening.{IsRefusal};
-ghost use Rattle.session_rings.specs.Fresh.{AreFresh};
-ghost use Rattle.stage_rings.specs.Faults.{Between};
+ghost use Rattle.gate_link_sessions.specs.Fresh.{AreFresh};
+ghost use Rattle.gate_link_stages.specs.Faults.{Between};
 
 use crate::sequencer::Sequencer;
-use host_base::limits::{MAX_JOURNAL_ENTRIES, MAX_RING, SESSIONS};
-use session_rings::{Gateway, rings};
-use stage_rings::LinkFault;
+use spread_rules_ids::limits::{MAX_JOURNAL_ENTRIES, MAX_RING, SESSIONS};
+use gate_link_sessions::{Gateway, rings};
+use gate_link_stages::LinkFault;
 use std::alloc::Allocator;
 
 /// The gateways of 1 to 16 sessions in their order, over rings of 1 to 4,096 events, and their sequencer, whose journal has

@@ -4,10 +4,10 @@ ghost use Rattle.spread_journal.specs.Lawful.{IsTextOf};
 ghost use Rattle.spread_match.specs.Sound.{IsEntryApplied, IsStateOf};
 ghost use Rattle.spread_rules.specs.Journal.{FitsEntry};
 ghost use Rattle.spread_rules.specs.Meaning.{JournalState};
-ghost use Rattle.spread_rulebook.specs.RulebookText.{ReadsRulebook};
-ghost use Rattle.market_state.specs.State.{empty_state};
+ghost use Rattle.spread_rules_rulebook.specs.RulebookText.{ReadsRulebook};
+ghost use Rattle.spread_match_state.specs.State.{empty_state};
 
-use intake_phases::{BenchFault, Beside, Measured, RUNS, Timer};
+use bench_phases::{BenchFault, Beside, Measured, RUNS, Timer};
 use spread_books::{Book, IndexBook};
 use spread_journal::read_journal;
 use spread_match::Market;

@@ -1,18 +1,18 @@
 //! The matching thread: what it promises, and its start.
 ghost use Rattle.std.specs.Prelude.{◌≡◌, IfSome};
 ghost use Rattle.matching_turns.specs.code.Matching.{HasMatched};
-ghost use Rattle.entry_posting.specs.code.Posting.{IsUnfed};
+ghost use Rattle.live_matching.specs.code.Posting.{IsUnfed};
 
-use entry_posting::PostedEntries;
+use live_matching::PostedEntries;
 use matching_turns::{Matched, match_all};
-use stage_rings::Matcher;
+use gate_link_stages::Matcher;
 use std::alloc::Allocator;
 use std::snapshot::Snapshot;
 use std::sync::Wait;
 use std::sync::atomic::AtomicBool;
 use std::thread;
 use std::thread::{Promise, PromisedHandle, Scope, Threads};
-use writer_threads::Gate;
+use live_writers::Gate;
 
 /// What it promises: its own ends of the rings, and what it made of the entries that it took.
 #[derive(Drop)]

@@ -1,17 +1,17 @@
 -- The two ends of the ring to the matching thread, and what each side hands back.
 use Rattle.std.proofs.Common.{◌≡◌, ◌∙◌, sym, subst, List, [], ◌∷◌, ◌++◌}
 use Rattle.spread_rules.specs.declared.event.Entry.{Entry}
-use Rattle.stage_rings.specs.Feeding.{AreFeedPair, SameFeeder, SameMatcher}
-use Rattle.stage_rings.specs.declared.feed.Feeder.{Feeder}
-use Rattle.stage_rings.specs.declared.feed.Matcher.{Matcher}
-use Rattle.entry_posting.specs.Applied.{IsApplyFault}
-use Rattle.spread_rulebook.specs.Rulebook.{Rules}
-use Rattle.entry_posting.specs.Sending.{sending_rules}
-use Rattle.entry_posting.specs.code.Posting.{HasPosted, StepEnds}
-use Rattle.entry_posting.specs.declared.posting.PostedEntries.{PostedEntries}
+use Rattle.gate_link_stages.specs.Feeding.{AreFeedPair, SameFeeder, SameMatcher}
+use Rattle.gate_link_stages.specs.declared.feed.Feeder.{Feeder}
+use Rattle.gate_link_stages.specs.declared.feed.Matcher.{Matcher}
+use Rattle.live_matching.specs.Applied.{IsApplyFault}
+use Rattle.spread_rules_rulebook.specs.Rulebook.{Rules}
+use Rattle.live_matching.specs.Sending.{sending_rules}
+use Rattle.live_matching.specs.code.Posting.{HasPosted, StepEnds}
+use Rattle.live_matching.specs.declared.posting.PostedEntries.{PostedEntries}
 use Rattle.matching_turns.specs.code.Matching.{MatchEnds}
-use Rattle.entry_posting.specs.declared.step.MatchEnd.{MatchEnd}
-use Rattle.entry_posting.specs.declared.step.MatchEnd.TheVariants.{Whole, Stopped, Fault}
+use Rattle.live_matching.specs.declared.step.MatchEnd.{MatchEnd}
+use Rattle.live_matching.specs.declared.step.MatchEnd.TheVariants.{Whole, Stopped, Fault}
 
 pub same_matcher_trans : {A : Type 0} (a b d : Matcher A) → SameMatcher a b → SameMatcher b d → SameMatcher a d
 same_matcher_trans a b d p q = ((q.0.0 ∙ p.0.0, q.0.1 ∙ p.0.1, q.0.2 ∙ p.0.2, q.0.3 ∙ p.0.3), q.1 ∙ p.1)

@@ -1,17 +1,17 @@
 //! The entries of a journal taken from a ring as they come, applied, and what they send given to the writers.
 ghost use Rattle.std.specs.Prelude.{◌≡◌, ◌≤◌, length};
-ghost use Rattle.entry_posting.specs.Sending.{sending_rules, stamp_of};
+ghost use Rattle.live_matching.specs.Sending.{sending_rules, stamp_of};
 ghost use Rattle.matching_turns.specs.code.Matching.{MatchEnds};
-ghost use Rattle.entry_posting.specs.code.Posting.{IsUnfed, SamePosters};
-ghost use Rattle.stage_rings.specs.Feeding.{SameMatcher, taken};
+ghost use Rattle.live_matching.specs.code.Posting.{IsUnfed, SamePosters};
+ghost use Rattle.gate_link_stages.specs.Feeding.{SameMatcher, taken};
 
-use entry_posting::{MatchEnd, PostedEntries, end_each, match_one};
+use live_matching::{MatchEnd, PostedEntries, end_each, match_one};
 use sequencer_turns::{found, rest};
-use stage_rings::{Lent, Matcher};
+use gate_link_stages::{Lent, Matcher};
 use std::alloc::Allocator;
 use std::sync::Wait;
 use std::sync::atomic::{AtomicBool, Ordering};
-use writer_threads::Gate;
+use live_writers::Gate;
 
 /// What the matching thread hands back.
 #[derive(Drop)]

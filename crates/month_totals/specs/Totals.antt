@@ -1,11 +1,11 @@
 -- What each month's fills sum to: lots bought and sold, money paid and received.
 use Rattle.std.specs.Prelude.{◌≡◌, ℕ, ◌<◌, ◌≤◌, List, get_or}
-use Rattle.host_base.specs.declared.limits.TheConstants.{MAX_MONTHS, MAX_ORDER_QTY}
-use Rattle.spread_rulebook.specs.declared.instrument.Instrument.{Instrument}
-use Rattle.spread_rulebook.specs.declared.instrument.Instrument.TheVariants.{Outright, Spread}
+use Rattle.spread_rules_ids.specs.declared.limits.TheConstants.{MAX_MONTHS, MAX_ORDER_QTY}
+use Rattle.spread_rules_rulebook.specs.declared.instrument.Instrument.{Instrument}
+use Rattle.spread_rules_rulebook.specs.declared.instrument.Instrument.TheVariants.{Outright, Spread}
 use Rattle.spread_rules.specs.declared.fill.Fill.{Fill}
 use Rattle.spread_rules.specs.Legs.{bought, sold, paid, received}
-use Rattle.spread_rulebook.specs.Prices.{IsLegPrice}
+use Rattle.spread_rules_rulebook.specs.Prices.{IsLegPrice}
 use Rattle.month_totals.specs.declared.totals.MonthTotals.{MonthTotals}
 
 -- what these fills sum to in a month

@@ -1,11 +1,11 @@
 //! What each month sums to: lots bought and sold, money paid and received.
 ghost use Rattle.std.specs.Prelude.{◌≡◌, ◌<◌, ◌≤◌, ◌^◌, All};
 ghost use Rattle.spread_rules.specs.Legs.{other_side};
-ghost use Rattle.spread_rulebook.specs.Prices.{IsLegPrice};
+ghost use Rattle.spread_rules_rulebook.specs.Prices.{IsLegPrice};
 ghost use Rattle.month_totals.specs.Totals.{AreTotals, IsSummable, IsBelow};
 ghost use Rattle.month_totals.specs.code.Sums.{plus_leg, with_leg, HasRoom, with_fill, empty_months};
 
-use host_base::limits::{MAX_MONTHS, MAX_ORDER_QTY};
+use spread_rules_ids::limits::{MAX_MONTHS, MAX_ORDER_QTY};
 use spread_rules::{Fill, Instrument, Side};
 
 /// The sums of one month over all legs: quantities in lots, and money in hundredths times lots.

@@ -1,1 +1,1 @@
-pub use Rattle.quote_tables.proofs.quotes
+pub use Rattle.spread_books_quotes.proofs.quotes

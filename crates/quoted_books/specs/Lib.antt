@@ -1,1 +1,1 @@
-pub use Rattle.quote_tables.specs.code
+pub use Rattle.spread_books_quotes.specs.code

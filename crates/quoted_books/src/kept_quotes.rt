@@ -1,16 +1,16 @@
 //! What is kept of the fronts of a book: what they cost, and the pairs of them that cost the least.
 ghost use Rattle.std.specs.Prelude.{◌≡◌, ◌≤◌, List, All, IfOk};
-ghost use Rattle.host_base.specs.declared.limits.TheConstants.{MAX_MONTHS};
+ghost use Rattle.spread_rules_ids.specs.declared.limits.TheConstants.{MAX_MONTHS};
 ghost use Rattle.spread_rules.specs.Candidates.{HasOrderPrice};
-ghost use Rattle.spread_rulebook.specs.Rulebook.{implied};
+ghost use Rattle.spread_rules_rulebook.specs.Rulebook.{implied};
 ghost use Rattle.spread_rules.specs.declared.order.Order.{Order};
-ghost use Rattle.candidate_search.specs.Listed.{IsInMonths};
-ghost use Rattle.quote_tables.specs.code.QuoteTable.{known_pair, no_quotes, AreQuotes, HasCome, HasLeft, IsOneWay, ChangesOneQueue, is_as_good};
-ghost use Rattle.quote_tables.specs.declared.quote_table.Change.TheVariants.{Came, Left};
+ghost use Rattle.spread_books_search.specs.Listed.{IsInMonths};
+ghost use Rattle.spread_books_quotes.specs.code.QuoteTable.{known_pair, no_quotes, AreQuotes, HasCome, HasLeft, IsOneWay, ChangesOneQueue, is_as_good};
+ghost use Rattle.spread_books_quotes.specs.declared.quote_table.Change.TheVariants.{Came, Left};
 
-use candidate_search::MonthPairs;
-use order_books::{Book, PairCost};
-use quote_tables::{Change, FrontCosts, QuoteTable};
+use spread_books_search::MonthPairs;
+use spread_books_heap::{Book, PairCost};
+use spread_books_quotes::{Change, FrontCosts, QuoteTable};
 use spread_rules::{Level, NoMemory, Order, Side};
 use std::alloc::Allocator;
 use std::marker::Model;
@@ -23,7 +23,7 @@ pub struct Quotes<A: Allocator + Copy> {
 }
 
 impl<A: Allocator + Copy> Model for Quotes<A> {
-    ghost use Rattle.quote_tables.specs.code.QuoteTable.{QuotesView};
+    ghost use Rattle.spread_books_quotes.specs.code.QuoteTable.{QuotesView};
 
     ghost Value = { QuotesView };
 

@@ -1,17 +1,17 @@
 //! A book that has the cheapest pairs of its fronts at hand.
 ghost use Rattle.std.specs.Prelude.{◌≡◌, ◌<◌, ◌^◌, [], IfOk, IfSome, true, length};
-ghost use Rattle.host_base.specs.declared.limits.TheConstants.{MAX_MONTHS};
-ghost use Rattle.spread_rulebook.specs.Rulebook.{implied};
-ghost use Rattle.resting_orders.specs.Pairs.{IsCheapest};
-ghost use Rattle.quote_tables.specs.code.PairsOn.{AreAllOn};
-ghost use Rattle.quote_tables.specs.code.QuoteTable.{IsListed};
+ghost use Rattle.spread_rules_ids.specs.declared.limits.TheConstants.{MAX_MONTHS};
+ghost use Rattle.spread_rules_rulebook.specs.Rulebook.{implied};
+ghost use Rattle.spread_books_plain.specs.Pairs.{IsCheapest};
+ghost use Rattle.spread_books_quotes.specs.code.PairsOn.{AreAllOn};
+ghost use Rattle.spread_books_quotes.specs.code.QuoteTable.{IsListed};
 
 use crate::kept_quotes::Quotes;
-use candidate_search::MonthPairs;
-use host_base::Id;
-use host_base::limits::MAX_PRICE;
-use order_books::{Book, FrontBook, PairCost};
-use quote_tables::{Change, is_all_on};
+use spread_books_search::MonthPairs;
+use spread_rules_ids::Id;
+use spread_rules_ids::limits::MAX_PRICE;
+use spread_books_heap::{Book, FrontBook, PairCost};
+use spread_books_quotes::{Change, is_all_on};
 use spread_rules::{Instrument, Level, NoMemory, Order, Rulebook, Side};
 use std::alloc::Allocator;
 use std::marker::Model;
@@ -30,9 +30,9 @@ pub struct QuotedBook<'r, A: Allocator + Copy> {
 }
 
 impl<'r, A: Allocator + Copy> Model for QuotedBook<'r, A> {
-    ghost use Rattle.spread_rulebook.specs.Rulebook.{implied};
-    ghost use Rattle.candidate_search.specs.BookView.{BookView};
-    ghost use Rattle.quote_tables.specs.code.QuoteTable.{KeepsQuotes};
+    ghost use Rattle.spread_rules_rulebook.specs.Rulebook.{implied};
+    ghost use Rattle.spread_books_search.specs.BookView.{BookView};
+    ghost use Rattle.spread_books_quotes.specs.code.QuoteTable.{KeepsQuotes};
 
     ghost Value = { BookView };
 

@@ -1,6 +1,6 @@
 //! Gateways, rings and the sequencer, in two threads.
 use gate_link::{Burst, Gateway, Sequencer, Step, Takes, Turn, link};
-use intake_phases::{BenchFault, Beside, Measured, PIECE, scanned};
+use bench_phases::{BenchFault, Beside, Measured, PIECE, scanned};
 use std::alloc::{AllocGlobal, Allocator, Global};
 use std::thread;
 use std::thread::{Threads, join_mut};

@@ -2,8 +2,8 @@
 ghost use Rattle.std.specs.Prelude.{◌≡◌, true};
 ghost use mathlib.Core.List.{IsPrefix};
 ghost use Rattle.gate_link.specs.Links.{SameLink, journal_of};
-ghost use Rattle.stage_rings.specs.Feeding.{given, SameFeeder};
-ghost use Rattle.stage_rings.specs.declared.feed.Give.TheVariants.{Level};
+ghost use Rattle.gate_link_stages.specs.Feeding.{given, SameFeeder};
+ghost use Rattle.gate_link_stages.specs.declared.feed.Give.TheVariants.{Level};
 ghost use Rattle.sequencer_turns.specs.code.Turning.{EndsTurns, RoundEnds};
 
 use crate::idle::{found, rest};

@@ -1,14 +1,14 @@
 -- The implied quote: what two resting orders together offer an order of one instrument and side, whatever its limit.
 use Rattle.std.specs.Prelude.{◌≡◌, ℤ, min, false, List, All, Option, Some, MatchOption}
-use Rattle.host_base.specs.declared.limits.TheConstants as limits
+use Rattle.spread_rules_ids.specs.declared.limits.TheConstants as limits
 use Rattle.spread_rules.specs.declared.order.Side.{Side}
-use Rattle.spread_rulebook.specs.declared.instrument.Instrument.{Instrument}
+use Rattle.spread_rules_rulebook.specs.declared.instrument.Instrument.{Instrument}
 use Rattle.spread_rules.specs.declared.order.Order.{Order}
 use Rattle.spread_rules.specs.declared.candidate.Candidate.{Candidate}
 use Rattle.spread_rules.specs.declared.candidate.Choice.{Choice}
 use Rattle.spread_rules.specs.declared.candidate.Counterparty.TheVariants.{Implied}
 use Rattle.spread_rules.specs.Candidates.{Pairs, AllStandIn, price_of, is_before, members_of, HasOrderPrice}
-use Rattle.candidate_search.specs.Listed.{IsInMonths, IsNearFirst}
+use Rattle.spread_books_search.specs.Listed.{IsInMonths, IsNearFirst}
 
 -- the implied candidate of two orders
 abbrev pub pair_at : Order → Order → ℤ → Candidate

@@ -4,6 +4,6 @@
 mod index;
 mod pair_quote;
 
-pub use candidate_search::best_candidate;
+pub use spread_books_search::best_candidate;
 pub use index::IndexBook;
-pub use order_books::{Book, FrontBook, HeapBook, ListBook, PairCost};
+pub use spread_books_heap::{Book, FrontBook, HeapBook, ListBook, PairCost};

@@ -3,8 +3,8 @@ ghost use Rattle.std.specs.Prelude.{◌≡◌, All};
 ghost use Rattle.spread_rules.specs.Candidates.{all_on, HasOrderPrice};
 ghost use Rattle.spread_books.specs.code.PairQuote.{IsQuoteOfFronts};
 
-use candidate_search::Queue;
-use order_books::Book;
+use spread_books_search::Queue;
+use spread_books_heap::Book;
 use spread_rules::{Choice, Counterparty, Instrument, Members, Order, Side, price_at};
 
 /// An order of that instrument and side, in all else like this one.

@@ -2,15 +2,15 @@
 use Rattle.std.proofs.Common.{◌≡◌, ℕ, ◌<◌, List, length}
 use Rattle.std.specs.Prelude.{IfOk, Result, Ok, Err}
 use Rattle.std.specs.List.{All}
-use Rattle.host_base.specs.declared.limits.TheConstants.{SESSIONS}
-use Rattle.spread_rulebook.specs.Rulebook.{Rules}
-use Rattle.fix_frames.specs.Frames.{IsFrameRow}
-use Rattle.outbound_sessions.specs.Rows.{IsRow}
+use Rattle.spread_rules_ids.specs.declared.limits.TheConstants.{SESSIONS}
+use Rattle.spread_rules_rulebook.specs.Rulebook.{Rules}
+use Rattle.fix_wire_frames.specs.Frames.{IsFrameRow}
+use Rattle.spread_report_outbound.specs.Rows.{IsRow}
 use Rattle.spread_report.specs.Messages.{messages_to}
-use Rattle.outbound_sessions.specs.Sessions.{bytes_of}
-use Rattle.day_apply.specs.Applied.{outgoing_bytes, applied_entries}
-use Rattle.message_lines.specs.Messages.{texts_of}
-use Rattle.day_text.specs.declared.day_text.Day.{Day}
+use Rattle.spread_report_outbound.specs.Sessions.{bytes_of}
+use Rattle.apply_desk.specs.Applied.{outgoing_bytes, applied_entries}
+use Rattle.text_messages.specs.Messages.{texts_of}
+use Rattle.text_day.specs.declared.day_text.Day.{Day}
 use Rattle.spread_host.specs.Headline.{HasOutgoing, IsDayOf}
 use Rattle.spread_host.proofs.SixteenTexts.{sessions_sent}
 

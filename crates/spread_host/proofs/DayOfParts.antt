@@ -1,17 +1,17 @@
 -- The day of a lawful journal, from its fills and from what each session is sent.
 use Rattle.std.proofs.Common.{◌≡◌, ℕ, ◌<◌, List, length, sym, subst, Vec, All}
-use Rattle.host_base.specs.declared.limits.TheConstants.{SESSIONS}
+use Rattle.spread_rules_ids.specs.declared.limits.TheConstants.{SESSIONS}
 use Rattle.spread_rules.specs.declared.event.Entry.{Entry}
 use Rattle.spread_rules.specs.declared.fill.Fill.{Fill}
 use Rattle.spread_rules.specs.Journal.{IsLawful}
 use Rattle.spread_rules.specs.Meaning.{meaning_of_journal}
 use Rattle.spread_rules.specs.Ranges.{IsFillInRange}
-use Rattle.spread_rulebook.specs.Rulebook.{Rules, IsRules}
-use Rattle.outbound_sessions.specs.Rows.{IsRow}
+use Rattle.spread_rules_rulebook.specs.Rulebook.{Rules, IsRules}
+use Rattle.spread_report_outbound.specs.Rows.{IsRow}
 use Rattle.spread_report.specs.Messages.{messages_to}
-use Rattle.outbound_sessions.specs.Sessions.{bytes_of}
-use Rattle.day_apply.specs.Applied.{outgoing_bytes, applied_entries}
-use Rattle.day_text.specs.DayText.{AreShown}
+use Rattle.spread_report_outbound.specs.Sessions.{bytes_of}
+use Rattle.apply_desk.specs.Applied.{outgoing_bytes, applied_entries}
+use Rattle.text_day.specs.DayText.{AreShown}
 use Rattle.spread_host.specs.Headline.{HasOutgoing, BoughtIsSold, PaidIsReceived, IsAlwaysQuiet, IsDayOf}
 use Rattle.spread_host.proofs.SixteenTexts.{all_texts, read_back_of}
 use Rattle.spread_host.proofs.FillsShown.{shown_of}

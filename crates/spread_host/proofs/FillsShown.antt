@@ -1,10 +1,10 @@
 -- Fills in range can be shown in a day's text.
 use Rattle.std.proofs.Common.{List, All, get_or}
 use Rattle.spread_rules.specs.declared.fill.Fill.{Fill}
-use Rattle.spread_rulebook.specs.Rulebook.{Rules}
+use Rattle.spread_rules_rulebook.specs.Rulebook.{Rules}
 use Rattle.spread_rules.specs.Ranges.{IsFillInRange}
 use Rattle.month_totals.specs.Totals.{IsSummable}
-use Rattle.day_text.specs.DayText.{AreShown}
+use Rattle.text_day.specs.DayText.{AreShown}
 
 summable_of : (rules : Rules) (f : Fill) → IsFillInRange rules f → IsSummable f
 summable_of rules f r = (r.quantity, r.price, r.near, r.far)

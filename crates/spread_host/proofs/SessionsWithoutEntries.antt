@@ -6,14 +6,14 @@ use Rattle.std.proofs.lemmas.Bool.{cases_eq, eq-eqb, ne_eqb}
 use Rattle.spread_rules.specs.declared.event.Entry.{Entry}
 use Rattle.spread_rules.specs.Journal.{restricted}
 use Rattle.spread_rules.specs.Meaning.{JournalState, meaning_of, after_entry, no_entries}
-use Rattle.spread_rulebook.specs.Rulebook.{Rules}
-use Rattle.order_reports.specs.ExecutionReports.{ExecutionReport, report_step}
+use Rattle.spread_rules_rulebook.specs.Rulebook.{Rules}
+use Rattle.spread_report_orders.specs.ExecutionReports.{ExecutionReport, report_step}
 use Rattle.spread_report.specs.EntryMessages.{entry_reports}
-use Rattle.outbound_sessions.specs.Steps.{OutgoingStep, logged_on, numbered, gap_fill, steps_texts, outbound_before_logon}
+use Rattle.spread_report_outbound.specs.Steps.{OutgoingStep, logged_on, numbered, gap_fill, steps_texts, outbound_before_logon}
 use Rattle.spread_report.specs.Outgoing.{AppliedEntry, entry_steps, session_steps}
 use Rattle.spread_report.specs.Messages.{messages_to}
-use Rattle.day_apply.specs.Applied.{applied_entries_from, outgoing_bytes}
-use Rattle.day_apply.proofs.OneByOne.{entries_are}
+use Rattle.apply_desk.specs.Applied.{applied_entries_from, outgoing_bytes}
+use Rattle.apply_desk.proofs.OneByOne.{entries_are}
 
 -- ---- messages, which bring no CompIDs
 

@@ -5,16 +5,16 @@ use Rattle.std.proofs.lemmas.List.FromFn.{fill_by_all, length-map-range_with_len
 use Rattle.std.specs.declared.vec.Vec.{Vec}
 use Rattle.std.specs.List.{All, concat}
 use Rattle.std.proofs.lemmas.List.Elements.{All-from_get_or}
-use Rattle.host_base.specs.declared.limits.TheConstants.{SESSIONS}
+use Rattle.spread_rules_ids.specs.declared.limits.TheConstants.{SESSIONS}
 use Rattle.spread_rules.specs.declared.event.Entry.{Entry}
 use Rattle.spread_rules.specs.declared.fill.Fill.{Fill}
-use Rattle.spread_rulebook.specs.Rulebook.{Rules}
-use Rattle.fix_frames.specs.Frames.{IsFrameRow, frames}
-use Rattle.outbound_sessions.specs.Rows.{IsRow}
+use Rattle.spread_rules_rulebook.specs.Rulebook.{Rules}
+use Rattle.fix_wire_frames.specs.Frames.{IsFrameRow, frames}
+use Rattle.spread_report_outbound.specs.Rows.{IsRow}
 use Rattle.spread_report.specs.Messages.{AreReadBack, messages_to}
-use Rattle.outbound_sessions.specs.Sessions.{bytes_of}
-use Rattle.day_apply.specs.Applied.{outgoing_bytes, applied_entries}
-use Rattle.message_lines.specs.Messages.{texts_of}
+use Rattle.spread_report_outbound.specs.Sessions.{bytes_of}
+use Rattle.apply_desk.specs.Applied.{outgoing_bytes, applied_entries}
+use Rattle.text_messages.specs.Messages.{texts_of}
 use Rattle.spread_host.specs.Headline.{HasOutgoing, IsDayOf}
 
 -- ---- from session by session to one list

@@ -1,9 +1,9 @@
 -- A claim of a journal's fills and month totals, and whether it is what the rule gives.
 use Rattle.std.specs.Prelude.{◌≡◌, ℕ, List}
 use Rattle.spread_rules.specs.declared.fill.Fill.{Fill}
-use Rattle.spread_rulebook.specs.Rulebook.{Rules}
-use Rattle.day_text.specs.DayText.{fills_text}
-use Rattle.day_text.specs.Differences.{DiffersFirst}
+use Rattle.spread_rules_rulebook.specs.Rulebook.{Rules}
+use Rattle.text_day.specs.DayText.{fills_text}
+use Rattle.text_day.specs.Differences.{DiffersFirst}
 use Rattle.spread_host.specs.Checks.{IsChecked, IsCheckFault}
 use Rattle.spread_host.specs.declared.from_claim.AuditFault.{AuditFault}
 use Rattle.spread_host.specs.declared.from_claim.AuditFault.TheVariants.{Host, Differs}

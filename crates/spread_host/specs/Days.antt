@@ -3,20 +3,20 @@ use Rattle.std.specs.Prelude.{◌≡◌, ℕ, Bool, false, ◌⊎◌, if◌then�
 use Rattle.std.specs.List.{range_with_len, flat_map, enumerate_from}
 use Rattle.std.specs.Result.{IsOkAnd}
 use Rattle.spread_rules.specs.declared.event.Entry.{Entry}
-use Rattle.spread_rulebook.specs.Rulebook.{Rules, names_of}
-use Rattle.fix_frames.specs.Frames.{frames}
+use Rattle.spread_rules_rulebook.specs.Rulebook.{Rules, names_of}
+use Rattle.fix_wire_frames.specs.Frames.{frames}
 use Rattle.journal_parts.specs.JournalText.{journal_text}
-use Rattle.host_base.specs.declared.limits.TheConstants.{SESSIONS, MAX_JOURNAL_ENTRIES}
-use Rattle.host_ends.specs.Ends.{AppendsPrefix}
-use Rattle.day_lines.specs.LineText.{day_lines_of}
-use Rattle.day_lines.specs.DayLines.{journal_of_lines}
-use Rattle.day_lines.specs.Reading.{IsJournalOf}
-use Rattle.day_apply.specs.Applied.{outgoing_bytes, IsPlaceOf, IsSpentOf, applied_entries}
-use Rattle.fill_lines.specs.Fills.{fill_line}
-use Rattle.message_lines.specs.Messages.{outgoing_line}
-use Rattle.day_text.specs.Months.{month_line}
-use Rattle.host_faults.specs.declared.fault.HostFault.{HostFault}
-use Rattle.host_faults.specs.declared.fault.HostFault.TheVariants as faults
+use Rattle.spread_rules_ids.specs.declared.limits.TheConstants.{SESSIONS, MAX_JOURNAL_ENTRIES}
+use Rattle.spread_rules_ends.specs.Ends.{AppendsPrefix}
+use Rattle.intake_lines.specs.LineText.{day_lines_of}
+use Rattle.intake_lines.specs.DayLines.{journal_of_lines}
+use Rattle.intake_lines.specs.Reading.{IsJournalOf}
+use Rattle.apply_desk.specs.Applied.{outgoing_bytes, IsPlaceOf, IsSpentOf, applied_entries}
+use Rattle.text_fills.specs.Fills.{fill_line}
+use Rattle.text_messages.specs.Messages.{outgoing_line}
+use Rattle.text_day.specs.Months.{month_line}
+use Rattle.spread_host_faults.specs.declared.fault.HostFault.{HostFault}
+use Rattle.spread_host_faults.specs.declared.fault.HostFault.TheVariants as faults
 
 -- what each of the sessions below n is sent over a journal
 abbrev pub texts_below : ℕ → Rules → List ℕ → List Entry → List (List ℕ)

@@ -3,7 +3,7 @@ use Rattle.std.specs.Prelude.{◌≡◌, ℕ, ◌<◌, ◌≤◌, ◌==◌, if�
 use Rattle.std.specs.List.{flat_map, list_any}
 use Rattle.std.specs.Result.{IsOkAnd}
 use Rattle.std.specs.declared.vec.Vec.{Vec}
-use Rattle.host_base.specs.declared.limits.TheConstants.{SESSIONS}
+use Rattle.spread_rules_ids.specs.declared.limits.TheConstants.{SESSIONS}
 use Rattle.spread_rules.specs.declared.event.Entry.{Entry}
 use Rattle.spread_rules.specs.declared.fill.Fill.{Fill}
 use Rattle.spread_rules.specs.Journal.{IsLawful, restricted}
@@ -11,17 +11,17 @@ use Rattle.spread_rules.specs.Legs.{lots, money}
 use Rattle.spread_rules.specs.declared.order.Side.TheVariants.{Buy, Sell}
 use Rattle.spread_rules.specs.Meaning.{filled}
 use Rattle.spread_rules.specs.Quiet.{IsQuiet}
-use Rattle.spread_rulebook.specs.Rulebook.{implied, Rules}
+use Rattle.spread_rules_rulebook.specs.Rulebook.{implied, Rules}
 use Rattle.spread_match.specs.Sound.{KeepsOrder}
 use Rattle.spread_report.specs.Messages.{messages_to, AreReadBack}
-use Rattle.day_apply.specs.Applied.{applied_entries, applied_journal}
-use Rattle.day_text.specs.DayText.{AreShown}
-use Rattle.message_lines.specs.Messages.{texts_of}
-use Rattle.session_judging.specs.Streams.{whole}
-use Rattle.day_lines.specs.LineText.{day_lines_of}
-use Rattle.day_lines.specs.DayLines.{stream_of}
-use Rattle.day_lines.specs.Reading.{IsJournalOf}
-use Rattle.session_threads.specs.Streams.{whole_at}
+use Rattle.apply_desk.specs.Applied.{applied_entries, applied_journal}
+use Rattle.text_day.specs.DayText.{AreShown}
+use Rattle.text_messages.specs.Messages.{texts_of}
+use Rattle.fix_session_judging.specs.Streams.{whole}
+use Rattle.intake_lines.specs.LineText.{day_lines_of}
+use Rattle.intake_lines.specs.DayLines.{stream_of}
+use Rattle.intake_lines.specs.Reading.{IsJournalOf}
+use Rattle.live_sessions.specs.Streams.{whole_at}
 use Rattle.spread_host.specs.Days.{texts_below}
 
 -- ---- the promises

@@ -1,12 +1,12 @@
 -- Why a day in threads was not handed out.
 use Rattle.std.specs.Prelude.{◌≡◌, ℕ, ◌+◌, ◌<◌, ◌≤◌, ◌⊎◌, List, length}
 use Rattle.std.specs.declared.vec.Vec.{Vec}
-use Rattle.spread_rulebook.specs.Rulebook.{Rules}
+use Rattle.spread_rules_rulebook.specs.Rulebook.{Rules}
 use Rattle.gate_link.specs.Opening.{IsRefusal}
-use Rattle.session_threads.specs.Streams.{all_events, IsBeginningOf}
-use Rattle.day_apply.specs.Applied.{IsPlaceOf, IsSpentOf}
-use Rattle.host_faults.specs.declared.fault.HostFault.{HostFault}
-use Rattle.host_faults.specs.declared.fault.HostFault.TheVariants.{Link, Spawn, JournalFull, NoMemory, NumbersSpent}
+use Rattle.live_sessions.specs.Streams.{all_events, IsBeginningOf}
+use Rattle.apply_desk.specs.Applied.{IsPlaceOf, IsSpentOf}
+use Rattle.spread_host_faults.specs.declared.fault.HostFault.{HostFault}
+use Rattle.spread_host_faults.specs.declared.fault.HostFault.TheVariants.{Link, Spawn, JournalFull, NoMemory, NumbersSpent}
 
 -- why these streams gave no day, over rings and with a journal of these sizes: the places are of a journal that has a
 -- beginning of each stream's events

@@ -1,24 +1,24 @@
 //! The day of a journal, and the writing of its text.
 ghost use Rattle.std.specs.Prelude.{◌≡◌, ◌≤◌, ◌+◌, ◌⊎◌, IfOk, IfErr, OnOk, IsErrOf, ◌≢◌, All, length, true, false};
 ghost use Rattle.std.specs.Io.KnownBytes.{Appends};
-ghost use Rattle.host_ends.specs.Ends.{AppendsPrefix};
-ghost use Rattle.host_base.specs.declared.limits.TheConstants.{SESSIONS};
+ghost use Rattle.spread_rules_ends.specs.Ends.{AppendsPrefix};
+ghost use Rattle.spread_rules_ids.specs.declared.limits.TheConstants.{SESSIONS};
 ghost use Rattle.spread_rules.specs.Journal.{IsLawful};
-ghost use Rattle.spread_rulebook.specs.Rulebook.{IsListed};
+ghost use Rattle.spread_rules_rulebook.specs.Rulebook.{IsListed};
 ghost use Rattle.journal_parts.specs.JournalText.{HasByteIds};
-ghost use Rattle.fix_frames.specs.Frames.{IsFrameRow};
-ghost use Rattle.day_apply.specs.Applied.{IsApplyFault};
-ghost use Rattle.day_text.specs.DayText.{AreShown, day_text, fills_text};
-ghost use Rattle.message_lines.specs.Messages.{texts_of};
+ghost use Rattle.fix_wire_frames.specs.Frames.{IsFrameRow};
+ghost use Rattle.apply_desk.specs.Applied.{IsApplyFault};
+ghost use Rattle.text_day.specs.DayText.{AreShown, day_text, fills_text};
+ghost use Rattle.text_messages.specs.Messages.{texts_of};
 ghost use Rattle.month_totals.specs.Totals.{IsSummable};
 ghost use Rattle.spread_host.specs.Headline.{HasFills, HasOutgoing, BoughtIsSold, PaidIsReceived, IsAlwaysQuiet, IsDayOf};
-ghost use Rattle.host_faults.specs.declared.fault.HostFault.{HostFault};
+ghost use Rattle.spread_host_faults.specs.declared.fault.HostFault.{HostFault};
 
-use day_apply::{ApplyFault, apply_journal};
-use day_text::{Day, TakesPieces, TextFault};
-use host_base::Id;
-use host_ends::Sink;
-use host_faults::HostFault;
+use apply_desk::{ApplyFault, apply_journal};
+use text_day::{Day, TakesPieces, TextFault};
+use spread_rules_ids::Id;
+use spread_rules_ends::Sink;
+use spread_host_faults::HostFault;
 use spread_match::laws::ranges;
 use spread_rules::{Entry, Fill, Rulebook};
 use std::alloc::Allocator;
@@ -79,7 +79,7 @@ pub fn write_day<K: TakesPieces<A>, A: Allocator + Copy>(
         (day_text journal_only rulebook.now day.now.journal.items day.now.fills.items
         (texts_of day.now.out.items)) }
 {
-    match day_text::write_day(alloc, rulebook, day, journal_only, sink) {
+    match text_day::write_day(alloc, rulebook, day, journal_only, sink) {
         Ok(()) => Ok(()),
         Err(TextFault::Write) => Err(HostFault::Write),
         Err(TextFault::NoMemory) => Err(HostFault::NoMemory(day.journal.len() as u64 + 1)),
@@ -107,6 +107,6 @@ pub fn write_fills<K: Sink, A: Allocator>(
         (fills_text rulebook.now fills.now) }
     ensures only { IfErr result (λ f. (f ≡ HostFault.NoMemory 0) ⊎ (f ≡ HostFault.Write)) }
 {
-    day_text::write_fills(alloc, rulebook, fills, sink)?;
+    text_day::write_fills(alloc, rulebook, fills, sink)?;
     Ok(())
 }

@@ -2,9 +2,9 @@
 ghost use Rattle.std.specs.Prelude.{IfErr, OnOk};
 ghost use Rattle.spread_host.specs.Claims.{IsRight, IsAuditFault};
 
-use day_text::{Difference, first_difference, text_of_fills};
-use host_faults::HostFault;
-use journal_matching::fills_of_journal;
+use text_day::{Difference, first_difference, text_of_fills};
+use spread_host_faults::HostFault;
+use apply_market::fills_of_journal;
 use spread_journal::{JournalFault, read_journal};
 use spread_match::laws::ranges;
 use spread_rules::Rulebook;

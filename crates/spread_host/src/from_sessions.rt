@@ -1,16 +1,16 @@
 //! A day in threads: one for each session, one that matches, one for each session's writer, and the sequencer in the
 //! caller's.
 ghost use Rattle.std.specs.Prelude.{◌≡◌, ◌<◌, ◌≤◌, ℕ, [], length, slice_index_or, IfOk, IfErr, OnOk};
-ghost use Rattle.host_base.specs.declared.limits.TheConstants.{SESSIONS, MAX_RING, MAX_JOURNAL_ENTRIES};
-ghost use Rattle.message_lines.specs.Messages.{texts_of};
-ghost use Rattle.stage_rings.specs.Faults.{Between};
+ghost use Rattle.spread_rules_ids.specs.declared.limits.TheConstants.{SESSIONS, MAX_RING, MAX_JOURNAL_ENTRIES};
+ghost use Rattle.text_messages.specs.Messages.{texts_of};
+ghost use Rattle.gate_link_stages.specs.Faults.{Between};
 ghost use Rattle.spread_host.specs.Headline.{IsJournalOfStreams, HasFills, HasOutgoing, BoughtIsSold, PaidIsReceived, IsAlwaysQuiet, IsDayOf};
 ghost use Rattle.spread_host.specs.LiveDays.{IsRunDayFault};
 
-use day_text::Day;
-use day_threads::{Caps, DayRules, Gate, SessionsDay, run_sessions};
-use host_base::Id;
-use host_faults::HostFault;
+use text_day::Day;
+use live_day::{Caps, DayRules, Gate, SessionsDay, run_sessions};
+use spread_rules_ids::Id;
+use spread_host_faults::HostFault;
 use spread_match::laws::ranges;
 use spread_rules::Rulebook;
 use std::alloc::Allocator;

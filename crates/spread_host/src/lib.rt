@@ -1,7 +1,7 @@
 //! A day, from day lines or from sessions in threads, to its journal, fills, outgoing messages and text.
 //!
-//! `replay` reads day lines (`day_input`), applies their journal (`day_apply`) and writes the day's text (`day_text`).
-//! `run_day` takes its journal from a thread for each session (`day_threads`). `check` applies a journal text again,
+//! `replay` reads day lines (`day_input`), applies their journal (`apply_desk`) and writes the day's text (`text_day`).
+//! `run_day` takes its journal from a thread for each session (`live_day`). `check` applies a journal text again,
 //! and `audit` holds a claim against what comes of it.
 #![tactic(auto)]
 
@@ -12,10 +12,10 @@ mod from_lines;
 mod from_sessions;
 
 pub use day::{day_of, write_day, write_fills};
-pub use day_text::{Day, Difference};
-pub use day_threads::{Caps, DayRules, Gate, run_sessions};
+pub use text_day::{Day, Difference};
+pub use live_day::{Caps, DayRules, Gate, run_sessions};
 pub use from_claim::{AuditFault, audit};
 pub use from_journal::check;
 pub use from_lines::replay;
 pub use from_sessions::run_day;
-pub use host_faults::HostFault;
+pub use spread_host_faults::HostFault;

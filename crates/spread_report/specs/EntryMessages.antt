@@ -1,8 +1,8 @@
 -- Which messages an entry sends: execution reports, to the sessions of the orders that it speaks of, and
 -- to its own session OrderCancelRejects and session messages.
 use Rattle.std.specs.Prelude.{ℕ, ◌-◌, ◌==◌, if◌then◌else◌, List, [], ◌∷◌, ◌++◌, codes, Some}
-use Rattle.fix_frames.specs.declared.msg_types.TheConstants as msg_types
-use Rattle.fix_frames.specs.declared.tags.TheConstants as tags
+use Rattle.fix_wire_frames.specs.declared.msg_types.TheConstants as msg_types
+use Rattle.fix_wire_frames.specs.declared.tags.TheConstants as tags
 use Rattle.fix_wire.specs.declared.writer.Value.TheVariants.{Text, Number}
 use Rattle.fix_wire.specs.Layout.{field}
 use Rattle.spread_rules.specs.declared.codes.close_reason.TheConstants as close_reason
@@ -12,10 +12,10 @@ use Rattle.spread_rules.specs.declared.event.Event.{Event}
 use Rattle.spread_rules.specs.declared.event.Event.TheVariants.{Logon, New, Cancel, Replace, TestReply, Gap, Resend, Reject, Close}
 use Rattle.spread_rules.specs.declared.outcome.Outcome.{Outcome}
 use Rattle.spread_rules.specs.declared.outcome.Outcome.TheVariants as outcomes
-use Rattle.spread_rulebook.specs.Rulebook.{Rules}
-use Rattle.report_bodies.specs.declared.codes.TheConstants.{ENCRYPT_METHOD_NONE, CXL_REJ_RESPONSE_TO_CANCEL, CXL_REJ_RESPONSE_TO_REPLACE}
-use Rattle.order_reports.specs.ExecutionReports.{ExecutionReport, order_report, new_report, amended_report, fills_reports}
-use Rattle.outbound_sessions.specs.Steps.{OutgoingStep, logged_on, numbered, gap_fill}
+use Rattle.spread_rules_rulebook.specs.Rulebook.{Rules}
+use Rattle.spread_report_fields.specs.declared.codes.TheConstants.{ENCRYPT_METHOD_NONE, CXL_REJ_RESPONSE_TO_CANCEL, CXL_REJ_RESPONSE_TO_REPLACE}
+use Rattle.spread_report_orders.specs.ExecutionReports.{ExecutionReport, order_report, new_report, amended_report, fills_reports}
+use Rattle.spread_report_outbound.specs.Steps.{OutgoingStep, logged_on, numbered, gap_fill}
 
 -- The reports that an entry of that place and session makes, in order. A new order is rejected; or it is accepted, its
 -- fills are reported, and what is left of an immediate one is cancelled. A resting order is cancelled, or it is replaced

@@ -1,10 +1,10 @@
 -- The messages that a session is sent, one by one.
 use Rattle.std.specs.Prelude.{◌≡◌, ℕ, List, ◌++◌, None}
 use Rattle.std.specs.List.{AllByRecursion, concat}
-use Rattle.fix_frames.specs.Frames.{IsFrame, frames}
-use Rattle.spread_rulebook.specs.Rulebook.{Rules}
+use Rattle.fix_wire_frames.specs.Frames.{IsFrame, frames}
+use Rattle.spread_rules_rulebook.specs.Rulebook.{Rules}
 use Rattle.spread_report.specs.Outgoing.{AppliedEntry, session_steps}
-use Rattle.outbound_sessions.specs.Steps.{steps_texts}
+use Rattle.spread_report_outbound.specs.Steps.{steps_texts}
 
 -- all messages that session s is sent over a journal: its first number is 1, and it has no CompIDs before its Logon
 abbrev pub messages_to : Rules → List ℕ → List AppliedEntry → ℕ → List (List ℕ)

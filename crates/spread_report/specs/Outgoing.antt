@@ -1,13 +1,13 @@
 -- What the entries of a journal send a session, step by step.
 use Rattle.std.specs.Prelude.{ℕ, ◌+◌, ◌==◌, nat_lt, Bool, if◌then◌else◌, List, [], ◌++◌, map, filter, fold, None}
 use Rattle.std.specs.List.{flat_map, enumerate_from}
-use Rattle.host_base.specs.declared.limits.TheConstants.{MAX_MSG_SEQ_NUM}
+use Rattle.spread_rules_ids.specs.declared.limits.TheConstants.{MAX_MSG_SEQ_NUM}
 use Rattle.spread_rules.specs.declared.fill.Fill.{Fill}
 use Rattle.spread_rules.specs.declared.event.Entry.{Entry}
 use Rattle.spread_rules.specs.declared.outcome.Outcome.{Outcome}
-use Rattle.spread_rulebook.specs.Rulebook.{Rules}
-use Rattle.outbound_sessions.specs.Steps.{OutgoingStep, after_step}
-use Rattle.order_reports.specs.ExecutionReports.{ExecutionReport, report_step}
+use Rattle.spread_rules_rulebook.specs.Rulebook.{Rules}
+use Rattle.spread_report_outbound.specs.Steps.{OutgoingStep, after_step}
+use Rattle.spread_report_orders.specs.ExecutionReports.{ExecutionReport, report_step}
 use Rattle.spread_report.specs.EntryMessages.{entry_reports, event_steps}
 
 -- An entry at its place in the journal, with its outcome and its fills.

@@ -1,8 +1,8 @@
 -- The ranges in which every message is a whole frame: those of the types that keep these values.
 use Rattle.std.specs.Prelude.{◌≡◌, ℕ, ◌<◌, ◌≤◌, ◌^◌, true, [], length, get_or, unsigned_abs}
 use Rattle.std.specs.List.{AllByRecursion}
-use Rattle.host_base.specs.Ids.{is_id}
-use Rattle.spread_rulebook.specs.Rulebook.{Rules, IsListed, month_count, names_of}
+use Rattle.spread_rules_ids.specs.Ids.{is_id}
+use Rattle.spread_rules_rulebook.specs.Rulebook.{Rules, IsListed, month_count, names_of}
 use Rattle.spread_rules.specs.Journal.{FitsEvent}
 use Rattle.spread_rules.specs.declared.fill.Fill.{Fill}
 use Rattle.spread_rules.specs.declared.outcome.Outcome.{Outcome}

@@ -1,19 +1,19 @@
 //! The session's own messages, and the refusal of a request: a function for each kind.
 ghost use Rattle.std.specs.Prelude.{◌≡◌, ◌<◌, ◌≤◌, ◌∷◌, [], length};
-ghost use Rattle.outbound_sessions.specs.code.Sending.{Sends};
-ghost use Rattle.fix_frames.specs.declared.msg_types.TheConstants.{HEARTBEAT, RESEND_REQUEST, REJECT, LOGON};
-ghost use Rattle.outbound_sessions.specs.code.Addressed.{numbered_message, steps_to};
+ghost use Rattle.spread_report_outbound.specs.code.Sending.{Sends};
+ghost use Rattle.fix_wire_frames.specs.declared.msg_types.TheConstants.{HEARTBEAT, RESEND_REQUEST, REJECT, LOGON};
+ghost use Rattle.spread_report_outbound.specs.code.Addressed.{numbered_message, steps_to};
 ghost use Rattle.spread_report.specs.code.Reports.{logon_fields, heartbeat_fields, reject_fields, resend_request_fields};
-ghost use Rattle.outbound_sessions.specs.Steps.{gap_fill};
+ghost use Rattle.spread_report_outbound.specs.Steps.{gap_fill};
 ghost use Rattle.spread_report.specs.EntryMessages.{close_steps, order_cancel_reject};
 
 use crate::entry::CancelRefusal;
 use fix_wire::{Field, Value, msg_types, tags};
-use host_base::Id;
-use host_base::limits::SESSIONS;
-use order_reports::CancelRequest;
-use outbound_sessions::{DeskFault, OutboundSessions};
-use report_bodies::{ENCRYPT_METHOD_NONE, number_field, text_field};
+use spread_rules_ids::Id;
+use spread_rules_ids::limits::SESSIONS;
+use spread_report_orders::CancelRequest;
+use spread_report_outbound::{DeskFault, OutboundSessions};
+use spread_report_fields::{ENCRYPT_METHOD_NONE, number_field, text_field};
 use spread_rules::codes::close_reason;
 use std::alloc::Allocator;
 

@@ -1,16 +1,16 @@
 //! The desk: what each session is sent next.
 ghost use Rattle.std.specs.Prelude.{◌≡◌, ℕ, ◌<◌, ◌++◌, false, length, OnOk, OnErr, IsErrOf};
 ghost use Rattle.spread_rules.specs.Ranges.{FitsOutcome, FitFills};
-ghost use Rattle.outbound_sessions.specs.declared.fault.DeskFault.TheVariants.{NumbersSpent};
-ghost use Rattle.outbound_sessions.specs.Rows.{IsRow};
-ghost use Rattle.outbound_sessions.specs.Sessions.{sessions_starting, sessions_at, bytes_of, outbound_at, KeepsBytes};
+ghost use Rattle.spread_report_outbound.specs.declared.fault.DeskFault.TheVariants.{NumbersSpent};
+ghost use Rattle.spread_report_outbound.specs.Rows.{IsRow};
+ghost use Rattle.spread_report_outbound.specs.Sessions.{sessions_starting, sessions_at, bytes_of, outbound_at, KeepsBytes};
 ghost use Rattle.spread_report.specs.Running.{RunsOut};
 ghost use Rattle.spread_report.specs.code.PerSession.{entry_bytes, entry_texts, entry_outbound, entry_spends, applied_at};
 
 use crate::entry::{AppliedEntry, note_comp_ids, send_entry};
-use host_base::Id;
-use host_base::limits::SESSIONS;
-use outbound_sessions::{DeskFault, OutboundSessions};
+use spread_rules_ids::Id;
+use spread_rules_ids::limits::SESSIONS;
+use spread_report_outbound::{DeskFault, OutboundSessions};
 use spread_rules::{Entry, Fill, Outcome, Rulebook};
 use std::alloc::Allocator;
 use std::marker::Model;
@@ -23,7 +23,7 @@ pub struct Desk {
 }
 
 impl Model for Desk {
-    ghost use Rattle.outbound_sessions.specs.Sessions.{OutboundState};
+    ghost use Rattle.spread_report_outbound.specs.Sessions.{OutboundState};
     ghost use Rattle.spread_report.specs.code.DeskFields.{outbound_of};
 
     ghost Value = { OutboundState };

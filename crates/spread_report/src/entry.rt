@@ -3,24 +3,24 @@ ghost use Rattle.std.specs.Prelude.{◌≡◌, ℕ, ◌<◌, ◌+◌, List, ◌�
 ghost use Rattle.spread_rules.specs.declared.event.Event.TheVariants.{New, Cancel, Replace};
 ghost use Rattle.spread_rules.specs.declared.fill.Fill.{Fill};
 ghost use Rattle.spread_rules.specs.Ranges.{FitsCancel, FitsNew, FitsReplace, FitsOutcome, FitFills};
-ghost use Rattle.outbound_sessions.specs.code.Sending.{Sends};
+ghost use Rattle.spread_report_outbound.specs.code.Sending.{Sends};
 ghost use Rattle.spread_report.specs.code.PerSession.{noted_messages, outbound_at_entry};
-ghost use Rattle.order_reports.specs.code.Reports.{reports_of, reports_from};
+ghost use Rattle.spread_report_orders.specs.code.Reports.{reports_of, reports_from};
 ghost use Rattle.spread_report.specs.code.Addressed.{event_messages};
-ghost use Rattle.order_reports.specs.ExecutionReports.{new_report, fills_reports};
-ghost use Rattle.outbound_sessions.specs.Sessions.{outbound_at};
+ghost use Rattle.spread_report_orders.specs.ExecutionReports.{new_report, fills_reports};
+ghost use Rattle.spread_report_outbound.specs.Sessions.{outbound_at};
 
 use crate::admin::{
     send_cancel_reject, send_heartbeat, send_logon, send_logout, send_reject, send_resend_request,
 };
-use host_base::Id;
-use host_base::limits::SESSIONS;
-use order_reports::{
+use spread_rules_ids::Id;
+use spread_rules_ids::limits::SESSIONS;
+use spread_report_orders::{
     CancelRequest, NewOrder, send_accepted, send_cancelled, send_ended, send_fills, send_rejected,
     send_replaced,
 };
-use outbound_sessions::{CompIds, DeskFault, OutboundSessions};
-use report_bodies::{CXL_REJ_RESPONSE_TO_CANCEL, CXL_REJ_RESPONSE_TO_REPLACE, symbol_of};
+use spread_report_outbound::{CompIds, DeskFault, OutboundSessions};
+use spread_report_fields::{CXL_REJ_RESPONSE_TO_CANCEL, CXL_REJ_RESPONSE_TO_REPLACE, symbol_of};
 use spread_rules::{Entry, Event, Fill, Outcome, Rulebook, Ticket};
 use std::alloc::Allocator;
 

@@ -1,15 +1,15 @@
 //! Laws over the definitions alone.
 ghost use Rattle.std.specs.Prelude.{◌≡◌, ◌<◌, ◌≤◌, ◌∷◌, ◌++◌, [], List, ℕ, true, false, length};
 ghost use Rattle.std.specs.List.{AllByRecursion, concat};
-ghost use Rattle.fix_frames.specs.Frames.{IsFrame, frames};
-ghost use Rattle.host_base.specs.declared.limits.TheConstants.{SESSIONS, MAX_MSG_SEQ_NUM};
-ghost use Rattle.host_base.specs.Ids.{is_id};
-ghost use Rattle.spread_rulebook.specs.Rulebook.{Rules};
+ghost use Rattle.fix_wire_frames.specs.Frames.{IsFrame, frames};
+ghost use Rattle.spread_rules_ids.specs.declared.limits.TheConstants.{SESSIONS, MAX_MSG_SEQ_NUM};
+ghost use Rattle.spread_rules_ids.specs.Ids.{is_id};
+ghost use Rattle.spread_rules_rulebook.specs.Rulebook.{Rules};
 ghost use Rattle.spread_report.specs.Outgoing.{AppliedEntry};
-ghost use Rattle.outbound_sessions.specs.Steps.{outbound_before_logon};
-ghost use Rattle.outbound_sessions.specs.Rows.{IsRow};
+ghost use Rattle.spread_report_outbound.specs.Steps.{outbound_before_logon};
+ghost use Rattle.spread_report_outbound.specs.Rows.{IsRow};
 ghost use Rattle.spread_report.specs.code.PerSession.{entry_bytes, entry_texts, entry_outbound, entry_spends, outgoing_starting, messages_starting, spends_from};
-ghost use Rattle.outbound_sessions.specs.Sessions.{OutboundState, sessions_starting, session_text, outbound_at};
+ghost use Rattle.spread_report_outbound.specs.Sessions.{OutboundState, sessions_starting, session_text, outbound_at};
 ghost use Rattle.spread_report.specs.Running.{HasSent, RunsOut};
 ghost use Rattle.spread_report.specs.Ranges.{AreNames, EntryInRange};
 

@@ -7,4 +7,4 @@ mod entry;
 pub mod laws;
 
 pub use desk::Desk;
-pub use outbound_sessions::{CompIds, DeskFault, OutboundSession};
+pub use spread_report_outbound::{CompIds, DeskFault, OutboundSession};

@@ -12,7 +12,7 @@ use Rattle.spread_rules.specs.declared.event.Event.TheVariants.{New, Cancel, Rep
 use Rattle.spread_rules.specs.declared.outcome.OrderStatus.{OrderStatus}
 use Rattle.spread_rules.specs.declared.outcome.Outcome.{Outcome}
 use Rattle.spread_rules.specs.declared.outcome.Outcome.TheVariants.{Refused, Session}
-use Rattle.spread_rulebook.specs.Rulebook.{Rules}
+use Rattle.spread_rules_rulebook.specs.Rulebook.{Rules}
 use Rattle.spread_rules.specs.Meaning.{EntryMeaning, filled, is_own, has_id, instrument_or_refusal_of, new_means, cancel_means, untraded}
 
 -- an earlier New entry: its place, whose it was, what it asked for, and what came of it

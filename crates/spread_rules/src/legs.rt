@@ -2,12 +2,12 @@
 ghost use Rattle.std.specs.Prelude.{◌≡◌, get_or, pos};
 ghost use Rattle.spread_rules.specs.Candidates.{HasLegPrice};
 ghost use Rattle.spread_rules.specs.Clearing.{leg_prices};
-ghost use Rattle.spread_rulebook.specs.Prices.{IsOrderPrice};
-ghost use Rattle.spread_rulebook.specs.Rulebook.{references_of};
+ghost use Rattle.spread_rules_rulebook.specs.Prices.{IsOrderPrice};
+ghost use Rattle.spread_rules_rulebook.specs.Rulebook.{references_of};
 
 use crate::candidate::{Candidate, Counterparty};
 use crate::order::Order;
-use spread_rulebook::{Instrument, Rulebook};
+use spread_rules_rulebook::{Instrument, Rulebook};
 
 /// The month's reference price.
 fn reference(rules: &Rulebook, month: u8) -> i64

@@ -1,6 +1,6 @@
 //! The marks of trades: circles where they are direct, diamonds where they are implied.
 use crate::svg_text::SvgText;
-use day_course::{Kind, Point, length_of};
+use draw_course::{Kind, Point, length_of};
 use std::alloc::Allocator;
 
 /// How large a mark is at least and at most, in tenths: the distance of its edge from its middle where it is a circle.

@@ -1,6 +1,6 @@
 //! The best prices of an instrument and side as a line of steps.
 use crate::svg_text::SvgText;
-use day_course::{EDGE, Scale, Stretch, WIDTH};
+use draw_course::{EDGE, Scale, Stretch, WIDTH};
 use std::alloc::Allocator;
 
 /// Where a line is. It has no height where no order rests.

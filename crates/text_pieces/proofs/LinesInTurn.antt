@@ -1,7 +1,7 @@
 -- The lines of the first things of a list.
 use Rattle.std.proofs.Common.{◌≡◌, ℕ, zero, suc, ◌+◌, ◌<◌, List, [], ◌∷◌, ◌++◌, Option, length, take, get_or, refl, sym, ap, ◌∙◌, arith, subst, append_assoc, append-nil}
 use Rattle.std.specs.List.{flat_map}
-use Rattle.host_ends.specs.Ends.{AppendsPrefix}
+use Rattle.spread_rules_ends.specs.Ends.{AppendsPrefix}
 use Rattle.text_pieces.specs.code.Pieces.{IsPut}
 use Rattle.text_pieces.proofs.PiecesInTurn.{put_after, put_fails}
 

@@ -5,7 +5,7 @@ use Rattle.std.proofs.Math.Seq.{take-append-add}
 use Rattle.std.proofs.lemmas.Fmt.{decimal_step, decimal_digit}
 use Rattle.std.proofs.lemmas.List.{map-append, take-append-le}
 use Rattle.std.specs.Io.KnownBytes.{Appends}
-use Rattle.host_ends.specs.Ends.{AppendsPrefix}
+use Rattle.spread_rules_ends.specs.Ends.{AppendsPrefix}
 use Rattle.text_pieces.specs.code.Pieces.{IsPut, Puts, Writes}
 
 -- of a call whose result is handed on

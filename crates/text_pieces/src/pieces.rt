@@ -2,7 +2,7 @@
 ghost use Rattle.std.specs.Prelude.{◌≡◌, ◌≤◌, ◌+◌, ◌++◌, ℕ, List, [], Option, Bool, length, min, OnOk, vec_len, vec_capacity, false};
 ghost use Rattle.text_pieces.specs.code.Pieces.{Puts, Writes};
 
-use host_ends::{Failed, Sink, write_all};
+use spread_rules_ends::{Failed, Sink, write_all};
 use std::alloc::Allocator;
 
 /// How many bytes a piece has room for. The system takes larger pieces faster.

@@ -5,11 +5,11 @@ ghost use Rattle.spread_rules.specs.declared.outcome.Outcome.TheVariants.{Refuse
 ghost use Rattle.spread_rules.specs.declared.outcome.OrderStatus.{OrderStatus};
 ghost use Rattle.spread_rules.specs.Amended.{done};
 ghost use Rattle.spread_rules.specs.Meaning.{order_of, outcome_of, refusal_or_instrument, resting_status, may_replace, keeps_place, moved_to};
-ghost use Rattle.spread_rulebook.specs.Rulebook.{find_symbol};
+ghost use Rattle.spread_rules_rulebook.specs.Rulebook.{find_symbol};
 ghost use Rattle.ticket_judging.specs.code.Refusals.{replace_refusal};
 
-use host_base::limits;
-use order_rows::with_quantity;
+use spread_rules_ids::limits;
+use spread_books_rows::with_quantity;
 use spread_rules::codes::{cxl_rej_reason, ord_rej_reason, ord_status};
 use spread_rules::{Instrument, Order, Outcome, Rulebook, Ticket};
 

@@ -2,26 +2,26 @@
 -- Words of the code alone.
 use Rattle.std.specs.Prelude.{◌≡◌, ℕ, ◌<◌, ◌≤◌, ◌⊎◌, List, length, Vec}
 use mathlib.Core.List.{IsPrefix}
-use Rattle.host_base.specs.declared.limits.TheConstants.{SESSIONS}
-use Rattle.stage_rings.specs.Feeding.{given, taken, AreFeedPair}
+use Rattle.spread_rules_ids.specs.declared.limits.TheConstants.{SESSIONS}
+use Rattle.gate_link_stages.specs.Feeding.{given, taken, AreFeedPair}
 use Rattle.spread_rules.specs.declared.event.Entry.{Entry}
 use Rattle.spread_rules.specs.Journal.{restricted}
-use Rattle.session_threads.specs.Streams.{IsBeginningOf, whole_at}
-use Rattle.session_threads.specs.code.Sequencing.{SequenceEnds}
-use Rattle.writer_threads.specs.code.Writing.{AreJoinedPairs, written_at}
-use Rattle.session_threads.specs.declared.sequencing.Sequenced.{Sequenced}
-use Rattle.session_threads.specs.declared.sequencing.SequenceEnd.{SequenceEnd}
-use Rattle.session_threads.specs.declared.sequencing.SequenceEnd.TheVariants.{JournalFull as Full}
-use Rattle.writer_threads.specs.declared.writing.Written.{Written}
-use Rattle.journal_matching.specs.declared.fault.ApplyFault.TheVariants as apply
+use Rattle.live_sessions.specs.Streams.{IsBeginningOf, whole_at}
+use Rattle.live_sessions.specs.code.Sequencing.{SequenceEnds}
+use Rattle.live_writers.specs.code.Writing.{AreJoinedPairs, written_at}
+use Rattle.live_sessions.specs.declared.sequencing.Sequenced.{Sequenced}
+use Rattle.live_sessions.specs.declared.sequencing.SequenceEnd.{SequenceEnd}
+use Rattle.live_sessions.specs.declared.sequencing.SequenceEnd.TheVariants.{JournalFull as Full}
+use Rattle.live_writers.specs.declared.writing.Written.{Written}
+use Rattle.apply_market.specs.declared.fault.ApplyFault.TheVariants as apply
 use Rattle.matching_turns.specs.code.Matching.{MatchEnds}
-use Rattle.entry_posting.specs.code.Posting.{HasPosted, posted_at}
+use Rattle.live_matching.specs.code.Posting.{HasPosted, posted_at}
 use Rattle.day_stages.specs.declared.fault.ThreadsFault.{ThreadsFault}
 use Rattle.day_stages.specs.declared.fault.ThreadsFault.TheVariants.{Link, Spawn, JournalFull, NoMemory, NumbersSpent}
 use Rattle.matching_turns.specs.declared.turns.Matched.{Matched}
-use Rattle.entry_posting.specs.declared.step.MatchEnd.{MatchEnd}
-use Rattle.entry_posting.specs.declared.step.MatchEnd.TheVariants.{Fault}
-use Rattle.entry_posting.specs.declared.posting.PostedEntries.{PostedEntries}
+use Rattle.live_matching.specs.declared.step.MatchEnd.{MatchEnd}
+use Rattle.live_matching.specs.declared.step.MatchEnd.TheVariants.{Fault}
+use Rattle.live_matching.specs.declared.posting.PostedEntries.{PostedEntries}
 
 -- both ends of each ring in one thread again, with what each part promised
 pub record AreJoined {A : Type 0} (room : ℕ) (streams : List (Vec ℕ A)) (q : Sequenced A)

@@ -3,12 +3,12 @@
 use Rattle.std.specs.Prelude.{◌≡◌, ℕ, [], length}
 use Rattle.gate_link.specs.Links.{IsLinkOf, room_of}
 use Rattle.gate_link.specs.Opening.{IsRefusal}
-use Rattle.session_rings.specs.Fresh.{AreFresh}
-use Rattle.stage_rings.specs.Feeding.{given, AreFeedPair}
-use Rattle.entry_posting.specs.fault.ApplyFault.{ApplyFault}
-use Rattle.entry_posting.specs.fault.ApplyFault.TheVariants as apply
-use Rattle.writer_threads.specs.code.Writing.{ArePostPairs}
-use Rattle.entry_posting.specs.code.Posting.{IsUnfed}
+use Rattle.gate_link_sessions.specs.Fresh.{AreFresh}
+use Rattle.gate_link_stages.specs.Feeding.{given, AreFeedPair}
+use Rattle.live_matching.specs.fault.ApplyFault.{ApplyFault}
+use Rattle.live_matching.specs.fault.ApplyFault.TheVariants as apply
+use Rattle.live_writers.specs.code.Writing.{ArePostPairs}
+use Rattle.live_matching.specs.code.Posting.{IsUnfed}
 use Rattle.day_stages.specs.declared.fault.ThreadsFault.{ThreadsFault}
 use Rattle.day_stages.specs.declared.fault.ThreadsFault.TheVariants.{Link, NoMemory, NumbersSpent}
 use Rattle.day_stages.specs.declared.stages.Stages.{Stages}

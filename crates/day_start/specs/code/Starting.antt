@@ -1,12 +1,12 @@
 -- The ends of a day's rings before any thread is started, and once all threads run.
 -- Words of the code alone.
 use Rattle.std.specs.Prelude.{◌≡◌, ℕ, ◌+◌, ◌≤◌, List, [], length, Vec, vec_len, vec_capacity}
-use Rattle.host_base.specs.declared.limits.TheConstants.{SESSIONS}
+use Rattle.spread_rules_ids.specs.declared.limits.TheConstants.{SESSIONS}
 use Rattle.gate_link.specs.Links.{room_of}
-use Rattle.stage_rings.specs.Feeding.{given, AreFeedPair}
-use Rattle.stage_rings.specs.declared.post.Writer.{Writer}
-use Rattle.session_threads.specs.code.Sequencing.{AreStaffed}
-use Rattle.writer_threads.specs.code.Writing.{ArePostPairs, AreWriting}
+use Rattle.gate_link_stages.specs.Feeding.{given, AreFeedPair}
+use Rattle.gate_link_stages.specs.declared.post.Writer.{Writer}
+use Rattle.live_sessions.specs.code.Sequencing.{AreStaffed}
+use Rattle.live_writers.specs.code.Writing.{ArePostPairs, AreWriting}
 use Rattle.day_stages.specs.code.Making.{IsMade}
 use Rattle.day_stages.specs.declared.stages.Stages.{Stages}
 use Rattle.day_stages.specs.declared.fault.ThreadsFault.{ThreadsFault}

@@ -3,14 +3,14 @@ use Rattle.std.proofs.Common.{◌≡◌, ℕ, ◌<◌, true, List, [], ◌∷◌
 use Rattle.std.specs.List.{cons_option}
 use Rattle.std.proofs.lemmas.List.{append-nil, append_assoc, take-append-drop, map-append}
 use Rattle.spread_rules.specs.declared.event.Entry.{Entry}
-use Rattle.fix_frames.specs.Frames.{frames}
-use Rattle.fix_frames.specs.Held.{first_frame, from_first_start}
-use Rattle.fix_framer.specs.Pieces.{SplitsInto, IsDrained}
-use Rattle.fix_frames.proofs.framing.FramesHeld.{scan_start, start_frames, room_left}
-use Rattle.fix_framer.proofs.framing.OneTurn.{need_leaves, passed_leaves}
-use Rattle.session_judging.specs.Steps.{judge, event_in, events_said, session_after}
-use Rattle.session_judging.specs.Reading.{ReaderState, first_message, session_past, after_skipping, after_passing, with_more, entries_of, Fed}
-use Rattle.session_judging.proofs.events.StateOfPlaces.{said_two, after_two}
+use Rattle.fix_wire_frames.specs.Frames.{frames}
+use Rattle.fix_wire_frames.specs.Held.{first_frame, from_first_start}
+use Rattle.fix_wire_framer.specs.Pieces.{SplitsInto, IsDrained}
+use Rattle.fix_wire_frames.proofs.framing.FramesHeld.{scan_start, start_frames, room_left}
+use Rattle.fix_wire_framer.proofs.framing.OneTurn.{need_leaves, passed_leaves}
+use Rattle.fix_session_judging.specs.Steps.{judge, event_in, events_said, session_after}
+use Rattle.fix_session_judging.specs.Reading.{ReaderState, first_message, session_past, after_skipping, after_passing, with_more, entries_of, Fed}
+use Rattle.fix_session_judging.proofs.events.StateOfPlaces.{said_two, after_two}
 
 -- skipped bytes
 pub fed_none : (n : ℕ) (out : List Entry) (a b : ReaderState) → SplitsInto a.held [] b.held → b.session ≡ a.session → Fed n out a out b

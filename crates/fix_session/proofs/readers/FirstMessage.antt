@@ -2,18 +2,18 @@
 use Rattle.std.proofs.Common.{◌≡◌, ℕ, Bool, true, List, ◌++◌, Option, Some, None, is_some, option_map, refl, sym, ap, ◌∙◌}
 use Rattle.std.specs.Bool.{OnTrue}
 use Rattle.std.proofs.lemmas.Option.{same_Some}
-use Rattle.fix_frames.specs.Frames.{frames, frame_at}
-use Rattle.fix_frames.specs.Held.{first_frame, from_first_start, past_frame, after_first_frame}
-use Rattle.fix_frames.proofs.framing.FrontStays.{frame_stays}
-use Rattle.fix_framer.proofs.framing.OneTurn.{on_true}
-use Rattle.fix_frames.proofs.framing.FramesHeld.{start_frame, start_again, start_frames, none_stands, no_frames, pass_law}
-use Rattle.session_judging.specs.declared.session.Session.{Session}
-use Rattle.session_judging.specs.declared.session.Verdict.{Verdict}
-use Rattle.session_judging.specs.Steps.{judge}
+use Rattle.fix_wire_frames.specs.Frames.{frames, frame_at}
+use Rattle.fix_wire_frames.specs.Held.{first_frame, from_first_start, past_frame, after_first_frame}
+use Rattle.fix_wire_frames.proofs.framing.FrontStays.{frame_stays}
+use Rattle.fix_wire_framer.proofs.framing.OneTurn.{on_true}
+use Rattle.fix_wire_frames.proofs.framing.FramesHeld.{start_frame, start_again, start_frames, none_stands, no_frames, pass_law}
+use Rattle.fix_session_judging.specs.declared.session.Session.{Session}
+use Rattle.fix_session_judging.specs.declared.session.Verdict.{Verdict}
+use Rattle.fix_session_judging.specs.Steps.{judge}
 use Rattle.fix_session.specs.declared.reader.Reader.TheInside.{Inside}
-use Rattle.session_judging.specs.Reading.{ReaderState, first_message, first_judgement, first_verdict, session_past, after_skipping, after_passing}
-use Rattle.session_judging.specs.declared.session.Change.{Change}
-use Rattle.session_judging.specs.code.Changes.{judgement_with}
+use Rattle.fix_session_judging.specs.Reading.{ReaderState, first_message, first_judgement, first_verdict, session_past, after_skipping, after_passing}
+use Rattle.fix_session_judging.specs.declared.session.Change.{Change}
+use Rattle.fix_session_judging.specs.code.Changes.{judgement_with}
 use Rattle.fix_session.specs.code.ReaderFields.{IsKept}
 
 -- the message that was judged

@@ -1,10 +1,10 @@
 -- What it does to a reader to have its messages copied.
 use Rattle.std.proofs.Common.{◌≡◌, ℕ, ◌<◌, List, [], ◌∷◌, ◌++◌, length, Option, Some, None, option_map, refl, sym, ap, ◌∙◌}
-use Rattle.fix_framer.specs.Pieces.{SplitsInto, IsDrained, SameSplit}
-use Rattle.fix_framer.proofs.framing.OneTurn.{all_passed, all_left}
-use Rattle.session_judging.specs.Steps.{new_session, judge, session_after}
-use Rattle.session_judging.specs.Reading.{ReaderState, first_message, after_skipping, after_passing, session_past, HasJudged, IsBehind}
-use Rattle.session_judging.proofs.events.StateOfPlaces.{after_two}
+use Rattle.fix_wire_framer.specs.Pieces.{SplitsInto, IsDrained, SameSplit}
+use Rattle.fix_wire_framer.proofs.framing.OneTurn.{all_passed, all_left}
+use Rattle.fix_session_judging.specs.Steps.{new_session, judge, session_after}
+use Rattle.fix_session_judging.specs.Reading.{ReaderState, first_message, after_skipping, after_passing, session_past, HasJudged, IsBehind}
+use Rattle.fix_session_judging.proofs.events.StateOfPlaces.{after_two}
 use Rattle.fix_session.proofs.readers.FirstMessage.{none_goes, passed_skipped}
 use Rattle.fix_session.proofs.readers.BytesFed.{leaves_passed, leaves_skipped, drained_where_none}
 

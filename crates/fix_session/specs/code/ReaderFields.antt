@@ -1,11 +1,11 @@
 -- How a reader keeps what its first message says.
 -- Words of the code alone.
 use Rattle.std.specs.Prelude.{◌≡◌, Some}
-use Rattle.fix_frames.specs.Held.{from_first_start}
-use Rattle.session_judging.specs.declared.session.Change.{Change}
-use Rattle.session_judging.specs.code.Changes.{judgement_with}
+use Rattle.fix_wire_frames.specs.Held.{from_first_start}
+use Rattle.fix_session_judging.specs.declared.session.Change.{Change}
+use Rattle.fix_session_judging.specs.code.Changes.{judgement_with}
 use Rattle.fix_session.specs.declared.reader.Reader.TheInside.{Inside}
-use Rattle.session_judging.specs.Reading.{ReaderState, first_judgement}
+use Rattle.fix_session_judging.specs.Reading.{ReaderState, first_judgement}
 
 abbrev pub state_of : Inside → ReaderState
 state_of r = record { held = r.framer; session = r.session }

@@ -10,7 +10,7 @@ use Rattle.fix_wire.specs.declared.writer.Value.TheVariants.{Text}
 use Rattle.fix_wire.specs.declared.writer.Field as given
 use Rattle.fix_wire.specs.Layout.{field, field_text, only_if, head_fields, orig_time, SpellsHead}
 use Rattle.fix_wire.specs.Spelling.{kind_text, orig_text, spelled, spelled_head}
-use Rattle.fix_values.proofs.Appended.{step}
+use Rattle.fix_wire_values.proofs.Appended.{step}
 
 -- ---- the tags in digits
 

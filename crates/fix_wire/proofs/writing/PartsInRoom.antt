@@ -5,9 +5,9 @@ use Rattle.std.specs.List.{fold}
 use Rattle.std.proofs.lemmas.Slice.{take-put_mid}
 use Rattle.std.proofs.Math.Seq.{take-add}
 use borrow.Rule.Slice.PartMut.{put_mid}
-use Rattle.fix_frames.specs.Frames.{begin_text}
+use Rattle.fix_wire_frames.specs.Frames.{begin_text}
 use Rattle.fix_wire.specs.Layout.{summed_text}
-use Rattle.fix_values.proofs.LastTwoDigits.{three_digits}
+use Rattle.fix_wire_values.proofs.LastTwoDigits.{three_digits}
 
 -- where a part ends
 pub ends : (r r0 x : List ℕ) (end at : ℕ) → take end r ≡ take at r0 ++ x → end ≤ length r → at ≤ length r0 → end ≡ at + length x

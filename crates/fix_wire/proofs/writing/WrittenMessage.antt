@@ -12,25 +12,25 @@ use Rattle.std.proofs.lemmas.List.Folds.{list_all-append}
 use Rattle.std.proofs.lemmas.Slice.Eq.{bytes_eq-Decides}
 use Rattle.std.proofs.lemmas.Str.Parse.{IsNumeralModel, numerals_by_fold}
 use Rattle.std.proofs.lemmas.Fmt.{digits_decimal, digits_value-decimal, length-decimal-le, decimal_nonempty, first_decimal, decimal_step, decimal_digit}
-use Rattle.fix_frames.specs.declared.frame.FrameHeader.{FrameHeader}
+use Rattle.fix_wire_frames.specs.declared.frame.FrameHeader.{FrameHeader}
 use Rattle.fix_wire.specs.declared.writer.Value.{Value}
 use Rattle.fix_wire.specs.declared.writer.Value.TheVariants.{Text, Number, Price, Pair}
 use Rattle.fix_wire.specs.declared.writer.Field as given
 use Rattle.fix_wire.specs.declared.writer.Head.{Head}
 use Rattle.fix_wire.specs.declared.writer.SpelledHead.{SpelledHead}
-use Rattle.fix_frames.specs.Texts.{is_soh}
-use Rattle.fix_values.specs.Digits.{number_after, number_of, two_digits}
-use Rattle.fix_frames.specs.Fields.{TagValue, is_tag, fields_of_body}
-use Rattle.fix_frames.specs.Frames.{begin_text, header, header_after, header_with, is_body_length, is_body, is_intact, is_intact_by_size, body_at, frame_length, intact_length, frame_at, frames, checksum_field}
-use Rattle.fix_frames.specs.Messages.{fields}
-use Rattle.host_base.specs.Ids.{is_plain}
+use Rattle.fix_wire_frames.specs.Texts.{is_soh}
+use Rattle.fix_wire_values.specs.Digits.{number_after, number_of, two_digits}
+use Rattle.fix_wire_frames.specs.Fields.{TagValue, is_tag, fields_of_body}
+use Rattle.fix_wire_frames.specs.Frames.{begin_text, header, header_after, header_with, is_body_length, is_body, is_intact, is_intact_by_size, body_at, frame_length, intact_length, frame_at, frames, checksum_field}
+use Rattle.fix_wire_frames.specs.Messages.{fields}
+use Rattle.spread_rules_ids.specs.Ids.{is_plain}
 use Rattle.fix_wire.specs.Layout.{field, field_text, only_if, head_fields, field_of_given, all_fields, body_text, summed_text, frame_text, message_text, value_text, FitsTypes, FitsValue, FitsValueOf, FitsTags, FitsField, FitsHead, FitsMessage, IsReadBack, SpellsHead}
 use Rattle.fix_wire.specs.Spelling.{spelled_body}
 use Rattle.fix_wire.proofs.writing.HeadFields.{head_spelled}
 use Rattle.fix_wire.proofs.writing.SpelledRow as spelled
-use Rattle.fix_frames.proofs.framing.FramesHeld.{scan_frame}
-use Rattle.fix_frames.proofs.framing.IntactFrame.{intact_is}
-use Rattle.fix_frames.proofs.texts.HeaderAtTheFront.{header_is}
+use Rattle.fix_wire_frames.proofs.framing.FramesHeld.{scan_frame}
+use Rattle.fix_wire_frames.proofs.framing.IntactFrame.{intact_is}
+use Rattle.fix_wire_frames.proofs.texts.HeaderAtTheFront.{header_is}
 
 -- ---- the body as one list of fields
 

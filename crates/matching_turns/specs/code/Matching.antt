@@ -2,15 +2,15 @@
 -- Words of the code alone.
 use Rattle.std.specs.Prelude.{◌≡◌, ◌≤◌, List, length}
 use Rattle.spread_rules.specs.declared.event.Entry.{Entry}
-use Rattle.stage_rings.specs.Feeding.{taken, SameMatcher}
-use Rattle.stage_rings.specs.declared.feed.Matcher.{Matcher}
-use Rattle.entry_posting.specs.Applied.{IsApplyFault}
-use Rattle.entry_posting.specs.Sending.{sending_rules, stamp_of}
-use Rattle.entry_posting.specs.code.Posting.{HasPosted, SamePosters}
+use Rattle.gate_link_stages.specs.Feeding.{taken, SameMatcher}
+use Rattle.gate_link_stages.specs.declared.feed.Matcher.{Matcher}
+use Rattle.live_matching.specs.Applied.{IsApplyFault}
+use Rattle.live_matching.specs.Sending.{sending_rules, stamp_of}
+use Rattle.live_matching.specs.code.Posting.{HasPosted, SamePosters}
 use Rattle.matching_turns.specs.declared.turns.Matched.{Matched}
-use Rattle.entry_posting.specs.declared.step.MatchEnd.{MatchEnd}
-use Rattle.entry_posting.specs.declared.step.MatchEnd.TheVariants.{Whole, Stopped, Fault}
-use Rattle.entry_posting.specs.declared.posting.PostedEntries.{PostedEntries}
+use Rattle.live_matching.specs.declared.step.MatchEnd.{MatchEnd}
+use Rattle.live_matching.specs.declared.step.MatchEnd.TheVariants.{Whole, Stopped, Fault}
+use Rattle.live_matching.specs.declared.posting.PostedEntries.{PostedEntries}
 
 -- what the entries that were taken came to, by how it ended
 abbrev pub MatchEnds : {A : Type 0} → MatchEnd → List Entry → PostedEntries A → Type 0

@@ -1,12 +1,12 @@
 -- Sums of a month leg by leg, and the room that they take.
 -- Words of the code alone.
 use Rattle.std.specs.Prelude.{ℕ, ◌+◌, ◌*◌, ◌≤◌, ℤ, pos, neg_ℤ, ◌≤ℤ◌, ◌+ℤ◌, ◌*ℤ◌, List, get_or, set, fold, replicate}
-use Rattle.host_base.specs.declared.limits.TheConstants.{MAX_MONTHS, MAX_ORDER_QTY}
+use Rattle.spread_rules_ids.specs.declared.limits.TheConstants.{MAX_MONTHS, MAX_ORDER_QTY}
 use Rattle.spread_rules.specs.declared.order.Side.{Side}
 use Rattle.spread_rules.specs.declared.order.Side.TheVariants.{Buy, Sell}
 use Rattle.spread_rules.specs.declared.fill.Fill.{Fill}
 use Rattle.spread_rules.specs.Legs.{Leg, legs_in}
-use Rattle.spread_rulebook.specs.Prices.{IsLegPrice}
+use Rattle.spread_rules_rulebook.specs.Prices.{IsLegPrice}
 use Rattle.month_totals.specs.declared.totals.MonthTotals.{MonthTotals}
 
 -- one more leg on that side

@@ -5,9 +5,9 @@ use Rattle.std.specs.Option.{IsSomeAnd, option_to_list}
 use Rattle.spread_rules.specs.declared.order.Side.{Side}
 use Rattle.spread_rules.specs.declared.order.Order.{Order}
 use Rattle.spread_rules.specs.Candidates.{Pairs}
-use Rattle.resting_orders.specs.Pairs.{IsCheapest}
-use Rattle.resting_orders.specs.declared.pair.PairCost.{PairCost}
-use Rattle.candidate_search.specs.code.Cheapest.{IsInColumn, KeepsCost}
+use Rattle.spread_books_plain.specs.Pairs.{IsCheapest}
+use Rattle.spread_books_plain.specs.declared.pair.PairCost.{PairCost}
+use Rattle.spread_books_search.specs.code.Cheapest.{IsInColumn, KeepsCost}
 use Rattle.quoted_books.specs.code.QuoteTable.{ChangesOneQueue}
 use Rattle.quoted_books.proofs.quotes.Columns.{kept_row}
 use Rattle.quoted_books.proofs.quotes.Costs.{others_when_it_comes}

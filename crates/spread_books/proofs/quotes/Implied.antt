@@ -2,11 +2,11 @@
 use Rattle.std.proofs.Common.{◌≡◌, ℕ, ℤ, Bool, true, false, cond, List, Option, Some, None, IsSomeAnd, MatchOption, sym, ap, ◌∙◌, subst, arith}
 use Rattle.std.proofs.lemmas.Int.{ints}
 use Rattle.std.proofs.lemmas.List.Elements.{All-contains}
-use Rattle.host_base.specs.declared.limits.TheConstants.{MAX_MONTHS}
+use Rattle.spread_rules_ids.specs.declared.limits.TheConstants.{MAX_MONTHS}
 use Rattle.spread_rules.specs.declared.order.Side.{Side}
 use Rattle.spread_rules.specs.declared.order.Side.TheVariants.{Buy, Sell}
-use Rattle.spread_rulebook.specs.declared.instrument.Instrument.{Instrument}
-use Rattle.spread_rulebook.specs.declared.instrument.Instrument.TheVariants.{Outright, Spread}
+use Rattle.spread_rules_rulebook.specs.declared.instrument.Instrument.{Instrument}
+use Rattle.spread_rules_rulebook.specs.declared.instrument.Instrument.TheVariants.{Outright, Spread}
 use Rattle.spread_rules.specs.declared.order.Order.{Order}
 use Rattle.spread_rules.specs.declared.candidate.Candidate.{Candidate}
 use Rattle.spread_rules.specs.declared.candidate.Choice.{Choice}
@@ -14,16 +14,16 @@ use Rattle.spread_rules.specs.declared.candidate.Counterparty.TheVariants.{Impli
 use Rattle.spread_rules.specs.Candidates.{Pairs, all_on, takes_part, price_of, implied_price, candidate_of, candidate_at, is_within_limit, is_before, IsEligible}
 use Rattle.spread_rules.specs.Legs.{other_side}
 use Rattle.spread_rules.specs.Quiet.{Rests}
-use Rattle.candidate_search.specs.Listed.{IsInMonths}
+use Rattle.spread_books_search.specs.Listed.{IsInMonths}
 use Rattle.spread_books.specs.Quotes.{pair_at, IsImplied, IsLeastImplied, IsQuote, AreQuotable}
-use Rattle.resting_orders.specs.declared.pair.PairCost.{PairCost}
-use Rattle.candidate_search.specs.code.Best.{Beats, CoversTwo}
-use Rattle.resting_orders.specs.Pairs.{spread_of, spread_side, IsCheapest}
+use Rattle.spread_books_plain.specs.declared.pair.PairCost.{PairCost}
+use Rattle.spread_books_search.specs.code.Best.{Beats, CoversTwo}
+use Rattle.spread_books_plain.specs.Pairs.{spread_of, spread_side, IsCheapest}
 use Rattle.spread_books.specs.code.PairQuote.{AreFrontsOf, IsQuoteOfFronts}
 use Rattle.spread_rules.proofs.ranks.PairsSwitched.{price_on, priced, part_of}
-use Rattle.candidate_search.proofs.fronts.BeatAnyPair.{fronts_beat}
-use Rattle.candidate_search.proofs.fronts.MonthPairs.{cheapest_beats, none_beats, fronts_price}
-use Rattle.candidate_search.proofs.fronts.Suffice.{month_below, spread_pair}
+use Rattle.spread_books_search.proofs.fronts.BeatAnyPair.{fronts_beat}
+use Rattle.spread_books_search.proofs.fronts.MonthPairs.{cheapest_beats, none_beats, fronts_price}
+use Rattle.spread_books_search.proofs.fronts.Suffice.{month_below, spread_pair}
 
 -- ---- an order whose limit is the candidate's price
 

@@ -2,13 +2,13 @@
 -- Words of the code alone.
 use Rattle.std.specs.Prelude.{◌≡◌, ℤ, min, List, Option, Some, MatchOption}
 use Rattle.spread_rules.specs.declared.order.Side.{Side}
-use Rattle.spread_rulebook.specs.declared.instrument.Instrument.{Instrument}
+use Rattle.spread_rules_rulebook.specs.declared.instrument.Instrument.{Instrument}
 use Rattle.spread_rules.specs.declared.order.Order.{Order}
 use Rattle.spread_rules.specs.declared.candidate.Choice.{Choice}
 use Rattle.spread_rules.specs.declared.candidate.Counterparty.TheVariants.{Implied}
 use Rattle.spread_rules.specs.Candidates.{Pairs, price_of, members_of}
 use Rattle.spread_rules.specs.Quiet.{Rests}
-use Rattle.resting_orders.specs.Queues.{IsFront}
+use Rattle.spread_books_plain.specs.Queues.{IsFront}
 
 -- the fronts meet the order at the quote's price
 pub record AreFrontsOf

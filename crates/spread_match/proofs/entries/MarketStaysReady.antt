@@ -3,7 +3,7 @@ use Rattle.std.proofs.Common.{◌≡◌, ℕ, zero, suc, ◌==◌, ◌<◌, ◌�
 use Rattle.std.proofs.lemmas.List.Elements.{All-contains, All-filter, Contains-get_or}
 use Rattle.std.specs.List.{find}
 use Rattle.spread_rules.specs.declared.order.Order.{Order}
-use Rattle.spread_rulebook.specs.declared.instrument.Instrument.{Instrument}
+use Rattle.spread_rules_rulebook.specs.declared.instrument.Instrument.{Instrument}
 use Rattle.spread_rules.specs.declared.candidate.Candidate.{Candidate}
 use Rattle.spread_rules.specs.declared.event.Ticket.{Ticket}
 use Rattle.spread_rules.specs.declared.event.Event.{Event}
@@ -13,28 +13,28 @@ use Rattle.spread_rules.specs.declared.outcome.Outcome.{Outcome}
 use Rattle.spread_rules.specs.declared.outcome.Outcome.TheVariants.{Filled, Ended, Rested}
 use Rattle.spread_rules.specs.Candidates.{HasOrderPrice, PlacesDiffer, Pairs}
 use Rattle.spread_rules.specs.Clearing.{Trading, next_candidate, turn, turns, after_match, begin, clear, removed}
-use Rattle.spread_rulebook.specs.Prices.{IsOrderPrice}
+use Rattle.spread_rules_rulebook.specs.Prices.{IsOrderPrice}
 use Rattle.spread_rules.specs.Meaning.{EntryMeaning, cancel_means, has_id, is_own, is_refused, moved_to, new_means, order_of, original_of, outcome_of, place_left, refusal_or_instrument, replace_means, resting, ticket_of}
-use Rattle.spread_rulebook.specs.Rulebook.{Rules, month_count, references_of, find_symbol, implied}
+use Rattle.spread_rules_rulebook.specs.Rulebook.{Rules, month_count, references_of, find_symbol, implied}
 use Rattle.spread_rules.proofs.clearings.ClearIsTurns.{clear_is}
 use Rattle.spread_rules.proofs.clearings.TurnsEnd.{members_rest, next_meets}
-use Rattle.market_state.specs.State.{MarketState}
-use Rattle.candidate_search.specs.Listed.{IsNearFirst, IsInMonths}
-use Rattle.order_clearing.specs.Tradable.{IsTradable}
-use Rattle.market_state.specs.Trade.{IsPriced}
-use Rattle.market_state.specs.code.StateAfter.{IsReady, first_status, meaning_in, state_after, state_with, statuses_after_replace}
-use Rattle.known_orders.specs.code.Known.{AreKnown, place_of_id}
-use Rattle.order_statuses.specs.code.Statuses.{status_after_fill, status_after_replace, statuses_after}
-use Rattle.order_statuses.proofs.status_rows.MarkedRows.{KeepsName, has_id_kept, has_own_id}
-use Rattle.order_statuses.proofs.status_rows.MarksOfEntries.{fill_keeps, replace_keeps}
-use Rattle.order_clearing.proofs.turns.NotAgainstItself.{are_apart}
-use Rattle.order_clearing.proofs.turns.StaysTradable.{still_tradable}
-use Rattle.known_orders.proofs.entries.NewOrder.{clear_all, clear_keeps, below_new, none_earlier, taken_is}
-use Rattle.market_state.proofs.entries.NamedInstrument.{listed_found, near_of, months_of}
-use Rattle.market_state.proofs.entries.MayRest.{MayRest, moved_rests, removed_tradable}
+use Rattle.spread_match_state.specs.State.{MarketState}
+use Rattle.spread_books_search.specs.Listed.{IsNearFirst, IsInMonths}
+use Rattle.spread_match_trading.specs.Tradable.{IsTradable}
+use Rattle.spread_match_state.specs.Trade.{IsPriced}
+use Rattle.spread_match_state.specs.code.StateAfter.{IsReady, first_status, meaning_in, state_after, state_with, statuses_after_replace}
+use Rattle.spread_match_orders.specs.code.Known.{AreKnown, place_of_id}
+use Rattle.spread_match_statuses.specs.code.Statuses.{status_after_fill, status_after_replace, statuses_after}
+use Rattle.spread_match_statuses.proofs.status_rows.MarkedRows.{KeepsName, has_id_kept, has_own_id}
+use Rattle.spread_match_statuses.proofs.status_rows.MarksOfEntries.{fill_keeps, replace_keeps}
+use Rattle.spread_match_trading.proofs.turns.NotAgainstItself.{are_apart}
+use Rattle.spread_match_trading.proofs.turns.StaysTradable.{still_tradable}
+use Rattle.spread_match_orders.proofs.entries.NewOrder.{clear_all, clear_keeps, below_new, none_earlier, taken_is}
+use Rattle.spread_match_state.proofs.entries.NamedInstrument.{listed_found, near_of, months_of}
+use Rattle.spread_match_state.proofs.entries.MayRest.{MayRest, moved_rests, removed_tradable}
 use Rattle.spread_match.proofs.entries.PastStaysSound.{later_all, new_rests, rests_all, rest_tradable}
-use Rattle.known_orders.proofs.entries.FoundStands.{find_stands}
-use Rattle.market_state.proofs.entries.Replaces.{CanReplace, all_amended, amended_tradable, by_replace, from_amended, own_is}
+use Rattle.spread_match_orders.proofs.entries.FoundStands.{find_stands}
+use Rattle.spread_match_state.proofs.entries.Replaces.{CanReplace, all_amended, amended_tradable, by_replace, from_amended, own_is}
 use Rattle.spread_rules.specs.Amended.{amended, done}
 use Rattle.spread_rules.specs.declared.fill.Fill.{Fill}
 

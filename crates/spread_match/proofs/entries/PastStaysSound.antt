@@ -5,12 +5,12 @@ use Rattle.std.proofs.lemmas.Bool.Decides.{nat_tests}
 use Rattle.std.proofs.lemmas.List.Elements.{All-contains, Contains-push_cases, Contains-append_cases, Contains-append_left, Contains-push, Contains-get_or}
 use Rattle.std.specs.List.{find}
 use Rattle.spread_rules.specs.declared.order.Order.{Order}
-use Rattle.spread_rulebook.specs.declared.instrument.Instrument.{Instrument}
+use Rattle.spread_rules_rulebook.specs.declared.instrument.Instrument.{Instrument}
 use Rattle.spread_rules.specs.declared.fill.Fill.{Fill}
 use Rattle.spread_rules.specs.code.Cases.{keeping_means}
 use Rattle.spread_rules.specs.Candidates.{HasOrderPrice, Pairs}
 use Rattle.spread_rules.specs.Clearing.{Trading, begin, clear, removed}
-use Rattle.spread_rulebook.proofs.lists.Membership.{in_head, in_tail, not_in_nil}
+use Rattle.spread_rules_rulebook.proofs.lists.Membership.{in_head, in_tail, not_in_nil}
 use Rattle.spread_rules.proofs.clearings.ClearIsTurns.{clear_is}
 use Rattle.spread_rules.proofs.clearings.TurnsEnd.{from_filter}
 use Rattle.spread_rules.specs.declared.outcome.OrderStatus.{OrderStatus}
@@ -20,24 +20,24 @@ use Rattle.spread_rules.specs.declared.event.Event.{Event}
 use Rattle.spread_rules.specs.declared.event.Event.TheVariants.{Logon, New, Cancel, Replace, TestReply, Gap, Resend, Reject, Close}
 use Rattle.spread_rules.specs.declared.outcome.Outcome.{Outcome}
 use Rattle.spread_rules.specs.declared.outcome.Outcome.TheVariants.{Refused, Replaced}
-use Rattle.candidate_search.specs.Listed.{IsNearFirst, IsInMonths, IsNearBeforeFar}
-use Rattle.order_clearing.specs.Tradable.{IsTradable}
-use Rattle.market_state.specs.Trade.{IsPriced}
-use Rattle.order_statuses.specs.code.Statuses.{statuses_after}
-use Rattle.market_state.specs.code.StateAfter.{statuses_after_replace, first_status, meaning_in, state_after}
+use Rattle.spread_books_search.specs.Listed.{IsNearFirst, IsInMonths, IsNearBeforeFar}
+use Rattle.spread_match_trading.specs.Tradable.{IsTradable}
+use Rattle.spread_match_state.specs.Trade.{IsPriced}
+use Rattle.spread_match_statuses.specs.code.Statuses.{statuses_after}
+use Rattle.spread_match_state.specs.code.StateAfter.{statuses_after_replace, first_status, meaning_in, state_after}
 use Rattle.spread_match.specs.Sound.{HasEntry, IsCounted, IsEntryApplied, IsNamed, IsOriginalNamed, IsSound, IsStateOf, KeepsLimit}
 use Rattle.spread_match.proofs.entries.FillsCounted.{IsRunning, running}
-use Rattle.market_state.proofs.entries.NamedInstrument.{listed_found, near_of, months_of}
-use Rattle.spread_rulebook.specs.Prices.{IsOrderPrice}
-use Rattle.known_orders.proofs.entries.NewOrder.{tradable_more, clear_all, clear_keeps, taken_is, below_new}
+use Rattle.spread_match_state.proofs.entries.NamedInstrument.{listed_found, near_of, months_of}
+use Rattle.spread_rules_rulebook.specs.Prices.{IsOrderPrice}
+use Rattle.spread_match_orders.proofs.entries.NewOrder.{tradable_more, clear_all, clear_keeps, taken_is, below_new}
 use Rattle.spread_rules.specs.Meaning.{EntryMeaning, JournalState, PastTicket, cancel_means, filled, has_id, is_own, is_refused, meaning_of, meaning_with, moved_to, new_means, order_of, original_of, refusal_or_instrument, replace_means, resting, statuses_of, ticket_of, with_meaning}
 use Rattle.spread_rules.specs.Amended.{amended, done, with_quantity}
-use Rattle.known_orders.proofs.entries.FoundStands.{find_stands}
-use Rattle.market_state.proofs.entries.MayRest.{MayRest, moved_rests, removed_tradable}
-use Rattle.market_state.proofs.entries.Replaces.{IsOwn, accepted_unused, amended_place, amended_tradable, by_replace, from_amended, none_refused, own_is}
+use Rattle.spread_match_orders.proofs.entries.FoundStands.{find_stands}
+use Rattle.spread_match_state.proofs.entries.MayRest.{MayRest, moved_rests, removed_tradable}
+use Rattle.spread_match_state.proofs.entries.Replaces.{IsOwn, accepted_unused, amended_place, amended_tradable, by_replace, from_amended, none_refused, own_is}
 use Rattle.spread_match.proofs.entries.StatusesOfThePast.{statuses_more, unused}
-use Rattle.spread_rulebook.specs.Rulebook.{Rules, month_count, references_of, find_symbol, implied}
-use Rattle.market_state.specs.State.{MarketState}
+use Rattle.spread_rules_rulebook.specs.Rulebook.{Rules, month_count, references_of, find_symbol, implied}
+use Rattle.spread_match_state.specs.State.{MarketState}
 
 -- the past after an entry of that meaning, and what is kept of it
 pub record IsKept (months : ℕ) (past : JournalState) (place : ℕ) (e : Entry) (m : EntryMeaning) : Type 0 where

@@ -16,11 +16,11 @@ use Rattle.spread_rules.specs.declared.outcome.Outcome.{Outcome}
 use Rattle.spread_rules.specs.declared.outcome.OrderStatus.{OrderStatus}
 use Rattle.spread_rules.specs.code.Cases.{status_at}
 use Rattle.spread_rules.specs.Meaning.{EntryMeaning, JournalState, PastTicket, has_id, is_filled, is_refused, is_replaced, names, asked_by, original_of, past_tickets, place_left, status_of, statuses_of, ticket_of, with_meaning}
-use Rattle.spread_rulebook.proofs.lists.Membership.{in_head, in_tail, in_cons_cases, not_in_nil}
-use Rattle.market_state.specs.code.StateAfter.{first_status, statuses_after_replace}
-use Rattle.order_statuses.specs.code.Statuses.{is_open, status_after_fill, status_after_replace, statuses_after}
+use Rattle.spread_rules_rulebook.proofs.lists.Membership.{in_head, in_tail, in_cons_cases, not_in_nil}
+use Rattle.spread_match_state.specs.code.StateAfter.{first_status, statuses_after_replace}
+use Rattle.spread_match_statuses.specs.code.Statuses.{is_open, status_after_fill, status_after_replace, statuses_after}
 use Rattle.spread_match.specs.Sound.{IsNamed, IsOriginalNamed}
-use Rattle.order_statuses.proofs.status_rows.MarkedRows.{same_number}
+use Rattle.spread_match_statuses.proofs.status_rows.MarkedRows.{same_number}
 
 -- ---- tests
 

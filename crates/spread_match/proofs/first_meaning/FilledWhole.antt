@@ -12,10 +12,10 @@ use Rattle.spread_rules.specs.Clearing.{Trading, after_fill, after_match, next_c
 use Rattle.spread_rules.specs.Meaning.{PastTicket, filled, is_filled, is_refused}
 use Rattle.spread_rules.proofs.clearings.TurnsEnd.{members_rest, next_left, next_least, next_meets}
 use Rattle.spread_match.proofs.entries.FillsCounted.{AreCounted, IsFill, IsRunning, each_after, filled_other, filled_own, member_filled, own_filled, running_with, turn_keeps, test_same}
-use Rattle.order_statuses.proofs.status_rows.MarkedRows.{same_number}
+use Rattle.spread_match_statuses.proofs.status_rows.MarkedRows.{same_number}
 use Rattle.spread_match.proofs.entries.StatusesOfThePast.{any_more}
-use Rattle.order_clearing.proofs.turns.NotAgainstItself.{are_apart}
-use Rattle.order_clearing.proofs.turns.OneTurn.{least_some}
+use Rattle.spread_match_trading.proofs.turns.NotAgainstItself.{are_apart}
+use Rattle.spread_match_trading.proofs.turns.OneTurn.{least_some}
 use Rattle.spread_rules.specs.Candidates.{Pairs}
 
 -- the ticket asked for that order

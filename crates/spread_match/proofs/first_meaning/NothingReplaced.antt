@@ -4,7 +4,7 @@ use Rattle.std.proofs.lemmas.Bool.Decides.{nat_tests}
 use Rattle.std.proofs.lemmas.List.Elements.{All-contains, Contains-push_cases}
 use Rattle.std.specs.List.{find}
 use Rattle.spread_rules.specs.declared.order.Order.{Order}
-use Rattle.spread_rulebook.specs.declared.instrument.Instrument.{Instrument}
+use Rattle.spread_rules_rulebook.specs.declared.instrument.Instrument.{Instrument}
 use Rattle.spread_rules.specs.declared.fill.Fill.{Fill}
 use Rattle.spread_rules.specs.declared.event.Ticket.{Ticket}
 use Rattle.spread_rules.specs.declared.event.Entry.{Entry}
@@ -16,10 +16,10 @@ use Rattle.spread_rules.specs.declared.outcome.OrderStatus.{OrderStatus}
 use Rattle.spread_rules.specs.Clearing.{Trading, begin, clear, removed}
 use Rattle.spread_rules.specs.Meaning.{JournalState, PastTicket, after_entry, cancel_means, filled, has_id, is_own, is_refused, meaning_of, new_means, no_entries, order_of, outcome_of, place_left, refusal_or_instrument, resting, statuses_of, with_meaning}
 use Rattle.spread_rules.specs.FirstMeaning.{is_replace, is_refused as was_refused}
-use Rattle.spread_rulebook.specs.Rulebook.{Rules, find_symbol, month_count, references_of, implied}
-use Rattle.spread_rulebook.proofs.lists.Membership.{not_in_nil}
+use Rattle.spread_rules_rulebook.specs.Rulebook.{Rules, find_symbol, month_count, references_of, implied}
+use Rattle.spread_rules_rulebook.proofs.lists.Membership.{not_in_nil}
 use Rattle.spread_match.specs.Sound.{IsSound}
-use Rattle.known_orders.proofs.entries.NewOrder.{none_earlier, taken_is}
+use Rattle.spread_match_orders.proofs.entries.NewOrder.{none_earlier, taken_is}
 use Rattle.spread_match.proofs.entries.PastStaysSound.{filled_none, new_asks, rests_all, started}
 use Rattle.spread_match.proofs.first_meaning.FilledWhole.{AreExact, IsExact, IsMarked, IsTicketOf, exact_turns}
 use Rattle.spread_match.proofs.entries.StatusesOfThePast.{not_named, not_named_at, unused}

@@ -6,8 +6,8 @@ use Rattle.std.specs.List.{find}
 use Rattle.spread_rules.specs.declared.order.Side.{Side}
 use Rattle.spread_rules.specs.declared.order.Side.TheVariants.{Buy, Sell}
 use Rattle.spread_rules.specs.declared.order.Order.{Order}
-use Rattle.spread_rulebook.specs.declared.instrument.Instrument.{Instrument}
-use Rattle.spread_rulebook.specs.declared.instrument.Instrument.TheVariants.{Outright, Spread}
+use Rattle.spread_rules_rulebook.specs.declared.instrument.Instrument.{Instrument}
+use Rattle.spread_rules_rulebook.specs.declared.instrument.Instrument.TheVariants.{Outright, Spread}
 use Rattle.spread_rules.specs.declared.fill.Fill.{Fill}
 use Rattle.spread_rules.specs.declared.candidate.Candidate.{Candidate}
 use Rattle.spread_rules.specs.declared.candidate.Counterparty.{Counterparty}
@@ -19,27 +19,27 @@ use Rattle.spread_rules.specs.declared.event.Ticket.{Ticket}
 use Rattle.spread_rules.specs.declared.outcome.OrderStatus.{OrderStatus}
 use Rattle.spread_rules.specs.code.Cases.{leg_prices_of_single, leg_prices_of_pair}
 use Rattle.spread_rules.specs.Candidates.{implied_price, price_of, least_left, AllStandIn}
-use Rattle.spread_rulebook.specs.Instruments.{month_of}
-use Rattle.spread_rulebook.specs.Prices.{IsLegPrice, IsOrderPrice}
+use Rattle.spread_rules_rulebook.specs.Instruments.{month_of}
+use Rattle.spread_rules_rulebook.specs.Prices.{IsLegPrice, IsOrderPrice}
 use Rattle.spread_rules.specs.Clearing.{Trading, next_candidate, turn, turns, after_match, begin, clear, removed, fills_of, fill_of, leg_prices, leg_prices_of_fill}
 use Rattle.spread_rules.specs.Meaning.{EntryMeaning, JournalState, PastTicket, after_entries, after_entry, cancel_means, has_id, is_own, meaning_of, meaning_of_journal, moved_to, new_means, no_entries, order_of, refusal_or_instrument, replace_means, resting, statuses_of}
-use Rattle.spread_rulebook.specs.Rulebook.{Rules, IsRules, IsListed, month_count, references_of, find_symbol, implied}
-use Rattle.spread_rulebook.proofs.lists.Membership.{in_cons_cases, in_head, in_tail, not_in_nil}
+use Rattle.spread_rules_rulebook.specs.Rulebook.{Rules, IsRules, IsListed, month_count, references_of, find_symbol, implied}
+use Rattle.spread_rules_rulebook.proofs.lists.Membership.{in_cons_cases, in_head, in_tail, not_in_nil}
 use Rattle.spread_rules.proofs.clearings.ClearIsTurns.{clear_is}
 use Rattle.spread_rules.proofs.clearings.TurnsEnd.{members_rest, next_meets, from_filter}
 use Rattle.spread_rules.proofs.clearings.BoughtIsSold.{legs_of_pair, legs_of_single, so_is}
 use Rattle.spread_rules.proofs.ranks.PairsSwitched.{priced}
 use Rattle.spread_match.specs.Sound.{IsSound, IsCounted, IsFillWithinLimits}
-use Rattle.market_state.specs.Trade.{IsPriced, ArePriced}
-use Rattle.order_clearing.specs.Tradable.{IsTradable}
+use Rattle.spread_match_state.specs.Trade.{IsPriced, ArePriced}
+use Rattle.spread_match_trading.specs.Tradable.{IsTradable}
 use Rattle.spread_match.proofs.entries.FillsCounted.{IsRunning, running_with}
-use Rattle.known_orders.proofs.entries.NewOrder.{taken_is, traded_all}
-use Rattle.spread_rulebook.proofs.rulebook_texts.OrderPrices.{small_references}
-use Rattle.market_state.proofs.entries.NamedInstrument.{listed_found}
+use Rattle.spread_match_orders.proofs.entries.NewOrder.{taken_is, traded_all}
+use Rattle.spread_rules_rulebook.proofs.rulebook_texts.OrderPrices.{small_references}
+use Rattle.spread_match_state.proofs.entries.NamedInstrument.{listed_found}
 use Rattle.spread_match.proofs.entries.PastStaysSound.{AsksFor, started, entry_kept, moved_asks, new_asks, rests_all}
-use Rattle.market_state.proofs.entries.MayRest.{removed_tradable}
-use Rattle.known_orders.proofs.entries.FoundStands.{find_stands}
-use Rattle.market_state.proofs.entries.Replaces.{all_amended, by_replace, own_is}
+use Rattle.spread_match_state.proofs.entries.MayRest.{removed_tradable}
+use Rattle.spread_match_orders.proofs.entries.FoundStands.{find_stands}
+use Rattle.spread_match_state.proofs.entries.Replaces.{all_amended, by_replace, own_is}
 use Rattle.spread_rules.specs.Amended.{amended}
 use Rattle.spread_rules.specs.declared.outcome.Outcome.TheVariants.{Rested}
 use Rattle.spread_match.proofs.journals.AfterEveryEntry.{none_sound}

@@ -8,22 +8,22 @@ use Rattle.spread_rules.specs.declared.event.Event.TheVariants.{Logon, New, Canc
 use Rattle.spread_rules.specs.declared.outcome.Outcome.{Outcome}
 use Rattle.std.specs.Result.{OnOk, OnErr, IsErrOf, is_err}
 use Rattle.std.specs.declared.vec.Vec.{Vec}
-use Rattle.spread_rulebook.specs.Rulebook.{Rules}
-use Rattle.outbound_sessions.specs.declared.fault.DeskFault.{DeskFault}
-use Rattle.outbound_sessions.specs.declared.fault.DeskFault.TheVariants.{NoMemory, NumbersSpent}
-use Rattle.outbound_sessions.specs.declared.session.OutboundSession.{OutboundSession}
-use Rattle.outbound_sessions.specs.Steps.{logged_on, step_texts}
-use Rattle.outbound_sessions.specs.declared.session.CompIds.{CompIds}
-use Rattle.outbound_sessions.specs.Rows.{IsRow}
+use Rattle.spread_rules_rulebook.specs.Rulebook.{Rules}
+use Rattle.spread_report_outbound.specs.declared.fault.DeskFault.{DeskFault}
+use Rattle.spread_report_outbound.specs.declared.fault.DeskFault.TheVariants.{NoMemory, NumbersSpent}
+use Rattle.spread_report_outbound.specs.declared.session.OutboundSession.{OutboundSession}
+use Rattle.spread_report_outbound.specs.Steps.{logged_on, step_texts}
+use Rattle.spread_report_outbound.specs.declared.session.CompIds.{CompIds}
+use Rattle.spread_report_outbound.specs.Rows.{IsRow}
 use Rattle.spread_report.specs.Outgoing.{AppliedEntry}
-use Rattle.outbound_sessions.specs.code.Addressed.{AddressedStep}
+use Rattle.spread_report_outbound.specs.code.Addressed.{AddressedStep}
 use Rattle.spread_report.specs.code.Addressed.{event_messages, entry_messages}
-use Rattle.outbound_sessions.specs.code.PerSession.{texts_to, messages_bytes, outbound_after, spends}
+use Rattle.spread_report_outbound.specs.code.PerSession.{texts_to, messages_bytes, outbound_after, spends}
 use Rattle.spread_report.specs.code.PerSession.{entry_texts, entry_bytes, entry_outbound, entry_spends, opening, noted_messages, outbound_at_entry}
-use Rattle.outbound_sessions.proofs.Steps.{outbound_after-append, texts_to-append, spends-append}
-use Rattle.outbound_sessions.specs.Sessions.{bytes_of, outbound_at}
+use Rattle.spread_report_outbound.proofs.Steps.{outbound_after-append, texts_to-append, spends-append}
+use Rattle.spread_report_outbound.specs.Sessions.{bytes_of, outbound_at}
 use Rattle.spread_report.specs.Running.{RunsOut}
-use Rattle.outbound_sessions.specs.code.Sending.{SendResult}
+use Rattle.spread_report_outbound.specs.code.Sending.{SendResult}
 
 -- what is said of an answer of the other kind
 pub ok_refused : {T E : Type 0} (P : Type 0) (r : Result T E) → is_err r ≡ true → OnOk r P

@@ -5,13 +5,13 @@ use Rattle.std.specs.declared.vec.Vec.{Vec}
 use Rattle.std.proofs.lemmas.Bool.{ne_eqb}
 use Rattle.spread_rules.specs.declared.event.Event.{Event}
 use Rattle.spread_rules.specs.declared.event.Event.TheVariants.{Logon, New, Cancel, Replace, TestReply, Gap, Resend, Reject, Close}
-use Rattle.outbound_sessions.specs.declared.fault.DeskFault.{DeskFault}
-use Rattle.outbound_sessions.specs.declared.fault.DeskFault.TheVariants.{NoMemory, NumbersSpent}
-use Rattle.outbound_sessions.specs.declared.session.OutboundSession.{OutboundSession}
-use Rattle.outbound_sessions.specs.Sessions.{OutboundState, texts_of, outbound_at}
-use Rattle.outbound_sessions.specs.code.Addressed.{AddressedStep}
-use Rattle.outbound_sessions.specs.code.Sending.{OnlyAppended, SendResult}
-use Rattle.outbound_sessions.specs.code.TakingBack.{SentSince}
+use Rattle.spread_report_outbound.specs.declared.fault.DeskFault.{DeskFault}
+use Rattle.spread_report_outbound.specs.declared.fault.DeskFault.TheVariants.{NoMemory, NumbersSpent}
+use Rattle.spread_report_outbound.specs.declared.session.OutboundSession.{OutboundSession}
+use Rattle.spread_report_outbound.specs.Sessions.{OutboundState, texts_of, outbound_at}
+use Rattle.spread_report_outbound.specs.code.Addressed.{AddressedStep}
+use Rattle.spread_report_outbound.specs.code.Sending.{OnlyAppended, SendResult}
+use Rattle.spread_report_outbound.specs.code.TakingBack.{SentSince}
 use Rattle.spread_report.specs.code.PerSession.{outbound_at_entry}
 
 entry_other : (s : ℕ) (l : OutboundSession) (session : ℕ) (v : Event) → session ≢ s → outbound_at_entry s l session v ≡ l

@@ -3,25 +3,25 @@ use Rattle.std.proofs.Common.{◌≡◌, ◌≢◌, ℕ, ◌+◌, ◌<◌, ◌�
 use Rattle.std.specs.List.{AllByRecursion, concat}
 use Rattle.std.specs.Prelude.{filter}
 use Rattle.std.proofs.lemmas.List.Folds.{concat-append}
-use Rattle.report_bodies.specs.Fields.{text_field, number_field}
+use Rattle.spread_report_fields.specs.Fields.{text_field, number_field}
 use Rattle.std.proofs.lemmas.Bool.Decides.{nat_tests}
 use Rattle.fix_wire.specs.declared.writer.Field.{Field}
 use Rattle.fix_wire.specs.Layout.{FitsMessage, message_text}
-use Rattle.fix_frames.specs.Frames.{IsFrame}
+use Rattle.fix_wire_frames.specs.Frames.{IsFrame}
 use Rattle.fix_wire.proofs.writing.WrittenMessage.{written_frame, read_first}
-use Rattle.host_base.specs.Ids.{is_id}
-use Rattle.spread_rulebook.specs.Rulebook.{Rules}
-use Rattle.outbound_sessions.specs.declared.session.OutboundSession.{OutboundSession}
-use Rattle.outbound_sessions.specs.declared.session.CompIds.{CompIds}
-use Rattle.outbound_sessions.specs.Steps.{OutgoingStep, logged_on, numbered, gap_fill, head_of, step_texts, steps_texts, after_step}
+use Rattle.spread_rules_ids.specs.Ids.{is_id}
+use Rattle.spread_rules_rulebook.specs.Rulebook.{Rules}
+use Rattle.spread_report_outbound.specs.declared.session.OutboundSession.{OutboundSession}
+use Rattle.spread_report_outbound.specs.declared.session.CompIds.{CompIds}
+use Rattle.spread_report_outbound.specs.Steps.{OutgoingStep, logged_on, numbered, gap_fill, head_of, step_texts, steps_texts, after_step}
 use Rattle.spread_report.specs.Outgoing.{AppliedEntry, entry_steps, session_steps}
-use Rattle.outbound_sessions.specs.code.Addressed.{AddressedStep, steps_of, new_seq_no}
+use Rattle.spread_report_outbound.specs.code.Addressed.{AddressedStep, steps_of, new_seq_no}
 use Rattle.spread_report.specs.code.Addressed.{entry_messages}
-use Rattle.outbound_sessions.specs.code.PerSession.{is_above_limit, pass_limit}
+use Rattle.spread_report_outbound.specs.code.PerSession.{is_above_limit, pass_limit}
 use Rattle.spread_report.specs.code.PerSession.{texts_from, journal_bytes, spends_from}
 use Rattle.spread_report.proofs.messages.Steps.{entry_steps_are}
-use Rattle.outbound_sessions.proofs.FrameRows.{no_row, rows_both, message_row}
-use Rattle.outbound_sessions.specs.Rows.{IsRow}
+use Rattle.spread_report_outbound.proofs.FrameRows.{no_row, rows_both, message_row}
+use Rattle.spread_report_outbound.specs.Rows.{IsRow}
 use Rattle.spread_report.specs.Ranges.{AreNames, EntryInRange}
 use Rattle.spread_report.proofs.frames.BodyLengths.{FitsReport, IsShortHead, fields_fit, body_short}
 use Rattle.spread_report.proofs.messages.InRange.{FitsStep, FitsAddressed, id_plain, id_short, entry_fits}

@@ -5,37 +5,37 @@ use Rattle.std.specs.List.{AllByRecursion}
 use Rattle.std.proofs.lemmas.Bool.{leb-true, and_parts}
 use Rattle.std.proofs.lemmas.Bool.Decides.{nat_tests}
 use Rattle.fix_wire.specs.declared.writer.Field.{Field}
-use Rattle.host_base.specs.Ids.{is_id, is_plain}
-use Rattle.spread_rulebook.specs.Rulebook.{Rules, IsListed, month_count, names_of, symbol_of}
+use Rattle.spread_rules_ids.specs.Ids.{is_id, is_plain}
+use Rattle.spread_rules_rulebook.specs.Rulebook.{Rules, IsListed, month_count, names_of, symbol_of}
 use Rattle.spread_rules.specs.Journal.{FitsEvent, FitsTicket, is_reject_reason}
 use Rattle.spread_rules.specs.Legs.{other_side}
 use Rattle.spread_rules.specs.declared.order.Order.{Order}
 use Rattle.spread_rules.specs.declared.order.Side.{Side}
 use Rattle.spread_rules.specs.declared.order.Side.TheVariants.{Buy, Sell}
-use Rattle.spread_rulebook.specs.declared.instrument.Instrument.{Instrument}
-use Rattle.spread_rulebook.specs.declared.instrument.Instrument.TheVariants.{Outright, Spread}
+use Rattle.spread_rules_rulebook.specs.declared.instrument.Instrument.{Instrument}
+use Rattle.spread_rules_rulebook.specs.declared.instrument.Instrument.TheVariants.{Outright, Spread}
 use Rattle.spread_rules.specs.declared.fill.Fill.{Fill}
 use Rattle.spread_rules.specs.declared.event.Ticket.{Ticket}
 use Rattle.spread_rules.specs.declared.event.Event.{Event}
 use Rattle.spread_rules.specs.declared.event.Event.TheVariants.{Logon, New, Cancel, Replace, TestReply, Gap, Resend, Reject, Close}
 use Rattle.spread_rules.specs.declared.outcome.Outcome.{Outcome}
 use Rattle.spread_rules.specs.declared.outcome.Outcome.TheVariants.{Rested, Filled, Ended, Cancelled, Replaced, Refused, CancelRefused, Session}
-use Rattle.outbound_sessions.specs.Steps.{OutgoingStep, logged_on, numbered, gap_fill}
-use Rattle.order_reports.specs.ExecutionReports.{ExecutionReport, new_report, fill_report, fill_reports, fills_reports}
+use Rattle.spread_report_outbound.specs.Steps.{OutgoingStep, logged_on, numbered, gap_fill}
+use Rattle.spread_report_orders.specs.ExecutionReports.{ExecutionReport, new_report, fill_report, fill_reports, fills_reports}
 use Rattle.spread_report.specs.EntryMessages.{entry_reports, order_cancel_reject, close_steps, event_steps}
-use Rattle.outbound_sessions.specs.code.Addressed.{AddressedStep, steps_to}
-use Rattle.order_reports.specs.code.Reports.{report, reports_from, rejected_report, ended_report, cancelled_report, replaced_report, report_count, reports_of}
+use Rattle.spread_report_outbound.specs.code.Addressed.{AddressedStep, steps_to}
+use Rattle.spread_report_orders.specs.code.Reports.{report, reports_from, rejected_report, ended_report, cancelled_report, replaced_report, report_count, reports_of}
 use Rattle.spread_report.specs.code.Addressed.{entry_messages}
 use Rattle.spread_report.specs.code.Reports.{place_field}
-use Rattle.order_reports.proofs.OneFillMore.{reports_length}
-use Rattle.report_bodies.specs.Fields.{text_field, number_field, price_field, pair_field}
+use Rattle.spread_report_orders.proofs.OneFillMore.{reports_length}
+use Rattle.spread_report_fields.specs.Fields.{text_field, number_field, price_field, pair_field}
 use Rattle.fix_wire.specs.Layout.{field}
 use Rattle.fix_wire.specs.declared.writer.Value.TheVariants.{Text, Number}
-use Rattle.report_bodies.specs.Codes.{side_code}
+use Rattle.spread_report_fields.specs.Codes.{side_code}
 use Rattle.spread_report.specs.Outgoing.{AppliedEntry}
 use Rattle.spread_report.specs.Ranges.{AreNames, FillInRange, OutcomeInRange, EntryInRange}
 use Rattle.spread_report.proofs.frames.BodyLengths.{FitsReport}
-use Rattle.report_bodies.proofs.SymbolIds.{joined_id}
+use Rattle.spread_report_fields.proofs.SymbolIds.{joined_id}
 
 -- ---- ids
 

@@ -3,15 +3,15 @@ use Rattle.std.proofs.Common.{◌≡◌, ℕ, ◌+◌, ◌==◌, Bool, true, fal
 use Rattle.std.specs.Prelude.{filter}
 use Rattle.std.specs.List.{enumerate_from}
 use Rattle.std.proofs.lemmas.Grind.{flat_map-append}
-use Rattle.spread_rulebook.specs.Rulebook.{Rules}
-use Rattle.outbound_sessions.specs.Steps.{OutgoingStep}
-use Rattle.order_reports.specs.ExecutionReports.{ExecutionReport, report_step}
+use Rattle.spread_rules_rulebook.specs.Rulebook.{Rules}
+use Rattle.spread_report_outbound.specs.Steps.{OutgoingStep}
+use Rattle.spread_report_orders.specs.ExecutionReports.{ExecutionReport, report_step}
 use Rattle.spread_report.specs.EntryMessages.{entry_reports, event_steps}
 use Rattle.spread_report.specs.Outgoing.{AppliedEntry, entry_steps, session_steps}
-use Rattle.outbound_sessions.specs.code.Addressed.{AddressedStep, steps_to, steps_of}
-use Rattle.order_reports.specs.code.Reports.{reports_from}
+use Rattle.spread_report_outbound.specs.code.Addressed.{AddressedStep, steps_to, steps_of}
+use Rattle.spread_report_orders.specs.code.Reports.{reports_from}
 use Rattle.spread_report.specs.code.Addressed.{entry_messages}
-use Rattle.outbound_sessions.proofs.Steps.{steps_of-append}
+use Rattle.spread_report_outbound.proofs.Steps.{steps_of-append}
 
 abbrev step_of : AddressedStep → OutgoingStep
 step_of m = m.step

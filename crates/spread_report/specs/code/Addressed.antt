@@ -4,10 +4,10 @@ use Rattle.std.specs.Prelude.{ℕ, List, ◌++◌}
 use Rattle.spread_rules.specs.declared.fill.Fill.{Fill}
 use Rattle.spread_rules.specs.declared.event.Event.{Event}
 use Rattle.spread_rules.specs.declared.outcome.Outcome.{Outcome}
-use Rattle.spread_rulebook.specs.Rulebook.{Rules}
-use Rattle.order_reports.specs.code.Reports.{reports_from}
+use Rattle.spread_rules_rulebook.specs.Rulebook.{Rules}
+use Rattle.spread_report_orders.specs.code.Reports.{reports_from}
 use Rattle.spread_report.specs.EntryMessages.{entry_reports, event_steps}
-use Rattle.outbound_sessions.specs.code.Addressed.{AddressedStep, steps_to}
+use Rattle.spread_report_outbound.specs.code.Addressed.{AddressedStep, steps_to}
 use Rattle.spread_report.specs.Outgoing.{AppliedEntry}
 
 -- what an event at its place sends, with its outcome and its fills

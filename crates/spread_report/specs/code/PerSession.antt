@@ -2,18 +2,18 @@
 -- Words of the code alone.
 use Rattle.std.specs.Prelude.{ℕ, ◌==◌, if◌then◌else◌, Bool, List, [], ◌∷◌, fold, Some}
 use Rattle.std.specs.List.{concat}
-use Rattle.fix_frames.specs.declared.msg_types.TheConstants as msg_types
+use Rattle.fix_wire_frames.specs.declared.msg_types.TheConstants as msg_types
 use Rattle.spread_rules.specs.declared.fill.Fill.{Fill}
 use Rattle.spread_rules.specs.declared.event.Entry.{Entry}
 use Rattle.spread_rules.specs.declared.event.Event.{Event}
 use Rattle.spread_rules.specs.declared.event.Event.TheVariants.{Logon}
 use Rattle.spread_rules.specs.declared.outcome.Outcome.{Outcome}
-use Rattle.spread_rulebook.specs.Rulebook.{Rules}
-use Rattle.outbound_sessions.specs.declared.session.OutboundSession.{OutboundSession}
-use Rattle.outbound_sessions.specs.Steps.{logged_on, steps_texts, after_step, outbound_before_logon}
+use Rattle.spread_rules_rulebook.specs.Rulebook.{Rules}
+use Rattle.spread_report_outbound.specs.declared.session.OutboundSession.{OutboundSession}
+use Rattle.spread_report_outbound.specs.Steps.{logged_on, steps_texts, after_step, outbound_before_logon}
 use Rattle.spread_report.specs.Outgoing.{AppliedEntry, session_steps}
-use Rattle.outbound_sessions.specs.code.Addressed.{AddressedStep, numbered_message}
-use Rattle.outbound_sessions.specs.code.PerSession.{pass_limit, texts_to, messages_bytes, outbound_after, spends}
+use Rattle.spread_report_outbound.specs.code.Addressed.{AddressedStep, numbered_message}
+use Rattle.spread_report_outbound.specs.code.PerSession.{pass_limit, texts_to, messages_bytes, outbound_after, spends}
 use Rattle.spread_report.specs.code.Addressed.{event_messages, entry_messages}
 use Rattle.spread_report.specs.code.Reports.{logon_fields}
 

@@ -1,12 +1,12 @@
 -- The session messages that the desk writes, one by one.
 -- Words of the code alone.
 use Rattle.std.specs.Prelude.{ℕ, ◌==◌, if◌then◌else◌, List, [], ◌∷◌, codes}
-use Rattle.fix_frames.specs.declared.tags.TheConstants as tags
+use Rattle.fix_wire_frames.specs.declared.tags.TheConstants as tags
 use Rattle.fix_wire.specs.declared.writer.Field.{Field}
 use Rattle.fix_wire.specs.declared.writer.Value.TheVariants.{Text, Number}
 use Rattle.fix_wire.specs.Layout.{field}
-use Rattle.report_bodies.specs.declared.codes.TheConstants.{ENCRYPT_METHOD_NONE}
-use Rattle.report_bodies.specs.Fields.{text_field, number_field}
+use Rattle.spread_report_fields.specs.declared.codes.TheConstants.{ENCRYPT_METHOD_NONE}
+use Rattle.spread_report_fields.specs.Fields.{text_field, number_field}
 
 -- OrderID in an OrderCancelReject: the place of the order that was named, or `NONE`
 abbrev pub place_field : ℕ → Field

@@ -1,7 +1,7 @@
 -- orders that are changed one after another
 use Rattle.std.proofs.Common.{◌≡◌, ◌<◌, ℕ, List, ◌++◌, ◌+◌, take, drop, map, set, get_or, length, ap, ◌∙◌}
 use Rattle.spread_rules.specs.declared.order.Order.{Order}
-use Rattle.host_base.proofs.MappedInPlace.{map_next, map_rest}
+use Rattle.spread_rules_ids.proofs.MappedInPlace.{map_next, map_rest}
 
 module _ (f : Order → Order) (was now : List Order) (i : ℕ) (d : Order) (lt : i < length was) (so_far : now ≡ map f (take i was) ++ drop i was) where
   pub still : get_or now i d ≡ get_or was i d

@@ -9,7 +9,7 @@ use Rattle.std.specs.List.{cons_option, filter, filter_map, reduce}
 use Rattle.std.specs.Option.{option_map}
 use Rattle.std.specs.Ordering.{MatchOrdering, nat_cmp, int_cmp, ordering_then, is_lt}
 use Rattle.std.specs.declared.cmp.Ordering.{Ordering}
-use Rattle.spread_rulebook.specs.Instruments.{month_of}
+use Rattle.spread_rules_rulebook.specs.Instruments.{month_of}
 use Rattle.spread_rules.specs.declared.order.Order.{Order}
 use Rattle.spread_rules.specs.declared.order.Side.{Side}
 use Rattle.spread_rules.specs.declared.order.Side.TheVariants.{Buy, Sell}

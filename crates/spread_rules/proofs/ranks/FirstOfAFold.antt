@@ -3,7 +3,7 @@ use Rattle.std.proofs.Common.{◌≡◌, fold, List, [], ◌∷◌, ◌++◌, in
 use Rattle.std.specs.Cmp.{IsStrictWeakOrder}
 use Rattle.std.proofs.lemmas.List.Elements.{Contains-append_left, Contains-push, Contains-push_cases}
 use Rattle.spread_rules.specs.Candidates.{better_by}
-use Rattle.spread_rulebook.proofs.lists.Membership.{not_in_nil}
+use Rattle.spread_rules_rulebook.proofs.lists.Membership.{not_in_nil}
 
 module _ {P O : Type 0} (before : O → O → Bool) (order : IsStrictWeakOrder before) (f : P → Option O) where
   -- best is the first of what those who were seen give

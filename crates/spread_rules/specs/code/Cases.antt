@@ -2,10 +2,10 @@
 -- Words of the code alone.
 use Rattle.std.specs.Prelude.{ℕ, ◌-◌, ◌==◌, ℤ, pos, ◌-ℤ◌, ◌*ℤ◌, nat_lt, Bool, false, ◌&&◌, if◌then◌else◌, List, get_or, Option, Some, None, Result}
 use Rattle.spread_rules.specs.declared.codes.ord_status.TheConstants as ord_status
-use Rattle.spread_rulebook.specs.Instruments.{month_of}
-use Rattle.spread_rulebook.specs.Rulebook.{Rules}
-use Rattle.spread_rulebook.specs.declared.instrument.Instrument.{Instrument}
-use Rattle.spread_rulebook.specs.declared.instrument.Instrument.TheVariants.{Outright, Spread}
+use Rattle.spread_rules_rulebook.specs.Instruments.{month_of}
+use Rattle.spread_rules_rulebook.specs.Rulebook.{Rules}
+use Rattle.spread_rules_rulebook.specs.declared.instrument.Instrument.{Instrument}
+use Rattle.spread_rules_rulebook.specs.declared.instrument.Instrument.TheVariants.{Outright, Spread}
 use Rattle.spread_rules.specs.declared.order.Side.{Side}
 use Rattle.spread_rules.specs.declared.order.Order.{Order}
 use Rattle.spread_rules.specs.declared.order.Level.{Level}

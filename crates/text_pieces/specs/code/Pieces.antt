@@ -2,7 +2,7 @@
 -- Words of the code alone.
 use Rattle.std.specs.Prelude.{◌≡◌, ℕ, Bool, true, false, List, ◌++◌, Option, Result, OnOk, OnErr}
 use Rattle.std.specs.Io.KnownBytes.{Appends}
-use Rattle.host_ends.specs.Ends.{AppendsPrefix}
+use Rattle.spread_rules_ends.specs.Ends.{AppendsPrefix}
 
 -- of this text a front was written, and what is left of it stands in the piece
 pub record IsPut (old new : Option (List ℕ)) (piece text : List ℕ) : Type 0 where

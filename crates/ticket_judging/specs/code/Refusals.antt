@@ -6,7 +6,7 @@ use Rattle.spread_rules.specs.declared.order.Order.{Order}
 use Rattle.spread_rules.specs.declared.event.Ticket.{Ticket}
 use Rattle.spread_rules.specs.Amended.{done}
 use Rattle.spread_rules.specs.Meaning.{may_replace}
-use Rattle.spread_rulebook.specs.declared.instrument.Instrument.{Instrument}
+use Rattle.spread_rules_rulebook.specs.declared.instrument.Instrument.{Instrument}
 
 -- why a replace of that resting order is refused, if it is
 abbrev pub replace_refusal : Ticket → Order → Result Instrument ℕ → Option ℕ

@@ -1,8 +1,8 @@
 use Rattle.std.proofs.Common.{◌≡◌, ◌∙◌, sym, ap, arith, ◌<◌, length, get_or}
-use Rattle.stage_rings.specs.Posting.{posted, written}
-use Rattle.session_rings.proofs.inboxes.AlongTwoLists.{left_more}
-use Rattle.session_rings.proofs.PartOfASession.{row_at}
-use Rattle.writer_threads.specs.code.Writing.{bytes_written}
+use Rattle.gate_link_stages.specs.Posting.{posted, written}
+use Rattle.gate_link_sessions.proofs.inboxes.AlongTwoLists.{left_more}
+use Rattle.gate_link_sessions.proofs.PartOfASession.{row_at}
+use Rattle.live_writers.specs.code.Writing.{bytes_written}
 use Rattle.day_conclusion.proofs.JoinedParts.{row_written, finishes_whole, pair_left}
 use Rattle.day_conclusion.proofs.conclusion.all_finished.Goals as goal
 

@@ -1,8 +1,8 @@
 use Rattle.std.proofs.Common.{◌≡◌, ◌≤◌, ◌<◌, ℕ, get_or}
-use Rattle.stage_rings.specs.declared.post.Poster.{Poster}
-use Rattle.entry_posting.specs.code.Posting.{posted_at}
-use Rattle.writer_threads.specs.code.Writing.{written_at}
-use Rattle.writer_threads.specs.declared.writing.Written.{Written}
+use Rattle.gate_link_stages.specs.declared.post.Poster.{Poster}
+use Rattle.live_matching.specs.code.Posting.{posted_at}
+use Rattle.live_writers.specs.code.Writing.{written_at}
+use Rattle.live_writers.specs.declared.writing.Written.{Written}
 use Rattle.day_conclusion.proofs.conclusion.all_finished.Given as goal
 
 abbrev pub invariant-loop-s : goal.invariant-loop-s

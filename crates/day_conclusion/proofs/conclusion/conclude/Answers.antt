@@ -2,17 +2,17 @@ use Rattle.std.proofs.Common.{◌≡◌, ◌∙◌, sym, ap, subst, ℕ, ◌<◌
 use Rattle.std.specs.Prelude.{IfNone}
 use Rattle.std.proofs.lemmas.List.{with_items_is}
 use Rattle.std.specs.Vec.{with_items}
-use Rattle.outbound_sessions.specs.Rows.{IsRow}
+use Rattle.spread_report_outbound.specs.Rows.{IsRow}
 use Rattle.spread_report.specs.Messages.{messages_to}
-use Rattle.outbound_sessions.specs.Sessions.{bytes_of, session_text}
-use Rattle.day_apply.specs.Applied.{applied_entries, outgoing_bytes}
-use Rattle.day_apply.specs.Sending.{sending_rules, stamp_of}
-use Rattle.day_apply.proofs.EntryByEntry.{texts_length}
-use Rattle.day_apply.proofs.HandedOn.{behind_length}
-use Rattle.writer_threads.specs.code.Writing.{written_at}
-use Rattle.writer_threads.specs.declared.writing.Written.{Written}
+use Rattle.spread_report_outbound.specs.Sessions.{bytes_of, session_text}
+use Rattle.apply_desk.specs.Applied.{applied_entries, outgoing_bytes}
+use Rattle.apply_desk.specs.Sending.{sending_rules, stamp_of}
+use Rattle.apply_desk.proofs.EntryByEntry.{texts_length}
+use Rattle.apply_desk.proofs.HandedOn.{behind_length}
+use Rattle.live_writers.specs.code.Writing.{written_at}
+use Rattle.live_writers.specs.declared.writing.Written.{Written}
 use Rattle.day_conclusion.specs.Streams.{IsDayOfSessions}
-use Rattle.entry_posting.specs.code.Posting.{HasPosted, posted_at}
+use Rattle.live_matching.specs.code.Posting.{HasPosted, posted_at}
 use Rattle.day_stages.specs.declared.fault.ThreadsFault.{ThreadsFault}
 use Rattle.day_conclusion.proofs.CollectedBytes.{collected}
 use Rattle.day_conclusion.proofs.conclusion.conclude.Goals as goal

@@ -3,15 +3,15 @@ use Rattle.std.specs.Prelude.{IfNone}
 use mathlib.Core.List.{IsPrefix}
 use Rattle.spread_rules.specs.declared.event.Entry.{Entry}
 use Rattle.gate_link.proofs.links.SeveralCalls.{prefix_trans}
-use Rattle.stage_rings.specs.Feeding.{taken, given, feed_ended}
-use Rattle.stage_rings.specs.declared.post.Poster.{Poster}
-use Rattle.session_threads.specs.Streams.{IsBeginningOf}
-use Rattle.session_threads.specs.code.Sequencing.{SequenceEnds}
-use Rattle.session_threads.specs.declared.sequencing.SequenceEnd.{SequenceEnd}
+use Rattle.gate_link_stages.specs.Feeding.{taken, given, feed_ended}
+use Rattle.gate_link_stages.specs.declared.post.Poster.{Poster}
+use Rattle.live_sessions.specs.Streams.{IsBeginningOf}
+use Rattle.live_sessions.specs.code.Sequencing.{SequenceEnds}
+use Rattle.live_sessions.specs.declared.sequencing.SequenceEnd.{SequenceEnd}
 use Rattle.day_stages.specs.declared.fault.ThreadsFault.{ThreadsFault}
 use Rattle.matching_turns.specs.code.Matching.{MatchEnds}
-use Rattle.entry_posting.specs.code.Posting.{HasPosted, posted_at}
-use Rattle.entry_posting.specs.declared.step.MatchEnd.{MatchEnd}
+use Rattle.live_matching.specs.code.Posting.{HasPosted, posted_at}
+use Rattle.live_matching.specs.declared.step.MatchEnd.{MatchEnd}
 use Rattle.day_conclusion.proofs.JoinedParts.{agrees_prefix, agrees_whole, parts_of_front, fault_of_day}
 use Rattle.day_conclusion.proofs.conclusion.fault_of.Goals as goal
 use Rattle.day_conclusion.proofs.conclusion.fault_of.Goals.{After-agree-agreed, After-saturating_add-place}

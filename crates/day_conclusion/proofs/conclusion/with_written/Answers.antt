@@ -1,8 +1,8 @@
 use Rattle.std.proofs.Common.{arith, ◌≡◌, ◌≢◌, ◌<◌, ◌∙◌, sym, ap, ℕ, Vec, length, vec_len}
 use Rattle.std.specs.Vec.Iter.{into_iter_items}
-use Rattle.session_rings.proofs.PartOfASession.{row_at, row_other}
-use Rattle.writer_threads.specs.code.Writing.{bytes_written, written_at}
-use Rattle.writer_threads.proofs.ElementByElement.{next_is}
+use Rattle.gate_link_sessions.proofs.PartOfASession.{row_at, row_other}
+use Rattle.live_writers.specs.code.Writing.{bytes_written, written_at}
+use Rattle.live_writers.proofs.ElementByElement.{next_is}
 use Rattle.day_conclusion.proofs.JoinedParts.{row_written}
 use Rattle.day_conclusion.proofs.conclusion.with_written.Goals as goal
 

@@ -1,7 +1,7 @@
 use Rattle.std.proofs.Common.{◌≡◌, ◌≤◌, ◌<◌, ◌+◌, ℕ, drop, vec_len}
 use Rattle.std.specs.Vec.Iter.{into_iter_items, into_iter_len}
-use Rattle.outbound_sessions.specs.Sessions.{bytes_of}
-use Rattle.writer_threads.specs.code.Writing.{written_at}
+use Rattle.spread_report_outbound.specs.Sessions.{bytes_of}
+use Rattle.live_writers.specs.code.Writing.{written_at}
 use Rattle.day_conclusion.proofs.conclusion.with_written.Given as goal
 
 abbrev pub invariant-loop-one : goal.invariant-loop-one

@@ -1,10 +1,10 @@
 use Rattle.std.proofs.Common.{ℕ, List, Option, IfSome}
 use Rattle.std.proofs.lemmas.Option.{IfSome_then}
 use Rattle.std.proofs.lemmas.Result.{IfOk-weaker, IfErr-weaker}
-use Rattle.fix_frames.specs.Texts.{with_soh}
-use Rattle.day_lines.specs.Reading.{IsJournalOf, HasParts, IsLinesFault}
-use Rattle.day_lines.specs.code.PiecesRead.{HasRead}
-use Rattle.day_lines.specs.declared.day_reader.DayReader.{DayReader}
+use Rattle.fix_wire_frames.specs.Texts.{with_soh}
+use Rattle.intake_lines.specs.Reading.{IsJournalOf, HasParts, IsLinesFault}
+use Rattle.intake_lines.specs.code.PiecesRead.{HasRead}
+use Rattle.intake_lines.specs.declared.day_reader.DayReader.{DayReader}
 use Rattle.day_input.proofs.reading.read_day_lines.Goals as goal
 
 -- what a reader answers of each input that it may have read is so of what its source had left, where that is known

@@ -2,8 +2,8 @@ use Rattle.std.proofs.Common.{◌<◌, ◌≤◌, ◌++◌, [], ℕ, List, Optio
 use Rattle.std.proofs.lemmas.List.{length-take-le, length-drop, map-append}
 use Rattle.std.specs.Io.KnownBytes.{Consumes}
 use Rattle.std.proofs.KnownBytes.{Consumes-nil, Consumes-trans}
-use Rattle.fix_frames.specs.Texts.{soh_for_bar, with_soh}
-use Rattle.day_lines.specs.code.PiecesRead.{HasRead}
+use Rattle.fix_wire_frames.specs.Texts.{soh_for_bar, with_soh}
+use Rattle.intake_lines.specs.code.PiecesRead.{HasRead}
 use Rattle.day_input.proofs.reading.read_pieces.Goals as goal
 
 pub loop-reader-init : goal.loop-reader-init

@@ -1,8 +1,8 @@
 use Rattle.std.proofs.Common.{◌≡◌, ◌≤◌, ◌+◌, ◌-◌, ℕ, List, false, length}
 use Rattle.std.specs.Io.KnownBytes.{Consumes}
-use Rattle.host_base.specs.declared.limits.TheConstants.{MAX_INPUT_BYTES}
-use Rattle.fix_frames.specs.Texts.{with_soh}
-use Rattle.day_lines.specs.code.PiecesRead.{HasRead}
+use Rattle.spread_rules_ids.specs.declared.limits.TheConstants.{MAX_INPUT_BYTES}
+use Rattle.fix_wire_frames.specs.Texts.{with_soh}
+use Rattle.intake_lines.specs.code.PiecesRead.{HasRead}
 use Rattle.day_input.specs.declared.reading.TheConstants.{CHUNK_BYTES}
 use Rattle.day_input.proofs.reading.read_pieces.Given as goal
 

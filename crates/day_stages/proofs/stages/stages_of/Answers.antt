@@ -1,6 +1,6 @@
 use Rattle.std.proofs.Common.{arith}
-use Rattle.entry_posting.specs.declared.posting.PostedEntries.{PostedEntries}
-use Rattle.entry_posting.proofs.OneEntryMore.{posted_none}
+use Rattle.live_matching.specs.declared.posting.PostedEntries.{PostedEntries}
+use Rattle.live_matching.proofs.OneEntryMore.{posted_none}
 use Rattle.day_stages.proofs.stages.stages_of.Goals as goal
 
 pub returns-clause-ready : goal.returns-clause-ready

@@ -1,6 +1,6 @@
 use Rattle.std.proofs.Common.{rules}
-use Rattle.stage_rings.specs.Posting.{posted}
-use Rattle.session_rings.proofs.inboxes.OneMore.{idle_snoc}
+use Rattle.gate_link_stages.specs.Posting.{posted}
+use Rattle.gate_link_sessions.proofs.inboxes.OneMore.{idle_snoc}
 use Rattle.day_stages.proofs.PostPairs.{posts_snoc, open_snoc}
 use Rattle.day_stages.proofs.stages.writer_rings.Goals as goal
 

@@ -1,6 +1,6 @@
 use Rattle.std.proofs.Common.{◌≡◌, ◌≤◌, ℕ, [], vec_len, vec_capacity}
-use Rattle.entry_posting.specs.code.Posting.{posted_at, NoneEnded}
-use Rattle.writer_threads.specs.code.Writing.{ArePostPairs}
+use Rattle.live_matching.specs.code.Posting.{posted_at, NoneEnded}
+use Rattle.live_writers.specs.code.Writing.{ArePostPairs}
 use Rattle.day_stages.proofs.stages.writer_rings.Given as goal
 
 abbrev pub invariant-loop-s : goal.invariant-loop-s

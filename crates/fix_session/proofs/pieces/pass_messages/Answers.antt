@@ -1,8 +1,8 @@
 use Rattle.std.proofs.Common.{◌≡◌, [], ◌∷◌, ◌++◌, map, sym, ap, ◌∙◌, subst}
 use Rattle.std.proofs.lemmas.List.{map-append}
-use Rattle.fix_framer.specs.Pieces.{SameSplit}
-use Rattle.fix_framer.proofs.framing.OneTurn.{goes_on_message, goes_on_need}
-use Rattle.session_judging.specs.Reading.{HasJudged}
+use Rattle.fix_wire_framer.specs.Pieces.{SameSplit}
+use Rattle.fix_wire_framer.proofs.framing.OneTurn.{goes_on_message, goes_on_need}
+use Rattle.fix_session_judging.specs.Reading.{HasJudged}
 use Rattle.fix_session.proofs.readers.MessagesCopied.{copied_some, copied_none, leaves_one, leaves_none, judged_one}
 use Rattle.fix_session.proofs.pieces.pass_messages.Goals as goal
 

@@ -1,6 +1,6 @@
 use Rattle.std.proofs.Common.{length, map}
-use Rattle.fix_framer.specs.Pieces.{SameSplit}
-use Rattle.session_judging.specs.Reading.{HasJudged}
+use Rattle.fix_wire_framer.specs.Pieces.{SameSplit}
+use Rattle.fix_session_judging.specs.Reading.{HasJudged}
 use Rattle.fix_session.proofs.pieces.pass_messages.Given as goal
 
 abbrev pub invariant-loop-message : goal.invariant-loop-message

@@ -1,6 +1,6 @@
 use Rattle.std.proofs.Common.{◌++◌, length, map}
-use Rattle.fix_framer.specs.Pieces.{IsDrained, SameSplit}
-use Rattle.session_judging.specs.Reading.{HasJudged}
+use Rattle.fix_wire_framer.specs.Pieces.{IsDrained, SameSplit}
+use Rattle.fix_session_judging.specs.Reading.{HasJudged}
 use Rattle.fix_session.proofs.pieces.put_piece.Given as goal
 
 abbrev pub invariant-loop-rest : goal.invariant-loop-rest

@@ -1,7 +1,7 @@
 use Rattle.std.proofs.Common.{[], map, subst, arith}
 use Rattle.std.proofs.lemmas.List.{take_all}
-use Rattle.fix_framer.specs.Pieces.{joined, SameSplit}
-use Rattle.fix_framer.proofs.framing.OneTurn.{all_passed}
+use Rattle.fix_wire_framer.specs.Pieces.{joined, SameSplit}
+use Rattle.fix_wire_framer.proofs.framing.OneTurn.{all_passed}
 use Rattle.fix_session.proofs.readers.MessagesCopied.{behind}
 use Rattle.fix_session.proofs.pieces.read_pieces.Goals as goal
 

@@ -1,6 +1,6 @@
 use Rattle.std.proofs.Common.{[], map, take}
-use Rattle.fix_framer.specs.Pieces.{joined, IsDrained, SameSplit}
-use Rattle.session_judging.specs.Reading.{HasJudged}
+use Rattle.fix_wire_framer.specs.Pieces.{joined, IsDrained, SameSplit}
+use Rattle.fix_session_judging.specs.Reading.{HasJudged}
 use Rattle.fix_session.proofs.pieces.read_pieces.Given as goal
 
 abbrev pub invariant-loop-piece : goal.invariant-loop-piece

@@ -1,5 +1,5 @@
 use Rattle.std.proofs.Common.{ap, ◌∙◌}
-use Rattle.session_judging.specs.Reading.{after_passing}
+use Rattle.fix_session_judging.specs.Reading.{after_passing}
 use Rattle.fix_session.proofs.readers.FirstMessage.{passed_skipped}
 use Rattle.fix_session.proofs.readers.MessagesCopied.{copied_none, drained_none}
 use Rattle.fix_session.proofs.pieces.take_message.Goals as goal

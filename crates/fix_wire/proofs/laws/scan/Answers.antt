@@ -1,4 +1,4 @@
-use Rattle.fix_frames.proofs.framing.FramesHeld.{scan_start, pass_law, passed_over, rest_stays, start_frames}
+use Rattle.fix_wire_frames.proofs.framing.FramesHeld.{scan_start, pass_law, passed_over, rest_stays, start_frames}
 use Rattle.fix_wire.proofs.laws.scan.Goals as goal
 
 pub returns-clause-kept : goal.returns-clause-kept

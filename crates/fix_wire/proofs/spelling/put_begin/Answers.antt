@@ -1,6 +1,6 @@
 use Rattle.std.proofs.Common.{◌++◌, ◌∷◌, [], take, decimal, ap, ◌∙◌, append_assoc}
-use Rattle.host_base.specs.declared.bytes.TheConstants.{SOH}
-use Rattle.fix_frames.specs.Frames.{begin_text}
+use Rattle.spread_rules_ids.specs.declared.bytes.TheConstants.{SOH}
+use Rattle.fix_wire_frames.specs.Frames.{begin_text}
 use Rattle.fix_wire.proofs.spelling.put_begin.Goals as goal
 
 pub returns-clause-text : goal.returns-clause-text

@@ -1,6 +1,6 @@
 use Rattle.std.proofs.Common.{arith}
 use Rattle.fix_wire.specs.Spelling.{spelled_body}
-use Rattle.fix_values.proofs.Appended.{step}
+use Rattle.fix_wire_values.proofs.Appended.{step}
 use Rattle.fix_wire.proofs.writing.PartsInRoom.{ends}
 use Rattle.fix_wire.proofs.spelling.put_body.Goals as goal
 

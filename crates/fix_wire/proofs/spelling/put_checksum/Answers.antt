@@ -1,7 +1,7 @@
 use Rattle.std.proofs.Common.{◌≡◌, ◌++◌, ◌+◌, ◌-◌, ◌*◌, ◌/◌, ◌%◌, take, drop, length, sum, replicate, ap, ◌∙◌, arith}
 use Rattle.std.proofs.lemmas.List.{length-take-le}
 use Rattle.std.proofs.lemmas.Slice.{between_is}
-use Rattle.fix_frames.specs.Frames.{checksum_field}
+use Rattle.fix_wire_frames.specs.Frames.{checksum_field}
 use Rattle.fix_wire.proofs.writing.PartsInRoom.{front_same, sum_padded}
 use Rattle.fix_wire.proofs.spelling.put_checksum.Goals as goal
 

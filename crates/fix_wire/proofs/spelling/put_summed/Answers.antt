@@ -1,8 +1,8 @@
 use Rattle.std.proofs.Common.{◌++◌, ◌-◌, ◌≡◌, ◌≤◌, ◌∷◌, [], take, length, decimal, ap, ◌∙◌, arith}
 use Rattle.std.proofs.lemmas.List.{length-take-le}
-use Rattle.fix_frames.specs.Frames.{begin_text}
+use Rattle.fix_wire_frames.specs.Frames.{begin_text}
 use Rattle.fix_wire.specs.Spelling.{spelled_body}
-use Rattle.fix_values.proofs.Appended.{step}
+use Rattle.fix_wire_values.proofs.Appended.{step}
 use Rattle.fix_wire.proofs.writing.PartsInRoom.{ends, front_same, counted, behind, open_text}
 use Rattle.fix_wire.proofs.spelling.put_summed.Goals as goal
 

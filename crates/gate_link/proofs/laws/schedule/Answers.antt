@@ -1,4 +1,4 @@
-use Rattle.session_judging.specs.Streams.{whole}
+use Rattle.fix_session_judging.specs.Streams.{whole}
 use Rattle.spread_rules.specs.Journal.{restricted}
 use Rattle.gate_link.specs.Schedules.{no_events}
 use Rattle.gate_link.proofs.links.InSentOrder.{in_order, at_first, prefix_whole}

@@ -1,9 +1,9 @@
 use Rattle.std.proofs.Common.{arith, ◌≡◌, ℕ, ◌<◌, ◌∙◌, List, length, map, get_or, true, below_more, ap, sym, inl, inr}
 use Rattle.std.proofs.lemmas.Bool.{cases_lt}
 use Rattle.std.proofs.lemmas.List.{get_or-map, get_or_past, length-map}
-use Rattle.session_rings.specs.Gateways.{is_over}
+use Rattle.gate_link_sessions.specs.Gateways.{is_over}
 use Rattle.gate_link.specs.Links.{closed_at}
-use Rattle.session_rings.specs.declared.gateway.Gateway.{Gateway}
+use Rattle.gate_link_sessions.specs.declared.gateway.Gateway.{Gateway}
 use Rattle.gate_link.proofs.look.first_open.Goals as goal
 
 -- whether the gateway at a place is closed

@@ -2,15 +2,15 @@ use Rattle.std.proofs.Common.{◌≡◌, ◌∙◌, refl, sym, ap, subst, List, 
 use Rattle.std.proofs.lemmas.List.{with_items_is}
 use Rattle.std.specs.Vec.{with_items}
 use Rattle.spread_rules.specs.declared.event.Entry.{Entry}
-use Rattle.stage_rings.specs.Feeding.{taken, taken_of, Takes, SameMatcher}
-use Rattle.stage_rings.specs.declared.feed.Lent.{Lent}
-use Rattle.stage_rings.specs.declared.feed.Lent.TheVariants.{Entry as LentEntry, Ended as LentEnd}
-use Rattle.stage_rings.specs.declared.post.Poster.{Poster}
+use Rattle.gate_link_stages.specs.Feeding.{taken, taken_of, Takes, SameMatcher}
+use Rattle.gate_link_stages.specs.declared.feed.Lent.{Lent}
+use Rattle.gate_link_stages.specs.declared.feed.Lent.TheVariants.{Entry as LentEntry, Ended as LentEnd}
+use Rattle.gate_link_stages.specs.declared.post.Poster.{Poster}
 use Rattle.matching_turns.specs.code.Matching.{MatchEnds}
-use Rattle.entry_posting.specs.code.Posting.{HasPosted, SamePosters, posted_at}
-use Rattle.entry_posting.specs.declared.posting.PostedEntries.{PostedEntries}
-use Rattle.entry_posting.proofs.Posters.{same_posters_trans}
-use Rattle.entry_posting.proofs.OneEntryMore.{posted_still}
+use Rattle.live_matching.specs.code.Posting.{HasPosted, SamePosters, posted_at}
+use Rattle.live_matching.specs.declared.posting.PostedEntries.{PostedEntries}
+use Rattle.live_matching.proofs.Posters.{same_posters_trans}
+use Rattle.live_matching.proofs.OneEntryMore.{posted_still}
 use Rattle.matching_turns.proofs.RingEnds.{same_matcher_trans, step_ends}
 use Rattle.matching_turns.proofs.turns.match_all.Goals as goal
 use Rattle.matching_turns.proofs.turns.match_all.Goals.{After-lend, After-match_one}

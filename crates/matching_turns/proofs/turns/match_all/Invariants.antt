@@ -1,7 +1,7 @@
 use Rattle.std.proofs.Common.{◌≡◌, ◌≤◌, false, length}
-use Rattle.stage_rings.specs.Feeding.{taken, take_ended, SameMatcher}
-use Rattle.entry_posting.specs.Sending.{sending_rules, stamp_of}
-use Rattle.entry_posting.specs.code.Posting.{CanPost, HasPosted, SamePosters}
+use Rattle.gate_link_stages.specs.Feeding.{taken, take_ended, SameMatcher}
+use Rattle.live_matching.specs.Sending.{sending_rules, stamp_of}
+use Rattle.live_matching.specs.code.Posting.{CanPost, HasPosted, SamePosters}
 use Rattle.matching_turns.proofs.turns.match_all.Given as goal
 
 abbrev pub invariant-loop : goal.invariant-loop

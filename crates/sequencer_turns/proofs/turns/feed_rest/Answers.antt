@@ -1,6 +1,6 @@
 use Rattle.std.proofs.Common.{rules}
 use Rattle.sequencer_turns.proofs.GivenOn.{same_feeder_trans}
-use Rattle.stage_rings.specs.Feeding.{SameFeeder}
+use Rattle.gate_link_stages.specs.Feeding.{SameFeeder}
 use Rattle.sequencer_turns.proofs.turns.feed_rest.Goals as goal
 use Rattle.sequencer_turns.proofs.turns.feed_rest.Goals.{After-feed}
 

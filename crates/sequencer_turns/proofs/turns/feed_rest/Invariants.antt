@@ -1,5 +1,5 @@
 use mathlib.Core.List.{IsPrefix}
-use Rattle.stage_rings.specs.Feeding.{given, SameFeeder}
+use Rattle.gate_link_stages.specs.Feeding.{given, SameFeeder}
 use Rattle.sequencer_turns.proofs.turns.feed_rest.Given as goal
 
 abbrev pub invariant-loop : goal.invariant-loop

@@ -3,7 +3,7 @@ use mathlib.Core.List.{IsPrefix}
 use Rattle.spread_rules.specs.declared.event.Entry.{Entry}
 use Rattle.gate_link.specs.Links.{SameLink, journal_of}
 use Rattle.gate_link.proofs.links.SeveralCalls.{prefix_trans, same_link_refl, same_link_trans}
-use Rattle.stage_rings.specs.Feeding.{given}
+use Rattle.gate_link_stages.specs.Feeding.{given}
 use Rattle.sequencer_turns.proofs.GivenOn.{same_feeder_trans}
 use Rattle.sequencer_turns.proofs.turns.take_turns.Goals as goal
 use Rattle.sequencer_turns.proofs.turns.take_turns.Goals.{After-turn_each}

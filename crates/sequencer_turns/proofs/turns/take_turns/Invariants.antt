@@ -1,6 +1,6 @@
 use mathlib.Core.List.{IsPrefix}
 use Rattle.gate_link.specs.Links.{SameLink, journal_of}
-use Rattle.stage_rings.specs.Feeding.{given, SameFeeder}
+use Rattle.gate_link_stages.specs.Feeding.{given, SameFeeder}
 use Rattle.sequencer_turns.proofs.turns.take_turns.Given as goal
 
 abbrev pub invariant-loop : goal.invariant-loop

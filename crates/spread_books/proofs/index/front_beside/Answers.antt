@@ -1,4 +1,4 @@
-use Rattle.resting_orders.proofs.fronts.Changes.{front_of_queue}
+use Rattle.spread_books_plain.proofs.fronts.Changes.{front_of_queue}
 use Rattle.spread_books.proofs.index.front_beside.Goals as goal
 
 pub returns : goal.returns

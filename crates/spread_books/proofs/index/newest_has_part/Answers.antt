@@ -1,7 +1,7 @@
 use Rattle.std.proofs.Common.{Option, subst}
 use Rattle.std.specs.Option.{IsSomeAnd}
 use Rattle.spread_rules.specs.declared.order.Order.{Order}
-use Rattle.candidate_search.specs.code.Cheapest.{IsInColumn}
+use Rattle.spread_books_search.specs.code.Cheapest.{IsInColumn}
 use Rattle.spread_books.proofs.index.newest_has_part.Goals as goal
 
 pub returns-in-Some : goal.returns-in-Some

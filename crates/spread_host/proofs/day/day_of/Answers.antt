@@ -1,10 +1,10 @@
 use Rattle.std.proofs.Common.{ap, ◌∙◌, subst, List}
 use Rattle.spread_rules.specs.declared.event.Entry.{Entry}
 use Rattle.spread_rules.specs.Meaning.{meaning_of_journal}
-use Rattle.outbound_sessions.specs.Rows.{IsRow}
+use Rattle.spread_report_outbound.specs.Rows.{IsRow}
 use Rattle.spread_report.specs.Messages.{messages_to}
-use Rattle.outbound_sessions.specs.Sessions.{bytes_of}
-use Rattle.day_apply.specs.Applied.{outgoing_bytes, applied_entries}
+use Rattle.spread_report_outbound.specs.Sessions.{bytes_of}
+use Rattle.apply_desk.specs.Applied.{outgoing_bytes, applied_entries}
 use Rattle.spread_host.proofs.DayOfParts.{DayHolds, day_holds}
 use Rattle.spread_host.proofs.LawfulJournals.{has_fills}
 use Rattle.spread_host.proofs.day.day_of.Goals as goal

@@ -3,12 +3,12 @@ use Rattle.std.specs.Prelude.{IsErrOf}
 use Rattle.std.specs.Io.KnownBytes.{Appends}
 use Rattle.std.proofs.lemmas.Option.{IfSome_then}
 use Rattle.std.proofs.lemmas.Result.{err_from_is_err_and}
-use Rattle.host_ends.specs.Ends.{AppendsPrefix}
+use Rattle.spread_rules_ends.specs.Ends.{AppendsPrefix}
 use Rattle.spread_rules.specs.declared.event.Entry.{Entry}
-use Rattle.day_lines.specs.Reading.{IsJournalOf, HasParts}
+use Rattle.intake_lines.specs.Reading.{IsJournalOf, HasParts}
 use Rattle.spread_host.specs.Days.{IsPartOut}
 use Rattle.spread_host.specs.Headline.{IsJournalOfText}
-use Rattle.host_faults.specs.declared.fault.HostFault.TheVariants as faults
+use Rattle.spread_host_faults.specs.declared.fault.HostFault.TheVariants as faults
 use Rattle.spread_host.proofs.LawfulJournals.{text_is, if_some_both}
 use Rattle.spread_host.proofs.SixteenTexts.{sessions_sent}
 use Rattle.spread_host.proofs.from_lines.replay.Goals as goal

@@ -1,10 +1,10 @@
 use Rattle.std.proofs.Common.{◌≡◌, ◌≢◌, List, ℕ, [], ◌∷◌, ap, sym, ◌∙◌, refl, codes}
 use Rattle.fix_wire.specs.declared.writer.Field.{Field}
 use Rattle.fix_wire.specs.declared.writer.Value.{Value}
-use Rattle.outbound_sessions.specs.code.Addressed.{numbered_message}
+use Rattle.spread_report_outbound.specs.code.Addressed.{numbered_message}
 use Rattle.spread_report.specs.code.Reports.{place_field}
-use Rattle.report_bodies.specs.Fields.{text_field, number_field}
-use Rattle.outbound_sessions.proofs.MoreMessages.{sends_same}
+use Rattle.spread_report_fields.specs.Fields.{text_field, number_field}
+use Rattle.spread_report_outbound.proofs.MoreMessages.{sends_same}
 use Rattle.std.proofs.lemmas.Bool.{ne_eqb}
 use Rattle.spread_report.proofs.admin.send_cancel_reject.Goals.{then-refusal-eq0, else-refusal-eq0}
 use Rattle.spread_report.proofs.admin.send_cancel_reject.Goals as goal

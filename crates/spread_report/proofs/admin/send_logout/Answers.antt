@@ -1,8 +1,8 @@
 use Rattle.std.proofs.Common.{List, [], ◌∷◌, ℕ, ap}
-use Rattle.report_bodies.specs.Fields.{text_field}
+use Rattle.spread_report_fields.specs.Fields.{text_field}
 use Rattle.spread_report.specs.EntryMessages.{close_steps}
-use Rattle.outbound_sessions.specs.code.Addressed.{numbered_message, steps_to}
-use Rattle.outbound_sessions.proofs.MoreMessages.{sends_same}
+use Rattle.spread_report_outbound.specs.code.Addressed.{numbered_message, steps_to}
+use Rattle.spread_report_outbound.proofs.MoreMessages.{sends_same}
 use Rattle.spread_report.proofs.admin.send_logout.Goals as goal
 
 pub returns-then-reason-eq-MSG_SEQ_NUM_TOO_LOW : goal.returns-then-reason-eq-MSG_SEQ_NUM_TOO_LOW

@@ -1,7 +1,7 @@
 use Rattle.std.proofs.Common.{[], ◌∷◌}
-use Rattle.order_reports.specs.ExecutionReports.{new_report, fills_reports}
-use Rattle.order_reports.specs.code.Reports.{report, reports_from}
-use Rattle.outbound_sessions.proofs.MoreMessages.{sends_after}
+use Rattle.spread_report_orders.specs.ExecutionReports.{new_report, fills_reports}
+use Rattle.spread_report_orders.specs.code.Reports.{report, reports_from}
+use Rattle.spread_report_outbound.proofs.MoreMessages.{sends_after}
 use Rattle.spread_report.proofs.entry.accepted_with_fills.Goals as goal
 
 pub returns-clause-sent : goal.returns-clause-sent

@@ -1,14 +1,14 @@
 use Rattle.std.proofs.Common.{◌≡◌, List, [], ◌∷◌, ◌++◌, ◌+◌, ℕ, ap, sym, ◌∙◌, Err}
 use Rattle.std.proofs.lemmas.Result.{err_from_is_err_and}
-use Rattle.order_reports.specs.ExecutionReports.{ExecutionReport, new_report, fills_reports}
-use Rattle.outbound_sessions.specs.code.Addressed.{AddressedStep}
-use Rattle.order_reports.specs.code.Reports.{report, reports_from, ended_report, reports_of}
+use Rattle.spread_report_orders.specs.ExecutionReports.{ExecutionReport, new_report, fills_reports}
+use Rattle.spread_report_outbound.specs.code.Addressed.{AddressedStep}
+use Rattle.spread_report_orders.specs.code.Reports.{report, reports_from, ended_report, reports_of}
 use Rattle.spread_report.specs.code.Addressed.{event_messages}
-use Rattle.order_reports.proofs.OneFillMore.{report_behind}
+use Rattle.spread_report_orders.proofs.OneFillMore.{report_behind}
 use Rattle.spread_rules.specs.declared.event.Event.TheVariants.{New}
 use Rattle.spread_rules.specs.declared.outcome.Outcome.{Outcome}
 use Rattle.spread_rules.specs.declared.outcome.Outcome.TheVariants.{Ended}
-use Rattle.outbound_sessions.proofs.MoreMessages.{sends_after, sends_no_more, sends_same}
+use Rattle.spread_report_outbound.proofs.MoreMessages.{sends_after, sends_no_more, sends_same}
 use Rattle.spread_report.proofs.entry.new_entry.Goals as goal
 
 pub returns-in_ok-index-in-Ended : goal.returns-in_ok-index-in-Ended

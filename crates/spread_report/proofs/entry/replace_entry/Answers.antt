@@ -1,9 +1,9 @@
 use Rattle.std.proofs.Common.{◌∷◌, [], ◌++◌, ℕ, Ok, Err}
 use Rattle.std.proofs.lemmas.Result.{err_from_is_err_and}
-use Rattle.spread_rulebook.specs.Rulebook.{symbol_of}
-use Rattle.order_reports.specs.ExecutionReports.{fills_reports}
-use Rattle.order_reports.specs.code.Reports.{report, reports_from, replaced_report}
-use Rattle.outbound_sessions.proofs.MoreMessages.{sends_after, sends_ok, sends_err}
+use Rattle.spread_rules_rulebook.specs.Rulebook.{symbol_of}
+use Rattle.spread_report_orders.specs.ExecutionReports.{fills_reports}
+use Rattle.spread_report_orders.specs.code.Reports.{report, reports_from, replaced_report}
+use Rattle.spread_report_outbound.proofs.MoreMessages.{sends_after, sends_ok, sends_err}
 use Rattle.spread_report.proofs.entry.replace_entry.Goals as goal
 
 pub returns-in_ok-send_fills-in-Replaced : goal.returns-in_ok-send_fills-in-Replaced

@@ -1,13 +1,13 @@
 use Rattle.std.proofs.Common.{◌≡◌, ℕ, ◌≤◌, true, false, List, [], sym, ap, ◌∙◌, append-nil, arith}
 use Rattle.std.specs.List.{AllByRecursion}
-use Rattle.fix_frames.specs.Frames.{frames}
-use Rattle.host_base.specs.Ids.{is_id}
-use Rattle.spread_rulebook.specs.Rulebook.{Rules}
+use Rattle.fix_wire_frames.specs.Frames.{frames}
+use Rattle.spread_rules_ids.specs.Ids.{is_id}
+use Rattle.spread_rules_rulebook.specs.Rulebook.{Rules}
 use Rattle.spread_report.specs.Outgoing.{AppliedEntry}
-use Rattle.outbound_sessions.specs.Steps.{outbound_before_logon}
+use Rattle.spread_report_outbound.specs.Steps.{outbound_before_logon}
 use Rattle.spread_report.specs.code.PerSession.{outgoing_starting, messages_starting, spends_from}
 use Rattle.spread_report.specs.Ranges.{AreNames, EntryInRange}
-use Rattle.outbound_sessions.specs.Rows.{IsRow}
+use Rattle.spread_report_outbound.specs.Rows.{IsRow}
 use Rattle.spread_report.proofs.frames.ReadBack.{from_is}
 use Rattle.spread_report.proofs.laws.read_back.Goals as goal
 

@@ -1,6 +1,6 @@
 use Rattle.std.proofs.Common.{subst, sym}
-use Rattle.spread_rulebook.specs.Prices.{IsOrderPrice}
-use Rattle.spread_rulebook.proofs.rulebook_texts.OrderPrices.{small_reference, order_is}
+use Rattle.spread_rules_rulebook.specs.Prices.{IsOrderPrice}
+use Rattle.spread_rules_rulebook.proofs.rulebook_texts.OrderPrices.{small_reference, order_is}
 use Rattle.spread_rules.proofs.legs.reference.Goals as goal
 
 pub returns-then-month-months-clause-small : goal.returns-then-month-months-clause-small

@@ -1,7 +1,7 @@
 use Rattle.std.proofs.Common.{refl, sym, ap, ◌∙◌}
 use Rattle.std.specs.Prelude.{option_map}
-use Rattle.session_judging.specs.Reading.{after_passing}
-use Rattle.session_judging.specs.code.Changes.{judgement_with}
+use Rattle.fix_session_judging.specs.Reading.{after_passing}
+use Rattle.fix_session_judging.specs.code.Changes.{judgement_with}
 use Rattle.fix_session.specs.code.ReaderFields.{state_of}
 use Rattle.fix_session.proofs.readers.FirstMessage.{found_kept, same_state, none_passed, one_passed}
 use Rattle.fix_session.proofs.reader.Reader.pass.Goals as goal

@@ -1,4 +1,4 @@
-use Rattle.session_judging.specs.Reading.{with_more}
+use Rattle.fix_session_judging.specs.Reading.{with_more}
 use Rattle.fix_session.proofs.readers.BytesFed.{fed_put}
 use Rattle.fix_session.proofs.reader.Reader.read.Goals as goal
 

@@ -1,6 +1,6 @@
 use Rattle.std.proofs.Common.{length}
-use Rattle.fix_framer.specs.Pieces.{IsDrained}
-use Rattle.session_judging.specs.Reading.{with_more, Fed}
+use Rattle.fix_wire_framer.specs.Pieces.{IsDrained}
+use Rattle.fix_session_judging.specs.Reading.{with_more, Fed}
 use Rattle.fix_session.proofs.reader.Reader.read.Given as goal
 
 abbrev pub invariant-loop-rest : goal.invariant-loop-rest

@@ -1,5 +1,5 @@
 use Rattle.std.proofs.Common.{length}
-use Rattle.session_judging.specs.Reading.{Fed}
+use Rattle.fix_session_judging.specs.Reading.{Fed}
 use Rattle.fix_session.proofs.reader.Reader.read_all.Given as goal
 
 abbrev pub invariant-loop : goal.invariant-loop

@@ -1,8 +1,8 @@
 use Rattle.std.proofs.Common.{◌≡◌, [], ◌++◌, None, sym, ap, ◌∙◌, rules, Vec}
 use Rattle.std.specs.List.{cons_option}
 use Rattle.std.proofs.lemmas.List.{append-nil}
-use Rattle.session_judging.specs.Steps.{judge, event_in}
-use Rattle.session_judging.specs.Reading.{first_verdict, entries_of}
+use Rattle.fix_session_judging.specs.Steps.{judge, event_in}
+use Rattle.fix_session_judging.specs.Reading.{first_verdict, entries_of}
 use Rattle.fix_session.proofs.readers.FirstMessage.{verdict_some, verdict_none}
 use Rattle.fix_session.proofs.readers.BytesFed.{fed_skipped, drained_where_none, fed_passed, passed_less}
 use Rattle.fix_session.proofs.reader.Reader.read_first.Goals as goal

@@ -1,9 +1,9 @@
 use Rattle.std.proofs.Common.{sym, subst, ◌∙◌}
-use Rattle.spread_rulebook.specs.Rulebook.{implied}
-use Rattle.quote_tables.specs.code.QuoteTable.{IsOneWay}
-use Rattle.quote_tables.specs.declared.quote_table.Change.{Change}
-use Rattle.quote_tables.proofs.quotes.Tables.{come_one, left_one, come_kept, left_kept, none_left, none_came, all_kept}
-use Rattle.quote_tables.proofs.quotes.CostRows.{kept_costs}
+use Rattle.spread_rules_rulebook.specs.Rulebook.{implied}
+use Rattle.spread_books_quotes.specs.code.QuoteTable.{IsOneWay}
+use Rattle.spread_books_quotes.specs.declared.quote_table.Change.{Change}
+use Rattle.spread_books_quotes.proofs.quotes.Tables.{come_one, left_one, come_kept, left_kept, none_left, none_came, all_kept}
+use Rattle.spread_books_quotes.proofs.quotes.CostRows.{kept_costs}
 use Rattle.quoted_books.proofs.kept_quotes.Quotes.renew_for.Goals as goal
 
 pub returns-then-not-is_as_good-clause-came : goal.returns-then-not-is_as_good-clause-came

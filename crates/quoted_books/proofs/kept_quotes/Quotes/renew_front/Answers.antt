@@ -1,6 +1,6 @@
 use Rattle.std.proofs.Common.{sym, subst}
-use Rattle.spread_rulebook.specs.Rulebook.{implied}
-use Rattle.quote_tables.specs.code.QuoteTable.{AreQuotes}
+use Rattle.spread_rules_rulebook.specs.Rulebook.{implied}
+use Rattle.spread_books_quotes.specs.code.QuoteTable.{AreQuotes}
 use Rattle.quoted_books.proofs.kept_quotes.Quotes.renew_front.Goals as goal
 
 pub returns : goal.returns

@@ -1,8 +1,8 @@
 use Rattle.std.proofs.Common.{List, [], subst, sym}
 use Rattle.spread_rules.specs.declared.order.Order.{Order}
-use Rattle.spread_rulebook.specs.Rulebook.{implied}
-use Rattle.quote_tables.specs.code.QuoteTable.{QuotesView, IsQuoted}
-use Rattle.quote_tables.proofs.quotes.Tables.{empty_table}
+use Rattle.spread_rules_rulebook.specs.Rulebook.{implied}
+use Rattle.spread_books_quotes.specs.code.QuoteTable.{QuotesView, IsQuoted}
+use Rattle.spread_books_quotes.proofs.quotes.Tables.{empty_table}
 use Rattle.quoted_books.proofs.quoted_book.QuotedBook.new.Goals as goal
 
 pub invariant_of-result : goal.invariant_of-result

@@ -1,7 +1,7 @@
 use Rattle.std.proofs.Common.{◌≡◌, true, false, refl, sym, ◌∙◌}
-use Rattle.spread_rulebook.specs.Rulebook.{implied}
-use Rattle.quote_tables.specs.code.QuoteTable.{HasCome, IsListed}
-use Rattle.quote_tables.proofs.quotes.Tables.{come_table}
+use Rattle.spread_rules_rulebook.specs.Rulebook.{implied}
+use Rattle.spread_books_quotes.specs.code.QuoteTable.{HasCome, IsListed}
+use Rattle.spread_books_quotes.proofs.quotes.Tables.{come_table}
 use Rattle.quoted_books.proofs.quoted_book.QuotedBookBook.add.Goals.{then-self, else-self}
 use Rattle.quoted_books.proofs.quoted_book.QuotedBookBook.add.Goals as goal
 

@@ -1,10 +1,10 @@
 use Rattle.std.proofs.Common.{List, refl, sym, subst}
 use Rattle.spread_rules.specs.declared.order.Order.{Order}
 use Rattle.spread_rules.specs.Amended.{with_quantity}
-use Rattle.order_books.proofs.ranks.TablesThroughChanges.{from_both}
-use Rattle.spread_rulebook.specs.Rulebook.{implied}
-use Rattle.quote_tables.specs.code.QuoteTable.{KeepsQuotes}
-use Rattle.quote_tables.proofs.quotes.Tables.{changed_table}
+use Rattle.spread_books_heap.proofs.ranks.TablesThroughChanges.{from_both}
+use Rattle.spread_rules_rulebook.specs.Rulebook.{implied}
+use Rattle.spread_books_quotes.specs.code.QuoteTable.{KeepsQuotes}
+use Rattle.spread_books_quotes.proofs.quotes.Tables.{changed_table}
 use Rattle.quoted_books.proofs.quoted_book.QuotedBookBook.amend.Goals as goal
 
 pub invariant_of-self : goal.invariant_of-self

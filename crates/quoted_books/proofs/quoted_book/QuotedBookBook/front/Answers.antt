@@ -1,6 +1,6 @@
 use Rattle.std.proofs.Common.{subst}
-use Rattle.resting_orders.specs.Queues.{IsFront}
-use Rattle.candidate_search.specs.BookView.{BookView}
+use Rattle.spread_books_plain.specs.Queues.{IsFront}
+use Rattle.spread_books_search.specs.BookView.{BookView}
 use Rattle.quoted_books.proofs.quoted_book.QuotedBookBook.front.Goals as goal
 
 pub returns : goal.returns

@@ -1,6 +1,6 @@
 use Rattle.std.proofs.Common.{subst}
-use Rattle.resting_orders.specs.Queues.{IsFrontLevel}
-use Rattle.candidate_search.specs.BookView.{BookView}
+use Rattle.spread_books_plain.specs.Queues.{IsFrontLevel}
+use Rattle.spread_books_search.specs.BookView.{BookView}
 use Rattle.quoted_books.proofs.quoted_book.QuotedBookBook.front_level.Goals as goal
 
 pub returns : goal.returns

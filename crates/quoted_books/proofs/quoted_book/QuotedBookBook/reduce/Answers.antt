@@ -1,9 +1,9 @@
 use Rattle.std.proofs.Common.{List, refl, sym, subst}
 use Rattle.spread_rules.specs.declared.order.Order.{Order}
-use Rattle.order_rows.proofs.places.ChangedAt.{less}
-use Rattle.spread_rulebook.specs.Rulebook.{implied}
-use Rattle.quote_tables.specs.code.QuoteTable.{KeepsQuotes}
-use Rattle.quote_tables.proofs.quotes.Tables.{changed_table}
+use Rattle.spread_books_rows.proofs.places.ChangedAt.{less}
+use Rattle.spread_rules_rulebook.specs.Rulebook.{implied}
+use Rattle.spread_books_quotes.specs.code.QuoteTable.{KeepsQuotes}
+use Rattle.spread_books_quotes.proofs.quotes.Tables.{changed_table}
 use Rattle.quoted_books.proofs.quoted_book.QuotedBookBook.reduce.Goals as goal
 
 pub invariant_of-self : goal.invariant_of-self

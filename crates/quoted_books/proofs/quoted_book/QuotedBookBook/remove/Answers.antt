@@ -2,14 +2,14 @@ use Rattle.std.proofs.Common.{ℕ, List, All, refl, sym, ap, ◌∙◌, subst}
 use Rattle.spread_rules.specs.declared.order.Order.{Order}
 use Rattle.spread_rules.specs.Candidates.{HasOrderPrice}
 use Rattle.spread_rules.specs.Clearing.{removed}
-use Rattle.order_rows.specs.Places.{HasPlace}
-use Rattle.order_books.proofs.fronts.TableHoldsFronts.{rests_at, not_nobody}
-use Rattle.spread_rulebook.specs.Rulebook.{implied}
+use Rattle.spread_books_rows.specs.Places.{HasPlace}
+use Rattle.spread_books_heap.proofs.fronts.TableHoldsFronts.{rests_at, not_nobody}
+use Rattle.spread_rules_rulebook.specs.Rulebook.{implied}
 use Rattle.std.proofs.lemmas.List.Elements.{All-contains}
-use Rattle.candidate_search.specs.Listed.{IsInMonths}
-use Rattle.candidate_search.specs.BookView.{BookView}
-use Rattle.quote_tables.specs.code.QuoteTable.{HasLeft}
-use Rattle.quote_tables.proofs.quotes.Tables.{removed_all, left_table}
+use Rattle.spread_books_search.specs.Listed.{IsInMonths}
+use Rattle.spread_books_search.specs.BookView.{BookView}
+use Rattle.spread_books_quotes.specs.code.QuoteTable.{HasLeft}
+use Rattle.spread_books_quotes.proofs.quotes.Tables.{removed_all, left_table}
 use Rattle.quoted_books.proofs.quoted_book.QuotedBookBook.remove.Goals as goal
 
 pub renew_for-requires : goal.renew_for-requires

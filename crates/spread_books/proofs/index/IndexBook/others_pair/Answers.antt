@@ -1,8 +1,8 @@
 use Rattle.std.proofs.Common.{◌≡◌, true, false, sym, ap, subst, ◌∙◌}
-use Rattle.host_base.specs.declared.limits.TheConstants.{MAX_MONTHS}
-use Rattle.spread_rulebook.specs.Rulebook.{Rules, implied}
-use Rattle.resting_orders.specs.Pairs.{IsCheapest}
-use Rattle.candidate_search.specs.BookView.{BookView}
+use Rattle.spread_rules_ids.specs.declared.limits.TheConstants.{MAX_MONTHS}
+use Rattle.spread_rules_rulebook.specs.Rulebook.{Rules, implied}
+use Rattle.spread_books_plain.specs.Pairs.{IsCheapest}
+use Rattle.spread_books_search.specs.BookView.{BookView}
 use Rattle.spread_books.proofs.quotes.AtHand.{kept_by_newest}
 use Rattle.spread_books.proofs.index.IndexBook.others_pair.Goals as goal
 

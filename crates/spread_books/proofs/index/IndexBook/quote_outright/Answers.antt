@@ -1,14 +1,14 @@
 use Rattle.std.proofs.Common.{◌≡◌, true, ◌∙◌, subst}
 use Rattle.spread_rules.specs.declared.order.Side.{Side}
-use Rattle.spread_rulebook.specs.declared.instrument.Instrument.{Instrument}
-use Rattle.spread_rulebook.specs.declared.instrument.Instrument.TheVariants.{Outright}
+use Rattle.spread_rules_rulebook.specs.declared.instrument.Instrument.{Instrument}
+use Rattle.spread_rules_rulebook.specs.declared.instrument.Instrument.TheVariants.{Outright}
 use Rattle.spread_rules.specs.Candidates.{all_on, takes_part}
-use Rattle.spread_rulebook.specs.Rulebook.{implied}
+use Rattle.spread_rules_rulebook.specs.Rulebook.{implied}
 use Rattle.spread_rules.specs.Legs.{other_side}
-use Rattle.resting_orders.specs.Pairs.{spread_of, spread_side}
+use Rattle.spread_books_plain.specs.Pairs.{spread_of, spread_side}
 use Rattle.spread_books.specs.code.PairQuote.{IsQuoteOfFronts}
 use Rattle.spread_books.proofs.quotes.Implied.{no_quote, outright_quote, quote_on}
-use Rattle.candidate_search.proofs.fronts.MonthPairs.{month_takes_part}
+use Rattle.spread_books_search.proofs.fronts.MonthPairs.{month_takes_part}
 use Rattle.spread_books.proofs.index.IndexBook.quote_outright.Goals as goal
 
 pub returns-in_default : goal.returns-in_default

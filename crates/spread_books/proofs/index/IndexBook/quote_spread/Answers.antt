@@ -1,10 +1,10 @@
 use Rattle.std.proofs.Common.{◌≡◌, true, sym, ap, ◌∙◌, subst}
 use Rattle.spread_rules.specs.declared.order.Side.{Side}
-use Rattle.spread_rulebook.specs.declared.instrument.Instrument.TheVariants.{Outright, Spread}
+use Rattle.spread_rules_rulebook.specs.declared.instrument.Instrument.TheVariants.{Outright, Spread}
 use Rattle.spread_rules.specs.Candidates.{all_on}
 use Rattle.spread_rules.specs.Legs.{other_side}
-use Rattle.spread_rulebook.specs.Rulebook.{Rules, implied}
-use Rattle.candidate_search.specs.BookView.{BookView}
+use Rattle.spread_rules_rulebook.specs.Rulebook.{Rules, implied}
+use Rattle.spread_books_search.specs.BookView.{BookView}
 use Rattle.spread_books.specs.code.PairQuote.{IsQuoteOfFronts}
 use Rattle.spread_books.proofs.quotes.Implied.{spread_quote, quote_on}
 use Rattle.spread_books.proofs.index.IndexBook.quote_spread.Goals as goal

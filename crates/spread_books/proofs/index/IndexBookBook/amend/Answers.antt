@@ -2,12 +2,12 @@ use Rattle.std.proofs.Common.{List, ◌++◌, ◌∷◌, [], refl, sym, ap, ◌�
 use Rattle.std.specs.Option.{option_to_list}
 use Rattle.spread_rules.specs.declared.order.Order.{Order}
 use Rattle.spread_rules.specs.Amended.{amended, with_quantity}
-use Rattle.order_rows.specs.Places.{Ascends}
-use Rattle.order_rows.proofs.places.Ascending.{ascends_changed}
-use Rattle.resting_orders.specs.Queues.{CanAmend}
-use Rattle.order_books.proofs.ranks.TablesThroughChanges.{from_both}
-use Rattle.resting_orders.proofs.places.LastOrder.{changed_newest, changed_before, amend_before}
-use Rattle.candidate_search.specs.BookView.{BookView}
+use Rattle.spread_books_rows.specs.Places.{Ascends}
+use Rattle.spread_books_rows.proofs.places.Ascending.{ascends_changed}
+use Rattle.spread_books_plain.specs.Queues.{CanAmend}
+use Rattle.spread_books_heap.proofs.ranks.TablesThroughChanges.{from_both}
+use Rattle.spread_books_plain.proofs.places.LastOrder.{changed_newest, changed_before, amend_before}
+use Rattle.spread_books_search.specs.BookView.{BookView}
 use Rattle.spread_books.proofs.index.IndexBookBook.amend.Goals as goal
 
 pub returns-in-Some-clause-ok : goal.returns-in-Some-clause-ok

@@ -2,8 +2,8 @@ use Rattle.std.proofs.Common.{◌==◌, List, sym, ap, ◌∙◌}
 use Rattle.std.specs.List.{find}
 use Rattle.std.specs.Option.{option_to_list}
 use Rattle.spread_rules.specs.declared.order.Order.{Order}
-use Rattle.resting_orders.proofs.places.LastOrder.{found_before, found_newest}
-use Rattle.candidate_search.specs.BookView.{BookView}
+use Rattle.spread_books_plain.proofs.places.LastOrder.{found_before, found_newest}
+use Rattle.spread_books_search.specs.BookView.{BookView}
 use Rattle.spread_books.proofs.index.IndexBookBook.at.Goals as goal
 
 pub returns-in-None : goal.returns-in-None

@@ -3,9 +3,9 @@ use Rattle.std.proofs.lemmas.List.{append-nil}
 use Rattle.std.specs.Option.{option_to_list}
 use Rattle.spread_rules.specs.declared.order.Order.{Order}
 use Rattle.spread_rules.specs.declared.order.Level.{Level}
-use Rattle.resting_orders.specs.Queues.{IsFrontLevel}
-use Rattle.resting_orders.proofs.fronts.Changes.{level_of_no_queue}
-use Rattle.candidate_search.specs.BookView.{BookView}
+use Rattle.spread_books_plain.specs.Queues.{IsFrontLevel}
+use Rattle.spread_books_plain.proofs.fronts.Changes.{level_of_no_queue}
+use Rattle.spread_books_search.specs.BookView.{BookView}
 use Rattle.spread_books.proofs.index.IndexBookBook.front_level.Goals as goal
 
 pub returns-then-is_in : goal.returns-then-is_in

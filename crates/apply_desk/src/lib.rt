@@ -1,0 +1,10 @@
+//! A journal's entries applied in order: what they fill, and what each session is sent.
+#![tactic(auto)]
+
+mod journal;
+pub mod laws;
+mod report;
+
+pub use journal::apply_journal;
+pub use apply_market::ApplyFault;
+pub use report::{FillsAndMessages, ReportedEntries};

@@ -1,6 +1,0 @@
-use Rattle.std.proofs.Common.{◌≡◌, ◌++◌, map, take, drop}
-use Rattle.fix_frames.specs.Texts.{soh_for_bar}
-use Rattle.day_lines.proofs.lines.put_field_ends.Given as goal
-
-abbrev pub invariant-loop-byte : goal.invariant-loop-byte
-invariant-loop-byte l = l.text ≡ map soh_for_bar (take l.byte-index l.fn.text) ++ drop l.byte-index l.fn.text

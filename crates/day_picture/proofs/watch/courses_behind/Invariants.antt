@@ -1,6 +1,0 @@
-use Rattle.std.proofs.Common.{take}
-use Rattle.journal_matching.specs.Application.{HasApplied}
-use Rattle.day_picture.proofs.watch.courses_behind.Given as goal
-
-abbrev pub invariant-loop-n : goal.invariant-loop-n
-invariant-loop-n g l = HasApplied (take l.n l.journal) l.applied

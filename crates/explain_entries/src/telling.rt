@@ -1,0 +1,120 @@
+//! An entry told: what came of it, and how its order was traded.
+ghost use Rattle.std.specs.Option.{option_map};
+ghost use Rattle.std.specs.Prelude.{◌≡◌, ◌+◌, All, IfOk, IfSome, length};
+ghost use Rattle.spread_rules.specs.Candidates.{HasOrderPrice};
+ghost use Rattle.spread_rules.specs.Clearing.{removed};
+ghost use Rattle.spread_rules.specs.Journal.{FitsEntry};
+ghost use Rattle.spread_rules.specs.Meaning.{order_of};
+ghost use Rattle.spread_rules_rulebook.specs.Rulebook.{find_symbol};
+ghost use Rattle.apply_market.specs.Application.{meaning_behind};
+ghost use Rattle.explain_turns.specs.Explained.{AreTurns, HaveLegPrices, LiesBeyond, after_all_turns};
+ghost use Rattle.explain_entries.specs.Told.{named_by, others_of, standing_at, trader_of};
+
+use crate::standing::{Standing, named_by, standing_at};
+use crate::told::{Told, Traded};
+use explain_turns::explain_order;
+use spread_match::laws::ranges;
+use spread_rules::{Entry, Event, NoMemory, Order, Outcome, Rulebook, Ticket};
+use std::alloc::Allocator;
+
+/// The order that a new order asks for.
+fn new_order(rulebook: &Rulebook, place: u64, session: u8, ticket: &Ticket) -> Option<Order>
+    ensures { result
+        ≡ option_map (order_of place session ticket.now) (find_symbol rulebook.now ticket.now.symbol) }
+{
+    let instrument = rulebook.find(ticket.symbol.bytes())?;
+    Some(Order {
+        place,
+        session,
+        id: ticket.id,
+        instrument,
+        side: ticket.side,
+        price: ticket.price,
+        quantity: ticket.quantity,
+        leaves: ticket.quantity,
+    })
+}
+
+/// The order that an entry of that place brings to be matched, where it brings one.
+fn trader_of(rulebook: &Rulebook, place: u64, entry: &Entry, outcome: &Outcome) -> Option<Order>
+    requires { FitsEntry entry.now }
+    ensures trader { result
+        ≡ trader_of rulebook.now place entry.now.session entry.now.event outcome.now }
+    ensures small { IfSome result HasOrderPrice }
+{
+    match (&entry.event, outcome) {
+        (Event::New(_), Outcome::Refused(_)) => None,
+        (Event::New(ticket), _) => new_order(rulebook, place, entry.session, ticket),
+        (Event::Replace { ticket, .. }, Outcome::Replaced(order)) if order.place == place => {
+            Some(Order {
+                price: ticket.price,
+                ..*order
+            })
+        }
+        _ => None,
+    }
+}
+
+/// All of these but the order that is replaced.
+fn others_of<A: Allocator + Copy>(orders: Vec<Order, A>, named: &Option<Order>) -> Vec<Order, A>
+    ensures { result.items ≡ others_of named.now orders.items }
+{
+    let mut orders = orders;
+    if let Some(replaced) = named {
+        remove(&mut orders, replaced.place);
+    }
+    orders
+}
+
+fn remove<A: Allocator + Copy>(orders: &mut Vec<Order, A>, place: u64)
+    ensures { orders.new.items ≡ removed place orders.old.items }
+{
+    orders.retain(|o| o.place != place);
+}
+
+/// What is told of the entry that follows these.
+pub fn tell<A: Allocator + Copy>(
+    alloc: A,
+    rulebook: &Rulebook,
+    before: &[Entry],
+    entry: &Entry,
+) -> Result<Told<A>, NoMemory>
+    requires before { All FitsEntry before.now }
+    requires entry { FitsEntry entry.now }
+    ensures outcome { IfOk result (λ t.
+        t.outcome ≡ (meaning_behind rulebook.now before.now entry.now).outcome) }
+    ensures named { IfOk result (λ t. t.named ≡ named_by entry.now.session entry.now.event
+        (standing_at rulebook.now before.now)) }
+    ensures trader { IfOk result (λ t. option_map (λ x. x.new) t.traded
+        ≡ trader_of rulebook.now (length before.now + 1) entry.now.session entry.now.event
+        t.outcome) }
+    ensures turns { IfOk result (λ t. IfSome t.traded (λ x. AreTurns rulebook.now x.new
+        (others_of t.named (standing_at rulebook.now before.now)) x.explanation.turns.items)) }
+    ensures small { IfOk result (λ t. IfSome t.traded (λ x.
+        All HaveLegPrices x.explanation.turns.items)) }
+    ensures left { IfOk result (λ t. IfSome t.traded (λ x. x.explanation.left
+        ≡ (after_all_turns rulebook.now x.new
+        (others_of t.named (standing_at rulebook.now before.now))).new.leaves)) }
+    ensures beyond { IfOk result (λ t. IfSome t.traded (λ x. LiesBeyond rulebook.now x.new
+        (others_of t.named (standing_at rulebook.now before.now)) x.explanation.beyond)) }
+{
+    // Cites the ranges of a journal's orders, and that a rulebook is lawful.
+    ranges();
+    rulebook.months();
+    let Standing { orders, outcome } = standing_at(alloc, rulebook, before, entry)?;
+    let named = named_by(&orders, entry);
+    let place = before.len() as u64 + 1;
+    let traded = match trader_of(rulebook, place, entry, &outcome) {
+        None => None,
+        Some(new) => {
+            let others = others_of(orders, &named);
+            let explanation = explain_order(alloc, rulebook, others, &new)?;
+            Some(Traded { new, explanation })
+        }
+    };
+    Ok(Told {
+        outcome,
+        named,
+        traded,
+    })
+}

@@ -1,8 +1,0 @@
-use Rattle.std.proofs.Common.{sym, ap, ◌∙◌}
-use Rattle.std.proofs.lemmas.List.{take_rest}
-use Rattle.fix_frames.proofs.texts.HeaderAtTheFront.{header_when}
-use Rattle.fix_frames.specs.Frames.{header_after}
-use Rattle.fix_frames.proofs.frame.header_of_begun.Goals as goal
-
-pub returns : goal.returns
-returns c = c.header_after.ensures ∙ ap header_after (take_rest c.args.text.now 12) ∙ sym (header_when c.args.text.now c.requires)

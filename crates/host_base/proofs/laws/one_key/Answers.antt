@@ -1,5 +1,0 @@
-use Rattle.host_base.proofs.IdKeyOnce.{one_key}
-use Rattle.host_base.proofs.laws.one_key.Goals as goal
-
-pub returns : goal.returns
-returns c = record { once = λ s t a b x y e. one_key s t a b x y e }

@@ -1,6 +1,0 @@
-use Rattle.std.proofs.Common.{[]}
-use Rattle.row_index.specs.Tables.{IsTableOf}
-use Rattle.market_tests.proofs.ids.room_is_left.Given as goal
-
-abbrev pub invariant-loop-n : goal.invariant-loop-n
-invariant-loop-n g l = record { table : IsTableOf l.table [] }

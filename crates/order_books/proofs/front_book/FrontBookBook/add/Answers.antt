@@ -1,9 +1,0 @@
-use Rattle.std.proofs.Common.{List, sym, subst}
-use Rattle.spread_rules.specs.declared.order.Order.{Order}
-use Rattle.order_books.specs.code.FrontPrices.{HoldsPrices}
-use Rattle.order_books.proofs.front_book.FrontBookBook.add.Goals as goal
-
-pub invariant_of-self-2 : goal.invariant_of-self-2
-invariant_of-self-2 g c =
-    subst (λ (ys : List Order). HoldsPrices ys c.update_front.new.fronts) (sym c.in_ok-add.ensures.ok)
-    (c.update_front.ensures c.self.inside.tables c.make_room.ensures)

@@ -1,6 +1,0 @@
-use Rattle.std.proofs.Common.{◌≡◌, true, ℕ, ◌<◌}
-use Rattle.spread_rulebook.specs.Rulebook.{implied}
-use Rattle.quote_tables.proofs.pairs_on.is_row_on.Given as goal
-
-abbrev pub invariant-loop-far : goal.invariant-loop-far
-invariant-loop-far l = (far : ℕ) → far < l.far → implied l.rules l.near far ≡ true

@@ -1,9 +1,0 @@
-use Rattle.std.proofs.Common.{ℕ, List, ap, ◌∙◌}
-use Rattle.host_base.specs.Ids.{is_id}
-use Rattle.report_bodies.proofs.SymbolIds.{joined_id}
-use Rattle.report_bodies.proofs.symbol.joined.Goals as goal
-
-pub of-requires : goal.of-requires
-of-requires c =
-    ap (λ (t : List ℕ). is_id t) c.write_joined-end.ensures.written
-    ∙ (rw (c.bytes.ensures.value, c.bytes-2.ensures.value) (joined_id c.args.near.now c.args.far.now c.requires c.bytes.ensures.plain c.bytes-2.ensures.plain))

@@ -1,6 +1,0 @@
-use Rattle.std.proofs.Common.{◌≡◌, ◌++◌, take, drop}
-use Rattle.spread_rules.specs.Clearing.{reduced}
-use Rattle.resting_orders.proofs.list.reduce_all.Given as goal
-
-abbrev pub invariant-loop-order : goal.invariant-loop-order
-invariant-loop-order l = l.orders ≡ reduced l.place l.by (take l.order-index l.fn.orders) ++ drop l.order-index l.fn.orders

@@ -1,8 +1,0 @@
-use Rattle.std.proofs.Common.{◌≡◌, ℕ, ◌<◌, ◌/◌, get_or, false}
-use Rattle.std.specs.Prelude.{◌≢◌}
-use Rattle.row_index.specs.declared.id_table.TheConstants.{ROWS}
-use Rattle.row_index.proofs.id_table.has_tag.Given as goal
-
--- none so far has it
-abbrev pub invariant-loop-at : goal.invariant-loop-at
-invariant-loop-at l = l.any ≡ false → (j d : ℕ) → j < l.at → get_or l.line.numbers j d / ROWS ≢ l.tag

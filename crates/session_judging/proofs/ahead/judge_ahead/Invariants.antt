@@ -1,9 +1,0 @@
-use Rattle.std.proofs.Common.{◌≡◌, length}
-use Rattle.session_judging.specs.code.Judged.{HasJudgedFirst}
-use Rattle.session_judging.proofs.ahead.judge_ahead.Given as goal
-
-abbrev pub invariant-loop : goal.invariant-loop
-invariant-loop l = record {
-  judged : HasJudgedFirst l.number l.counter l.fn.session l.framer l.entries l.ahead;
-  size : length l.entries ≡ length l.initial.entries;
-}

@@ -1,0 +1,14 @@
+-- Whether each pair of months takes part in implied trading.
+-- Words of the code alone.
+use Rattle.std.specs.Prelude.{◌≡◌, ℕ, ◌<◌, true}
+use Rattle.spread_rules_ids.specs.declared.limits.TheConstants as limits
+use Rattle.spread_rules.specs.Candidates.{Pairs}
+
+-- each pair with that near month does
+abbrev pub IsRowOn : Pairs → ℕ → Type 0
+IsRowOn trades_implied near =
+    (far : ℕ) → far < limits.MAX_MONTHS → trades_implied near far ≡ true
+
+-- each pair of the months that a rulebook can have does
+abbrev pub AreAllOn : Pairs → Type 0
+AreAllOn trades_implied = (near : ℕ) → near < limits.MAX_MONTHS → IsRowOn trades_implied near

@@ -1,5 +1,0 @@
-use Rattle.gate_link.specs.Links.{SameLink}
-use Rattle.stage_tests.proofs.link.threads.take_turns.Given as goal
-
-abbrev pub invariant-loop : goal.invariant-loop
-invariant-loop g l = SameLink l.initial.sequencer l.sequencer

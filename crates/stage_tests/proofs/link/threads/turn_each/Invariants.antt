@@ -1,5 +1,0 @@
-use Rattle.gate_link.specs.Links.{SameLink}
-use Rattle.stage_tests.proofs.link.threads.turn_each.Given as goal
-
-abbrev pub invariant-loop-s : goal.invariant-loop-s
-invariant-loop-s g l = SameLink l.initial.sequencer l.sequencer

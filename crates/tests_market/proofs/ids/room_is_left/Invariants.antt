@@ -1,0 +1,6 @@
+use Rattle.std.proofs.Common.{[]}
+use Rattle.spread_books_ids.specs.Tables.{IsTableOf}
+use Rattle.tests_market.proofs.ids.room_is_left.Given as goal
+
+abbrev pub invariant-loop-n : goal.invariant-loop-n
+invariant-loop-n g l = record { table : IsTableOf l.table [] }

@@ -1,0 +1,242 @@
+//! The lines of outgoing messages, written in pieces. What stands in a piece is shown when the piece is written.
+ghost use Rattle.std.specs.Prelude.{◌≡◌, ◌<◌, ◌≤◌, ◌+◌, ◌++◌, ◌∷◌, [], All, map, length, min, OnOk, vec_len, vec_capacity, false};
+ghost use Rattle.fix_wire_frames.specs.Frames.{IsFrameRow};
+ghost use Rattle.text_messages.specs.Messages.{texts_of, shown_byte, outgoing_line, session_lines, outgoing_lines_from};
+ghost use Rattle.text_messages.specs.code.LineLead.{line_lead};
+ghost use Rattle.text_pieces.specs.code.Pieces.{Puts, Writes};
+
+use fix_wire_framer::first_of_row;
+use spread_rules_ids::limits::SESSIONS;
+use spread_rules_ends::Failed;
+use std::alloc::Allocator;
+use text_pieces::{PIECE_BYTES, TakesPieces, append};
+
+/// Shows each byte 1 as `|`.
+fn show_field_ends(text: &mut [u8])
+    ensures { text.new ≡ map shown_byte text.old }
+{
+    for byte in text.iter_mut() {
+        *byte = shown_byte(*byte);
+    }
+}
+
+fn shown_byte(byte: u8) -> u8
+    ensures { result ≡ shown_byte byte }
+{
+    if byte == 1 { b'|' } else { byte }
+}
+
+/// Shows what stands in the piece, which is then taken. The whole piece at once: a loop over each message alone would
+/// spend most of its time on its last few bytes.
+fn give_shown<K: TakesPieces<A>, A: Allocator>(
+    piece: &mut Vec<u8, A>,
+    sink: &mut K,
+) -> Result<(), Failed>
+    requires works { K.has_failed sink.old ≡ false }
+    ensures writes { Writes result (K.written sink.old) (K.written sink.new) (K.has_failed sink.new)
+        (map shown_byte piece.old.items) }
+    ensures items { OnOk result (piece.new.items ≡ []) }
+    ensures len { OnOk result (vec_len piece.new ≡ 0) }
+    ensures room { min PIECE_BYTES (vec_capacity piece.old) ≤ vec_capacity piece.new }
+{
+    show_field_ends(&mut piece[..]);
+    sink.take(piece)
+}
+
+/// Writes what stands in the piece, as it is shown, if it has no room for so many bytes more.
+fn make_room_shown<K: TakesPieces<A>, A: Allocator>(
+    piece: &mut Vec<u8, A>,
+    sink: &mut K,
+    bytes: usize,
+) -> Result<(), Failed>
+    requires works { K.has_failed sink.old ≡ false }
+    requires most { bytes ≤ min PIECE_BYTES (vec_capacity piece.old) }
+    ensures puts { Puts result (K.written sink.old) (K.written sink.new) (K.has_failed sink.new)
+        (map shown_byte piece.new.items) (map shown_byte piece.old.items) }
+    ensures room { OnOk result (vec_len piece.new + bytes ≤ vec_capacity piece.new) }
+    ensures capacity { min PIECE_BYTES (vec_capacity piece.old) ≤ vec_capacity piece.new }
+{
+    if piece.capacity() - piece.len() < bytes {
+        return give_shown(piece, sink);
+    }
+    Ok(())
+}
+
+/// Puts bytes behind those of the piece, which are shown and written each time that it is full.
+fn put_part<K: TakesPieces<A>, A: Allocator>(
+    piece: &mut Vec<u8, A>,
+    sink: &mut K,
+    bytes: &[u8],
+) -> Result<(), Failed>
+    requires works { K.has_failed sink.old ≡ false }
+    requires some { 0 < vec_capacity piece.old }
+    ensures puts { Puts result (K.written sink.old) (K.written sink.new) (K.has_failed sink.new)
+        (map shown_byte piece.new.items)
+        (map shown_byte piece.old.items ++ map shown_byte bytes.now) }
+    ensures room { OnOk result
+        (min PIECE_BYTES (vec_capacity piece.old) ≤ vec_capacity piece.new) }
+{
+    let mut rest = bytes;
+    while !rest.is_empty() {
+        make_room_shown(piece, sink, 1)?;
+        let (now, later) = rest.split_at(rest.len().min(piece.capacity() - piece.len()));
+        append(piece, now);
+        rest = later;
+    }
+    Ok(())
+}
+
+/// What each line of a session begins with, `O S:`.
+fn lead(session: u8) -> &'static [u8]
+    requires { session < SESSIONS }
+    ensures text { result.now ≡ line_lead session }
+    ensures shown { map shown_byte result.now ≡ result.now }
+{
+    match session {
+        0 => b"O 0:",
+        1 => b"O 1:",
+        2 => b"O 2:",
+        3 => b"O 3:",
+        4 => b"O 4:",
+        5 => b"O 5:",
+        6 => b"O 6:",
+        7 => b"O 7:",
+        8 => b"O 8:",
+        9 => b"O 9:",
+        10 => b"O 10:",
+        11 => b"O 11:",
+        12 => b"O 12:",
+        13 => b"O 13:",
+        14 => b"O 14:",
+        _ => b"O 15:",
+    }
+}
+
+/// The line of a message that a whole piece has no room for. It is cut.
+#[inline(never)]
+fn put_long_message<K: TakesPieces<A>, A: Allocator>(
+    piece: &mut Vec<u8, A>,
+    sink: &mut K,
+    session: u8,
+    message: &[u8],
+) -> Result<(), Failed>
+    requires works { K.has_failed sink.old ≡ false }
+    requires some { 0 < vec_capacity piece.old }
+    requires session { session < SESSIONS }
+    ensures puts { Puts result (K.written sink.old) (K.written sink.new) (K.has_failed sink.new)
+        (map shown_byte piece.new.items)
+        (map shown_byte piece.old.items ++ outgoing_line session message.now) }
+    ensures room { OnOk result
+        (min PIECE_BYTES (vec_capacity piece.old) ≤ vec_capacity piece.new) }
+{
+    put_part(piece, sink, lead(session))?;
+    put_part(piece, sink, message)?;
+    put_part(piece, sink, b"\n")
+}
+
+/// Appends one message's line, for which there is room.
+fn append_line<A: Allocator>(piece: &mut Vec<u8, A>, lead: &[u8], message: &[u8])
+    requires { vec_len piece.old + length lead.now + length message.now + 1 ≤ vec_capacity piece.old }
+    ensures items { piece.new.items ≡ piece.old.items ++ (lead.now ++ message.now ++ 10 ∷ []) }
+    ensures room { vec_capacity piece.old ≤ vec_capacity piece.new }
+{
+    append(piece, lead);
+    append(piece, message);
+    piece.push_reserved(b'\n');
+}
+
+/// One message's line. The piece is written first where it has no room for the line.
+fn put_message<K: TakesPieces<A>, A: Allocator>(
+    piece: &mut Vec<u8, A>,
+    sink: &mut K,
+    session: u8,
+    message: &[u8],
+) -> Result<(), Failed>
+    requires works { K.has_failed sink.old ≡ false }
+    requires some { 0 < vec_capacity piece.old }
+    requires session { session < SESSIONS }
+    ensures puts { Puts result (K.written sink.old) (K.written sink.new) (K.has_failed sink.new)
+        (map shown_byte piece.new.items)
+        (map shown_byte piece.old.items ++ outgoing_line session message.now) }
+    ensures room { OnOk result
+        (min PIECE_BYTES (vec_capacity piece.old) ≤ vec_capacity piece.new) }
+{
+    let lead = lead(session);
+    let line = lead.len().saturating_add(message.len()).saturating_add(1);
+    if line > piece.capacity().min(PIECE_BYTES) {
+        return put_long_message(piece, sink, session, message);
+    }
+    make_room_shown(piece, sink, line)?;
+    append_line(piece, lead, message);
+    Ok(())
+}
+
+/// A line for each message of these bytes, which this session is sent. They are whole frames.
+fn put_outgoing<K: TakesPieces<A>, A: Allocator>(
+    piece: &mut Vec<u8, A>,
+    sink: &mut K,
+    session: u8,
+    bytes: &[u8],
+) -> Result<(), Failed>
+    requires works { K.has_failed sink.old ≡ false }
+    requires some { 0 < vec_capacity piece.old }
+    requires session { session < SESSIONS }
+    requires row { IsFrameRow bytes.now }
+    ensures puts { Puts result (K.written sink.old) (K.written sink.new) (K.has_failed sink.new)
+        (map shown_byte piece.new.items)
+        (map shown_byte piece.old.items ++ session_lines session bytes.now) }
+    ensures room { OnOk result
+        (min PIECE_BYTES (vec_capacity piece.old) ≤ vec_capacity piece.new) }
+{
+    let mut rest = bytes;
+    while let Some((message, later)) = first_of_row(rest) {
+        put_message(piece, sink, session, message)?;
+        rest = later;
+    }
+    Ok(())
+}
+
+/// A line for each message of these lists, session 0 first.
+fn put_sessions<K: TakesPieces<A>, A: Allocator, B: Allocator>(
+    piece: &mut Vec<u8, A>,
+    sink: &mut K,
+    lists: &[Vec<u8, B>],
+) -> Result<(), Failed>
+    requires works { K.has_failed sink.old ≡ false }
+    requires some { 0 < vec_capacity piece.old }
+    requires count { length lists.now ≤ SESSIONS }
+    requires rows { All IsFrameRow (texts_of lists.now) }
+    ensures puts { Puts result (K.written sink.old) (K.written sink.new) (K.has_failed sink.new)
+        (map shown_byte piece.new.items)
+        (map shown_byte piece.old.items ++ outgoing_lines_from 0 (texts_of lists.now)) }
+    ensures room { OnOk result
+        (min PIECE_BYTES (vec_capacity piece.old) ≤ vec_capacity piece.new) }
+{
+    for (session, bytes) in lists.iter().enumerate() {
+        put_outgoing(piece, sink, session as u8, bytes)?;
+    }
+    Ok(())
+}
+
+/// Writes a line for each message of these lists, session 0 first, by way of a piece in which nothing stands yet, and
+/// takes no memory. The lists are sixteen at most, each of whole frames, or empty. Then the piece is empty again. Where a
+/// write fails, a front of the lines is out, and nothing is known of what stands in the piece.
+pub fn write_sessions<K: TakesPieces<A>, A: Allocator, B: Allocator>(
+    piece: &mut Vec<u8, A>,
+    sink: &mut K,
+    lists: &[Vec<u8, B>],
+) -> Result<(), Failed>
+    requires works { K.has_failed sink.old ≡ false }
+    requires empty { piece.old.items ≡ [] }
+    requires some { 0 < vec_capacity piece.old }
+    requires count { length lists.now ≤ SESSIONS }
+    requires rows { All IsFrameRow (texts_of lists.now) }
+    ensures writes { Writes result (K.written sink.old) (K.written sink.new) (K.has_failed sink.new)
+        (outgoing_lines_from 0 (texts_of lists.now)) }
+    ensures emptied { OnOk result (piece.new.items ≡ []) }
+    ensures room { OnOk result
+        (min PIECE_BYTES (vec_capacity piece.old) ≤ vec_capacity piece.new) }
+{
+    put_sessions(piece, sink, lists)?;
+    give_shown(piece, sink)
+}

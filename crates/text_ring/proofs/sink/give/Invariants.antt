@@ -1,0 +1,6 @@
+use Rattle.std.proofs.Common.{◌≡◌}
+use Rattle.rtrb.specs.Ring.{sent}
+use Rattle.text_ring.proofs.sink.give.Given as goal
+
+abbrev pub invariant-loop : goal.invariant-loop
+invariant-loop g l = (l.piece ≡ l.fn.piece) × (sent l.filled ≡ sent l.fn.filled)
