@@ -6,5 +6,4 @@ pub mod laws;
 mod report;
 
 pub use journal::apply_journal;
-pub use apply_market::ApplyFault;
 pub use report::{FillsAndMessages, ReportedEntries};

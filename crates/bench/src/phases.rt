@@ -4,9 +4,7 @@ ghost use Rattle.spread_rules_ids.specs.declared.limits.TheConstants.{SESSIONS};
 
 use crate::sending::time_report;
 use spread_rules_ids::limits::SESSIONS;
-use bench_phases::{BenchFault, Measured, time_judge, time_scan};
-use match_phase::time_match;
-use ring_phases::{AtOnce, time_threads};
+use bench_phases::{AtOnce, BenchFault, Measured, time_judge, time_match, time_scan, time_threads};
 use std::alloc::AllocGlobal;
 use std::thread::Threads;
 use std::time::{Clock, CpuClock};

@@ -7,7 +7,7 @@ use spread_journal::JournalFault;
 use spread_report::{Desk, DeskFault};
 use spread_rules::{Entry, Fill, Outcome, Rulebook};
 use std::alloc::{AllocError, Allocator};
-use tests_shared::{fit_fills, fits_outcome};
+use spread_report::{fit_fills, fits_outcome};
 
 /// All fills of a journal's entries, and each entry's outcome.
 #[derive(Drop)]

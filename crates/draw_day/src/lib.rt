@@ -8,6 +8,5 @@ mod drawing;
 mod fault;
 mod watch;
 
-pub use draw_page::put_bytes;
 pub use drawing::draw;
 pub use fault::DrawFault;

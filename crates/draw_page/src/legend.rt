@@ -1,7 +1,6 @@
 //! The head of a page: what it shows, and what its lines and marks mean.
-use draw_course::round_below;
+use draw_course::{SvgText, corner, put_diamond, radius, round_below};
 use std::alloc::Allocator;
-use svg_marks::{SvgText, corner, put_diamond, radius};
 
 /// How far from the top the first panel's heading may begin.
 pub const HEAD: i64 = 132;

@@ -9,4 +9,3 @@ mod panel;
 mod style;
 
 pub use page::page_of;
-pub use svg_marks::put_bytes;

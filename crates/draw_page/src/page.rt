@@ -2,10 +2,9 @@
 use crate::legend::{HEAD, Totals, put_about, put_head};
 use crate::panel::{Panel, Room, panel_of};
 use crate::style::STYLE;
-use draw_course::{Course, most_lots};
+use draw_course::{Course, SvgText, most_lots};
 use spread_rules::{Instrument, Rulebook};
 use std::alloc::{AllocError, Allocator};
-use svg_marks::SvgText;
 
 /// How wide a page is, in units.
 const PAGE_WIDTH: i64 = 984;

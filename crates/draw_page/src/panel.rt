@@ -1,11 +1,7 @@
 //! The panel of one instrument: its axes, its best prices as steps, its trades as marks.
-use draw_course::{
-    Course, Kind, Point, Scale, Stretch, WIDTH, first_multiple, length_of, points_of, scale_of,
-    step, widened,
-};
+use draw_course::{Course, Kind, Point, Scale, Stretch, SvgText, WIDTH, first_multiple, length_of, points_of, put_marks, put_steps, scale_of, step, widened};
 use spread_rules::{Instrument, Rulebook};
 use std::alloc::{AllocError, Allocator};
-use svg_marks::{SvgText, put_marks, put_steps};
 
 /// Where panels begin, from the left.
 const LEFT: i64 = 100;

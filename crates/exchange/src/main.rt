@@ -1,7 +1,7 @@
 //! The program `exchange`: its words, what they ask for, and how it ends.
 #![tactic(auto)]
 
-use command_line::{read_words, refuse, words_of};
+use exchange_words::{read_words, refuse, words_of};
 use exchange_commands::run;
 use exchange_faults::tell;
 use std::process::ExitCode;

@@ -1,11 +1,12 @@
 //! A function for each request of the command line.
 use bench::measure;
-use command_line::Request;
+use exchange_words::Request;
 use exchange_print::print_day;
 use exchange_faults::Fault;
 use spread_rules_ids::Id;
 use spread_rules_ends::{FromReader, ToWriter};
-use exchange_journal::{read_files, read_rules, run_journal};
+use crate::files::{read_files, read_rules};
+use crate::tasks::run_journal;
 use spread_host::{Caps, Gate, HostFault, replay, run_day};
 use std::fs::Files;
 use std::io;

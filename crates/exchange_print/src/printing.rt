@@ -1,10 +1,10 @@
 //! A day's text on standard output: another thread makes and writes the journal, while this one makes what stands
 //! behind it; then that one writes it.
 ghost use Rattle.std.specs.Prelude.{◌≡◌, ◌≤◌, ◌++◌, [], IfOk, IfErr, vec_capacity, false};
-ghost use Rattle.journal_parts.specs.JournalText.{journal_text};
+ghost use Rattle.spread_journal_lines.specs.JournalText.{journal_text};
 ghost use Rattle.text_ring.specs.Ends.{text_taken, IsUnread, IsRead};
-ghost use Rattle.text_pieces.specs.code.Pieces.{Writes};
-ghost use Rattle.text_pieces.specs.declared.pieces.TheConstants.{PIECE_BYTES};
+ghost use Rattle.text_messages.specs.code.Pieces.{Writes};
+ghost use Rattle.text_messages.specs.declared.pieces.TheConstants.{PIECE_BYTES};
 ghost use Rattle.exchange_print.specs.Printing.{ArePrintable, IsPrintable};
 
 use text_day::{write_behind_journal, write_journal_lines};
@@ -15,7 +15,7 @@ use std::alloc::{AllocError, Global};
 use std::sync::Wait;
 use std::thread::{JoinHandle, Scope, Threads};
 use std::{io, thread};
-use text_pieces::PIECE_BYTES;
+use text_messages::PIECE_BYTES;
 
 /// What stands behind the journal in a day's text: the fills, and what each session is sent.
 #[derive(Drop)]

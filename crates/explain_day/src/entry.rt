@@ -4,8 +4,7 @@ ghost use Rattle.spread_rules.specs.Journal.{FitsEntry};
 
 use crate::outcome_words::{put_loses_place, put_outcome};
 use crate::turn_words::put_turns;
-use entry_words::{Words, put_entry};
-use explain_entries::tell;
+use explain_entries::{Words, put_entry, tell};
 use spread_rules_ends::NoMemory;
 use spread_rules::{Entry, Rulebook};
 use std::alloc::Allocator;

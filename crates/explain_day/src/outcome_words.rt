@@ -1,6 +1,5 @@
 //! The line of what came of an entry.
-use entry_words::{Words, put_new_refusal, put_nothing_resting, put_replace_refusal};
-use explain_entries::Told;
+use explain_entries::{Told, Words, put_new_refusal, put_nothing_resting, put_replace_refusal};
 use spread_rules::{Entry, Event, Order, Outcome};
 use std::alloc::Allocator;
 

@@ -3,8 +3,7 @@ ghost use Rattle.std.specs.Prelude.{All};
 ghost use Rattle.spread_rules.specs.Candidates.{HasLegPrice};
 ghost use Rattle.explain_turns.specs.Explained.{HaveLegPrices};
 
-use entry_words::Words;
-use explain_entries::Traded;
+use explain_entries::{Traded, Words};
 use explain_turns::{Beyond, Point, Turn, point_between};
 use spread_rules::{Candidate, Counterparty, Instrument, Order};
 use std::alloc::Allocator;

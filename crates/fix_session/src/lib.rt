@@ -4,6 +4,7 @@
 mod pieces;
 mod reader;
 
+// Of fix_session_judging.
+pub use fix_session_judging::{Session, Verdict};
 pub use pieces::read_pieces;
 pub use reader::Reader;
-pub use fix_session_judging::{Ahead, Session, Verdict, laws};

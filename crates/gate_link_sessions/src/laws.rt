@@ -12,7 +12,7 @@ ghost use Rattle.fix_wire_framer.specs.Pieces.{SplitsInto, IsDrained};
 ghost use Rattle.fix_wire_framer.specs.declared.framer.TheConstants.{BUFFER_BYTES};
 ghost use Rattle.gate_link_sessions.specs.Owed.{events_left};
 
-use fix_session::laws::judged;
+use fix_session_judging::laws::judged;
 
 /// What a session has left to say, whatever bytes follow: at first all events of its stream, nothing once it is closed. Bytes that
 /// are put and bytes that are skipped leave it as it is, a message that is passed takes away just the event that it says,

@@ -13,7 +13,7 @@ ghost use Rattle.intake_lines.specs.LineText.{DayLine};
 ghost use Rattle.intake_lines.specs.DayLines.{new_events, journal_of_lines, read_on};
 ghost use Rattle.intake_lines.specs.JournalParts.{AreOfSessions, part_of};
 
-use fix_session::laws::{closed_after, judged, said_after};
+use fix_session_judging::laws::{closed_after, judged, said_after};
 
 /// A reader of which a line completes frames says the new events of its stream, and has read the stream with that line; and at
 /// the end it says Close 5 where no place of its stream closes.

@@ -1,10 +1,12 @@
-//! Day lines: the text that `replay` reads, to the journal of its sessions.
+//! Day lines: the text that `replay` reads from a source, to its end, and the journal of its sessions.
 #![tactic(auto)]
 
 mod day_reader;
 mod lanes;
 pub mod laws;
 mod lines;
+mod reading;
 
 pub use day_reader::DayReader;
 pub use lines::LinesFault;
+pub use reading::{CHUNK_BYTES, read_day_lines};

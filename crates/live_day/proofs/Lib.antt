@@ -1,1 +1,4 @@
 pub mod LawfulJournal
+pub mod PostPairs
+pub mod CollectedBytes
+pub mod JoinedParts

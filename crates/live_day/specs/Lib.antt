@@ -1,1 +1,4 @@
-pub use Rattle.day_stages.specs.declared.fault
+pub mod Limits
+pub mod code
+pub use Rattle.live_matching.specs.Sending
+pub mod Streams

@@ -1,9 +1,14 @@
-//! The day of sessions in threads: the threads of the sessions, and one that applies the journal of all their events.
+//! The day of sessions in threads: what it is made of before any thread is started, the start of all threads, and what comes
+//! of them when they are joined: the day, or of the faults that arose the one with the least number.
 #![tactic(auto)]
 
+mod conclusion;
+mod fault;
 mod sessions;
+mod stages;
+mod starting;
 
-pub use day_conclusion::SessionsDay;
-pub use day_stages::{Caps, DayRules, ThreadsFault};
-pub use live_sessions::Gate;
+pub use conclusion::SessionsDay;
+pub use fault::{ThreadsFault, of_apply};
 pub use sessions::run_sessions;
+pub use stages::{Caps, DayRules, Stages, stages_of};

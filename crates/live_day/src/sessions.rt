@@ -1,15 +1,18 @@
 //! A day of sessions in threads: all are started, the journal is made in the caller's, and all are joined.
 ghost use Rattle.std.specs.Prelude.{◌≡◌, ◌≤◌, ℕ, length, IfOk, IfErr, OnOk};
 ghost use Rattle.spread_rules.specs.Journal.{IsLawful};
-ghost use Rattle.day_stages.specs.Sending.{sending_rules, stamp_of};
-ghost use Rattle.day_start.specs.code.Starting.{AreReady, IsRunning};
-ghost use Rattle.day_conclusion.specs.Streams.{IsDayOfSessions, IsThreadsFault};
-ghost use Rattle.day_stages.specs.Limits.{IsWithinLimits};
+ghost use Rattle.live_day.specs.Sending.{sending_rules, stamp_of};
+ghost use Rattle.live_day.specs.code.Starting.{AreReady, IsRunning};
+ghost use Rattle.live_day.specs.Streams.{IsDayOfSessions, IsThreadsFault};
+ghost use Rattle.live_day.specs.Limits.{IsWithinLimits};
 
-use day_conclusion::{SessionsDay, conclude};
-use day_stages::{Caps, DayRules, Stages, ThreadsFault, stages_of};
-use day_start::{RunningDay, start_day};
-use live_sessions::{Gate, GivenStreams, SequenceEnd, Shared, join_writers, sequence};
+use crate::conclusion::{SessionsDay, conclude};
+use crate::stages::{Caps, DayRules, Stages, stages_of};
+use crate::fault::ThreadsFault;
+use crate::starting::{RunningDay, start_day};
+use live_shared::{Gate, Shared};
+use live_sessions::{GivenStreams, SequenceEnd, sequence};
+use live_writers::join_writers;
 use std::alloc::Allocator;
 use std::snapshot::Snapshot;
 use std::sync::Wait;

@@ -1,2 +1,3 @@
 pub mod Posters
 pub mod OneEntryMore
+pub mod RingEnds

@@ -1,10 +1,13 @@
-//! The journal's entries applied one after another, and what each of them sends given to the sessions' writers
-//! before the next is applied.
+//! The thread that matches: it applies the journal's entries one after another as they come, and gives what each of them
+//! sends to the sessions' writers before the next is applied.
 #![tactic(auto)]
 
+mod matching;
 mod posting;
 mod step;
+mod turns;
 
-pub use apply_desk::{ApplyFault, ReportedEntries};
-pub use posting::{PostedEntries, end_each};
-pub use step::{MatchEnd, match_one};
+pub use matching::{MatchPromise, start_matching};
+pub use posting::PostedEntries;
+pub use step::MatchEnd;
+pub use turns::Matched;

@@ -3,3 +3,4 @@ pub mod JoinedWorkers
 pub mod SentAndOwed
 pub mod SequencedJournal
 pub mod StartedWorkers
+pub mod GivenOn

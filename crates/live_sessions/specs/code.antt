@@ -1,3 +1,4 @@
 pub mod Handing
 pub mod Sequencing
 pub mod Workers
+pub mod Turning

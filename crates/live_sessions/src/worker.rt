@@ -10,14 +10,14 @@ use crate::workers::WorkerHandle;
 use fix_session::Ahead;
 use gate_link::{Burst, Gateway, MAX_SLICE, Step};
 use spread_rules_ends::release;
-use sequencer_turns::{found, rest};
+use live_shared::{found, rest};
 use std::alloc::Allocator;
 use std::snapshot::Snapshot;
 use std::sync::Wait;
 use std::sync::atomic::{AtomicBool, Ordering};
 use std::thread;
 use std::thread::{Promise, Scope, Threads};
-use live_writers::{Gate, Shared};
+use live_shared::{Gate, Shared};
 
 /// What a worker's thread gives back: its own gateway, with what it sent of its own stream.
 #[derive(Drop)]

@@ -1,3 +1,1 @@
-pub mod ElementByElement
-pub mod Joined
 pub mod Writers

@@ -1,2 +1,2 @@
-pub mod Joining
+-- Words of the code alone: no public promise needs them to be read.
 pub mod Writing

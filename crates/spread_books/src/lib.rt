@@ -2,8 +2,11 @@
 #![tactic(auto)]
 
 mod index;
+mod kept_quotes;
 mod pair_quote;
+mod quoted_book;
 
-pub use spread_books_search::best_candidate;
 pub use index::IndexBook;
-pub use spread_books_heap::{Book, FrontBook, HeapBook, ListBook, PairCost};
+pub use quoted_book::QuotedBook;
+// Of spread_books_plain.
+pub use spread_books_plain::{Book, ListBook};

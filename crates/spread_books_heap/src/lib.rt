@@ -6,4 +6,3 @@ mod heap_book;
 
 pub use front_book::FrontBook;
 pub use heap_book::HeapBook;
-pub use spread_books_plain::{Book, ListBook, PairCost, front_with, is_in};

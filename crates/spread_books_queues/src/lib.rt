@@ -6,6 +6,5 @@ mod queue_heaps;
 mod queue_rank;
 
 pub use front_table::{BestPrice, FrontTable};
-pub use spread_books_rows::{PlaceRows, is_own, with_quantity};
 pub use queue_heaps::QueueHeaps;
 pub use queue_rank::{QueueRank, queue_number};

@@ -3,7 +3,7 @@ use Rattle.std.proofs.Common.{List, All, get_or}
 use Rattle.spread_rules.specs.declared.fill.Fill.{Fill}
 use Rattle.spread_rules_rulebook.specs.Rulebook.{Rules}
 use Rattle.spread_rules.specs.Ranges.{IsFillInRange}
-use Rattle.month_totals.specs.Totals.{IsSummable}
+use Rattle.text_fills.specs.Totals.{IsSummable}
 use Rattle.text_day.specs.DayText.{AreShown}
 
 summable_of : (rules : Rules) (f : Fill) → IsFillInRange rules f → IsSummable f

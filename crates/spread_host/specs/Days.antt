@@ -5,7 +5,7 @@ use Rattle.std.specs.Result.{IsOkAnd}
 use Rattle.spread_rules.specs.declared.event.Entry.{Entry}
 use Rattle.spread_rules_rulebook.specs.Rulebook.{Rules, names_of}
 use Rattle.fix_wire_frames.specs.Frames.{frames}
-use Rattle.journal_parts.specs.JournalText.{journal_text}
+use Rattle.spread_journal_lines.specs.JournalText.{journal_text}
 use Rattle.spread_rules_ids.specs.declared.limits.TheConstants.{SESSIONS, MAX_JOURNAL_ENTRIES}
 use Rattle.spread_rules_ends.specs.Ends.{AppendsPrefix}
 use Rattle.intake_lines.specs.LineText.{day_lines_of}

@@ -5,12 +5,12 @@ ghost use Rattle.spread_rules_ends.specs.Ends.{AppendsPrefix};
 ghost use Rattle.spread_rules_ids.specs.declared.limits.TheConstants.{SESSIONS};
 ghost use Rattle.spread_rules.specs.Journal.{IsLawful};
 ghost use Rattle.spread_rules_rulebook.specs.Rulebook.{IsListed};
-ghost use Rattle.journal_parts.specs.JournalText.{HasByteIds};
+ghost use Rattle.spread_journal_lines.specs.JournalText.{HasByteIds};
 ghost use Rattle.fix_wire_frames.specs.Frames.{IsFrameRow};
 ghost use Rattle.apply_desk.specs.Applied.{IsApplyFault};
 ghost use Rattle.text_day.specs.DayText.{AreShown, day_text, fills_text};
 ghost use Rattle.text_messages.specs.Messages.{texts_of};
-ghost use Rattle.month_totals.specs.Totals.{IsSummable};
+ghost use Rattle.text_fills.specs.Totals.{IsSummable};
 ghost use Rattle.spread_host.specs.Headline.{HasFills, HasOutgoing, BoughtIsSold, PaidIsReceived, IsAlwaysQuiet, IsDayOf};
 ghost use Rattle.spread_host_faults.specs.declared.fault.HostFault.{HostFault};
 

@@ -3,14 +3,14 @@ ghost use Rattle.std.specs.Io.KnownBytes.{Appends, IsAtEnd};
 ghost use Rattle.std.specs.Prelude.{All, ◌≡◌, ◌<◌, ◌⊎◌, ◌+◌, ◌≢◌, IfOk, IfErr, IfSome, OnOk, IsErrOf, length, true, false};
 ghost use Rattle.spread_rules_ids.specs.declared.limits.TheConstants.{MAX_INPUT_BYTES};
 ghost use Rattle.spread_rules_ends.specs.Ends.{TakesAtMost};
-ghost use Rattle.day_input.specs.declared.reading.TheConstants.{CHUNK_BYTES};
-ghost use Rattle.journal_parts.specs.JournalText.{HasByteIds};
+ghost use Rattle.intake_lines.specs.declared.reading.TheConstants.{CHUNK_BYTES};
+ghost use Rattle.spread_journal_lines.specs.JournalText.{HasByteIds};
 ghost use Rattle.spread_host.specs.Headline.{IsJournalOfText, HasFills, HasOutgoing, BoughtIsSold, PaidIsReceived, IsAlwaysQuiet, IsDayOf};
 ghost use Rattle.spread_host.specs.Days.{IsReplayFault, IsPartOut, text_of_day};
 ghost use Rattle.spread_host_faults.specs.declared.fault.HostFault.{HostFault};
 
 use crate::day::{day_of, write_day};
-use day_input::read_day_lines;
+use intake_lines::read_day_lines;
 use text_day::Day;
 use spread_rules_ids::Id;
 use spread_rules_ends::{Sink, Source};

@@ -8,7 +8,8 @@ ghost use Rattle.spread_host.specs.Headline.{IsJournalOfStreams, HasFills, HasOu
 ghost use Rattle.spread_host.specs.LiveDays.{IsRunDayFault};
 
 use text_day::Day;
-use live_day::{Caps, DayRules, Gate, SessionsDay, run_sessions};
+use live_day::{Caps, DayRules, SessionsDay, run_sessions};
+use live_shared::Gate;
 use spread_rules_ids::Id;
 use spread_host_faults::HostFault;
 use spread_match::laws::ranges;

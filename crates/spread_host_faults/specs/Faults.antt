@@ -3,8 +3,8 @@ use Rattle.std.specs.Prelude.{ℕ}
 use Rattle.spread_host_faults.specs.declared.fault.HostFault.{HostFault}
 use Rattle.intake_lines.specs.declared.lines.LinesFault.{LinesFault}
 use Rattle.intake_lines.specs.declared.lines.LinesFault.TheVariants as lines
-use Rattle.day_stages.specs.declared.fault.ThreadsFault.{ThreadsFault}
-use Rattle.day_stages.specs.declared.fault.ThreadsFault.TheVariants as threads
+use Rattle.live_day.specs.declared.fault.ThreadsFault.{ThreadsFault}
+use Rattle.live_day.specs.declared.fault.ThreadsFault.TheVariants as threads
 use Rattle.apply_market.specs.declared.fault.ApplyFault.{ApplyFault}
 use Rattle.apply_market.specs.declared.fault.ApplyFault.TheVariants as apply
 use Rattle.text_day.specs.declared.fault.TextFault.{TextFault}

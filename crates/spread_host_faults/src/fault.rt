@@ -3,7 +3,7 @@ ghost use Rattle.std.specs.Prelude.{◌≡◌};
 ghost use Rattle.spread_host_faults.specs.Faults.{number_of, of_apply, of_lines, of_text, of_threads};
 
 use intake_lines::LinesFault;
-use day_stages::ThreadsFault;
+use live_day::ThreadsFault;
 use text_day::TextFault;
 use apply_market::ApplyFault;
 use spread_journal::JournalFault;

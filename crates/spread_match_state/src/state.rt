@@ -23,7 +23,7 @@ ghost use Rattle.spread_match_orders.specs.code.Known.{AreKnown};
 ghost use Rattle.spread_match_trading.specs.code.Turns.{IsNewest};
 
 use spread_rules_ids::Id;
-use spread_match_orders::{add_order, resting_order, trade_newest};
+use spread_match_orders::{add_order, judge, keeps_place, moved_order, new_order, outcome_with, refusal, replace_refusal, resting_order, resting_status, trade_newest};
 use spread_books_rows::with_quantity;
 use spread_match_statuses::Statuses;
 use spread_books_plain::Book;
@@ -33,10 +33,6 @@ use spread_rules::{
 };
 use std::alloc::Allocator;
 use std::marker::Model;
-use ticket_judging::{
-    judge, keeps_place, moved_order, new_order, outcome_with, refusal, replace_refusal,
-    resting_status,
-};
 
 /// Resting orders, the status of each New and Replace entry so far, and the greatest place that was given.
 #[derive(Drop)]

@@ -9,7 +9,7 @@ ghost use Rattle.spread_rules.specs.Amended.{amended};
 ghost use Rattle.spread_books_plain.specs.Queues.{CanAmend};
 
 use spread_rules_ids::{Id, IdKey};
-use placed_rows::{Hints, PlacedRows};
+use spread_books_rows::{Hints, PlacedRows};
 use spread_books_plain::Book;
 use spread_books_ids::{IdRows, IdTable};
 use spread_rules::codes::ord_status;

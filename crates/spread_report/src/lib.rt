@@ -5,6 +5,9 @@ mod admin;
 mod desk;
 mod entry;
 pub mod laws;
+mod ranges;
 
 pub use desk::Desk;
-pub use spread_report_outbound::{CompIds, DeskFault, OutboundSession};
+pub use ranges::{fit_fills, fits_outcome};
+// Of spread_report_outbound.
+pub use spread_report_outbound::DeskFault;

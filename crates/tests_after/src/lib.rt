@@ -1,5 +1,5 @@
 //! Tests of what looks into a day that is over: `explain_turns`, `explain_entries` and `explain_day`; `draw_course`,
-//! `draw_page` and `draw_day`. And of the phases of `bench`, `match_phase` among them.
+//! `draw_page` and `draw_day`. And of the phases of `bench`, `bench_phases` among them.
 #![tactic(auto)]
 
 #[cfg(test)]

@@ -1,7 +1,7 @@
 //! The phases of the benchmark: what they count of the first trade, and the lines that tell it.
 use crate::expect::{holds, holds_for};
 use bench::{BenchFault, Beside, Measured, measure};
-use match_phase::{apply_entry, read_inputs};
+use bench_phases::{apply_entry, read_inputs};
 use spread_books::IndexBook;
 use spread_match::Market;
 use spread_rules::codes::close_reason;

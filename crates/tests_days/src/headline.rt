@@ -15,7 +15,7 @@ ghost use Rattle.spread_report_outbound.specs.Rows.{IsRow};
 ghost use Rattle.spread_report.specs.Messages.{messages_to};
 ghost use Rattle.spread_report_outbound.specs.Sessions.{bytes_of};
 ghost use Rattle.spread_journal.specs.JournalReading.{ReadsJournal};
-ghost use Rattle.journal_parts.specs.JournalText.{journal_text};
+ghost use Rattle.spread_journal_lines.specs.JournalText.{journal_text};
 ghost use Rattle.apply_desk.specs.Applied.{outgoing_bytes, applied_entries, applied_journal};
 ghost use Rattle.intake_lines.specs.Reading.{IsJournalOf, HasParts};
 ghost use Rattle.spread_host.specs.Days.{IsReplayFault, IsPartOut, text_of_day};

@@ -2,9 +2,8 @@
 ghost use Rattle.std.specs.Prelude.{◌<◌, length};
 
 use crate::expect::holds;
-use day_input::read_day_lines;
+use intake_lines::{DayReader, LinesFault, read_day_lines};
 use intake_lines::laws::day_journal;
-use intake_lines::{DayReader, LinesFault};
 use spread_rules_ends::{FromReader, TestSource};
 use spread_rules::{Entry, Event};
 use std::alloc::Global;

@@ -4,7 +4,7 @@ ghost use Rattle.spread_books_ids.specs.Tables.{IsTableOf};
 
 use crate::expect::holds;
 use spread_rules_ids::IdKey;
-use placed_rows::Hints;
+use spread_books_rows::Hints;
 use spread_books_ids::{IdRows, IdTable, Noted};
 use spread_rules::NoMemory;
 use std::alloc::Allocator;

@@ -10,7 +10,7 @@ use std::sync::Wait;
 use std::thread;
 use std::thread::Threads;
 use tests_shared::{Refusing, TestSink};
-use text_pieces::{PIECE_BYTES, TakesPieces};
+use text_messages::{PIECE_BYTES, TakesPieces};
 
 const LINE: &[u8] = b"abcdefghi\n";
 

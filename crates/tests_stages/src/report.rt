@@ -6,7 +6,8 @@ use spread_report::{Desk, DeskFault};
 use spread_rules::{Entry, Event, Fill, Instrument, Order, Outcome, Rulebook, Side};
 use std::alloc::{Allocator, Global};
 use std::process::Abort;
-use tests_shared::{fit_fills, fits_outcome, id, stamp};
+use spread_report::{fit_fills, fits_outcome};
+use tests_shared::{id, stamp};
 
 mod admin_messages;
 mod definitions;

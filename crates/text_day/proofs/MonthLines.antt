@@ -3,11 +3,11 @@ use Rattle.std.proofs.Common.{◌≡◌, ℕ, zero, suc, ◌+◌, ◌<◌, ◌�
 use Rattle.std.proofs.lemmas.List.{append_assoc, append-nil}
 use Rattle.spread_rules_ends.specs.Ends.{AppendsPrefix}
 use Rattle.spread_rules.specs.declared.fill.Fill.{Fill}
-use Rattle.month_totals.specs.declared.totals.MonthTotals.{MonthTotals}
-use Rattle.month_totals.specs.Totals.{AreTotals}
-use Rattle.month_totals.specs.code.Sums.{empty_month}
-use Rattle.text_pieces.specs.code.Pieces.{IsPut}
-use Rattle.text_pieces.proofs.PiecesInTurn.{put_after, put_fails}
+use Rattle.text_fills.specs.declared.totals.MonthTotals.{MonthTotals}
+use Rattle.text_fills.specs.Totals.{AreTotals}
+use Rattle.text_fills.specs.code.Sums.{empty_month}
+use Rattle.text_messages.specs.code.Pieces.{IsPut}
+use Rattle.text_messages.proofs.PiecesInTurn.{put_after, put_fails}
 use Rattle.text_day.specs.Months.{month_line, month_lines_from}
 use Rattle.text_day.specs.code.LineParts.{totals_line, totals_lines_from}
 

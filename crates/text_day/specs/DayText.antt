@@ -1,13 +1,13 @@
 -- What the text of a day shows: its journal, its fills, what each session is sent, and the months.
 use Rattle.std.specs.Prelude.{ℕ, Bool, true, false, List, ◌++◌, All}
-use Rattle.journal_parts.specs.JournalText.{journal_text}
+use Rattle.spread_journal_lines.specs.JournalText.{journal_text}
 use Rattle.spread_rules.specs.declared.event.Entry.{Entry}
 use Rattle.spread_rules.specs.declared.fill.Fill.{Fill}
 use Rattle.spread_rules_rulebook.specs.Rulebook.{Rules, IsListed}
 use Rattle.text_fills.specs.Fills.{fill_lines}
 use Rattle.text_messages.specs.Messages.{outgoing_lines}
 use Rattle.text_day.specs.Months.{month_lines}
-use Rattle.month_totals.specs.Totals.{IsSummable}
+use Rattle.text_fills.specs.Totals.{IsSummable}
 
 -- fills that a day's text can show: of listed instruments, in the ranges of its sums
 pub record AreShown (rules : Rules) (fills : List Fill) : Type 0 where

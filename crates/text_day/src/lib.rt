@@ -11,7 +11,4 @@ pub use day_text::{Day, text_of_fills, write_behind_journal, write_day, write_fi
 pub use difference::{Difference, first_difference};
 pub use fault::TextFault;
 pub use journal::write_journal_lines;
-pub use text_messages::write_sessions;
-pub use month_totals::{MonthTotals, add_fill, month_totals, no_totals};
 pub use months::put_months;
-pub use text_pieces::TakesPieces;

@@ -7,7 +7,7 @@ use Rattle.spread_rules_rulebook.specs.declared.instrument.Instrument.TheVariant
 use Rattle.spread_rules.specs.declared.fill.Fill.{Fill}
 use Rattle.spread_rules_rulebook.specs.Rulebook.{Rules, symbol_of}
 use Rattle.spread_rules_ids.specs.declared.bytes.TheConstants.{LINE_FEED, SPACE}
-use Rattle.journal_parts.specs.JournalText.{side_byte}
+use Rattle.spread_journal_lines.specs.JournalText.{side_byte}
 
 -- the near and the far price of a spread's fill
 abbrev pub legs_text : Instrument → ℤ → ℤ → List ℕ

@@ -1,2 +1,4 @@
 mod LinesInParts
 mod SessionLines
+pub mod PiecesInTurn
+pub mod LinesInTurn

@@ -3,13 +3,13 @@ ghost use Rattle.std.specs.Prelude.{◌≡◌, ◌<◌, ◌≤◌, ◌+◌, ◌+
 ghost use Rattle.fix_wire_frames.specs.Frames.{IsFrameRow};
 ghost use Rattle.text_messages.specs.Messages.{texts_of, shown_byte, outgoing_line, session_lines, outgoing_lines_from};
 ghost use Rattle.text_messages.specs.code.LineLead.{line_lead};
-ghost use Rattle.text_pieces.specs.code.Pieces.{Puts, Writes};
+ghost use Rattle.text_messages.specs.code.Pieces.{Puts, Writes};
 
 use fix_wire_framer::first_of_row;
 use spread_rules_ids::limits::SESSIONS;
 use spread_rules_ends::Failed;
 use std::alloc::Allocator;
-use text_pieces::{PIECE_BYTES, TakesPieces, append};
+use crate::pieces::{PIECE_BYTES, TakesPieces, append};
 
 /// Shows each byte 1 as `|`.
 fn show_field_ends(text: &mut [u8])

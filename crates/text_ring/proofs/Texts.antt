@@ -9,8 +9,8 @@ use Rattle.std.specs.declared.vec.Vec.{Vec}
 use Rattle.spread_rules_ends.specs.Ends.{AppendsPrefix}
 use Rattle.gate_link_stages.specs.Marks.{ends}
 use Rattle.gate_link_stages.proofs.Marks.{ends_more, ends_mark}
-use Rattle.text_pieces.specs.code.Pieces.{Writes}
-use Rattle.text_pieces.proofs.PiecesInTurn.{front_after, front_of_more}
+use Rattle.text_messages.specs.code.Pieces.{Writes}
+use Rattle.text_messages.proofs.PiecesInTurn.{front_after, front_of_more}
 use Rattle.text_ring.specs.Pieces.{is_mark, text_in}
 
 -- one piece more

@@ -1,6 +1,6 @@
 //! What goes through the rings.
 ghost use Rattle.std.specs.Prelude.{◌≡◌, ◌≤◌, [], vec_capacity};
-ghost use Rattle.text_pieces.specs.declared.pieces.TheConstants.{PIECE_BYTES};
+ghost use Rattle.text_messages.specs.declared.pieces.TheConstants.{PIECE_BYTES};
 
 use rtrb::Protocol;
 use std::alloc::Allocator;

@@ -8,7 +8,7 @@ use crate::source::PieceSource;
 use rtrb::{Producer, RingBuffer};
 use std::alloc::{AllocError, Allocator};
 use std::sync::Wait;
-use text_pieces::PIECE_BYTES;
+use text_messages::PIECE_BYTES;
 
 /// Puts all pieces, empty, into the ring by which they come back.
 fn put_empty<A: Allocator + Copy>(

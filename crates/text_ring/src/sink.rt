@@ -3,16 +3,16 @@ ghost use Rattle.std.specs.Prelude.{◌≡◌, ◌≤◌, ◌++◌, ◌∷◌, [
 ghost use Rattle.rtrb.specs.Ring.{sent};
 ghost use Rattle.gate_link_stages.specs.Marks.{ends};
 ghost use Rattle.text_ring.specs.Pieces.{is_mark};
-ghost use Rattle.text_pieces.specs.declared.pieces.TheConstants.{PIECE_BYTES};
+ghost use Rattle.text_messages.specs.declared.pieces.TheConstants.{PIECE_BYTES};
 
 use crate::piece::{Emptied, Filled, Piece};
 use spread_rules_ends::Failed;
 use rtrb::{Consumer, Producer, PushError};
-use sequencer_turns::rest;
+use live_shared::rest;
 use std::alloc::Allocator;
 use std::mem;
 use std::sync::Wait;
-use text_pieces::{PIECE_BYTES, TakesPieces};
+use text_messages::{PIECE_BYTES, TakesPieces};
 
 /// Takes the pieces of a text, which go to another thread. It may move to another thread.
 #[derive(Drop)]

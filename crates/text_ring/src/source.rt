@@ -1,13 +1,13 @@
 //! The end that the thread has that writes a text.
 ghost use Rattle.std.specs.Prelude.{◌≡◌, ◌≤◌, true, false, is_ok, OnOk, OnErr, vec_capacity};
-ghost use Rattle.text_pieces.specs.code.Pieces.{Writes};
-ghost use Rattle.text_pieces.specs.declared.pieces.TheConstants.{PIECE_BYTES};
+ghost use Rattle.text_messages.specs.code.Pieces.{Writes};
+ghost use Rattle.text_messages.specs.declared.pieces.TheConstants.{PIECE_BYTES};
 ghost use Rattle.text_ring.specs.Ends.{text_taken, IsUnread, IsRead};
 
 use crate::piece::{Emptied, Filled, Piece};
 use spread_rules_ends::{Failed, Sink, write_all};
 use rtrb::{Consumer, Producer};
-use sequencer_turns::{found, rest};
+use live_shared::{found, rest};
 use std::alloc::Allocator;
 use std::sync::Wait;
 

@@ -8,10 +8,10 @@ use Rattle.spread_rules.specs.Candidates.{Pairs}
 use Rattle.spread_books_plain.specs.Pairs.{IsCheapest}
 use Rattle.spread_books_plain.specs.declared.pair.PairCost.{PairCost}
 use Rattle.spread_books_search.specs.code.Cheapest.{IsInColumn, KeepsCost}
-use Rattle.quoted_books.specs.code.QuoteTable.{ChangesOneQueue}
-use Rattle.quoted_books.proofs.quotes.Columns.{kept_row}
-use Rattle.quoted_books.proofs.quotes.Costs.{others_when_it_comes}
-use Rattle.quoted_books.proofs.quotes.Tables.{column_kept}
+use Rattle.spread_books_quotes.specs.code.QuoteTable.{ChangesOneQueue}
+use Rattle.spread_books_quotes.proofs.quotes.Columns.{kept_row}
+use Rattle.spread_books_quotes.proofs.quotes.Costs.{others_when_it_comes}
+use Rattle.spread_books_quotes.proofs.quotes.Tables.{column_kept}
 
 -- with the newest order the others' fronts cost what they did, but for one queue
 pub with_newest : (xs zs : List Order) (newest : Option Order) (o : Order) → newest ≡ Some o → xs ++ option_to_list newest ≡ zs → ChangesOneQueue xs zs o.instrument o.side

@@ -23,7 +23,7 @@ use Rattle.spread_match_state.specs.State.{MarketState}
 use Rattle.spread_match_trading.specs.Tradable.{IsTradable}
 use Rattle.spread_match_state.specs.code.StateAfter.{meaning_in, moved_in, replaced_in, state_after, state_with}
 use Rattle.spread_match_orders.specs.code.Known.{AreKnown, entered_status}
-use Rattle.ticket_judging.specs.code.Refusals.{replace_refusal}
+use Rattle.spread_match_orders.specs.code.Refusals.{replace_refusal}
 use Rattle.spread_match_statuses.specs.code.Statuses.{status_after_replace, statuses_after}
 use Rattle.spread_match_trading.specs.code.Turns.{IsNewest}
 use Rattle.spread_match_orders.proofs.entries.NewOrder.{below_new, removed_newest, tradable_more, first_is_four}

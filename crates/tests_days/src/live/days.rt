@@ -14,9 +14,7 @@ use std::alloc::{AllocError, Allocator, Global};
 use std::process::Abort;
 use std::sync::Wait;
 use std::thread::Threads;
-use tests_shared::{
-    FIRST_LOGON, FIRST_TRADE, FIRST_TRADE_SENT, first_logon, first_order, id, is_first_sent, stamp,
-};
+use tests_shared::{FIRST_LOGON, FIRST_TRADE, FIRST_TRADE_SENT, first_logon, first_order, id, is_first_sent, stamp};
 
 pub const USUAL: Caps = Caps {
     ring: 256,

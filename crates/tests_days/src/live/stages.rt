@@ -2,7 +2,7 @@
 use crate::expect::holds;
 use crate::rules::three_months;
 use apply_desk::ApplyFault;
-use day_stages::{Caps, DayRules, ThreadsFault, of_apply, stages_of};
+use live_day::{Caps, DayRules, ThreadsFault, of_apply, stages_of};
 use tests_shared::stamp;
 
 #[test]

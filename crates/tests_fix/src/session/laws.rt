@@ -1,5 +1,5 @@
 //! The laws hold of nothing but definitions, and want nothing.
-use fix_session::laws;
+use fix_session_judging::laws;
 
 #[test]
 fn laws_hold() {

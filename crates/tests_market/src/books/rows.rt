@@ -2,8 +2,7 @@
 use super::checked::{add, amend, clear, reduce, remove};
 use crate::expect::holds;
 use spread_rules_ids::Id;
-use quoted_books::QuotedBook;
-use spread_books::{Book, FrontBook, HeapBook, IndexBook, ListBook};
+use spread_books::{Book, FrontBook, HeapBook, IndexBook, ListBook, QuotedBook};
 use spread_rules::{Instrument, Order, Rulebook, Side};
 use std::alloc::Global;
 use std::process::Abort;

@@ -1,6 +1,6 @@
 //! The fields of a journal's line, one by one.
 use crate::expect::holds;
-use journal_parts::{
+use spread_journal_lines::{
     LATEST_VERSION, Stage, Version, id_field, may_follow, number_field, read_id, read_number,
     read_price, read_time_in_force, side_field, stage_after, version_field,
 };

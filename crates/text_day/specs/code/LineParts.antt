@@ -5,8 +5,8 @@ use Rattle.std.specs.List.{flat_map, enumerate_from}
 use Rattle.std.specs.Fmt.{signed_decimal}
 use Rattle.spread_rules_ids.specs.declared.bytes.TheConstants.{LINE_FEED, SPACE}
 use Rattle.spread_rules_rulebook.specs.Rulebook.{Rules, names_of}
-use Rattle.month_totals.specs.declared.totals.MonthTotals.{MonthTotals}
-use Rattle.month_totals.specs.code.Sums.{empty_month}
+use Rattle.text_fills.specs.declared.totals.MonthTotals.{MonthTotals}
+use Rattle.text_fills.specs.code.Sums.{empty_month}
 
 -- bought and sold
 abbrev pub lots_text : MonthTotals → List ℕ

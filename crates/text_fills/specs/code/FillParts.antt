@@ -3,7 +3,7 @@
 use Rattle.std.specs.Prelude.{ℕ, List, [], ◌∷◌, ◌++◌, codes, decimal}
 use Rattle.std.specs.Fmt.{signed_decimal}
 use Rattle.spread_rules_ids.specs.declared.bytes.TheConstants.{SPACE}
-use Rattle.journal_parts.specs.JournalText.{side_byte}
+use Rattle.spread_journal_lines.specs.JournalText.{side_byte}
 use Rattle.spread_rules.specs.declared.fill.Fill.{Fill}
 
 -- `F`, the entry's place, the order's place and its session

@@ -2,10 +2,10 @@ use Rattle.std.proofs.Common.{◌≡◌, ◌≤◌, refl, subst, arith, length, 
 use Rattle.std.specs.Prelude.{IfErr}
 use Rattle.spread_rules_rulebook.specs.Rulebook.{Rules}
 use Rattle.gate_link.specs.Links.{journal_of}
-use Rattle.day_conclusion.specs.Streams.{IsThreadsFault}
+use Rattle.live_day.specs.Streams.{IsThreadsFault}
 use Rattle.live_sessions.specs.code.Sequencing.{SequenceEnds}
-use Rattle.day_stages.proofs.PostPairs.{posts_kept}
-use Rattle.matching_turns.proofs.RingEnds.{feed_kept}
+use Rattle.live_day.proofs.PostPairs.{posts_kept}
+use Rattle.live_matching.proofs.RingEnds.{feed_kept}
 use Rattle.live_day.proofs.sessions.finish.Goals as goal
 
 -- nothing was given yet

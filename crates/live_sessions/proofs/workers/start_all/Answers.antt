@@ -2,7 +2,7 @@ use Rattle.std.proofs.Common.{rules, arith, ◌≡◌, ◌<◌, ◌∙◌, ℕ, 
 use Rattle.std.proofs.lemmas.List.{length-drop}
 use Rattle.std.specs.Vec.Iter.{into_iter_items}
 use Rattle.gate_link_sessions.specs.Fresh.{IsFresh}
-use Rattle.live_writers.proofs.ElementByElement.{next_is}
+use Rattle.live_shared.proofs.ElementByElement.{next_is}
 use Rattle.live_sessions.proofs.StartedWorkers.{first_removed, started_snoc}
 use Rattle.live_sessions.proofs.workers.start_all.Goals as goal
 use Rattle.live_sessions.proofs.workers.start_all.Goals.{After-remove}

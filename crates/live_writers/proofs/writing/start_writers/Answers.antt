@@ -1,6 +1,6 @@
 use Rattle.std.proofs.Common.{rules, arith, ◌≡◌, ◌<◌, sym, length, vec_len}
 use Rattle.std.specs.Vec.Iter.{into_iter_items}
-use Rattle.live_writers.proofs.ElementByElement.{next_is}
+use Rattle.live_shared.proofs.ElementByElement.{next_is}
 use Rattle.live_writers.proofs.Writers.{writing_snoc}
 use Rattle.live_writers.proofs.writing.start_writers.Goals as goal
 

@@ -1,7 +1,7 @@
 use Rattle.std.proofs.Common.{ℕ, List}
 use Rattle.std.specs.Prelude.{All, IfOk, Result, Ok, Err}
 use Rattle.spread_rules_rulebook.specs.Rulebook.{Rules}
-use Rattle.journal_parts.specs.JournalText.{HasByteIds, journal_text}
+use Rattle.spread_journal_lines.specs.JournalText.{HasByteIds, journal_text}
 use Rattle.spread_journal.specs.JournalReading.{ReadsJournal}
 use Rattle.spread_journal.proofs.texts.OneJournal.{in_latest, read_again}
 use Rattle.text_day.specs.declared.day_text.Day.{Day}

@@ -1,5 +1,5 @@
 use Rattle.text_messages.specs.Messages.{texts_of, outgoing_lines_from}
-use Rattle.text_pieces.proofs.PiecesInTurn.{front_of_more, write_stops, none_on_err}
+use Rattle.text_messages.proofs.PiecesInTurn.{front_of_more, write_stops, none_on_err}
 use Rattle.text_day.specs.code.LineParts.{totals_lines}
 use Rattle.text_day.proofs.PartsInTurn.{then_writes}
 use Rattle.text_day.proofs.day_text.write_behind_fills.Goals as goal

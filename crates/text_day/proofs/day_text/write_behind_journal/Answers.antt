@@ -4,13 +4,13 @@ use Rattle.std.specs.Io.KnownBytes.{Appends}
 use Rattle.spread_rules_ends.specs.Ends.{AppendsPrefix}
 use Rattle.text_messages.specs.Messages.{texts_of, outgoing_lines_from}
 use Rattle.text_fills.specs.Fills.{fill_lines}
-use Rattle.month_totals.specs.Totals.{AreTotals}
+use Rattle.text_fills.specs.Totals.{AreTotals}
 use Rattle.spread_rules_rulebook.specs.declared.rulebook.Month.{Month}
 use Rattle.spread_rules_rulebook.specs.Rulebook.{names_of}
 use Rattle.text_day.specs.Months.{month_lines}
 use Rattle.text_day.specs.code.LineParts.{totals_lines}
-use Rattle.text_pieces.specs.code.Pieces.{Writes}
-use Rattle.text_pieces.proofs.PiecesInTurn.{front_of_more, write_stops, none_on_err}
+use Rattle.text_messages.specs.code.Pieces.{Writes}
+use Rattle.text_messages.proofs.PiecesInTurn.{front_of_more, write_stops, none_on_err}
 use Rattle.text_day.proofs.MonthLines.{lines_of_fills}
 use Rattle.text_day.proofs.PartsInTurn.{then_writes, behind_first}
 use Rattle.text_day.proofs.day_text.write_behind_journal.Goals as goal

@@ -1,10 +1,10 @@
 use Rattle.std.proofs.Common.{◌≡◌, Bool, true, List, ℕ, sym, ap, subst, ◌∙◌}
 use Rattle.spread_rules.specs.declared.event.Entry.{Entry}
 use Rattle.spread_rules_ends.specs.Ends.{AppendsPrefix}
-use Rattle.journal_parts.specs.JournalText.{journal_text}
+use Rattle.spread_journal_lines.specs.JournalText.{journal_text}
 use Rattle.text_day.specs.DayText.{day_text}
 use Rattle.text_messages.specs.Messages.{texts_of}
-use Rattle.text_pieces.proofs.PiecesInTurn.{of_err}
+use Rattle.text_messages.proofs.PiecesInTurn.{of_err}
 use Rattle.text_day.proofs.day_text.write_day.Goals as goal
 use Rattle.text_day.proofs.day_text.write_day.Goals.{then-journal_only, else-journal_only}
 

@@ -2,8 +2,8 @@ use Rattle.std.proofs.Common.{◌≡◌, ◌+◌, ◌++◌, ◌<◌, length, tak
 use Rattle.std.proofs.lemmas.List.{length-map}
 use Rattle.spread_rules_rulebook.specs.declared.rulebook.Month.{Month}
 use Rattle.spread_rules_rulebook.specs.Rulebook.{names_of}
-use Rattle.month_totals.specs.code.Sums.{empty_month}
-use Rattle.text_pieces.proofs.PiecesInTurn.{put_stops}
+use Rattle.text_fills.specs.code.Sums.{empty_month}
+use Rattle.text_messages.proofs.PiecesInTurn.{put_stops}
 use Rattle.text_day.specs.code.LineParts.{totals_lines_from}
 use Rattle.text_day.proofs.MonthLines.{any_default, line_next, month_put, month_fails}
 use Rattle.text_day.proofs.months.put_all.Goals as goal

@@ -1,6 +1,6 @@
 use Rattle.std.proofs.Common.{◌≡◌, ◌≤◌, ◌++◌, take, vec_capacity, false}
 use Rattle.spread_rules_rulebook.specs.Rulebook.{names_of}
-use Rattle.text_pieces.specs.code.Pieces.{IsPut}
+use Rattle.text_messages.specs.code.Pieces.{IsPut}
 use Rattle.text_day.specs.code.LineParts.{totals_lines_from}
 use Rattle.text_day.proofs.months.put_all.Given as goal
 

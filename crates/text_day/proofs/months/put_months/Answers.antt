@@ -2,7 +2,7 @@ use Rattle.std.proofs.Common.{◌<◌, ◌++◌, List, ℕ, length, take, ap, �
 use Rattle.std.proofs.lemmas.List.{length-map, take_all}
 use Rattle.spread_rules_rulebook.specs.declared.rulebook.Month.{Month}
 use Rattle.spread_rules_rulebook.specs.Rulebook.{names_of}
-use Rattle.month_totals.specs.code.Sums.{empty_month}
+use Rattle.text_fills.specs.code.Sums.{empty_month}
 use Rattle.text_day.specs.code.LineParts.{totals_lines_from}
 use Rattle.text_day.proofs.MonthLines.{any_default, line_next, months_step, lines_of_fills}
 use Rattle.text_day.proofs.months.put_months.Goals as goal

@@ -1,5 +1,5 @@
 use Rattle.text_day.specs.code.LineParts.{totals_lines}
-use Rattle.text_pieces.proofs.PiecesInTurn.{put_and_given}
+use Rattle.text_messages.proofs.PiecesInTurn.{put_and_given}
 use Rattle.text_day.proofs.months.write_months.Goals as goal
 
 pub returns : goal.returns

@@ -1,8 +1,8 @@
 use Rattle.std.proofs.Common.{take, arith}
 use Rattle.text_fills.specs.Fills.{fill_line}
-use Rattle.text_pieces.proofs.LinesInTurn.{line_put, line_fails}
-use Rattle.text_pieces.proofs.PiecesInTurn.{put_stops}
-use Rattle.month_totals.proofs.MonthSums.{room_taken, sums_taken, fill_added}
+use Rattle.text_messages.proofs.LinesInTurn.{line_put, line_fails}
+use Rattle.text_messages.proofs.PiecesInTurn.{put_stops}
+use Rattle.text_fills.proofs.MonthSums.{room_taken, sums_taken, fill_added}
 use Rattle.text_fills.proofs.fills.put_all.Goals as goal
 
 pub returns-in_err-put_whole-clause-puts : goal.returns-in_err-put_whole-clause-puts

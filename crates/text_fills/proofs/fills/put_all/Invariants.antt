@@ -1,8 +1,8 @@
 use Rattle.std.proofs.Common.{◌≡◌, ◌≤◌, ◌++◌, take, vec_capacity, false}
 use Rattle.std.specs.Prelude.{fold}
-use Rattle.month_totals.specs.code.Sums.{with_fill, empty_months}
+use Rattle.text_fills.specs.code.Sums.{with_fill, empty_months}
 use Rattle.text_fills.specs.Fills.{fill_lines}
-use Rattle.text_pieces.specs.code.Pieces.{IsPut}
+use Rattle.text_messages.specs.code.Pieces.{IsPut}
 use Rattle.text_fills.proofs.fills.put_all.Given as goal
 
 abbrev pub invariant-loop-fill : goal.invariant-loop-fill

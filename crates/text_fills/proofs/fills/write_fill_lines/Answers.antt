@@ -1,5 +1,5 @@
 use Rattle.text_fills.specs.Fills.{fill_lines}
-use Rattle.text_pieces.proofs.PiecesInTurn.{put_and_given}
+use Rattle.text_messages.proofs.PiecesInTurn.{put_and_given}
 use Rattle.text_fills.proofs.fills.write_fill_lines.Goals as goal
 
 pub returns-clause-writes : goal.returns-clause-writes

@@ -1,7 +1,7 @@
 use Rattle.std.proofs.Common.{◌≡◌, ◌++◌, ◌∷◌, [], List, map, subst, sym, ◌∙◌, append_assoc}
 use Rattle.text_messages.specs.Messages.{shown_byte, outgoing_line}
-use Rattle.text_pieces.specs.code.Pieces.{IsPut}
-use Rattle.text_pieces.proofs.PiecesInTurn.{put_none, put_after, put_fails, on_err, on_ok, put_stops}
+use Rattle.text_messages.specs.code.Pieces.{IsPut}
+use Rattle.text_messages.proofs.PiecesInTurn.{put_none, put_after, put_fails, on_err, on_ok, put_stops}
 use Rattle.text_messages.proofs.LinesInParts.{line_of_three}
 use Rattle.text_messages.proofs.messages.put_long_message.Goals as goal
 

@@ -1,8 +1,8 @@
 use Rattle.std.proofs.Common.{◌≡◌, ◌≤◌, min, ℕ, List, ◌++◌, length, map, vec_capacity, false}
 use Rattle.fix_wire_frames.specs.Frames.{IsFrameRow}
 use Rattle.text_messages.specs.Messages.{shown_byte, session_lines}
-use Rattle.text_pieces.specs.code.Pieces.{IsPut}
-use Rattle.text_pieces.specs.declared.pieces.TheConstants.{PIECE_BYTES}
+use Rattle.text_messages.specs.code.Pieces.{IsPut}
+use Rattle.text_messages.specs.declared.pieces.TheConstants.{PIECE_BYTES}
 use Rattle.text_messages.proofs.messages.put_outgoing.Given as goal
 
 -- what was put and the lines of the rest are all lines

@@ -1,8 +1,8 @@
 use Rattle.std.proofs.Common.{rules, ◌≡◌, ◌++◌, [], List, ℕ, map, sym, ap, subst, ◌∙◌, append_assoc}
 use Rattle.std.proofs.lemmas.List.{map-append}
 use Rattle.text_messages.specs.Messages.{shown_byte}
-use Rattle.text_pieces.specs.code.Pieces.{IsPut}
-use Rattle.text_pieces.proofs.PiecesInTurn.{put_fails, put_more, put_after, front_of_more, put_stops}
+use Rattle.text_messages.specs.code.Pieces.{IsPut}
+use Rattle.text_messages.proofs.PiecesInTurn.{put_fails, put_more, put_after, front_of_more, put_stops}
 use Rattle.text_messages.proofs.LinesInParts.{shown_more}
 use Rattle.text_messages.proofs.messages.put_part.Goals as goal
 

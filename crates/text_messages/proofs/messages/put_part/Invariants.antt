@@ -1,7 +1,7 @@
 use Rattle.std.proofs.Common.{◌≡◌, ◌≤◌, min, ℕ, List, ◌++◌, length, map, vec_capacity, false}
 use Rattle.text_messages.specs.Messages.{shown_byte}
-use Rattle.text_pieces.specs.code.Pieces.{IsPut}
-use Rattle.text_pieces.specs.declared.pieces.TheConstants.{PIECE_BYTES}
+use Rattle.text_messages.specs.code.Pieces.{IsPut}
+use Rattle.text_messages.specs.declared.pieces.TheConstants.{PIECE_BYTES}
 use Rattle.text_messages.proofs.messages.put_part.Given as goal
 
 -- what was put and the rest are all bytes

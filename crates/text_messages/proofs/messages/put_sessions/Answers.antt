@@ -3,9 +3,9 @@ use Rattle.std.proofs.lemmas.List.{length-map, get_or-map}
 use Rattle.std.proofs.lemmas.List.Elements.{All-get_or}
 use Rattle.fix_wire_frames.specs.Frames.{IsFrameRow}
 use Rattle.text_messages.specs.Messages.{shown_byte, session_lines, outgoing_lines_from}
-use Rattle.text_pieces.specs.code.Pieces.{IsPut}
+use Rattle.text_messages.specs.code.Pieces.{IsPut}
 use Rattle.text_messages.proofs.SessionLines.{sessions_next_of, sessions_rest}
-use Rattle.text_pieces.proofs.PiecesInTurn.{put_after, put_fails, put_stops}
+use Rattle.text_messages.proofs.PiecesInTurn.{put_after, put_fails, put_stops}
 use Rattle.text_messages.proofs.messages.put_sessions.Goals as goal
 
 pub put_outgoing-requires-clause-row : goal.put_outgoing-requires-clause-row

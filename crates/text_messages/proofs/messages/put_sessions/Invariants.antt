@@ -1,7 +1,7 @@
 use Rattle.std.proofs.Common.{◌≡◌, ◌≤◌, min, ◌++◌, map, take, vec_capacity, false}
 use Rattle.text_messages.specs.Messages.{shown_byte, outgoing_lines_from}
-use Rattle.text_pieces.specs.code.Pieces.{IsPut}
-use Rattle.text_pieces.specs.declared.pieces.TheConstants.{PIECE_BYTES}
+use Rattle.text_messages.specs.code.Pieces.{IsPut}
+use Rattle.text_messages.specs.declared.pieces.TheConstants.{PIECE_BYTES}
 use Rattle.text_messages.proofs.messages.put_sessions.Given as goal
 
 abbrev pub invariant-loop-session : goal.invariant-loop-session

@@ -1,7 +1,7 @@
 use Rattle.std.proofs.Common.{◌≡◌, true, false, is_ok, OnErr}
 use Rattle.rtrb.specs.Ring.{received}
 use Rattle.gate_link_stages.specs.Marks.{ends}
-use Rattle.text_pieces.specs.code.Pieces.{Writes}
+use Rattle.text_messages.specs.code.Pieces.{Writes}
 use Rattle.text_ring.specs.Pieces.{is_mark, text_in}
 use Rattle.text_ring.proofs.source.PieceSource.write_to.Given as goal
 

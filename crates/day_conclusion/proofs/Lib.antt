@@ -1,2 +1,0 @@
-pub mod CollectedBytes
-pub mod JoinedParts

@@ -1,3 +1,0 @@
-pub mod Limits
-pub mod code
-pub use Rattle.live_matching.specs.Sending

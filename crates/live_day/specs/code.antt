@@ -1,0 +1,3 @@
+pub mod Making
+pub mod Starting
+pub mod Concluding

@@ -1,0 +1,2 @@
+pub mod ElementByElement
+pub mod Joined

@@ -1,5 +1,0 @@
-use Rattle.month_totals.proofs.MonthSums.{room_far}
-use Rattle.month_totals.proofs.totals.add_fill.Goals as goal
-
-pub add_leg-requires-in-Spread-2-clause-room : goal.add_leg-requires-in-Spread-2-clause-room
-add_leg-requires-in-Spread-2-clause-room c = room_far c.args.totals.now c.add_leg-in-Spread.new.totals c.in-Spread.near c.args.fill.now.side c.args.fill.now c.add_leg-in-Spread.ensures c.requires.summable c.requires.room

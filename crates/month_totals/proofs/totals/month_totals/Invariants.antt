@@ -1,7 +1,0 @@
-use Rattle.std.proofs.Common.{◌≡◌, take}
-use Rattle.std.specs.Prelude.{fold}
-use Rattle.month_totals.specs.code.Sums.{with_fill, empty_months}
-use Rattle.month_totals.proofs.totals.month_totals.Given as goal
-
-abbrev pub invariant-loop-fill : goal.invariant-loop-fill
-invariant-loop-fill l = l.totals ≡ fold with_fill empty_months (take l.fill-index l.fills)

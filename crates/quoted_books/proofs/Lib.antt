@@ -1,1 +1,0 @@
-pub use Rattle.spread_books_quotes.proofs.quotes

@@ -1,1 +1,0 @@
-pub use Rattle.spread_books_quotes.specs.code

@@ -1,2 +1,0 @@
-pub mod PiecesInTurn
-pub mod LinesInTurn

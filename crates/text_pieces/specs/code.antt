@@ -1,2 +1,0 @@
--- Words of the code alone: no public promise needs them to be read.
-pub mod Pieces
