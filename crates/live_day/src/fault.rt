@@ -2,7 +2,7 @@
 ghost use Rattle.std.specs.Prelude.{◌≡◌};
 ghost use Rattle.live_day.specs.code.Making.{of_apply};
 
-use live_matching::ApplyFault;
+use apply_market::ApplyFault;
 use gate_link::LinkFault;
 
 /// Why threads gave no day.

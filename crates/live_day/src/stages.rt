@@ -8,7 +8,8 @@ ghost use Rattle.live_matching.specs.code.Posting.{NoneEnded, posted_at};
 ghost use Rattle.live_writers.specs.code.Writing.{ArePostPairs};
 
 use crate::fault::{ThreadsFault, of_apply};
-use live_matching::{PostedEntries, ReportedEntries};
+use live_matching::PostedEntries;
+use apply_desk::ReportedEntries;
 use gate_link::{
     Feeder, Gateway, LinkFault, Matcher, Poster, Sequencer, Writer, feed_ring, link, post_ring,
 };

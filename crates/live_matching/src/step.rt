@@ -5,7 +5,7 @@ ghost use Rattle.apply_desk.specs.Sending.{sending_rules, stamp_of};
 ghost use Rattle.live_matching.specs.code.Posting.{CanPost, HasPosted, SamePosters, StepEnds};
 
 use crate::posting::{PostedEntries, post_each};
-use apply_desk::ApplyFault;
+use apply_market::ApplyFault;
 use spread_rules::Entry;
 use gate_link_stages::fits_entry;
 use std::alloc::Allocator;

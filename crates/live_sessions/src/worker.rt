@@ -7,7 +7,7 @@ ghost use Rattle.gate_link_sessions.specs.Gateways.{is_over};
 ghost use Rattle.live_sessions.specs.code.Workers.{IsUnused, HasSent, SameEvents, IsReady, AreReady};
 
 use crate::workers::WorkerHandle;
-use fix_session::Ahead;
+use fix_session_judging::Ahead;
 use gate_link::{Burst, Gateway, MAX_SLICE, Step};
 use spread_rules_ends::release;
 use live_shared::{found, rest};

@@ -9,7 +9,7 @@ ghost use Rattle.spread_books_quotes.specs.code.QuoteTable.{known_pair, no_quote
 ghost use Rattle.spread_books_quotes.specs.declared.quote_table.Change.TheVariants.{Came, Left};
 
 use spread_books_search::MonthPairs;
-use spread_books_heap::{Book, PairCost};
+use spread_books_plain::{Book, PairCost};
 use spread_books_quotes::{Change, FrontCosts, QuoteTable};
 use spread_rules::{Level, NoMemory, Order, Side};
 use std::alloc::Allocator;

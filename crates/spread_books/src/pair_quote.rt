@@ -4,7 +4,7 @@ ghost use Rattle.spread_rules.specs.Candidates.{all_on, HasOrderPrice};
 ghost use Rattle.spread_books.specs.code.PairQuote.{IsQuoteOfFronts};
 
 use spread_books_search::Queue;
-use spread_books_heap::Book;
+use spread_books_plain::Book;
 use spread_rules::{Choice, Counterparty, Instrument, Members, Order, Side, price_at};
 
 /// An order of that instrument and side, in all else like this one.

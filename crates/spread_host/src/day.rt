@@ -14,8 +14,10 @@ ghost use Rattle.text_fills.specs.Totals.{IsSummable};
 ghost use Rattle.spread_host.specs.Headline.{HasFills, HasOutgoing, BoughtIsSold, PaidIsReceived, IsAlwaysQuiet, IsDayOf};
 ghost use Rattle.spread_host_faults.specs.declared.fault.HostFault.{HostFault};
 
-use apply_desk::{ApplyFault, apply_journal};
-use text_day::{Day, TakesPieces, TextFault};
+use apply_market::ApplyFault;
+use apply_desk::apply_journal;
+use text_day::{Day, TextFault};
+use text_messages::TakesPieces;
 use spread_rules_ids::Id;
 use spread_rules_ends::Sink;
 use spread_host_faults::HostFault;

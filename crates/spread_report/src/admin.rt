@@ -8,7 +8,8 @@ ghost use Rattle.spread_report_outbound.specs.Steps.{gap_fill};
 ghost use Rattle.spread_report.specs.EntryMessages.{close_steps, order_cancel_reject};
 
 use crate::entry::CancelRefusal;
-use fix_wire::{Field, Value, msg_types, tags};
+use fix_wire::{Field, Value};
+use fix_wire_frames::{msg_types, tags};
 use spread_rules_ids::Id;
 use spread_rules_ids::limits::SESSIONS;
 use spread_report_orders::CancelRequest;

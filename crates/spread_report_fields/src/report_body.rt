@@ -6,7 +6,8 @@ ghost use Rattle.fix_wire.specs.Layout.{field_text, FitsValueOf};
 ghost use Rattle.spread_report_fields.specs.code.ReportBodies.{order_fields, event_fields, terms_fields, left_fields, last_fields, fields_of_order, fields_of_reject, fields_of_cancel, fields_of_fill};
 
 use crate::codes::{EXEC_TRANS_TYPE_NEW, MultiLegReportingType, OrdStatus, side_code};
-use fix_wire::{Body, Field, Value, put_field, put_text_field, tags};
+use fix_wire::{Body, Field, Value, put_field, put_text_field};
+use fix_wire_frames::tags;
 use spread_rules_ids::Id;
 use spread_rules::Side;
 

@@ -9,7 +9,7 @@ ghost use Rattle.spread_report_outbound.specs.code.Sending.{Sends};
 ghost use Rattle.spread_report_orders.specs.ExecutionReports.{fill_reports, fills_reports};
 ghost use Rattle.spread_report_orders.specs.code.Reports.{report, reports_from, part_report, leg_reports, reports_of, fill_status, report_count};
 
-use fix_wire::msg_types;
+use fix_wire_frames::msg_types;
 use spread_rules_ids::Id;
 use spread_rules_ids::limits::SESSIONS;
 use spread_report_outbound::{DeskFault, OutboundSessions};

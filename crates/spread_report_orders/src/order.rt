@@ -4,7 +4,7 @@ ghost use Rattle.spread_report_outbound.specs.code.Sending.{Sends};
 ghost use Rattle.spread_report_orders.specs.ExecutionReports.{new_report};
 ghost use Rattle.spread_report_orders.specs.code.Reports.{report, rejected_report, ended_report, cancelled_report, replaced_report};
 
-use fix_wire::msg_types;
+use fix_wire_frames::msg_types;
 use spread_rules_ids::Id;
 use spread_rules_ids::limits::SESSIONS;
 use spread_report_outbound::{DeskFault, OutboundSessions};

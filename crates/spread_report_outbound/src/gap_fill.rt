@@ -7,7 +7,8 @@ ghost use Rattle.spread_report_outbound.specs.code.Sending.{Sends};
 
 use crate::fault::DeskFault;
 use crate::sending::OutboundSessions;
-use fix_wire::{Field, Head, Value, msg_types, tags, write_message};
+use fix_wire::{Field, Head, Value, write_message};
+use fix_wire_frames::{msg_types, tags};
 use spread_rules_ids::Id;
 use spread_rules_ids::limits::SESSIONS;
 use spread_report_fields::{number_field, text_field};

@@ -3,9 +3,8 @@ ghost use Rattle.std.specs.Prelude.{◌≡◌};
 
 use crate::books::rows::is;
 use crate::expect::holds;
-use spread_books_queues::{
-    BestPrice, FrontTable, PlaceRows, QueueHeaps, QueueRank, is_own, queue_number, with_quantity,
-};
+use spread_books_queues::{BestPrice, FrontTable, QueueHeaps, QueueRank, queue_number};
+use spread_books_rows::{PlaceRows, is_own, with_quantity};
 use spread_rules::{Instrument, Order, Side};
 use std::alloc::Global;
 use std::process::Abort;

@@ -9,7 +9,8 @@ use std::process::Abort;
 use std::sync::Wait;
 use std::thread;
 use std::thread::Threads;
-use tests_shared::{Refusing, TestSink};
+use tests_shared::Refusing;
+use spread_rules_ends::TestSink;
 use text_messages::{PIECE_BYTES, TakesPieces};
 
 const LINE: &[u8] = b"abcdefghi\n";

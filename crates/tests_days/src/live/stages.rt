@@ -1,7 +1,7 @@
 //! What a day in threads is made of before any thread is started.
 use crate::expect::holds;
 use crate::rules::three_months;
-use apply_desk::ApplyFault;
+use apply_market::ApplyFault;
 use live_day::{Caps, DayRules, ThreadsFault, of_apply, stages_of};
 use tests_shared::stamp;
 

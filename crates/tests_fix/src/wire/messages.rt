@@ -3,7 +3,8 @@ ghost use Rattle.fix_wire_frames.specs.Frames.{IsFrameRow};
 
 use super::writing::REPORT;
 use crate::expect::{holds, holds_for};
-use fix_wire::{Message, first_of_row, read_price};
+use fix_wire::{Message, read_price};
+use fix_wire_framer::first_of_row;
 use tests_shared::{FIRST_LOGON, FIRST_SELL};
 
 struct MessageCase {

@@ -2,7 +2,8 @@
 use super::checked::{add, amend, clear, reduce, remove};
 use crate::expect::holds;
 use spread_rules_ids::Id;
-use spread_books::{Book, FrontBook, HeapBook, IndexBook, ListBook, QuotedBook};
+use spread_books::{Book, IndexBook, ListBook, QuotedBook};
+use spread_books_heap::{FrontBook, HeapBook};
 use spread_rules::{Instrument, Order, Rulebook, Side};
 use std::alloc::Global;
 use std::process::Abort;

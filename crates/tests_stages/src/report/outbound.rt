@@ -1,6 +1,7 @@
 //! What one session is sent: a message, a gap fill, and a message that is taken back.
 use crate::expect::holds;
-use fix_wire::{Field, Value, msg_types, tags};
+use fix_wire::{Field, Value};
+use fix_wire_frames::{msg_types, tags};
 use spread_report_outbound::{CompIds, Mark, OutboundSessions};
 use spread_report_fields::text_field;
 use std::alloc::Global;

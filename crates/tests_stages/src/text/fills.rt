@@ -4,9 +4,8 @@ ghost use Rattle.text_day.specs.DayText.{AreShown};
 
 use crate::expect::holds;
 use crate::rules::three_months;
-use text_day::{
-    MonthTotals, TextFault, add_fill, month_totals, no_totals, text_of_fills, write_fills,
-};
+use text_fills::{MonthTotals, add_fill, month_totals, no_totals};
+use text_day::{TextFault, text_of_fills, write_fills};
 use spread_rules::{Fill, Instrument, Rulebook, Side, TestSink};
 use std::alloc::Global;
 use std::process::Abort;
