@@ -9,7 +9,7 @@ ghost use Rattle.apply_desk.specs.Sending.{fault_at, HasReported, HasReportedBeh
 ghost use Rattle.apply_market.specs.declared.fault.ApplyFault.TheVariants.{NoMemory};
 
 use spread_rules_ids::{Id, limits};
-use apply_market::{AppliedEntries, ApplyFault};
+use apply_market::{MatchedJournal, ApplyFault};
 use spread_report::{Desk, DeskFault};
 use spread_rules::{Entry, Fill, Rulebook};
 use std::alloc::{AllocError, Allocator};
@@ -26,7 +26,7 @@ pub struct FillsAndMessages<A: Allocator> {
 #[derive(Drop)]
 pub struct ReportedEntries<'r, A: Allocator + Copy> {
     rulebook: &'r Rulebook,
-    applied: AppliedEntries<'r, A>,
+    applied: MatchedJournal<'r, A>,
     desk: Desk,
     out: Vec<Vec<u8, A>, A>,
 }
@@ -97,7 +97,7 @@ impl<'r, A: Allocator + Copy> ReportedEntries<'r, A> {
             Ok(lists) => lists,
             Err(_) => return Err(ApplyFault::NoMemory(0)),
         };
-        let applied = match AppliedEntries::with_capacity(alloc, rulebook, entries) {
+        let applied = match MatchedJournal::with_capacity(alloc, rulebook, entries) {
             Ok(applied) => applied,
             Err(fault) => return Err(fault),
         };

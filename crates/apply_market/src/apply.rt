@@ -14,7 +14,7 @@ use std::marker::Model;
 
 /// Entries applied in order, places counting from 1.
 #[derive(Drop)]
-pub struct AppliedEntries<'r, A: Allocator + Copy> {
+pub struct MatchedJournal<'r, A: Allocator + Copy> {
     market: Market<'r, IndexBook<'r, A>, A>,
     count: u64,
     fills: Vec<Fill, A>,
@@ -22,7 +22,7 @@ pub struct AppliedEntries<'r, A: Allocator + Copy> {
     last: usize,
 }
 
-impl<'r, A: Allocator + Copy> Model for AppliedEntries<'r, A> {
+impl<'r, A: Allocator + Copy> Model for MatchedJournal<'r, A> {
     ghost use Rattle.std.specs.Prelude.{◌≡◌, ◌≤◌, length};
     ghost use Rattle.apply_market.specs.Application.{Application};
 
@@ -39,14 +39,14 @@ impl<'r, A: Allocator + Copy> Model for AppliedEntries<'r, A> {
         (a.market.state.last ≡ a.count) × (a.last ≤ length a.fills.items) };
 }
 
-impl<'r, A: Allocator + Copy> AppliedEntries<'r, A> {
+impl<'r, A: Allocator + Copy> MatchedJournal<'r, A> {
     /// Before the first entry. NoMemory has place 0.
     pub fn new(alloc: A, rulebook: &'r Rulebook) -> Result<Self, ApplyFault>
         ensures start { IfOk result (HasApplied []) }
         ensures rules { IfOk result (λ a. rules_of a ≡ rulebook.now) }
         ensures fault { IfErr result (λ f. f ≡ NoMemory 0) }
     {
-        AppliedEntries::with_capacity(alloc, rulebook, 0)
+        MatchedJournal::with_capacity(alloc, rulebook, 0)
     }
 
     /// Before the first entry, with room for the ids and statuses of so many. NoMemory has place 0.
@@ -64,7 +64,7 @@ impl<'r, A: Allocator + Copy> AppliedEntries<'r, A> {
         let Ok(book) = IndexBook::new(alloc, rulebook) else {
             return Err(ApplyFault::NoMemory(0));
         };
-        let mut applied = AppliedEntries {
+        let mut applied = MatchedJournal {
             market: Market::new(alloc, rulebook, book),
             count: 0,
             fills: Vec::new(alloc),
@@ -88,7 +88,7 @@ impl<'r, A: Allocator + Copy> AppliedEntries<'r, A> {
         ensures rules { rules_of self.new ≡ rules_of self.old }
         ensures count { OnOk result (self.new.count ≡ self.old.count + 1) }
         ensures fault { IfErr result (λ f. f ≡ NoMemory (self.old.count + 1)) }
-        ensures kept { OnErr result (self.new ≡ self.old) }
+        ensures unchanged_on_err { OnErr result (self.new ≡ self.old) }
     {
         let place = self.count + 1;
         let last = self.fills.len();

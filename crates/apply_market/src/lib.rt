@@ -5,6 +5,6 @@ mod apply;
 mod fault;
 mod journal;
 
-pub use apply::AppliedEntries;
+pub use apply::MatchedJournal;
 pub use fault::ApplyFault;
 pub use journal::{apply_entries, fills_of_journal};

@@ -18,7 +18,7 @@ pub struct Applied<A: Allocator> {
 
 /// An entry at its place, and what came of it.
 #[derive(Clone, Copy)]
-struct AppliedEntry<'a> {
+struct SentEntry<'a> {
     place: u64,
     entry: &'a Entry,
     outcome: &'a Outcome,
@@ -34,7 +34,7 @@ fn unfit(place: u64) -> BenchFault {
 fn send<A: Allocator + Copy>(
     desk: &mut Desk,
     rules: &Rulebook,
-    applied: &AppliedEntry<'_>,
+    applied: &SentEntry<'_>,
     lists: &mut Vec<Vec<u8, A>, A>,
 ) -> Result<(), BenchFault> {
     if applied.entry.session >= 16
@@ -93,7 +93,7 @@ fn send_each<A: Allocator + Copy>(
     for n in 0..journal.len() {
         let place = n as u64 + 1;
         let (fills, others) = rest.split_at(made_at(rest, place));
-        let one = AppliedEntry {
+        let one = SentEntry {
             place,
             entry: &journal[n],
             outcome: &outcomes[n],

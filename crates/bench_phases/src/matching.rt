@@ -46,7 +46,7 @@ pub fn apply_entry<B: Book, A: Allocator + Copy>(
         fills.old.items fills.new.items market.new.state) }
     ensures rules { market.new.rules ≡ market.old.rules }
     ensures last { OnOk result (market.new.state.last ≡ place) }
-    ensures err { OnErr result (market.new.state ≡ market.old.state) }
+    ensures unchanged_on_err { OnErr result (market.new.state ≡ market.old.state) }
     ensures no_fills { OnErr result (fills.new.items ≡ fills.old.items) }
 {
     market.apply(place, entry, fills)

@@ -11,7 +11,7 @@ mod svg_text;
 
 pub use course::{Course, Kind, Span, Stretch, Trade, column_of, widened};
 pub use marks::{corner, put_diamond, put_marks, radius};
-pub use points::{Point, most_lots, points_of};
+pub use points::{ChartPoint, most_lots, points_of};
 pub use scale::{EDGE, Scale, WIDTH, first_multiple, length_of, round_below, scale_of, step};
 pub use steps::put_steps;
 pub use svg_text::{SvgText, put_bytes};

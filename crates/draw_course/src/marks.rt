@@ -1,7 +1,7 @@
 //! The marks of trades: circles where they are direct, diamonds where they are implied.
 use crate::svg_text::SvgText;
 use crate::course::Kind;
-use crate::points::Point;
+use crate::points::ChartPoint;
 use crate::scale::length_of;
 use std::alloc::Allocator;
 
@@ -32,7 +32,7 @@ pub fn put_diamond<A: Allocator>(out: &mut SvgText<A>, far: i64) {
 }
 
 /// One mark, in the order of a panel's points.
-fn put_mark<A: Allocator>(out: &mut SvgText<A>, point: &Point, most: u64) {
+fn put_mark<A: Allocator>(out: &mut SvgText<A>, point: &ChartPoint, most: u64) {
     let radius = radius(point.lots, most);
     let x = point.x;
     match point.kind {
@@ -51,7 +51,7 @@ fn put_mark<A: Allocator>(out: &mut SvgText<A>, point: &Point, most: u64) {
 }
 
 /// The marks of one kind, where the greatest stands for so many lots.
-pub fn put_marks<A: Allocator>(out: &mut SvgText<A>, points: &[Point], kind: Kind, most: u64) {
+pub fn put_marks<A: Allocator>(out: &mut SvgText<A>, points: &[ChartPoint], kind: Kind, most: u64) {
     let class = match kind {
         Kind::Direct => "direct",
         Kind::Implied => "implied",

@@ -12,7 +12,7 @@ const LEAST_CELL: i64 = 5;
 
 /// Trades that are drawn as one: those of one kind and one cell of the panel.
 #[derive(Clone, Copy, PartialEq, Eq, PartialOrd, Ord)]
-pub struct Point {
+pub struct ChartPoint {
     pub kind: Kind,
     /// Its cell, from the top and from the left.
     row: i64,
@@ -28,10 +28,10 @@ fn cell(length: i64, width: i64) -> i64 {
     length.max(0) / width.max(1)
 }
 
-impl Point {
+impl ChartPoint {
     /// The point in cells of that width. A cell is lower than it is wide, since a price tells more than a place.
-    fn in_cells(self, width: i64) -> Point {
-        Point {
+    fn in_cells(self, width: i64) -> ChartPoint {
+        ChartPoint {
             row: cell(self.y, (width / 8).max(LEAST_CELL)),
             column: cell(self.x, width),
             ..self
@@ -39,14 +39,14 @@ impl Point {
     }
 
     /// Whether two points are of one kind and cell.
-    fn is_with(&self, other: &Point) -> bool {
+    fn is_with(&self, other: &ChartPoint) -> bool {
         self.kind == other.kind && self.row == other.row && self.column == other.column
     }
 }
 
 /// The points of each cell as one, by kind, then from the top, then from the left.
-fn merged<A: Allocator + Copy>(alloc: A, points: &[Point]) -> Result<Vec<Point, A>, AllocError> {
-    let mut fewer: Vec<Point, A> = Vec::new(alloc);
+fn merged<A: Allocator + Copy>(alloc: A, points: &[ChartPoint]) -> Result<Vec<ChartPoint, A>, AllocError> {
+    let mut fewer: Vec<ChartPoint, A> = Vec::new(alloc);
     for point in points {
         match fewer.last_mut() {
             Some(last) if last.is_with(point) => {
@@ -61,9 +61,9 @@ fn merged<A: Allocator + Copy>(alloc: A, points: &[Point]) -> Result<Vec<Point, 
 /// The points in cells of that width, each cell's as one.
 fn gathered<A: Allocator + Copy>(
     alloc: A,
-    mut points: Vec<Point, A>,
+    mut points: Vec<ChartPoint, A>,
     width: i64,
-) -> Result<Vec<Point, A>, AllocError> {
+) -> Result<Vec<ChartPoint, A>, AllocError> {
     for point in points.iter_mut() {
         *point = point.in_cells(width);
     }
@@ -76,10 +76,10 @@ fn placed<A: Allocator + Copy>(
     alloc: A,
     trades: &[Trade],
     scale: &Scale,
-) -> Result<Vec<Point, A>, AllocError> {
+) -> Result<Vec<ChartPoint, A>, AllocError> {
     let mut points = Vec::new(alloc);
     for trade in trades {
-        points.push(Point {
+        points.push(ChartPoint {
             kind: trade.kind,
             row: 0,
             column: 0,
@@ -97,7 +97,7 @@ pub fn points_of<A: Allocator + Copy>(
     trades: &[Trade],
     scale: &Scale,
     most: u64,
-) -> Result<Vec<Point, A>, AllocError> {
+) -> Result<Vec<ChartPoint, A>, AllocError> {
     let mut width = LEAST_CELL;
     let mut points = gathered(alloc, placed(alloc, trades, scale)?, width)?;
     for _ in 0..DOUBLINGS {
@@ -111,7 +111,7 @@ pub fn points_of<A: Allocator + Copy>(
 }
 
 /// The most lots of a point.
-pub fn most_lots(points: &[Point]) -> u64 {
+pub fn most_lots(points: &[ChartPoint]) -> u64 {
     let mut most = 0;
     for point in points {
         most = point.lots.max(most);

@@ -58,7 +58,7 @@ pub struct Scale {
 }
 
 /// So much of a whole, as so much of another one.
-fn part(of: i64, many: i64, whole: i64) -> i64 {
+fn scaled(of: i64, many: i64, whole: i64) -> i64 {
     of.saturating_mul(many) / whole.max(1)
 }
 
@@ -72,14 +72,14 @@ impl Scale {
     pub fn x(&self, column: u64) -> i64 {
         let columns = length_of(columns_of(self.entries));
         let inner = WIDTH - 2 * EDGE;
-        EDGE.saturating_add(part(length_of(column), inner, columns))
+        EDGE.saturating_add(scaled(length_of(column), inner, columns))
     }
 
     /// Where a place begins, counted from 1.
     pub fn x_of_place(&self, place: u64) -> i64 {
         let inner = WIDTH - 2 * EDGE;
         let before = length_of(place.saturating_sub(1));
-        EDGE.saturating_add(part(before, inner, length_of(self.entries)))
+        EDGE.saturating_add(scaled(before, inner, length_of(self.entries)))
     }
 
     /// Where a price stands, from the top; a little outside where it is not drawn.
@@ -87,7 +87,7 @@ impl Scale {
         let inner = self.height.saturating_sub(2 * EDGE);
         let whole = self.prices.most.saturating_sub(self.prices.least);
         let below = self.prices.most.saturating_sub(price);
-        EDGE.saturating_add(part(below, inner, whole))
+        EDGE.saturating_add(scaled(below, inner, whole))
             .clamp(-50, self.height.max(0).saturating_add(50))
     }
 }

@@ -40,7 +40,7 @@ pub fn draw<K: Sink, A: Allocator + Copy>(
     requires { K.has_failed sink.old ≡ false }
     ensures read { OnOk result (IsRead text.now) }
     ensures drawn { OnOk result (AppendsSome (K.written sink.old) (K.written sink.new)) }
-    ensures sound { OnOk result (K.has_failed sink.new ≡ false) }
+    ensures not_failed { OnOk result (K.has_failed sink.new ≡ false) }
     ensures write { IsErrOf result DrawFault.Write → (K.has_failed sink.new ≡ true)
         × IsRead text.now × AppendsSome (K.written sink.old) (K.written sink.new) }
     ensures nothing_written { IfErr result (λ f. f ≢ DrawFault.Write → sink.new ≡ sink.old) }

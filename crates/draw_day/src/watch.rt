@@ -4,7 +4,7 @@ ghost use Rattle.spread_rules.specs.Journal.{FitsEntry};
 ghost use Rattle.apply_market.specs.Application.{HasApplied};
 
 use draw_course::{Course, Kind, Trade, column_of};
-use apply_market::AppliedEntries;
+use apply_market::MatchedJournal;
 use spread_books::{Book, IndexBook};
 use spread_rules::{Entry, Event, Fill, Instrument, Outcome, Rulebook, Side};
 use std::alloc::{AllocError, Allocator};
@@ -140,7 +140,7 @@ impl<'r, A: Allocator + Copy> Watch<'r, A> {
     /// Looks at what the entry that was applied last has touched.
     fn see(
         &mut self,
-        applied: &AppliedEntries<'_, A>,
+        applied: &MatchedJournal<'_, A>,
         entry: &Entry,
         outcome: &Outcome,
     ) -> Result<(), AllocError> {
@@ -162,7 +162,7 @@ impl<'r, A: Allocator + Copy> Watch<'r, A> {
 /// Applies entry n of the journal, from 0, behind those before it, and looks at what it has touched.
 fn watch_entry<A: Allocator + Copy>(
     watch: &mut Watch<'_, A>,
-    applied: &mut AppliedEntries<'_, A>,
+    applied: &mut MatchedJournal<'_, A>,
     journal: &[Entry],
     n: usize,
 ) -> Result<(), AllocError>
@@ -181,7 +181,7 @@ fn watch_entry<A: Allocator + Copy>(
 /// first, then those of the spreads.
 fn courses_behind<A: Allocator + Copy>(
     alloc: A,
-    applied: &mut AppliedEntries<'_, A>,
+    applied: &mut MatchedJournal<'_, A>,
     rulebook: &Rulebook,
     journal: &[Entry],
 ) -> Result<Vec<Course<A>, A>, AllocError>
@@ -203,7 +203,7 @@ pub fn courses_of<A: Allocator + Copy>(
 ) -> Result<Vec<Course<A>, A>, AllocError>
     requires { All FitsEntry journal.now }
 {
-    let Ok(mut applied) = AppliedEntries::new(alloc, rulebook) else {
+    let Ok(mut applied) = MatchedJournal::new(alloc, rulebook) else {
         return Err(AllocError);
     };
     let courses = courses_behind(alloc, &mut applied, rulebook, journal);

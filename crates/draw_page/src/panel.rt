@@ -1,5 +1,5 @@
 //! The panel of one instrument: its axes, its best prices as steps, its trades as marks.
-use draw_course::{Course, Kind, Point, Scale, Stretch, SvgText, WIDTH, first_multiple, length_of, points_of, put_marks, put_steps, scale_of, step, widened};
+use draw_course::{Course, Kind, ChartPoint, Scale, Stretch, SvgText, WIDTH, first_multiple, length_of, points_of, put_marks, put_steps, scale_of, step, widened};
 use spread_rules::{Instrument, Rulebook};
 use std::alloc::{AllocError, Allocator};
 
@@ -21,7 +21,7 @@ pub struct Panel<A: Allocator> {
     scale: Scale,
     buy: Vec<Stretch, A>,
     sell: Vec<Stretch, A>,
-    pub points: Vec<Point, A>,
+    pub points: Vec<ChartPoint, A>,
     direct: u64,
     implied: u64,
     lots: u64,

@@ -1,8 +1,8 @@
 -- A text that was written, and what was taken behind it.
 use Rattle.std.proofs.Common.{◌≡◌, ℕ, Bool, false, List, ◌++◌, Option, Result, Ok, Err, OnErr, is_ok, subst, sym}
 use Rattle.spread_rules_ends.specs.Ends.{AppendsPrefix}
-use Rattle.text_messages.specs.code.Pieces.{Writes}
-use Rattle.text_messages.proofs.PiecesInTurn.{front_of_more}
+use Rattle.text_messages.specs.code.Blocks.{Writes}
+use Rattle.text_messages.proofs.BlocksInTurn.{front_of_more}
 use Rattle.text_day.proofs.PartsInTurn.{then_writes}
 
 -- where the first could not be written, nothing was written behind it

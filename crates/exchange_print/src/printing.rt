@@ -3,19 +3,19 @@
 ghost use Rattle.std.specs.Prelude.{◌≡◌, ◌≤◌, ◌++◌, [], IfOk, IfErr, vec_capacity, false};
 ghost use Rattle.spread_journal_lines.specs.JournalText.{journal_text};
 ghost use Rattle.text_ring.specs.Ends.{text_taken, IsUnread, IsRead};
-ghost use Rattle.text_messages.specs.code.Pieces.{Writes};
-ghost use Rattle.text_messages.specs.declared.pieces.TheConstants.{PIECE_BYTES};
+ghost use Rattle.text_messages.specs.code.Blocks.{Writes};
+ghost use Rattle.text_messages.specs.declared.blocks.TheConstants.{BLOCK_BYTES};
 ghost use Rattle.exchange_print.specs.Printing.{ArePrintable, IsPrintable};
 
 use text_day::{write_behind_journal, write_journal_lines};
-use text_ring::{PieceSource, piece_ring};
+use text_ring::{BlockSource, block_ring};
 use spread_host::{Day, HostFault, write_day};
 use spread_rules::{Entry, Failed, Fill, Rulebook, Sink, ToWriter};
 use std::alloc::{AllocError, Global};
 use std::sync::Wait;
 use std::thread::{JoinHandle, Scope, Threads};
 use std::{io, thread};
-use text_messages::PIECE_BYTES;
+use text_messages::BLOCK_BYTES;
 
 /// What stands behind the journal in a day's text: the fills, and what each session is sent.
 #[derive(Drop)]
@@ -24,30 +24,30 @@ struct BehindJournal {
     out: Vec<Vec<u8, Global>, Global>,
 }
 
-/// A piece in which nothing stands yet.
-fn empty_piece(alloc: Global) -> Result<Vec<u8, Global>, AllocError>
-    ensures { IfOk result (λ p. (p.items ≡ []) × (PIECE_BYTES ≤ vec_capacity p)) }
+/// A block in which nothing stands yet.
+fn empty_block(alloc: Global) -> Result<Vec<u8, Global>, AllocError>
+    ensures { IfOk result (λ p. (p.items ≡ []) × (BLOCK_BYTES ≤ vec_capacity p)) }
 {
-    Vec::with_capacity(alloc, PIECE_BYTES)
+    Vec::with_capacity(alloc, BLOCK_BYTES)
 }
 
-/// Makes and writes the lines of the journal, and then writes the pieces of the text behind it as they come.
+/// Makes and writes the lines of the journal, and then writes the blocks of the text behind it as they come.
 fn write_text<R: Wait, K: Sink>(
     rt: &R,
     sink: &mut K,
     journal: &[Entry],
-    piece: &mut Vec<u8, Global>,
-    source: &mut PieceSource<Global>,
+    block: &mut Vec<u8, Global>,
+    source: &mut BlockSource<Global>,
 ) -> Result<(), Failed>
-    requires works { K.has_failed sink.old ≡ false }
-    requires empty { piece.old.items ≡ [] }
-    requires room { PIECE_BYTES ≤ vec_capacity piece.old }
+    requires not_failed { K.has_failed sink.old ≡ false }
+    requires empty { block.old.items ≡ [] }
+    requires room { BLOCK_BYTES ≤ vec_capacity block.old }
     requires unread { IsUnread source.old }
     ensures writes { Writes result (K.written sink.old) (K.written sink.new) (K.has_failed sink.new)
         (journal_text journal.now ++ text_taken source.new) }
     ensures read { IsRead source.new }
 {
-    let so_far = write_journal_lines(piece, sink, journal);
+    let so_far = write_journal_lines(block, sink, journal);
     source.write_to(rt, sink, so_far)
 }
 
@@ -56,30 +56,30 @@ fn start_writing<'s, E, R: Print + Threads + Wait + Sync>(
     scope: &Scope<'s, E>,
     rt: &'s R,
     journal: &'s [Entry],
-    piece: Vec<u8, Global>,
-    source: PieceSource<Global>,
+    block: Vec<u8, Global>,
+    source: BlockSource<Global>,
 ) -> Option<JoinHandle<Result<(), Failed>>>
-    requires empty { piece.items ≡ [] }
-    requires room { PIECE_BYTES ≤ vec_capacity piece }
+    requires empty { block.items ≡ [] }
+    requires room { BLOCK_BYTES ≤ vec_capacity block }
     requires unread { IsUnread source }
 {
     let started = scope.spawn(
         move || -> Result<(), Failed>
-            requires empty { piece.items ≡ [] }
-            requires room { PIECE_BYTES ≤ vec_capacity piece }
+            requires empty { block.items ≡ [] }
+            requires room { BLOCK_BYTES ≤ vec_capacity block }
             requires unread { IsUnread source }
         {
-            let mut piece = piece;
+            let mut block = block;
             let mut source = source;
             let mut sink = ToWriter::new(io::writer(rt));
-            write_text(rt, &mut sink, journal, &mut piece, &mut source)
+            write_text(rt, &mut sink, journal, &mut block, &mut source)
         },
     );
     started.ok()
 }
 
 /// Makes what stands behind the journal while another thread makes and writes the journal, and lets it go while that
-/// thread still writes. It comes back where there is no memory for the pieces or no thread.
+/// thread still writes. It comes back where there is no memory for the blocks or no thread.
 fn print_beside<'s, E, R: Print + AllocGlobal + Threads + Wait + Sync>(
     scope: &Scope<'s, E>,
     rt: &'s R,
@@ -91,19 +91,19 @@ fn print_beside<'s, E, R: Print + AllocGlobal + Threads + Wait + Sync>(
     ensures { IfErr result (λ b. ArePrintable rulebook.now b.fills.items b.out.items) }
 {
     let alloc = rt.alloc();
-    let (Ok(first), Ok(second)) = (empty_piece(alloc), empty_piece(alloc)) else {
+    let (Ok(first), Ok(second)) = (empty_block(alloc), empty_block(alloc)) else {
         return Err(behind);
     };
-    let Ok((sink, source)) = piece_ring(rt, alloc) else {
+    let Ok((sink, source)) = block_ring(rt, alloc) else {
         return Err(behind);
     };
     let Some(writing) = start_writing(scope, rt, journal, first, source) else {
         return Err(behind);
     };
-    let mut piece = second;
+    let mut block = second;
     let mut sink = sink;
     let BehindJournal { fills, out } = behind;
-    let made = write_behind_journal(&mut piece, &mut sink, rulebook, fills, &out);
+    let made = write_behind_journal(&mut block, &mut sink, rulebook, fills, &out);
     sink.end();
     drop(out);
     let written = writing.join(rt);

@@ -4,7 +4,7 @@ ghost use Rattle.spread_rules.specs.Journal.{FitsEntry};
 
 use crate::outcome_words::{put_loses_place, put_outcome};
 use crate::turn_words::put_turns;
-use explain_entries::{Words, put_entry, tell};
+use explain_entries::{Words, put_entry, explain_entry};
 use spread_rules_ends::NoMemory;
 use spread_rules::{Entry, Rulebook};
 use std::alloc::Allocator;
@@ -21,7 +21,7 @@ pub fn words_of_entry<A: Allocator + Copy>(
 {
     let before = &journal[..n];
     let entry = &journal[n];
-    let told = tell(alloc, rulebook, before, entry)?;
+    let told = explain_entry(alloc, rulebook, before, entry)?;
     let mut words = Words::new(alloc, rulebook);
     put_entry(&mut words, n as u64 + 1, entry);
     put_loses_place(&mut words, &told);

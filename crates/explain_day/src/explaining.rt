@@ -26,7 +26,7 @@ pub fn explain<K: Sink, A: Allocator + Copy>(
     requires { K.has_failed sink.old ≡ false }
     ensures explained { OnOk result (HasEntryAt text.now place) }
     ensures said { OnOk result (AppendsSome (K.written sink.old) (K.written sink.new)) }
-    ensures sound { OnOk result (K.has_failed sink.new ≡ false) }
+    ensures not_failed { OnOk result (K.has_failed sink.new ≡ false) }
     ensures write { IsErrOf result ExplainFault.Write → (K.has_failed sink.new ≡ true)
         × HasEntryAt text.now place × AppendsSome (K.written sink.old) (K.written sink.new) }
     ensures nothing_written { IfErr result (λ f. f ≢ ExplainFault.Write → sink.new ≡ sink.old) }

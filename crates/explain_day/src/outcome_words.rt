@@ -1,5 +1,5 @@
 //! The line of what came of an entry.
-use explain_entries::{Told, Words, put_new_refusal, put_nothing_resting, put_replace_refusal};
+use explain_entries::{EntryExplanation, Words, put_new_refusal, put_nothing_resting, put_replace_refusal};
 use spread_rules::{Entry, Event, Order, Outcome};
 use std::alloc::Allocator;
 
@@ -14,7 +14,7 @@ fn put_left<A: Allocator + Copy>(words: &mut Words<'_, A>, stays: &[u8], left: u
 }
 
 /// How much is left of the order that was traded.
-fn left_of<A: Allocator + Copy>(told: &Told<A>) -> u32 {
+fn left_of<A: Allocator + Copy>(told: &EntryExplanation<A>) -> u32 {
     match &told.traded {
         None => 0,
         Some(traded) => traded.explanation.left,
@@ -22,7 +22,7 @@ fn left_of<A: Allocator + Copy>(told: &Told<A>) -> u32 {
 }
 
 /// A replace that was accepted: the order keeps its place, or another stands behind it.
-fn put_replaced<A: Allocator + Copy>(words: &mut Words<'_, A>, told: &Told<A>, order: &Order) {
+fn put_replaced<A: Allocator + Copy>(words: &mut Words<'_, A>, told: &EntryExplanation<A>, order: &Order) {
     match &told.traded {
         None => {
             words.named(b"keeps its place ", order.place);
@@ -38,7 +38,7 @@ fn put_refusal<A: Allocator + Copy>(
     words: &mut Words<'_, A>,
     before: &[Entry],
     entry: &Entry,
-    told: &Told<A>,
+    told: &EntryExplanation<A>,
     reason: u8,
 ) {
     words.named(b"refused, reason ", u64::from(reason));
@@ -56,7 +56,7 @@ fn put_refusal<A: Allocator + Copy>(
 }
 
 /// Which order loses its place, before the turns of the one that stands for it.
-pub fn put_loses_place<A: Allocator + Copy>(words: &mut Words<'_, A>, told: &Told<A>) {
+pub fn put_loses_place<A: Allocator + Copy>(words: &mut Words<'_, A>, told: &EntryExplanation<A>) {
     match (&told.traded, &told.named) {
         (Some(_), Some(named)) => {
             words.put(b"loses its place: ");
@@ -72,7 +72,7 @@ pub fn put_outcome<A: Allocator + Copy>(
     words: &mut Words<'_, A>,
     before: &[Entry],
     entry: &Entry,
-    told: &Told<A>,
+    told: &EntryExplanation<A>,
 ) {
     words.put(b"outcome: ");
     match &told.outcome {

@@ -4,7 +4,7 @@ ghost use Rattle.spread_rules.specs.Candidates.{HasLegPrice};
 ghost use Rattle.explain_turns.specs.Explained.{HaveLegPrices};
 
 use explain_entries::{Traded, Words};
-use explain_turns::{Beyond, Point, Turn, point_between};
+use explain_turns::{Beyond, RankPoint, ExplainedTurn, point_between};
 use spread_rules::{Candidate, Counterparty, Instrument, Order};
 use std::alloc::Allocator;
 
@@ -81,13 +81,13 @@ fn put_legs<A: Allocator + Copy>(
 }
 
 /// The point in which one ranks behind the other.
-fn point_text(point: Point) -> &'static [u8] {
+fn point_text(point: RankPoint) -> &'static [u8] {
     match point {
-        Point::Price => b"price",
-        Point::DirectFirst => b"direct before implied",
-        Point::OtherMonth => b"the earlier other month",
-        Point::FirstMember => b"the earlier place of the first member",
-        Point::SecondMember => b"the earlier place of the second member",
+        RankPoint::Price => b"price",
+        RankPoint::DirectFirst => b"direct before implied",
+        RankPoint::OtherMonth => b"the earlier other month",
+        RankPoint::FirstMember => b"the earlier place of the first member",
+        RankPoint::SecondMember => b"the earlier place of the second member",
     }
 }
 
@@ -109,7 +109,7 @@ fn put_next<A: Allocator + Copy>(
 }
 
 /// One turn: the candidate that was taken, and those that rank next.
-fn put_turn<A: Allocator + Copy>(words: &mut Words<'_, A>, new: &Order, number: u64, turn: &Turn)
+fn put_turn<A: Allocator + Copy>(words: &mut Words<'_, A>, new: &Order, number: u64, turn: &ExplainedTurn)
     requires { HaveLegPrices turn.now }
 {
     words.named(b"turn ", number);

@@ -9,7 +9,7 @@ use Rattle.spread_rules.specs.Journal.{FitsEntry}
 use Rattle.spread_rules.specs.Meaning.{meaning_of_journal}
 use Rattle.spread_rules.specs.Ranges.{AreOrdersInRange, IsOrderInRange}
 use Rattle.spread_rules_rulebook.specs.Rulebook.{Rules, IsRules}
-use Rattle.explain_entries.specs.Told.{others_of, standing_at}
+use Rattle.explain_entries.specs.EntryExplained.{others_of, standing_at}
 
 others_priced : (named : Option Order) (xs : List Order) → All HasOrderPrice xs → All HasOrderPrice (others_of named xs)
 others_priced None xs h = h

@@ -1,1 +1,1 @@
-pub mod Told
+pub mod EntryExplained

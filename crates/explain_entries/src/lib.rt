@@ -4,13 +4,13 @@
 
 mod entry;
 mod refusal;
-mod standing;
+mod orders_before;
 mod telling;
 mod told;
 mod words;
 
 pub use entry::put_entry;
 pub use refusal::{put_new_refusal, put_nothing_resting, put_replace_refusal};
-pub use telling::tell;
-pub use told::{Told, Traded};
+pub use telling::explain_entry;
+pub use told::{EntryExplanation, Traded};
 pub use words::Words;

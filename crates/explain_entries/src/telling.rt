@@ -8,10 +8,10 @@ ghost use Rattle.spread_rules.specs.Meaning.{order_of};
 ghost use Rattle.spread_rules_rulebook.specs.Rulebook.{find_symbol};
 ghost use Rattle.apply_market.specs.Application.{meaning_behind};
 ghost use Rattle.explain_turns.specs.Explained.{AreTurns, HaveLegPrices, LiesBeyond, after_all_turns};
-ghost use Rattle.explain_entries.specs.Told.{named_by, others_of, standing_at, trader_of};
+ghost use Rattle.explain_entries.specs.EntryExplained.{named_by, others_of, standing_at, trader_of};
 
-use crate::standing::{Standing, named_by, standing_at};
-use crate::told::{Told, Traded};
+use crate::orders_before::{OrdersBefore, named_by, standing_at};
+use crate::told::{EntryExplanation, Traded};
 use explain_turns::explain_order;
 use spread_match::laws::ranges;
 use spread_rules::{Entry, Event, NoMemory, Order, Outcome, Rulebook, Ticket};
@@ -40,7 +40,7 @@ fn trader_of(rulebook: &Rulebook, place: u64, entry: &Entry, outcome: &Outcome) 
     requires { FitsEntry entry.now }
     ensures trader { result
         ≡ trader_of rulebook.now place entry.now.session entry.now.event outcome.now }
-    ensures small { IfSome result HasOrderPrice }
+    ensures order_price { IfSome result HasOrderPrice }
 {
     match (&entry.event, outcome) {
         (Event::New(_), Outcome::Refused(_)) => None,
@@ -73,12 +73,12 @@ fn remove<A: Allocator + Copy>(orders: &mut Vec<Order, A>, place: u64)
 }
 
 /// What is told of the entry that follows these.
-pub fn tell<A: Allocator + Copy>(
+pub fn explain_entry<A: Allocator + Copy>(
     alloc: A,
     rulebook: &Rulebook,
     before: &[Entry],
     entry: &Entry,
-) -> Result<Told<A>, NoMemory>
+) -> Result<EntryExplanation<A>, NoMemory>
     requires before { All FitsEntry before.now }
     requires entry { FitsEntry entry.now }
     ensures outcome { IfOk result (λ t.
@@ -90,7 +90,7 @@ pub fn tell<A: Allocator + Copy>(
         t.outcome) }
     ensures turns { IfOk result (λ t. IfSome t.traded (λ x. AreTurns rulebook.now x.new
         (others_of t.named (standing_at rulebook.now before.now)) x.explanation.turns.items)) }
-    ensures small { IfOk result (λ t. IfSome t.traded (λ x.
+    ensures leg_price { IfOk result (λ t. IfSome t.traded (λ x.
         All HaveLegPrices x.explanation.turns.items)) }
     ensures left { IfOk result (λ t. IfSome t.traded (λ x. x.explanation.left
         ≡ (after_all_turns rulebook.now x.new
@@ -101,7 +101,7 @@ pub fn tell<A: Allocator + Copy>(
     // Cites the ranges of a journal's orders, and that a rulebook is lawful.
     ranges();
     rulebook.months();
-    let Standing { orders, outcome } = standing_at(alloc, rulebook, before, entry)?;
+    let OrdersBefore { orders, outcome } = standing_at(alloc, rulebook, before, entry)?;
     let named = named_by(&orders, entry);
     let place = before.len() as u64 + 1;
     let traded = match trader_of(rulebook, place, entry, &outcome) {
@@ -112,7 +112,7 @@ pub fn tell<A: Allocator + Copy>(
             Some(Traded { new, explanation })
         }
     };
-    Ok(Told {
+    Ok(EntryExplanation {
         outcome,
         named,
         traded,

@@ -12,7 +12,7 @@ pub struct Traded<A: Allocator + Copy> {
 
 /// What is told of an entry.
 #[derive(Drop)]
-pub struct Told<A: Allocator + Copy> {
+pub struct EntryExplanation<A: Allocator + Copy> {
     pub outcome: Outcome,
     /// The resting order that a cancel or a replace names.
     pub named: Option<Order>,

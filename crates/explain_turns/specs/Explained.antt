@@ -9,10 +9,10 @@ use Rattle.spread_rules.specs.declared.candidate.Rank.{Rank}
 use Rattle.spread_rules.specs.Candidates.{Pairs, HasLegPrice, IsBest, IsEligible, IsLeast, is_before, least_left}
 use Rattle.spread_rules.specs.Clearing.{Trading, begin, clear, leg_prices, next_candidate, turns}
 use Rattle.spread_rules_rulebook.specs.Rulebook.{Rules, implied, references_of}
-use Rattle.explain_turns.specs.declared.turn.Turn.{Turn}
+use Rattle.explain_turns.specs.declared.turn.ExplainedTurn.{ExplainedTurn}
 use Rattle.explain_turns.specs.declared.turn.Beyond.{Beyond}
-use Rattle.explain_turns.specs.declared.point.Point.{Point}
-use Rattle.explain_turns.specs.declared.point.Point.TheVariants.{Price, DirectFirst, OtherMonth, FirstMember, SecondMember}
+use Rattle.explain_turns.specs.declared.point.RankPoint.{RankPoint}
+use Rattle.explain_turns.specs.declared.point.RankPoint.TheVariants.{Price, DirectFirst, OtherMonth, FirstMember, SecondMember}
 
 -- whether a candidate ranks behind the bound; without a bound each does
 abbrev pub is_behind : Order → Option Candidate → Candidate → Bool
@@ -52,7 +52,7 @@ AreNext trades_implied n xs bound (o ∷ os) =
 
 -- What is told of the turn that follows a state: what was left of the new order, the candidate taken, which is the least
 -- in rank, how many lots traded, the legs of the spread that takes part, and those that rank next.
-pub record IsTurn (rules : Rules) (s : Trading) (t : Turn) : Type 0 where
+pub record IsTurn (rules : Rules) (s : Trading) (t : ExplainedTurn) : Type 0 where
   pub left : t.left ≡ s.new.leaves
   pub taken : next_candidate (implied rules) s ≡ Some t.taken
   pub least : IsLeast (implied rules) s.new s.orders t.taken
@@ -63,7 +63,7 @@ pub record IsTurn (rules : Rules) (s : Trading) (t : Turn) : Type 0 where
   pub next : AreNext (implied rules) s.new s.orders (Some t.taken) t.next
 
 -- the prices of all candidates that are told of are prices of legs
-pub record HaveLegPrices (t : Turn) : Type 0 where
+pub record HaveLegPrices (t : ExplainedTurn) : Type 0 where
   pub taken : HasLegPrice t.taken
   pub next : All (λ o. IfSome o HasLegPrice) t.next
 
@@ -76,9 +76,9 @@ abbrev pub after_all_turns : Rules → Order → List Order → Trading
 after_all_turns rules n xs = clear (implied rules) (references_of rules) n xs
 
 -- the turns of a new order against these, one after another, until there is no next candidate
-pub record AreTurns (rules : Rules) (n : Order) (xs : List Order) (ts : List Turn) : Type 0 where
+pub record AreTurns (rules : Rules) (n : Order) (xs : List Order) (ts : List ExplainedTurn) : Type 0 where
   pub each :
-      (k : ℕ) (d : Turn) → k < length ts → IsTurn rules (after_turns rules n xs k) (get_or ts k d)
+      (k : ℕ) (d : ExplainedTurn) → k < length ts → IsTurn rules (after_turns rules n xs k) (get_or ts k d)
   pub last : next_candidate (implied rules) (after_turns rules n xs (length ts)) ≡ None
   pub cleared :
       after_turns rules n xs (length ts) ≡ after_all_turns rules n xs
@@ -115,7 +115,7 @@ LiesBeyond rules n xs beyond =
 -- ---- why a candidate ranks behind another
 
 -- the first point in which two ranks differ, and the last one where they differ in none before it
-abbrev pub IsPoint : Rank → Rank → Point → Type 0
+abbrev pub IsPoint : Rank → Rank → RankPoint → Type 0
 IsPoint a b Price = a.cost ≢ b.cost
 IsPoint a b DirectFirst = (a.cost ≡ b.cost) × (a.implied ≢ b.implied)
 IsPoint a b OtherMonth = (a.cost ≡ b.cost) × (a.implied ≡ b.implied) × (a.month ≢ b.month)

@@ -33,10 +33,10 @@ fn ticks_between(rules: &Rulebook, price: i64, limit: i64) -> u64
 
 /// The best candidate whatever the limit, where something is left of the order.
 pub fn beyond_limit(rules: &Rulebook, orders: &[Order], left: &Order) -> Option<Beyond>
-    requires small { All HasOrderPrice orders.now }
+    requires order_price { All HasOrderPrice orders.now }
     requires limit { HasOrderPrice left.now }
     ensures beyond { IsBeyond rules.now left.now orders.now result }
-    ensures small { IfSome result (λ b. HasLegPrice b.candidate) }
+    ensures leg_price { IfSome result (λ b. HasLegPrice b.candidate) }
 {
     if left.leaves == 0 {
         return None;

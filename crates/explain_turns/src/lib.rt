@@ -9,6 +9,6 @@ mod turn;
 mod turns;
 
 pub use next::plain_next;
-pub use point::{Point, point_between};
-pub use turn::{Beyond, Explanation, Turn};
+pub use point::{RankPoint, point_between};
+pub use turn::{Beyond, Explanation, ExplainedTurn};
 pub use turns::explain_order;

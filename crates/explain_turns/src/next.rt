@@ -48,7 +48,7 @@ fn next_of(
     requires counterparty { HaveOrderPrices counterparty }
     requires bound { IfSome bound.now HasLegPrice }
     ensures value { result ≡ next_of (implied rules.now) new.now bound.now counterparty }
-    ensures small { IfSome result HasLegPrice }
+    ensures leg_price { IfSome result HasLegPrice }
 {
     if !may_trade(rules, new, &counterparty) {
         return None;
@@ -66,11 +66,11 @@ fn with_singles(
     bound: &Option<Candidate>,
     orders: &[Order],
 ) -> Option<Candidate>
-    requires small { All HasOrderPrice orders.now }
+    requires order_price { All HasOrderPrice orders.now }
     requires bound { IfSome bound.now HasLegPrice }
     ensures value { result
         ≡ next_candidate_of (implied rules.now) new.now bound.now (map Direct orders.now) }
-    ensures small { IfSome result HasLegPrice }
+    ensures leg_price { IfSome result HasLegPrice }
 {
     let mut found: Option<Candidate> = None;
     for order in orders {
@@ -116,7 +116,7 @@ fn with_pair(
     requires best { IfSome best HasLegPrice }
     ensures value { result
         ≡ next_step (implied rules.now) new.now bound.now best (Implied first.now second.now) }
-    ensures small { IfSome result HasLegPrice }
+    ensures leg_price { IfSome result HasLegPrice }
 {
     if !levels_meet(new, &first.level(), &second.level()) {
         return best;
@@ -135,12 +135,12 @@ fn with_pairs(
     orders: &[Order],
 ) -> Option<Candidate>
     requires first { HasOrderPrice first.now }
-    requires small { All HasOrderPrice orders.now }
+    requires order_price { All HasOrderPrice orders.now }
     requires bound { IfSome bound.now HasLegPrice }
     requires best { IfSome best HasLegPrice }
     ensures value { result ≡ fold (next_step (implied rules.now) new.now bound.now) best
         (map (Implied first.now) orders.now) }
-    ensures small { IfSome result HasLegPrice }
+    ensures leg_price { IfSome result HasLegPrice }
 {
     let mut found = best;
     for second in orders {
@@ -159,12 +159,12 @@ fn with_pairs_of(
     orders: &[Order],
 ) -> Option<Candidate>
     requires first { HasOrderPrice first.now }
-    requires small { All HasOrderPrice orders.now }
+    requires order_price { All HasOrderPrice orders.now }
     requires bound { IfSome bound.now HasLegPrice }
     requires best { IfSome best HasLegPrice }
     ensures value { result ≡ fold (next_step (implied rules.now) new.now bound.now) best
         (map (Implied first.now) orders.now) }
-    ensures small { IfSome result HasLegPrice }
+    ensures leg_price { IfSome result HasLegPrice }
 {
     if may_be_first(new, first) {
         with_pairs(rules, new, bound, best, first, orders)
@@ -180,11 +180,11 @@ fn least_behind(
     new: &Order,
     bound: &Option<Candidate>,
 ) -> Option<Candidate>
-    requires small { All HasOrderPrice orders.now }
+    requires order_price { All HasOrderPrice orders.now }
     requires bound { IfSome bound.now HasLegPrice }
     ensures value { result
         ≡ next_candidate_of (implied rules.now) new.now bound.now (counterparties orders.now) }
-    ensures small { IfSome result HasLegPrice }
+    ensures leg_price { IfSome result HasLegPrice }
 {
     let mut found = with_singles(rules, new, bound, orders);
     for first in orders {
@@ -201,12 +201,12 @@ pub fn plain_next(
     new: &Order,
     bound: &Option<Candidate>,
 ) -> Option<Candidate>
-    requires small { All HasOrderPrice orders.now }
+    requires order_price { All HasOrderPrice orders.now }
     requires bound { IfSome bound.now HasLegPrice }
     ensures next { IsNextBest (implied rules.now) new.now orders.now bound.now result }
     ensures least { bound.now ≡ None
         → result ≡ least_candidate (implied rules.now) new.now (counterparties orders.now) }
-    ensures small { IfSome result HasLegPrice }
+    ensures leg_price { IfSome result HasLegPrice }
 {
     least_behind(rules, orders, new, bound)
 }

@@ -8,7 +8,7 @@ ghost use Rattle.explain_turns.specs.Explained.{AreNext, Follows, HaveLegPrices}
 ghost use Rattle.explain_turns.specs.code.Turns.{IsNextTurn};
 
 use crate::next::plain_next;
-use crate::turn::Turn;
+use crate::turn::ExplainedTurn;
 use spread_rules::{Candidate, Counterparty, Order, Rulebook, leg_prices, quantity_with};
 use std::alloc::Allocator;
 
@@ -19,10 +19,10 @@ fn follows(
     new: &Order,
     ahead: &Option<Candidate>,
 ) -> Option<Candidate>
-    requires small { All HasOrderPrice orders.now }
+    requires order_price { All HasOrderPrice orders.now }
     requires ahead { IfSome ahead.now HasLegPrice }
     ensures follows { Follows (implied rules.now) new.now orders.now ahead.now result }
-    ensures small { IfSome result HasLegPrice }
+    ensures leg_price { IfSome result HasLegPrice }
 {
     match ahead {
         None => None,
@@ -37,10 +37,10 @@ fn five_next(
     new: &Order,
     taken: &Option<Candidate>,
 ) -> [Option<Candidate>; 5]
-    requires small { All HasOrderPrice orders.now }
+    requires order_price { All HasOrderPrice orders.now }
     requires taken { IfSome taken.now HasLegPrice }
     ensures next { AreNext (implied rules.now) new.now orders.now taken.now result }
-    ensures small { All (λ o. IfSome o HasLegPrice) result }
+    ensures leg_price { All (λ o. IfSome o HasLegPrice) result }
 {
     let first = follows(rules, orders, new, taken);
     let second = follows(rules, orders, new, &first);
@@ -52,10 +52,10 @@ fn five_next(
 
 /// The next turn of a new order of which so much is left; none where there is no eligible candidate, or where nothing is
 /// left.
-pub fn next_turn(rules: &Rulebook, orders: &[Order], left: &Order) -> Option<Turn>
-    requires small { All HasOrderPrice orders.now }
+pub fn next_turn(rules: &Rulebook, orders: &[Order], left: &Order) -> Option<ExplainedTurn>
+    requires order_price { All HasOrderPrice orders.now }
     ensures turn { IsNextTurn rules.now left.now orders.now result }
-    ensures small { IfSome result HaveLegPrices }
+    ensures leg_price { IfSome result HaveLegPrices }
 {
     if left.leaves == 0 {
         return None;
@@ -63,7 +63,7 @@ pub fn next_turn(rules: &Rulebook, orders: &[Order], left: &Order) -> Option<Tur
     let best = plain_next(rules, orders, left, &None);
     match &best {
         None => None,
-        Some(taken) => Some(Turn {
+        Some(taken) => Some(ExplainedTurn {
             left: left.leaves,
             taken: *taken,
             quantity: quantity_with(left, &taken.counterparty),

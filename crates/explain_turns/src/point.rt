@@ -6,7 +6,7 @@ use spread_rules::{Candidate, Order, ranking};
 
 /// The points of rank, the first that counts first.
 #[derive(Clone, Copy)]
-pub enum Point {
+pub enum RankPoint {
     /// The better price for the new order.
     Price,
     /// Direct before implied.
@@ -20,21 +20,21 @@ pub enum Point {
 }
 
 /// The first point in which one candidate ranks behind another.
-pub fn point_between(new: &Order, ahead: &Candidate, behind: &Candidate) -> Point
+pub fn point_between(new: &Order, ahead: &Candidate, behind: &Candidate) -> RankPoint
     requires ahead { HasLegPrice ahead.now }
     requires behind { HasLegPrice behind.now }
     ensures { IsPoint (rank_of new.now ahead.now) (rank_of new.now behind.now) result }
 {
     let (ahead, behind) = (ranking(new, ahead), ranking(new, behind));
     if ahead.cost != behind.cost {
-        Point::Price
+        RankPoint::Price
     } else if ahead.implied != behind.implied {
-        Point::DirectFirst
+        RankPoint::DirectFirst
     } else if ahead.month != behind.month {
-        Point::OtherMonth
+        RankPoint::OtherMonth
     } else if ahead.first != behind.first {
-        Point::FirstMember
+        RankPoint::FirstMember
     } else {
-        Point::SecondMember
+        RankPoint::SecondMember
     }
 }

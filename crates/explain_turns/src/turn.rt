@@ -4,7 +4,7 @@ use std::alloc::Allocator;
 
 /// One turn of a new order.
 #[derive(Clone, Copy)]
-pub struct Turn {
+pub struct ExplainedTurn {
     /// What was left of the new order before it, in lots.
     pub left: u32,
     /// The candidate with which it traded, its members as they rested before it.
@@ -28,7 +28,7 @@ pub struct Beyond {
 /// The turns of a new order, and what stopped them.
 #[derive(Drop)]
 pub struct Explanation<A: Allocator + Copy> {
-    pub turns: Vec<Turn, A>,
+    pub turns: Vec<ExplainedTurn, A>,
     /// What is left of the new order, in lots.
     pub left: u32,
     /// Where something is left: the best candidate that the limit does not allow, if there is one.

@@ -7,19 +7,19 @@ ghost use Rattle.explain_turns.specs.code.Turns.{IsAfter};
 
 use crate::beyond::beyond_limit;
 use crate::one_turn::{next_turn, reduce_members};
-use crate::turn::{Explanation, Turn};
+use crate::turn::{Explanation, ExplainedTurn};
 use spread_rules::{Order, Rulebook};
 use std::alloc::{AllocError, Allocator};
 
 /// The turns so far, and what is left of the new order.
 #[derive(Drop)]
 struct Told<A: Allocator + Copy> {
-    turns: Vec<Turn, A>,
+    turns: Vec<ExplainedTurn, A>,
     left: Order,
 }
 
 /// The members of a turn have so much less left. Answers what is left of the new order after it.
-fn after_turn<A: Allocator + Copy>(orders: &mut Vec<Order, A>, left: &Order, turn: &Turn) -> Order
+fn after_turn<A: Allocator + Copy>(orders: &mut Vec<Order, A>, left: &Order, turn: &ExplainedTurn) -> Order
     ensures left { result
         ≡ record left.now { leaves = left.now.leaves - turn.now.quantity } }
     ensures orders { orders.new.items ≡ fold (after_fill turn.now.quantity) orders.old.items
@@ -39,13 +39,13 @@ fn tell_turns<A: Allocator + Copy>(
     orders: &mut Vec<Order, A>,
     new: &Order,
 ) -> Result<Told<A>, AllocError>
-    requires small { All HasOrderPrice orders.old.items }
+    requires order_price { All HasOrderPrice orders.old.items }
     ensures turns { IfOk result (λ told.
         AreTurns rules.now new.now orders.old.items told.turns.items) }
     ensures after { IfOk result (λ told. IsAfter rules.now new.now orders.old.items
         told.left orders.new.items told.turns.items) }
     ensures orders { IfOk result (λ told. All HasOrderPrice orders.new.items) }
-    ensures small { IfOk result (λ told. All HaveLegPrices told.turns.items) }
+    ensures leg_price { IfOk result (λ told. All HaveLegPrices told.turns.items) }
 {
     let most = orders.len();
     let mut turns = Vec::new(alloc);
@@ -68,10 +68,10 @@ pub fn explain_order<A: Allocator + Copy>(
     orders: Vec<Order, A>,
     new: &Order,
 ) -> Result<Explanation<A>, AllocError>
-    requires small { All HasOrderPrice orders.items }
+    requires order_price { All HasOrderPrice orders.items }
     requires limit { HasOrderPrice new.now }
     ensures turns { IfOk result (λ e. AreTurns rules.now new.now orders.items e.turns.items) }
-    ensures small { IfOk result (λ e. All HaveLegPrices e.turns.items) }
+    ensures leg_price { IfOk result (λ e. All HaveLegPrices e.turns.items) }
     ensures left { IfOk result (λ e.
         e.left ≡ (after_all_turns rules.now new.now orders.items).new.leaves) }
     ensures beyond { IfOk result (λ e. LiesBeyond rules.now new.now orders.items e.beyond) }

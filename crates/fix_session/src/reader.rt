@@ -49,7 +49,7 @@ fn judge_first(framer: &mut Framer, session: &Session, verdict: &mut Verdict) ->
     ensures held { framer.new ≡ from_first_start framer.old }
 {
     match framer.next() {
-        Next::Message(message) => Some(session.judged(&message, verdict)),
+        Next::Message(message) => Some(session.judge_into(&message, verdict)),
         Next::Need => None,
     }
 }

@@ -11,7 +11,7 @@ use Rattle.fix_wire_frames.specs.declared.tags.TheConstants as tags
 use Rattle.fix_wire_values.specs.Values.{number_in}
 use Rattle.fix_wire_frames.specs.Messages.{get, kind, number}
 use Rattle.fix_session_kinds.specs.declared.table.Meaning.{Meaning}
-use Rattle.fix_session_kinds.specs.declared.table.Meaning.TheVariants.{Gives, Fills}
+use Rattle.fix_session_kinds.specs.declared.table.Meaning.TheVariants.{Says, GapFill}
 use Rattle.fix_session_kinds.specs.Table.{◌>>=◌, value_at, id_at, choice_at, read_at, meaning_of_message}
 use Rattle.fix_session_judging.specs.declared.session.Logon.{Logon}
 
@@ -32,13 +32,13 @@ logon_of m n = if not (bytes_eq (kind m) (msg_types.LOGON ∷ []) && (n == FIRST
 
 -- the event of an accepted message with number n: what its kind gives, or a Reject
 abbrev pub event_of_accepted : ℕ → Result Meaning ℕ → Option Event
-event_of_accepted n (Ok (Gives e)) = Some e
+event_of_accepted n (Ok (Says e)) = Some e
 event_of_accepted n (Err reason) = Some (events.Reject n reason)
 event_of_accepted n _ = None
 
 -- the number due after it: a lawful gap fill's new one, else the next
 abbrev pub due_after_accepted : ℕ → Result Meaning ℕ → ℕ
-due_after_accepted n (Ok (Fills next)) = next
+due_after_accepted n (Ok (GapFill next)) = next
 due_after_accepted n _ = n + 1
 
 -- ---- messages with their numbers

@@ -45,7 +45,7 @@ fn judge_next(
     };
     let message = framer.message(place, table);
     let mut verdict = Verdict::Nothing;
-    let change = ahead.session.judged(&message, &mut verdict);
+    let change = ahead.session.judge_into(&message, &mut verdict);
     ahead.session.change(&verdict, change);
     ahead.place = place.end;
     ahead.messages += 1;

@@ -85,7 +85,7 @@ impl Session {
         ensures { result ≡ judge self.now message.now.frame.now }
     {
         let mut verdict = Verdict::Nothing;
-        let change = self.judged(message, &mut verdict);
+        let change = self.judge_into(message, &mut verdict);
         let mut after = *self;
         after.change(&verdict, change);
         (verdict, after)
@@ -93,7 +93,7 @@ impl Session {
 
     /// The same: it sets the verdict, and tells what the message changes in place of the session after it.
     #[inline(always)]
-    pub fn judged(&self, message: &Message, verdict: &mut Verdict) -> Change
+    pub fn judge_into(&self, message: &Message, verdict: &mut Verdict) -> Change
         ensures { judgement_of self.now (verdict.new, result) ≡ judge self.now message.now.frame.now }
     {
         let Some(number) = message.number() else {
@@ -361,8 +361,8 @@ fn accepted_other(message: &Message, number: u32, verdict: &mut Verdict) -> u32
     *verdict = Verdict::Nothing;
     match meaning_of_message(message, number) {
         Ok(Meaning::Nothing) => {}
-        Ok(Meaning::Gives(event)) => *verdict = Verdict::Event(event),
-        Ok(Meaning::Fills(next)) => return next,
+        Ok(Meaning::Says(event)) => *verdict = Verdict::Event(event),
+        Ok(Meaning::GapFill(next)) => return next,
         Err(reason) => *verdict = Verdict::Event(Event::Reject { number, reason }),
     }
     number + 1

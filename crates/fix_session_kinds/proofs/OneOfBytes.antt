@@ -6,7 +6,7 @@ use Rattle.std.specs.Str.{bytes_eq}
 use Rattle.std.proofs.Math.Bool.{and-false}
 use Rattle.std.proofs.lemmas.Bool.{eqb-true}
 use Rattle.std.proofs.lemmas.Bool.Decides.{nat_tests}
-use Rattle.fix_session_kinds.specs.code.Shown.{one_of}
+use Rattle.fix_session_kinds.specs.code.Readers.{one_of}
 
 -- the byte that was found, or a value out of range
 abbrev or_out : Option ℕ → Result ℕ ℕ

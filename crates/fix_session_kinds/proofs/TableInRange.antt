@@ -18,7 +18,7 @@ use Rattle.fix_wire_values.specs.Digits.{is_point, is_zero, number_of}
 use Rattle.fix_wire_values.specs.Values.{is_number, within, number_in, quantity_in, hundredths, hundredths_in, price_in}
 use Rattle.fix_wire_frames.specs.Messages.{get, kind}
 use Rattle.fix_session_kinds.specs.declared.table.Meaning.{Meaning}
-use Rattle.fix_session_kinds.specs.declared.table.Meaning.TheVariants.{Nothing, Gives, Fills}
+use Rattle.fix_session_kinds.specs.declared.table.Meaning.TheVariants.{Nothing, Says, GapFill}
 use Rattle.fix_session_kinds.specs.Table.{◌>>=◌, value_at, id_at, reason_of, read_at, number_at, choice_at, choice_or, test_request, resend_request, sequence_reset, new_order, cancel_request, replace_request, meaning_by, meaning_of_message}
 use Rattle.fix_session_kinds.specs.code.ByKind.{known, meaning_of_kind, meaning_of_kind_text}
 use Rattle.fix_session_kinds.proofs.KindOfBytes.{meaning_is}
@@ -39,8 +39,8 @@ pub record IsGiven (e : Event) : Type 0 where
 
 abbrev pub FitsMeaning : ℕ → Meaning → Type 0
 FitsMeaning n Nothing = Unit {0}
-FitsMeaning n (Gives e) = IsGiven e
-FitsMeaning n (Fills next) = n < next
+FitsMeaning n (Says e) = IsGiven e
+FitsMeaning n (GapFill next) = n < next
 
 chained : {A B : Type 0} (P : A → Type 0) (Q : B → Type 0) (r : Result A ℕ) (f : A → Result B ℕ) → Holds P r → ((x : A) → P x → Holds Q (f x)) → Holds Q (r >>= f)
 chained P Q (Ok x) f h g = g x h
@@ -223,7 +223,7 @@ replace_request_holds m n =
 
 -- ---- the table
 
-new_holds : (m : List ℕ) (n : ℕ) → Holds (FitsMeaning n) (new_order m >>= λ ticket. Ok (Gives (events.New ticket)))
+new_holds : (m : List ℕ) (n : ℕ) → Holds (FitsMeaning n) (new_order m >>= λ ticket. Ok (Says (events.New ticket)))
 new_holds m n = chained FitsTicket (FitsMeaning n) (new_order m) _ (new_order_holds m) (λ t fits. record { fits = fits; no_logon = refl; no_close = refl })
 
 -- what a kind says is in range, if it is known

@@ -16,7 +16,7 @@ use Rattle.fix_wire_values.specs.declared.values.Unread.TheVariants.{Format, Ran
 use Rattle.fix_wire_values.specs.Values.{number_in, quantity_in, price_in}
 use Rattle.fix_wire_frames.specs.Messages.{get, kind}
 use Rattle.fix_session_kinds.specs.declared.table.Meaning.{Meaning}
-use Rattle.fix_session_kinds.specs.declared.table.Meaning.TheVariants.{Nothing, Gives, Fills}
+use Rattle.fix_session_kinds.specs.declared.table.Meaning.TheVariants.{Nothing, Says, GapFill}
 
 infixl 10 ◌>>=◌
 abbrev pub ◌>>=◌ : {A B : Type 0} → Result A ℕ → (A → Result B ℕ) → Result B ℕ
@@ -63,14 +63,14 @@ choice_or missing allowed tag m =
 -- ---- one kind, its SendingTime apart
 
 unfoldable pub test_request : List ℕ → Result Meaning ℕ
-test_request m = id_at tags.TEST_REQ_ID m >>= λ text. Ok (Gives (events.TestReply text))
+test_request m = id_at tags.TEST_REQ_ID m >>= λ text. Ok (Says (events.TestReply text))
 
 unfoldable pub resend_request : List ℕ → Result Meaning ℕ
 resend_request m = do
   first ← number_at (λ n. nat_le FIRST_MSG_SEQ_NUM n) tags.BEGIN_SEQ_NO m
   -- 0 asks for all that follow
   last ← number_at (λ n. (n == 0) || nat_le first n) tags.END_SEQ_NO m
-  Ok (Gives (events.Resend first last))
+  Ok (Says (events.Resend first last))
 
 -- a gap fill of the message with number n
 unfoldable pub sequence_reset : List ℕ → ℕ → Result Meaning ℕ
@@ -78,7 +78,7 @@ sequence_reset m n = do
   next ← number_at (λ new. nat_lt n new) tags.NEW_SEQ_NO m
   -- a gap fill has to say so: without the tag it isn't one
   flag ← choice_or (Err reject.VALUE_OUT_OF_RANGE) (codes "Y") tags.GAP_FILL_FLAG m
-  Ok (Fills next)
+  Ok (GapFill next)
 
 unfoldable pub new_order : List ℕ → Result Ticket ℕ
 new_order m = do
@@ -108,14 +108,14 @@ cancel_request m = do
   symbol ← id_at tags.SYMBOL m
   side ← choice_at (codes "12") tags.SIDE m
   time ← value_at tags.TRANSACT_TIME m
-  Ok (Gives (events.Cancel id original))
+  Ok (Says (events.Cancel id original))
 
 -- the id of an order, and then all that a new order says
 unfoldable pub replace_request : List ℕ → Result Meaning ℕ
 replace_request m = do
   original ← id_at tags.ORIG_CL_ORD_ID m
   ticket ← new_order m
-  Ok (Gives (events.Replace original ticket))
+  Ok (Says (events.Replace original ticket))
 
 -- ---- the table
 
@@ -127,7 +127,7 @@ meaning_by is m n =
     else (if is msg_types.RESEND_REQUEST then Some (resend_request m)
     else (if is msg_types.SEQUENCE_RESET then Some (sequence_reset m n)
     else (if is msg_types.NEW_ORDER_SINGLE
-    then Some (new_order m >>= λ ticket. Ok (Gives (events.New ticket)))
+    then Some (new_order m >>= λ ticket. Ok (Says (events.New ticket)))
     else (if is msg_types.ORDER_CANCEL_REQUEST then Some (cancel_request m)
     else (if is msg_types.ORDER_CANCEL_REPLACE_REQUEST then Some (replace_request m)
     else None))))))

@@ -1,2 +1,2 @@
 pub mod ByKind
-pub mod Shown
+pub mod Readers

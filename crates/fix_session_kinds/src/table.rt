@@ -9,7 +9,7 @@ ghost use Rattle.fix_wire_frames.specs.declared.tags.TheConstants as tags;
 ghost use Rattle.spread_rules.specs.declared.codes.session_reject_reason.TheConstants as session_reject_reason;
 ghost use Rattle.fix_session_kinds.specs.Table.{value_at, id_at, read_at, choice_at, choice_or, test_request, resend_request, sequence_reset, new_order, cancel_request, replace_request, meaning_of_message, reason_of};
 ghost use Rattle.fix_session_kinds.specs.code.ByKind.{meaning_of_kind};
-ghost use Rattle.fix_session_kinds.specs.code.Shown.{bytes_behind, ticket_of, ticket_behind, stamped, passed_over, one_of, side_at, is_immediate_at};
+ghost use Rattle.fix_session_kinds.specs.code.Readers.{bytes_behind, ticket_of, ticket_behind, stamped, passed_over, one_of, side_at, is_immediate_at};
 
 use fix_wire_frames::{Message, field_values, msg_types, tags};
 use fix_wire_values::{Unread, read_number, read_price, read_quantity};
@@ -24,9 +24,9 @@ pub enum Meaning {
     /// It is passed over.
     Nothing,
     /// It says this to the host.
-    Gives(Event),
+    Says(Event),
     /// It is a gap fill, and this number is due after it.
-    Fills(u32),
+    GapFill(u32),
 }
 
 /// The text of a tag that has to stand and hold something.
@@ -164,7 +164,7 @@ fn test_request(message: &Message) -> Result<Meaning, u8>
 {
     value_at(message, tags::SENDING_TIME)?;
     let text = Id::of(id_text_at(message, tags::TEST_REQ_ID)?);
-    Ok(Meaning::Gives(Event::TestReply { text }))
+    Ok(Meaning::Says(Event::TestReply { text }))
 }
 
 #[tactic(auto, unfolding(crate::specs::Table::resend_request))]
@@ -178,12 +178,12 @@ fn resend_request(message: &Message) -> Result<Meaning, u8>
     }
     let last = number_at(message, tags::END_SEQ_NO)?;
     if last == 0 {
-        return Ok(Meaning::Gives(Event::Resend { first, last }));
+        return Ok(Meaning::Says(Event::Resend { first, last }));
     }
     if last < first {
         return Err(session_reject_reason::VALUE_OUT_OF_RANGE);
     }
-    Ok(Meaning::Gives(Event::Resend { first, last }))
+    Ok(Meaning::Says(Event::Resend { first, last }))
 }
 
 /// A SequenceReset with this number.
@@ -198,7 +198,7 @@ fn sequence_reset(message: &Message, number: u32) -> Result<Meaning, u8>
         return Err(session_reject_reason::VALUE_OUT_OF_RANGE);
     }
     gap_fill_flag_at(message)?;
-    Ok(Meaning::Fills(next))
+    Ok(Meaning::GapFill(next))
 }
 
 /// What a new order says, its ids as they stand in the message.
@@ -276,7 +276,7 @@ fn cancel_request(message: &Message) -> Result<Meaning, u8>
     let _symbol = id_text_at(message, tags::SYMBOL)?;
     let _side = side_at(message)?;
     value_at(message, tags::TRANSACT_TIME)?;
-    Ok(Meaning::Gives(Event::Cancel { id, original }))
+    Ok(Meaning::Says(Event::Cancel { id, original }))
 }
 
 /// The id of an order, and then all that a new order says.
@@ -287,7 +287,7 @@ fn replace_request(message: &Message) -> Result<Meaning, u8>
     value_at(message, tags::SENDING_TIME)?;
     let original = Id::of(id_text_at(message, tags::ORIG_CL_ORD_ID)?);
     let ticket = new_order(message)?;
-    Ok(Meaning::Gives(Event::Replace { original, ticket }))
+    Ok(Meaning::Says(Event::Replace { original, ticket }))
 }
 
 fn meaning_of_kind(kind: u8, message: &Message, number: u32) -> Result<Meaning, u8>
@@ -299,7 +299,7 @@ fn meaning_of_kind(kind: u8, message: &Message, number: u32) -> Result<Meaning, 
         msg_types::RESEND_REQUEST => resend_request(message),
         msg_types::REJECT => passed_over(message),
         msg_types::SEQUENCE_RESET => sequence_reset(message, number),
-        msg_types::NEW_ORDER_SINGLE => Ok(Meaning::Gives(Event::New(new_order(message)?))),
+        msg_types::NEW_ORDER_SINGLE => Ok(Meaning::Says(Event::New(new_order(message)?))),
         msg_types::ORDER_CANCEL_REQUEST => cancel_request(message),
         msg_types::ORDER_CANCEL_REPLACE_REQUEST => replace_request(message),
         _ => Err(session_reject_reason::INVALID_MSG_TYPE),

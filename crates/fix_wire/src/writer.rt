@@ -76,7 +76,7 @@ pub fn write_message<A: Allocator>(
     fields: &[Field],
 ) -> Result<(), NoMemory>
     ensures ok { OnOk result (out.new.items ≡ out.old.items ++ message_text head.now fields.now) }
-    ensures err { OnErr result (out.new.items ≡ out.old.items) }
+    ensures unchanged_on_err { OnErr result (out.new.items ≡ out.old.items) }
     ensures short { OnOk result
         (length (body_text head.now fields.now) ≤ 64 * length fields.now + 180) }
     // Where the kind isn't byte 1, tags have 1 to 9 digits and the body fits, it is a lawful frame with exactly its fields.
@@ -113,7 +113,7 @@ pub fn write_body<A: Allocator, B: Body>(
         out.new.items ≡ out.old.items ++ message_text h (B.fields body.now)) }
     ensures bytes { OnOk result (out.new.items
         ≡ out.old.items ++ frame_text (spelled_body head.now (B.fields body.now))) }
-    ensures err { OnErr result (out.new.items ≡ out.old.items) }
+    ensures unchanged_on_err { OnErr result (out.new.items ≡ out.old.items) }
     ensures size { length room.new ≡ length room.old }
     ensures short { OnOk result ((h : Head) → SpellsHead head.now h →
         length (body_text h (B.fields body.now)) ≤ 64 * length (B.fields body.now) + 180) }

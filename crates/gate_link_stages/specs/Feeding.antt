@@ -4,7 +4,7 @@ use mathlib.Core.List.{IsPrefix}
 use Rattle.rtrb.specs.Ring.{sent, received, known_free, producer_capacity, IsPair, SameProducer, SameConsumer}
 use Rattle.spread_rules.specs.declared.event.Entry.{Entry}
 use Rattle.gate_link_stages.specs.Feeds.{entries, first_items}
-use Rattle.gate_link_stages.specs.declared.feed.TheConstants.{SLICE}
+use Rattle.gate_link_stages.specs.declared.feed.TheConstants.{MAX_SLICE_ITEMS}
 use Rattle.gate_link_stages.specs.declared.feed.Fed.{Fed}
 use Rattle.gate_link_stages.specs.declared.feed.Feeder.{Feeder}
 use Rattle.gate_link_stages.specs.declared.feed.Matcher.{Matcher}
@@ -55,7 +55,7 @@ AreFeedPair f m = IsPair f.producer m.consumer
 
 -- how many entries are given next
 abbrev pub next_slice : {A : Type 0} → List Entry → Feeder A → ℕ
-next_slice journal a = min (min (length journal - length (given a)) SLICE) (feed_ring_size a)
+next_slice journal a = min (min (length journal - length (given a)) MAX_SLICE_ITEMS) (feed_ring_size a)
 
 -- nothing was given
 abbrev pub FeedRests : {A : Type 0} → Feeder A → Feeder A → Type 0

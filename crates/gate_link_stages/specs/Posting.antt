@@ -3,7 +3,7 @@ use Rattle.std.specs.Prelude.{◌≡◌, ℕ, ◌<◌, ◌*◌, Bool, true, fals
 use mathlib.Core.List.{IsPrefix}
 use Rattle.rtrb.specs.Ring.{sent, known_free, producer_capacity, IsPair, SameProducer, SameConsumer}
 use Rattle.gate_link_stages.specs.Pieces.{bytes_in}
-use Rattle.gate_link_stages.specs.declared.post.TheConstants.{PIECE_BYTES, POST_BYTES, MANY_PIECES}
+use Rattle.gate_link_stages.specs.declared.post.TheConstants.{POSTED_BYTES, POST_BYTES, MAX_POSTED_PIECES}
 use Rattle.gate_link_stages.specs.declared.post.Poster.{Poster}
 use Rattle.gate_link_stages.specs.declared.post.Writer.{Writer}
 use Rattle.gate_link_stages.specs.declared.post.Post.{Post}
@@ -51,7 +51,7 @@ Posts Ended bytes a b = (post_ended a ≡ true) × (b ≡ a)
 -- how many of these bytes are given at once: as many as so many pieces take, and the ring
 abbrev pub given_at_once : {A : Type 0} → Poster A → List ℕ → ℕ
 given_at_once p bytes =
-    min (length bytes) (min MANY_PIECES (producer_capacity p.producer) * PIECE_BYTES)
+    min (length bytes) (min MAX_POSTED_PIECES (producer_capacity p.producer) * POSTED_BYTES)
 
 -- what `post_many` does, by its answer
 abbrev pub PostsMany : {A : Type 0} → Post → List ℕ → Poster A → Poster A → Type 0
@@ -59,7 +59,7 @@ PostsMany (Posted n) bytes a b =
     (post_ended a ≡ false) × (n ≡ given_at_once a bytes) × (posted b ≡ posted a ++ take n bytes)
     × (post_ended b ≡ false)
 PostsMany Full bytes a b =
-    (post_ended a ≡ false) × (post_room b * PIECE_BYTES < given_at_once a bytes) × PostRests a b
+    (post_ended a ≡ false) × (post_room b * POSTED_BYTES < given_at_once a bytes) × PostRests a b
 PostsMany Ended bytes a b = (post_ended a ≡ true) × (b ≡ a)
 
 -- what `end` does, by its answer

@@ -4,17 +4,17 @@ ghost use Rattle.std.specs.Bool.{OnFalse};
 ghost use Rattle.rtrb.specs.Ring.{sent, received, known_free, ProducerLooked};
 ghost use Rattle.gate_link_stages.specs.Marks.{ends};
 ghost use Rattle.gate_link_stages.specs.Feeds.{entries, is_end, first_items, held_items};
-ghost use Rattle.gate_link_stages.specs.declared.feed.TheConstants.{HELD};
+ghost use Rattle.gate_link_stages.specs.declared.feed.TheConstants.{HELD_ITEMS};
 
 use rtrb::{Consumer, Producer};
 use spread_rules::Entry;
 use std::alloc::Allocator;
 
 /// How many entries are given at once at most.
-pub const SLICE: usize = 64;
+pub const MAX_SLICE_ITEMS: usize = 64;
 
 /// How many items are taken from the ring at once at most.
-pub const HELD: usize = 32;
+pub const HELD_ITEMS: usize = 32;
 
 /// An item of the ring.
 #[derive(Clone, Copy)]
@@ -47,11 +47,11 @@ pub struct Feeder<A: Allocator> {
 pub struct Matcher<A: Allocator> {
     pub(crate) consumer: Consumer<Fed, A>,
     /// Items taken from the ring: those from `next` to `filled` were not handed out yet.
-    items: [Fed; HELD],
+    items: [Fed; HELD_ITEMS],
     next: usize,
     filled: usize,
     pub(crate) ended: bool,
-    ghost room: { length items ≡ HELD },
+    ghost room: { length items ≡ HELD_ITEMS },
     ghost range: { (next ≤ filled) × (filled ≤ length items) },
     ghost held: { received consumer ≡ first_items (received consumer) (filled - next)
         ++ held_items items next filled },
@@ -134,11 +134,11 @@ impl<A: Allocator> Feeder<A> {
             return Give::Level;
         }
         let rest = &journal[self.count..];
-        let most = rest.len().min(SLICE).min(self.producer.capacity());
+        let most = rest.len().min(MAX_SLICE_ITEMS).min(self.producer.capacity());
         if !has_room(&mut self.producer, most) {
             return Give::Full;
         }
-        let mut items = [Fed::End; SLICE];
+        let mut items = [Fed::End; MAX_SLICE_ITEMS];
         for i in 0..most {
             items[i] = Fed::Entry(rest[i]);
         }
@@ -180,7 +180,7 @@ impl<A: Allocator> Matcher<A> {
     {
         Matcher {
             consumer,
-            items: [Fed::End; HELD],
+            items: [Fed::End; HELD_ITEMS],
             next: 0,
             filled: 0,
             ended: false,

@@ -3,45 +3,45 @@ ghost use Rattle.std.specs.Prelude.{◌≡◌, ℕ, [], true, false, length, ◌
 ghost use Rattle.rtrb.specs.Ring.{sent, received};
 ghost use Rattle.gate_link_stages.specs.Marks.{ends};
 ghost use Rattle.gate_link_stages.specs.Pieces.{bytes_in, bytes_of_piece, is_mark};
-ghost use Rattle.gate_link_stages.specs.declared.post.TheConstants.{PIECE_BYTES};
+ghost use Rattle.gate_link_stages.specs.declared.post.TheConstants.{POSTED_BYTES};
 
 use rtrb::{Consumer, Producer};
 use spread_rules::NoMemory;
 use std::alloc::Allocator;
 
 /// How many bytes a piece has at most: with its length it fills 256 bytes.
-pub const PIECE_BYTES: usize = 254;
+pub const POSTED_BYTES: usize = 254;
 
 /// The length of the end mark, which no piece has.
-const MARK: u16 = 255;
+const END_MARK_LENGTH: u16 = 255;
 
 /// How many bytes `Poster::post` gives at most.
 pub const POST_BYTES: usize = 63;
 
 /// How many pieces are given at once at most. Few entries send a session more than these take.
-pub const MANY_PIECES: usize = 16;
+pub const MAX_POSTED_PIECES: usize = 16;
 
 /// An item of the ring: so many of its first bytes, or the end mark. The bytes come first, so that they are written and
 /// read again in the same parts of 16.
 #[derive(Clone, Copy)]
-pub(crate) struct Piece {
-    bytes: [u8; PIECE_BYTES],
+pub(crate) struct PostedBytes {
+    bytes: [u8; POSTED_BYTES],
     length: u16,
 }
 
 /// A piece of no bytes.
-const NO_PIECE: Piece = Piece {
-    bytes: [0; PIECE_BYTES],
+const NOTHING_POSTED: PostedBytes = PostedBytes {
+    bytes: [0; POSTED_BYTES],
     length: 0,
 };
 
 /// The end that gives bytes. It may move to another thread.
 #[derive(Drop)]
 pub struct Poster<A: Allocator> {
-    pub(crate) producer: Producer<Piece, A>,
+    pub(crate) producer: Producer<PostedBytes, A>,
     pub(crate) ended: bool,
     /// Where pieces are laid out before they are pushed. What is left in them of earlier bytes is not read.
-    pieces: [Piece; MANY_PIECES],
+    pieces: [PostedBytes; MAX_POSTED_PIECES],
     // The mark comes last, and only where it is ended.
     ghost shape: { ends is_mark (sent producer) ended ≡ true },
 }
@@ -49,7 +49,7 @@ pub struct Poster<A: Allocator> {
 /// The end that takes bytes, and the list of those that it took. It may move to another thread.
 #[derive(Drop)]
 pub struct Writer<A: Allocator> {
-    pub(crate) consumer: Consumer<Piece, A>,
+    pub(crate) consumer: Consumer<PostedBytes, A>,
     bytes: Vec<u8, A>,
     pub(crate) ended: bool,
     ghost shape: { ends is_mark (received consumer) ended ≡ true },
@@ -79,8 +79,8 @@ pub enum Wrote {
 }
 
 /// Lays these bytes out in a piece.
-fn put_piece(piece: &mut Piece, bytes: &[u8])
-    requires { length bytes.now ≤ PIECE_BYTES }
+fn put_piece(piece: &mut PostedBytes, bytes: &[u8])
+    requires { length bytes.now ≤ POSTED_BYTES }
     ensures bytes { bytes_of_piece piece.new ≡ bytes.now }
     ensures plain { is_mark piece.new ≡ false }
 {
@@ -94,17 +94,17 @@ fn put_piece(piece: &mut Piece, bytes: &[u8])
 }
 
 /// Lays these bytes out in the first of these pieces, and says in how many.
-fn put_pieces(pieces: &mut [Piece; MANY_PIECES], bytes: &[u8]) -> usize
-    requires { length bytes.now ≤ MANY_PIECES * PIECE_BYTES }
-    ensures count { result ≤ MANY_PIECES }
-    ensures room { (k : ℕ) → length bytes.now ≤ k * PIECE_BYTES → result ≤ k }
+fn put_pieces(pieces: &mut [PostedBytes; MAX_POSTED_PIECES], bytes: &[u8]) -> usize
+    requires { length bytes.now ≤ MAX_POSTED_PIECES * POSTED_BYTES }
+    ensures count { result ≤ MAX_POSTED_PIECES }
+    ensures room { (k : ℕ) → length bytes.now ≤ k * POSTED_BYTES → result ≤ k }
     ensures bytes { bytes_in (take result pieces.new) ≡ bytes.now }
     ensures plain { ends is_mark (take result pieces.new) false ≡ true }
 {
     let mut count = 0;
     let mut done = 0;
     while done < bytes.len() {
-        let n = (bytes.len() - done).min(PIECE_BYTES);
+        let n = (bytes.len() - done).min(POSTED_BYTES);
         put_piece(&mut pieces[count], &bytes[done..done + n]);
         count += 1;
         done += n;
@@ -115,14 +115,14 @@ fn put_pieces(pieces: &mut [Piece; MANY_PIECES], bytes: &[u8]) -> usize
 impl<A: Allocator> Poster<A> {
     ghost use Rattle.gate_link_stages.specs.Posting.{SamePoster, Posts, PostsMany, EndPosts};
 
-    pub(crate) fn new(producer: Producer<Piece, A>) -> Poster<A>
+    pub(crate) fn new(producer: Producer<PostedBytes, A>) -> Poster<A>
         requires { sent producer ≡ [] }
         ensures { (result.producer ≡ producer) × (result.ended ≡ false) }
     {
         Poster {
             producer,
             ended: false,
-            pieces: [NO_PIECE; MANY_PIECES],
+            pieces: [NOTHING_POSTED; MAX_POSTED_PIECES],
         }
     }
 
@@ -138,7 +138,7 @@ impl<A: Allocator> Poster<A> {
             return Post::Posted(0);
         }
         let n = bytes.len().min(POST_BYTES);
-        let mut piece = NO_PIECE;
+        let mut piece = NOTHING_POSTED;
         put_piece(&mut piece, &bytes[..n]);
         let Ok(()) = self.producer.push(piece) else {
             return Post::Full;
@@ -155,8 +155,8 @@ impl<A: Allocator> Poster<A> {
         if self.ended {
             return Post::Ended;
         }
-        let pieces = MANY_PIECES.min(self.producer.capacity());
-        let n = bytes.len().min(pieces * PIECE_BYTES);
+        let pieces = MAX_POSTED_PIECES.min(self.producer.capacity());
+        let n = bytes.len().min(pieces * POSTED_BYTES);
         let count = put_pieces(&mut self.pieces, &bytes[..n]);
         let Ok(()) = self.producer.push_entire_slice(&self.pieces[..count]) else {
             return Post::Full;
@@ -172,9 +172,9 @@ impl<A: Allocator> Poster<A> {
         if self.ended {
             return Post::Ended;
         }
-        let mark = Piece {
-            bytes: [0; PIECE_BYTES],
-            length: MARK,
+        let mark = PostedBytes {
+            bytes: [0; POSTED_BYTES],
+            length: END_MARK_LENGTH,
         };
         let Ok(()) = self.producer.push(mark) else {
             return Post::Full;
@@ -188,7 +188,7 @@ impl<A: Allocator> Writer<A> {
     ghost use Rattle.std.specs.Prelude.{IfOk, OnErr};
     ghost use Rattle.gate_link_stages.specs.Posting.{written, write_ended, SameWriter, Writes};
 
-    pub(crate) fn new(consumer: Consumer<Piece, A>, bytes: Vec<u8, A>) -> Writer<A>
+    pub(crate) fn new(consumer: Consumer<PostedBytes, A>, bytes: Vec<u8, A>) -> Writer<A>
         requires { (received consumer ≡ []) × (bytes.items ≡ []) }
         ensures { (result.consumer ≡ consumer) × (result.ended ≡ false) }
     {
@@ -214,7 +214,7 @@ impl<A: Allocator> Writer<A> {
         }
         let piece = self.consumer.peek_known();
         let n = usize::from(piece.length);
-        if n > PIECE_BYTES {
+        if n > POSTED_BYTES {
             self.consumer.pop_known();
             self.ended = true;
             return Ok(Wrote::Ended);

@@ -4,7 +4,7 @@ ghost use Rattle.gate_link_stages.specs.Faults.{IsRingRefusal, IsRingSize};
 ghost use Rattle.gate_link_stages.specs.Posting.{posted, written, post_ended, write_ended, SamePoster, SameWriter, ArePostPair, IsFreshPost, Finishes};
 
 use crate::fault::LinkFault;
-use crate::post::{Piece, Poster, Writer};
+use crate::post::{PostedBytes, Poster, Writer};
 use spread_rules_ids::limits::MAX_RING;
 use rtrb::RingBuffer;
 use std::alloc::Allocator;
@@ -36,7 +36,7 @@ pub fn post_ring<A: Allocator + Copy>(
     if ring < 1 || ring > MAX_RING {
         return Err(LinkFault::Ring);
     }
-    let Ok((producer, consumer)) = RingBuffer::<Piece>::new(alloc, ring) else {
+    let Ok((producer, consumer)) = RingBuffer::<PostedBytes>::new(alloc, ring) else {
         return Err(LinkFault::NoMemory);
     };
     Ok((

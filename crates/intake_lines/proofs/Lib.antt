@@ -5,6 +5,6 @@ pub mod SaidAsAWhole
 pub mod StreamRead
 pub mod Closings
 pub mod LineFed
-pub mod LanesOfLines
+pub mod LineSessionsOfLines
 pub mod PiecesReadInTurn
 pub mod PartsOfTheJournal

@@ -12,9 +12,9 @@ use Rattle.intake_lines.specs.LineText.{DayLine}
 use Rattle.intake_lines.specs.code.OneByOne.{lines_of, one_line, prepend, session_lines, lines_said}
 use Rattle.intake_lines.specs.DayLines.{journal_of_lines}
 use Rattle.intake_lines.specs.JournalParts.{AreOfSessions}
-use Rattle.intake_lines.specs.code.Lanes.{AreFed, TakesLine}
+use Rattle.intake_lines.specs.code.LineSessions.{AreFed, TakesLine}
 use Rattle.intake_lines.specs.code.PiecesRead.{IsGoing, HasBadLine, HasRead, ReadsOn}
-use Rattle.intake_lines.specs.declared.lanes.JournalLanes.{JournalLanes}
+use Rattle.intake_lines.specs.declared.line_sessions.SessionReaders.{SessionReaders}
 use Rattle.intake_lines.specs.declared.day_reader.DayReader.{DayReader}
 use Rattle.intake_lines.proofs.LinesReadInTurn.{lines_cut, lines_last, took, was_bad, behind_none, last_took}
 
@@ -32,7 +32,7 @@ pub nothing_kept : {A : Type 0} (kept : Vec ℕ A) (b : Bool) → b ≡ eqb (vec
 nothing_kept kept b e t = let ok = kept.ok.0 in let none : length kept.items ≡ 0 = grind (arith, nat_tests) in nil_from_length kept.items none
 
 -- before the first piece
-pub starts : {A : Type 0} (r : DayReader A) → AreFed [] r.lanes → r.rest.items ≡ [] → r.number ≡ 1 → r.bad ≡ None → HasRead [] r
+pub starts : {A : Type 0} (r : DayReader A) → AreFed [] r.line_sessions → r.rest.items ≡ [] → r.number ≡ 1 → r.bad ≡ None → HasRead [] r
 starts r fed none one still = record {
   going = λ _. record {
     done = [];
@@ -56,7 +56,7 @@ module _ {A : Type 0} (text end : List ℕ) (old : DayReader A) (h : IsGoing tex
       ∙ ap (λ (t : List ℕ). prepend h.done (session_lines old.number (lines_of t))) (sym (append_assoc old.rest.items end (10 ∷ more)))
       ∙ ap (λ (ls : List (List ℕ)). prepend h.done (session_lines old.number ls)) (lines_cut (old.rest.items ++ end) more (Lacks-append 10 old.rest.items end h.unended lacks))
 
-  pub good_ends : (new : DayReader A) → TakesLine true (old.rest.items ++ end) old.lanes new.lanes → new.rest.items ≡ [] → new.number ≡ old.number + 1 → new.bad ≡ None → HasRead (text ++ (end ++ 10 ∷ [])) new
+  pub good_ends : (new : DayReader A) → TakesLine true (old.rest.items ++ end) old.line_sessions new.line_sessions → new.rest.items ≡ [] → new.number ≡ old.number + 1 → new.bad ≡ None → HasRead (text ++ (end ++ 10 ∷ [])) new
   good_ends new takes none next still =
       let done = h.done ++ takes.0 in
       record {
@@ -81,7 +81,7 @@ module _ {A : Type 0} (text end : List ℕ) (old : DayReader A) (h : IsGoing tex
         ∙ ap (λ (k : ℕ). let r : Result (List DayLine) ℕ = Err k in r) (same_Some _ _ (sym bad ∙ e));
   }
 
-pub line_ends : {A : Type 0} (end : List ℕ) (good : Bool) (old new : DayReader A) → old.bad ≡ None → Lacks 10 end → TakesLine good (old.rest.items ++ end) old.lanes new.lanes
+pub line_ends : {A : Type 0} (end : List ℕ) (good : Bool) (old new : DayReader A) → old.bad ≡ None → Lacks 10 end → TakesLine good (old.rest.items ++ end) old.line_sessions new.line_sessions
     → new.rest.items ≡ [] → new.number ≡ old.number + 1 → new.bad ≡ then_some (not good) old.number → ReadsOn (end ++ 10 ∷ []) old new
 line_ends end true old new going lacks takes none next bad text had = good_ends text end old (had.going going) lacks new takes none next bad
 line_ends end false old new going lacks takes none next bad text had = bad_ends text end old (had.going going) lacks new takes bad
@@ -95,13 +95,13 @@ pub reads_both : {A : Type 0} (a b : List ℕ) (x y z : DayReader A) → ReadsOn
 reads_both a b x y z p q text had = subst (λ (t : List ℕ). HasRead t z) (append_assoc text a b) (q (text ++ a) (p text had))
 
 -- what stands behind the last line end is kept
-pub rest_kept : {A : Type 0} (left : List ℕ) (old new : DayReader A) → old.bad ≡ None → Lacks 10 left → new.lanes ≡ old.lanes → new.rest.items ≡ old.rest.items ++ left → new.number ≡ old.number → new.bad ≡ None → ReadsOn left old new
-rest_kept {A} left old new going lacks lanes rest number still text had =
+pub rest_kept : {A : Type 0} (left : List ℕ) (old new : DayReader A) → old.bad ≡ None → Lacks 10 left → new.line_sessions ≡ old.line_sessions → new.rest.items ≡ old.rest.items ++ left → new.number ≡ old.number → new.bad ≡ None → ReadsOn left old new
+rest_kept {A} left old new going lacks line_sessions rest number still text had =
     let h = had.going going in
     record {
       going = λ _. record {
         done = h.done;
-        fed = subst (λ (l : JournalLanes A). AreFed h.done l) (sym lanes) h.fed;
+        fed = subst (λ (l : SessionReaders A). AreFed h.done l) (sym line_sessions) h.fed;
         says = λ more.
             ap lines_said (append_assoc text left more) ∙ h.says (left ++ more)
             ∙ ap (λ (t : List ℕ). prepend h.done (session_lines old.number (lines_of t))) (sym (append_assoc old.rest.items left more))
@@ -144,9 +144,9 @@ pub record IsWholeJournal (text : List ℕ) (journal : List Entry) : Type 0 wher
   pub journal_is : journal ≡ journal_of_lines lines
   pub sessions : AreOfSessions lines
 
-pub ended : {A : Type 0} (text : List ℕ) (r : DayReader A) (lanes : JournalLanes A) (journal : List Entry) → HasRead text r → r.bad ≡ None → TakesLine true r.rest.items r.lanes lanes
-    → ((lines : List DayLine) → AreFed lines lanes → journal ≡ journal_of_lines lines) → IsWholeJournal text journal
-ended text r lanes journal had going takes closes =
+pub ended : {A : Type 0} (text : List ℕ) (r : DayReader A) (line_sessions : SessionReaders A) (journal : List Entry) → HasRead text r → r.bad ≡ None → TakesLine true r.rest.items r.line_sessions line_sessions
+    → ((lines : List DayLine) → AreFed lines line_sessions → journal ≡ journal_of_lines lines) → IsWholeJournal text journal
+ended text r line_sessions journal had going takes closes =
     let h = had.going going in
     let fed = takes.2 h.done h.fed in
     record {

@@ -1,3 +1,3 @@
 pub mod OneByOne
-pub mod Lanes
+pub mod LineSessions
 pub mod PiecesRead

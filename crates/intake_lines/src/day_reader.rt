@@ -8,10 +8,10 @@ ghost use Rattle.spread_rules_ids.specs.Cut.{Lacks};
 ghost use Rattle.fix_wire_frames.specs.Texts.{with_soh};
 ghost use Rattle.spread_rules.specs.Journal.{IsLawful};
 ghost use Rattle.intake_lines.specs.Reading.{IsJournalOf, HasParts, IsLinesFault};
-ghost use Rattle.intake_lines.specs.code.Lanes.{IsFed, TakesLine};
+ghost use Rattle.intake_lines.specs.code.LineSessions.{IsFed, TakesLine};
 ghost use Rattle.intake_lines.specs.code.PiecesRead.{HasRead, IsReading, ReadsOn};
 
-use crate::lanes::JournalLanes;
+use crate::line_sessions::SessionReaders;
 use crate::laws::day_journal;
 use crate::lines::{LinesFault, put_field_ends};
 use spread_rules_ids::cut_at;
@@ -22,7 +22,7 @@ use std::alloc::{AllocError, Allocator};
 /// What stands between the pieces of day lines.
 #[derive(Drop)]
 pub struct DayReader<A: Allocator> {
-    lanes: JournalLanes<A>,
+    line_sessions: SessionReaders<A>,
     // What stands behind the last line feed.
     rest: Vec<u8, A>,
     // The number of the line that has not ended, counted from 1.
@@ -33,20 +33,20 @@ pub struct DayReader<A: Allocator> {
 
 /// Takes a line whose beginning is kept and which ends so; false where it is a bad line. Then nothing is kept.
 fn take_end<A: Allocator + Copy>(
-    lanes: &mut JournalLanes<A>,
+    line_sessions: &mut SessionReaders<A>,
     rest: &mut Vec<u8, A>,
     end: &[u8],
 ) -> Result<bool, AllocError>
-    requires { IsFed lanes.old }
+    requires { IsFed line_sessions.old }
     ensures line { IfOk result
-        (λ is_good. TakesLine is_good (rest.old.items ++ end.now) lanes.old lanes.new) }
+        (λ is_good. TakesLine is_good (rest.old.items ++ end.now) line_sessions.old line_sessions.new) }
     ensures emptied { OnOk result (rest.new.items ≡ []) }
 {
     if rest.is_empty() {
-        return lanes.take_line(end);
+        return line_sessions.take_line(end);
     }
     rest.extend_from_slice(end)?;
-    let is_good = lanes.take_line(rest)?;
+    let is_good = line_sessions.take_line(rest)?;
     rest.clear();
     Ok(is_good)
 }
@@ -58,7 +58,7 @@ impl<A: Allocator + Copy> DayReader<A> {
         ensures number { IfOk result (λ reader. reader.number ≡ 1) }
     {
         Ok(DayReader {
-            lanes: JournalLanes::new(alloc)?,
+            line_sessions: SessionReaders::new(alloc)?,
             rest: Vec::new(alloc),
             number: 1,
             bad: None,
@@ -74,7 +74,7 @@ impl<A: Allocator + Copy> DayReader<A> {
         ensures reads { OnOk result (ReadsOn (end.now ++ LINE_FEED ∷ []) self.old self.new) }
         ensures number { OnOk result (self.new.number ≡ self.old.number + 1) }
     {
-        let is_good = take_end(&mut self.lanes, &mut self.rest, end)?;
+        let is_good = take_end(&mut self.line_sessions, &mut self.rest, end)?;
         self.bad = (!is_good).then_some(self.number);
         self.number += 1;
         Ok(())
@@ -126,7 +126,7 @@ impl<A: Allocator + Copy> DayReader<A> {
     {
         day_journal();
         let DayReader {
-            lanes,
+            line_sessions,
             rest,
             number,
             bad,
@@ -134,12 +134,12 @@ impl<A: Allocator + Copy> DayReader<A> {
         if let Some(line) = bad {
             return Err(LinesFault::BadLine(line));
         }
-        let mut lanes = lanes;
-        let is_good = lanes.take_line(&rest)?;
+        let mut line_sessions = line_sessions;
+        let is_good = line_sessions.take_line(&rest)?;
         if !is_good {
             return Err(LinesFault::BadLine(number));
         }
-        let journal = lanes.into_journal()?;
+        let journal = line_sessions.into_journal()?;
         if journal.len() > MAX_JOURNAL_ENTRIES {
             return Err(LinesFault::JournalFull);
         }

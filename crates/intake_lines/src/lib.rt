@@ -2,7 +2,7 @@
 #![tactic(auto)]
 
 mod day_reader;
-mod lanes;
+mod line_sessions;
 pub mod laws;
 mod lines;
 mod reading;

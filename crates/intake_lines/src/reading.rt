@@ -29,7 +29,7 @@ fn read_piece<S: Source>(source: &mut S, piece: &mut [u8]) -> Result<Option<usiz
     ensures end { IfOk result (λ given. IfNone given (IsAtEnd (S.left source.new))) }
     ensures nothing { IfOk result (λ given. IfNone given
         (Consumes (S.left source.old) (S.left source.new) [])) }
-    ensures sound { OnOk result (S.has_failed source.new ≡ false) }
+    ensures not_failed { OnOk result (S.has_failed source.new ≡ false) }
     ensures fault { IfErr result (λ f. f ≡ LinesFault.Read) }
     ensures read { OnErr result (S.has_failed source.new ≡ true) }
     ensures kept { OnErr result (Keeps (S.left source.old) (S.left source.new)) }
@@ -51,7 +51,7 @@ fn read_pieces<S: Source, A: Allocator + Copy>(
         IfSome (S.left source.old) (λ input. HasRead (with_soh input) reader)) }
     ensures reading { IfOk result IsReading }
     ensures end { OnOk result (IsAtEnd (S.left source.new)) }
-    ensures sound { OnOk result (S.has_failed source.new ≡ false) }
+    ensures not_failed { OnOk result (S.has_failed source.new ≡ false) }
     ensures read { IsErrOf result LinesFault.Read → (S.has_failed source.new ≡ true)
         ⊎ IfSome (S.left source.old) (λ input. MAX_INPUT_BYTES < length input) }
     // One read more than the limit, and no further.
@@ -87,7 +87,7 @@ pub fn read_day_lines<S: Source, A: Allocator + Copy>(
         IfSome (S.left source.old) (λ input. HasParts input journal.items)) }
     ensures lawful { IfOk result (λ journal. IsLawful journal.items) }
     ensures end { OnOk result (IsAtEnd (S.left source.new)) }
-    ensures sound { OnOk result (S.has_failed source.new ≡ false) }
+    ensures not_failed { OnOk result (S.has_failed source.new ≡ false) }
     ensures read { IsErrOf result LinesFault.Read → (S.has_failed source.new ≡ true)
         ⊎ IfSome (S.left source.old) (λ input. MAX_INPUT_BYTES < length input) }
     ensures taken { IsErrOf result LinesFault.Read →

@@ -11,4 +11,4 @@ mod starting;
 pub use conclusion::SessionsDay;
 pub use fault::{ThreadsFault, of_apply};
 pub use sessions::run_sessions;
-pub use stages::{Caps, DayRules, Stages, stages_of};
+pub use stages::{Caps, DaySettings, Stages, stages_of};

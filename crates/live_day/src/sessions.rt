@@ -7,7 +7,7 @@ ghost use Rattle.live_day.specs.Streams.{IsDayOfSessions, IsThreadsFault};
 ghost use Rattle.live_day.specs.Limits.{IsWithinLimits};
 
 use crate::conclusion::{SessionsDay, conclude};
-use crate::stages::{Caps, DayRules, Stages, stages_of};
+use crate::stages::{Caps, DaySettings, Stages, stages_of};
 use crate::fault::ThreadsFault;
 use crate::starting::{RunningDay, start_day};
 use live_shared::{Gate, Shared};
@@ -88,7 +88,7 @@ fn sessions_in<'r: 's, 's, E, R: Wait + Threads + Sync, G: Gate, A: Allocator + 
 pub fn run_sessions<'r, R: Threads + Wait + Sync, G: Gate, A: Allocator + Copy + Send>(
     rt: &'r R,
     alloc: A,
-    rules: &DayRules<'r>,
+    rules: &DaySettings<'r>,
     streams: Vec<Vec<u8, A>, A>,
     gate: &'r G,
     caps: Caps,

@@ -30,7 +30,7 @@ const EARLY_ENTRIES: usize = 100_000;
 
 /// The rulebook of a day, and the SendingTime (tag 52) of all its messages.
 #[derive(Clone, Copy)]
-pub struct DayRules<'r> {
+pub struct DaySettings<'r> {
     pub rulebook: &'r Rulebook,
     pub stamp: Id,
 }
@@ -92,7 +92,7 @@ fn writer_rings<A: Allocator + Copy>(
 /// The stages of a day that has not begun.
 pub fn stages_of<'r, A: Allocator + Copy>(
     alloc: A,
-    rules: &DayRules<'r>,
+    rules: &DaySettings<'r>,
     sessions: usize,
     caps: Caps,
 ) -> Result<Stages<'r, A>, ThreadsFault>

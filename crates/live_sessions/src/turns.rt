@@ -16,7 +16,7 @@ use std::sync::atomic::{AtomicBool, Ordering};
 /// How many events of a session are taken in one turn at most. They stand one behind the other in the journal, and most
 /// of what they send goes to the session's own writer: the 64 of a slice may send it more than half of what a ring of
 /// 256 pieces takes.
-const TURN: u32 = 8;
+const MAX_TURN_EVENTS: u32 = 8;
 
 /// What a turn of each session came to.
 #[derive(Clone, Copy)]
@@ -51,7 +51,7 @@ fn turn_each<A: Allocator>(sequencer: &mut Sequencer<A>) -> Round
     let mut done = true;
     let mut took = false;
     for s in 0..sequencer.sessions() {
-        match sequencer.turn_many(s as u8, TURN) {
+        match sequencer.turn_many(s as u8, MAX_TURN_EVENTS) {
             Takes::Done => {}
             Takes::JournalFull => return Round::Full,
             Takes::Took(_) => {

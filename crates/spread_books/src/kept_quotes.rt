@@ -76,7 +76,7 @@ impl<A: Allocator + Copy> Quotes<A> {
         others: Option<Level>,
         change: Change,
     )
-        requires small { All HasOrderPrice (B.orders book.now) }
+        requires order_price { All HasOrderPrice (B.orders book.now) }
         requires within { IsInMonths pairs.now.months order.now.instrument }
         requires most { pairs.now.months ≤ MAX_MONTHS }
         ensures came { change ≡ Came → (xs : List Order)
@@ -102,7 +102,7 @@ impl<A: Allocator + Copy> Quotes<A> {
         order: &Order,
         change: Change,
     )
-        requires small { All HasOrderPrice (B.orders book.now) }
+        requires order_price { All HasOrderPrice (B.orders book.now) }
         requires within { IsInMonths pairs.now.months order.now.instrument }
         requires most { pairs.now.months ≤ MAX_MONTHS }
         ensures { (xs : List Order)

@@ -87,7 +87,7 @@ impl<'r, A: Allocator + Copy> QuotedBook<'r, A> {
     /// As `len`. There is no memory for as many as a `usize` counts.
     pub fn count(&self) -> usize
         ensures count { result ≡ length self.now.orders }
-        ensures small { result < 2 ^ 63 }
+        ensures below_2_to_63 { result < 2 ^ 63 }
     {
         self.book.count()
     }

@@ -4,7 +4,7 @@ ghost use Rattle.std.specs.List.{find};
 ghost use Rattle.spread_rules.specs.Clearing.{removed};
 ghost use Rattle.spread_rules.specs.declared.order.Order.{Order};
 ghost use Rattle.spread_books_rows.specs.Places.{HasPlace, Ascends};
-ghost use Rattle.spread_books_heap.specs.code.FrontPrices.{may_be_at, becomes_front, is_ahead_of, HoldsPrices};
+ghost use Rattle.spread_books_heap.specs.code.FrontPrices.{may_be_front, becomes_front, is_ahead_of, HoldsPrices};
 
 use crate::heap_book::HeapBook;
 use spread_books_queues::{BestPrice, FrontTable};
@@ -80,8 +80,8 @@ fn update_front<A: Allocator + Copy>(fronts: &mut FrontTable<A>, order: &Order)
 }
 
 /// Whether no other order is known to be the front.
-fn may_be_at(best: Option<BestPrice>, place: u64) -> bool
-    ensures { result ≡ may_be_at best place }
+fn may_be_front(best: Option<BestPrice>, place: u64) -> bool
+    ensures { result ≡ may_be_front best place }
 {
     match best {
         None => true,
@@ -96,7 +96,7 @@ fn renew_front<A: Allocator + Copy>(fronts: &mut FrontTable<A>, tables: &HeapBoo
         → HoldsPrices xs fronts.old → HoldsPrices tables.now fronts.new }
 {
     if let Some(best) = fronts.known_price(order.instrument, order.side) {
-        if may_be_at(best, order.place) {
+        if may_be_front(best, order.place) {
             let next = tables.best_price(order.instrument, order.side);
             fronts.put(order.instrument, order.side, next);
         }
@@ -117,7 +117,7 @@ impl<A: Allocator + Copy> FrontBook<A> {
     /// As `len`. There is no memory for as many as a `usize` counts.
     pub fn count(&self) -> usize
         ensures count { result ≡ length self.now }
-        ensures small { result < 2 ^ 63 }
+        ensures below_2_to_63 { result < 2 ^ 63 }
     {
         self.tables.count()
     }

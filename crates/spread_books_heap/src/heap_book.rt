@@ -46,7 +46,7 @@ impl<A: Allocator + Copy> HeapBook<A> {
     /// As `len`. There is no memory for as many as a `usize` counts.
     pub(crate) fn count(&self) -> usize
         ensures count { result ≡ length self.now }
-        ensures small { result < 2 ^ 63 }
+        ensures below_2_to_63 { result < 2 ^ 63 }
     {
         self.orders.count()
     }

@@ -202,7 +202,7 @@ fn note_first<A: Allocator + Copy>(
     ensures ok { OnOk result ((q : IdKey)
         → get id_key_cmp behind.new q
         ≡ option_or (get id_key_cmp behind.old q) (cond (is_key key.now q) (Some row) None)) }
-    ensures err { OnErr result ((q : IdKey)
+    ensures unchanged_on_err { OnErr result ((q : IdKey)
         → get id_key_cmp behind.new q ≡ get id_key_cmp behind.old q) }
 {
     if let Some(earlier) = behind.insert(*key, row)? {
@@ -292,7 +292,7 @@ impl<A: Allocator + Copy> IdTable<A> {
         ensures back { IfOk result (λ noted.
             CanTakeBack self.new noted key.now (take row (R.keys rows.now))) }
         ensures ok { OnOk result (IsTableOf self.new (take row (R.keys rows.now) ++ key.now ∷ [])) }
-        ensures err { OnErr result (IsTableOf self.new (take row (R.keys rows.now))) }
+        ensures table_on_err { OnErr result (IsTableOf self.new (take row (R.keys rows.now))) }
     {
         let spot = spot_of(self.lines.len(), key);
         match self.seek(spot, rows, key) {
@@ -376,7 +376,7 @@ impl<A: Allocator + Copy> IdTable<A> {
             is_known noted ≡ is_some (first_row key.now (R.keys rows.now))) }
         ensures back { IfOk result (λ noted. CanTakeBack self.new noted key.now (R.keys rows.now)) }
         ensures ok { OnOk result (IsTableOf self.new (R.keys rows.now ++ key.now ∷ [])) }
-        ensures err { OnErr result (IsTableOf self.new (R.keys rows.now)) }
+        ensures table_on_err { OnErr result (IsTableOf self.new (R.keys rows.now)) }
     {
         self.reserve(rows, 1)?;
         self.note_row(rows, rows.len(), key)

@@ -60,7 +60,7 @@ pub trait Book {
     fn add(&mut self, order: Order) -> Result<(), NoMemory>
         requires { All (λ o. o.place < order.place) (orders self.old) }
         ensures ok { OnOk result (orders self.new ≡ orders self.old ++ order ∷ []) }
-        ensures err { OnErr result (orders self.new ≡ orders self.old) };
+        ensures unchanged_on_err { OnErr result (orders self.new ≡ orders self.old) };
 
     /// So many lots fewer are left of the order of that place, which rests with more left. Takes no memory.
     fn reduce(&mut self, place: u64, by: u32)
@@ -73,7 +73,7 @@ pub trait Book {
         requires { CanAmend (orders self.old) place id quantity }
         ensures ok { OnOk result
             (orders self.new ≡ amended place id quantity (orders self.old)) }
-        ensures err { OnErr result (orders self.new ≡ orders self.old) };
+        ensures unchanged_on_err { OnErr result (orders self.new ≡ orders self.old) };
 
     /// The order of that place rests no longer. Takes no memory.
     fn remove(&mut self, place: u64)

@@ -105,7 +105,7 @@ impl<A: Allocator + Copy> FrontTable<A> {
     pub fn make_room(&mut self) -> Result<(), NoMemory>
         requires { self.old ≡ [] }
         ensures ok { OnOk result (self.new ≡ replicate SLOTS None) }
-        ensures err { OnErr result (self.new ≡ self.old) }
+        ensures unchanged_on_err { OnErr result (self.new ≡ self.old) }
     {
         self.slots.resize(SLOTS, None)?;
         Ok(())

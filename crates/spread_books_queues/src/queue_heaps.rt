@@ -122,7 +122,7 @@ impl<A: Allocator + Copy> QueueHeaps<A> {
     /// One rank more in that queue. After NoMemory they are as before.
     pub fn add(&mut self, queue: u32, rank: QueueRank) -> Result<(), NoMemory>
         ensures ok { OnOk result (Joins queue rank self.old self.new) }
-        ensures err { OnErr result (SameRanks self.old self.new) }
+        ensures unchanged_on_err { OnErr result (SameRanks self.old self.new) }
     {
         let n = queue as usize;
         make_room(&mut self.heaps, n)?;

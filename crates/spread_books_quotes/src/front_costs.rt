@@ -18,7 +18,7 @@ use std::alloc::Allocator;
 use std::marker::Model;
 
 /// How many months a row has room for.
-pub const ROW: usize = MAX_MONTHS as usize;
+pub const ROW_CELLS: usize = MAX_MONTHS as usize;
 
 /// What stands in a cell of no cost: more than any price, and than any two together.
 const NO_COST: i64 = 1_000_000_000_000;
@@ -51,7 +51,7 @@ impl<A: Allocator + Copy> Model for FrontCosts<A> {
 
 /// Which one of cells for each month, who buys before who sells, is that side's of that month.
 #[inline(always)]
-pub fn cell(side: Side, month: u8) -> usize
+pub fn side_month_cell(side: Side, month: u8) -> usize
     ensures { result ≡ cell_of side month }
 {
     match side {
@@ -65,7 +65,7 @@ pub fn cell(side: Side, month: u8) -> usize
 pub fn row_cell(side: Side, month: u8, other_month: u8) -> usize
     ensures { result ≡ row_cell side month other_month }
 {
-    cell(side, month) * ROW + usize::from(other_month)
+    side_month_cell(side, month) * ROW_CELLS + usize::from(other_month)
 }
 
 /// The cell that stands there, or one of no cost where there is none.
@@ -112,9 +112,9 @@ impl<A: Allocator + Copy> FrontCosts<A> {
         ensures { IfOk result (λ c. c ≡ no_costs months) }
     {
         let mut spreads = Vec::new(alloc);
-        spreads.resize(usize::from(months) * 2 * ROW, NO_COST)?;
+        spreads.resize(usize::from(months) * 2 * ROW_CELLS, NO_COST)?;
         let mut outrights = Vec::new(alloc);
-        outrights.resize(2 * ROW, NO_COST)?;
+        outrights.resize(2 * ROW_CELLS, NO_COST)?;
         Ok(FrontCosts { spreads, outrights })
     }
 
@@ -122,7 +122,7 @@ impl<A: Allocator + Copy> FrontCosts<A> {
     #[inline(always)]
     pub fn spread_cells(&self) -> &[i64]
         ensures costs { costs_of result.now ≡ self.now.spreads }
-        ensures small { AreOrderPrices (costs_of result.now) }
+        ensures order_price { AreOrderPrices (costs_of result.now) }
     {
         &self.spreads
     }
@@ -131,7 +131,7 @@ impl<A: Allocator + Copy> FrontCosts<A> {
     #[inline(always)]
     pub fn spread_cell(&self, side: Side, month: u8, other_month: u8) -> i64
         ensures cost { cost_of_cell result ≡ spread_cost self.now side month other_month }
-        ensures small { IfSome (cost_of_cell result) IsOrderPrice }
+        ensures order_price { IfSome (cost_of_cell result) IsOrderPrice }
     {
         cell_at(&self.spreads, row_cell(side, month, other_month))
     }
@@ -140,7 +140,7 @@ impl<A: Allocator + Copy> FrontCosts<A> {
     #[inline(always)]
     pub fn outright_cell(&self, side: Side, month: u8) -> i64
         ensures cost { cost_of_cell result ≡ outright_cost self.now side month }
-        ensures small { IfSome (cost_of_cell result) IsOrderPrice }
+        ensures order_price { IfSome (cost_of_cell result) IsOrderPrice }
     {
         cell_at(&self.outrights, row_cell(side, 0, month))
     }
@@ -149,7 +149,7 @@ impl<A: Allocator + Copy> FrontCosts<A> {
     #[inline(always)]
     pub fn spread_row(&self, side: Side, month: u8, months: u8) -> &[i64]
         ensures most { length result.now ≤ months }
-        ensures small { AreOrderPrices (costs_of result.now) }
+        ensures order_price { AreOrderPrices (costs_of result.now) }
         ensures costs { (other : ℕ) → other < months
             → cost_at (costs_of result.now) other ≡ spread_cost self.now side month other }
     {
@@ -159,7 +159,7 @@ impl<A: Allocator + Copy> FrontCosts<A> {
     /// What the fronts of the outrights cost that meet an order of that side, by their month.
     #[inline(always)]
     pub fn outright_row(&self, side: Side, months: u8) -> &[i64]
-        ensures small { AreOrderPrices (costs_of result.now) }
+        ensures order_price { AreOrderPrices (costs_of result.now) }
         ensures costs { (other : ℕ) → other < months
             → cost_at (costs_of result.now) other ≡ outright_cost self.now side other }
     {
@@ -197,7 +197,7 @@ impl<A: Allocator + Copy> FrontCosts<A> {
 
     /// Notes what the front of that order's queue costs, after the order came or left.
     pub fn note<B: Book>(&mut self, book: &B, pairs: &MonthPairs<'_>, order: &Order)
-        requires small { All HasOrderPrice (B.orders book.now) }
+        requires order_price { All HasOrderPrice (B.orders book.now) }
         requires within { IsInMonths pairs.now.months order.now.instrument }
         requires most { pairs.now.months ≤ MAX_MONTHS }
         ensures { (xs : List Order)

@@ -11,7 +11,7 @@ ghost use Rattle.spread_books_quotes.specs.code.FrontCosts.{AreFrontCosts, cell_
 ghost use Rattle.spread_books_quotes.specs.code.QuoteTable.{known_pair, AreCheapest, AreAmong, ChangesOneQueue, IsOneWay, KeepsOtherSide, RenewsCell};
 ghost use Rattle.spread_books_quotes.specs.declared.quote_table.Change.TheVariants.{Came, Left};
 
-use crate::front_costs::{FrontCosts, NO_PAIR, ROW, cell, row_cell, sum_of_cells};
+use crate::front_costs::{FrontCosts, NO_PAIR, ROW_CELLS, side_month_cell, row_cell, sum_of_cells};
 use crate::renewal::{cheapest_of_row, is_sooner};
 use spread_rules_ids::limits::MAX_MONTHS;
 use spread_books_plain::PairCost;
@@ -129,14 +129,14 @@ fn renew_row_came<A: Allocator + Copy>(
 {
     let spreads = costs.spread_cells();
     let outright = costs.outright_cell(side, via);
-    let rows = spreads.len() / (2 * ROW);
+    let rows = spreads.len() / (2 * ROW_CELLS);
     let count = side_count(side, cells.len())
         .min(rows)
         .min(usize::from(months));
     for month in 0..count as u8 {
         let spread = spreads[row_cell(side, month, via)];
         let cost = sum_of_cells(spread, outright);
-        offer(&mut cells[cell(side, month)], cost, via);
+        offer(&mut cells[side_month_cell(side, month)], cost, via);
     }
 }
 
@@ -156,7 +156,7 @@ fn renew_row_left<A: Allocator + Copy>(
     let count = side_count(side, cells.len()).min(usize::from(months));
     for month in 0..count as u8 {
         renew_left(
-            &mut cells[cell(side, month)],
+            &mut cells[side_month_cell(side, month)],
             costs,
             months,
             side,
@@ -184,7 +184,7 @@ impl<A: Allocator + Copy> QuoteTable<A> {
     pub fn known_pair(&self, side: Side, month: u8) -> Option<Option<PairCost>>
         ensures { result ≡ known_pair self.now side month }
     {
-        match self.cells.get(cell(side, month)) {
+        match self.cells.get(side_month_cell(side, month)) {
             None => None,
             Some(held) => Some(pair_of_cell(*held)),
         }
@@ -198,7 +198,7 @@ impl<A: Allocator + Copy> QuoteTable<A> {
         ensures own { RenewsCell column.change costs.now months column.side column.via self.old self.new month }
     {
         let ColumnChange { side, via, change } = column;
-        let n = cell(side, month);
+        let n = side_month_cell(side, month);
         if via < months && n < self.cells.len() {
             match change {
                 Change::Came => {

@@ -5,11 +5,11 @@ use crate::rows::PlacedRows;
 use std::alloc::Allocator;
 
 /// How many places the next guess may be behind the last one, beyond as many as there are guesses.
-const GAP: usize = 1024;
+const MAX_GAP_PLACES: usize = 1024;
 
 /// How many places get a guess at once, from the one that is noted on. So most places have one already when they are
 /// noted, be there a gap before them or none.
-const AHEAD: usize = 128;
+const GUESSES_AHEAD: usize = 128;
 
 /// For each place from a first one on, the row that may have it. Nothing rests on a guess: who takes one looks whether
 /// the row has that place, and searches if it has not.
@@ -64,13 +64,13 @@ impl<A: Allocator + Copy> Hints<A> {
     /// The same of a place that is so many places behind the first one, and behind all guesses.
     #[inline(never)]
     fn note_behind(&mut self, place: u64, n: usize, row: u32) {
-        let most = self.rows.len().saturating_mul(2).saturating_add(GAP);
+        let most = self.rows.len().saturating_mul(2).saturating_add(MAX_GAP_PLACES);
         if !self.rows.is_empty() && n < most {
-            let _ = self.rows.resize(n.saturating_add(AHEAD), row);
+            let _ = self.rows.resize(n.saturating_add(GUESSES_AHEAD), row);
         } else {
             self.rows.clear();
             self.base = place;
-            let _ = self.rows.resize(AHEAD, row);
+            let _ = self.rows.resize(GUESSES_AHEAD, row);
         }
     }
 

@@ -140,7 +140,7 @@ impl<A: Allocator + Copy> PlaceRows<A> {
     /// How many orders there are. There is no memory for as many as a `usize` counts.
     pub fn count(&self) -> usize
         ensures count { result ≡ length self.now }
-        ensures small { result < 2 ^ 63 }
+        ensures below_2_to_63 { result < 2 ^ 63 }
         ensures ordered { Ascends self.now }
     {
         let _ = self.rows.len();
@@ -162,7 +162,7 @@ impl<A: Allocator + Copy> PlaceRows<A> {
         requires { All (λ o. o.place < order.place) self.old }
         ensures ok { OnOk result (self.new ≡ self.old ++ order ∷ []) }
         ensures ascends { OnOk result (Ascends self.new) }
-        ensures err { OnErr result (self.new ≡ self.old) }
+        ensures unchanged_on_err { OnErr result (self.new ≡ self.old) }
     {
         let place = order.place;
         let count = self.count;

@@ -36,7 +36,7 @@ fn front_is_within<B: Book>(book: &B, new: &Order, side: Side) -> bool
 /// none.
 #[inline(never)]
 fn with_front<B: Book>(book: &B, new: &Order, best: &mut Option<Candidate>)
-    requires small { All HasOrderPrice (B.orders book.now) }
+    requires order_price { All HasOrderPrice (B.orders book.now) }
     requires none { best.old ≡ None }
     ensures { IsBestDirect new.now (B.orders book.now) best.new }
 {
@@ -55,7 +55,7 @@ fn with_front<B: Book>(book: &B, new: &Order, best: &mut Option<Candidate>)
 
 /// The best with the direct candidates, whichever pairs take part.
 fn with_direct<B: Book>(book: &B, new: &Order, best: &mut Option<Candidate>)
-    requires small { All HasOrderPrice (B.orders book.now) }
+    requires order_price { All HasOrderPrice (B.orders book.now) }
     requires none { best.old ≡ None }
     ensures { IsBestDirect new.now (B.orders book.now) best.new }
 {
@@ -71,7 +71,7 @@ fn offer_pair(new: &Order, best: &mut Option<Candidate>, first: Order, second: O
     requires best { IfSome best.old HasLegPrice }
     ensures value { best.new
         ≡ better_of new.now best.old (candidate_of all_on new.now (Implied first second)) }
-    ensures small { IfSome best.new HasLegPrice }
+    ensures leg_price { IfSome best.new HasLegPrice }
 {
     let Some(pair) = candidate_for(new, Counterparty::Implied(first, second)) else {
         return;
@@ -111,7 +111,7 @@ fn with_fronts<B: Book>(
     first: Queue,
     second: Queue,
 )
-    requires small { All HasOrderPrice (B.orders book.now) }
+    requires order_price { All HasOrderPrice (B.orders book.now) }
     requires best { IfSome best.old HasLegPrice }
     ensures { (trades_implied : Pairs)
         → takes_part trades_implied new.now.instrument first.instrument ≡ true
@@ -136,7 +136,7 @@ fn with_queues<B: Book>(
     first: Queue,
     second: Queue,
 )
-    requires small { All HasOrderPrice (B.orders book.now) }
+    requires order_price { All HasOrderPrice (B.orders book.now) }
     requires best { IfSome best.old HasLegPrice }
     ensures { (trades_implied : Pairs)
         → takes_part trades_implied new.now.instrument first.instrument ≡ true
@@ -182,7 +182,7 @@ fn price_for(side: Side, paid: i64) -> i64
 /// What costs an order of that side and month the least, of the pairs that take part: the book has it at hand, or it is
 /// searched for.
 fn least_pair<B: Book>(book: &B, rules: &Rulebook, side: Side, month: u8) -> Option<PairCost>
-    requires small { All HasOrderPrice (B.orders book.now) }
+    requires order_price { All HasOrderPrice (B.orders book.now) }
     requires months { All (λ o. IsInMonths (month_count rules.now) o.instrument)
         (B.orders book.now) }
     ensures least { IsCheapest (implied rules.now) (B.orders book.now) side month
@@ -205,7 +205,7 @@ fn with_months<B: Book>(
     best: &mut Option<Candidate>,
     month: u8,
 )
-    requires small { All HasOrderPrice (B.orders book.now) }
+    requires order_price { All HasOrderPrice (B.orders book.now) }
     requires listed { All IsNearFirst (B.orders book.now) }
     requires months { All (λ o. IsInMonths (month_count rules.now) o.instrument)
         (B.orders book.now) }
@@ -231,12 +231,12 @@ fn with_months<B: Book>(
 
 /// The least eligible candidate, over fronts alone.
 pub fn best_candidate<B: Book>(book: &B, rules: &Rulebook, new: &Order) -> Option<Candidate>
-    requires small { All HasOrderPrice (B.orders book.now) }
+    requires order_price { All HasOrderPrice (B.orders book.now) }
     requires listed { All IsNearFirst (B.orders book.now) }
     requires months { All (λ o. IsInMonths (month_count rules.now) o.instrument)
         (B.orders book.now) }
     ensures best { IsBest (implied rules.now) new.now (B.orders book.now) result }
-    ensures small { IfSome result HasLegPrice }
+    ensures leg_price { IfSome result HasLegPrice }
 {
     let mut best = None;
     with_direct(book, new, &mut best);

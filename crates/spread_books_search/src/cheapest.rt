@@ -29,7 +29,7 @@ pub struct MonthPairs<'r> {
 fn cost_in(side: Side, price: i64) -> i64
     requires { IsOrderPrice price }
     ensures cost { result ≡ cost (other_side side) price }
-    ensures small { IsOrderPrice result }
+    ensures order_price { IsOrderPrice result }
 {
     match side {
         Side::Buy => -price,
@@ -42,7 +42,7 @@ fn cost_in(side: Side, price: i64) -> i64
 pub fn front_cost<B: Book>(book: &B, instrument: Instrument, side: Side) -> Option<i64>
     requires { All HasOrderPrice (B.orders book.now) }
     ensures cost { CostsOfFront (B.orders book.now) instrument side result }
-    ensures small { IfSome result IsOrderPrice }
+    ensures order_price { IfSome result IsOrderPrice }
 {
     match book.front_level(instrument, side) {
         None => None,
@@ -56,7 +56,7 @@ pub fn together(first: i64, second: i64) -> i64
     requires first { IsOrderPrice first }
     requires second { IsOrderPrice second }
     ensures sum { result ≡ first +ℤ second }
-    ensures small { IsLegPrice result }
+    ensures leg_price { IsLegPrice result }
 {
     first + second
 }
@@ -101,7 +101,7 @@ pub fn pair_cost<B: Book>(
     requires { All HasOrderPrice (B.orders book.now) }
     ensures cost { CostsOfFronts (implied rules.now) (B.orders book.now)
         side month other_month result }
-    ensures small { IfSome result IsLegPrice }
+    ensures leg_price { IfSome result IsLegPrice }
 {
     let spreads = spreads_with(side, month, other_month);
     let opposite = side.opposite();

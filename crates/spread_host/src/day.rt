@@ -17,7 +17,7 @@ ghost use Rattle.spread_host_faults.specs.declared.fault.HostFault.{HostFault};
 use apply_market::ApplyFault;
 use apply_desk::apply_journal;
 use text_day::{Day, TextFault};
-use text_messages::TakesPieces;
+use text_messages::TakesBlocks;
 use spread_rules_ids::Id;
 use spread_rules_ends::Sink;
 use spread_host_faults::HostFault;
@@ -58,21 +58,21 @@ pub fn day_of<A: Allocator + Copy>(
 /// Writes the text of a day, or of its journal alone, and nothing else. The ids written are of bytes. Its fills are of the
 /// rulebook's instruments and in range, and its lists at most sixteen, each of whole frames, or empty. Answers NoMemory,
 /// its place one more than the journal's length, with nothing written, or Write, with a prefix of the text written.
-pub fn write_day<K: TakesPieces<A>, A: Allocator + Copy>(
+pub fn write_day<K: TakesBlocks<A>, A: Allocator + Copy>(
     alloc: A,
     rulebook: &Rulebook,
     day: &Day<A>,
     journal_only: bool,
     sink: &mut K,
 ) -> Result<(), HostFault>
-    requires works { K.has_failed sink.old ≡ false }
+    requires not_failed { K.has_failed sink.old ≡ false }
     requires lists { length day.now.out.items ≤ SESSIONS }
     requires rows { All IsFrameRow (texts_of day.now.out.items) }
     requires shown { AreShown rulebook.now day.now.fills.items }
     ensures ok { OnOk result (Appends (K.written sink.old) (K.written sink.new)
         (day_text journal_only rulebook.now day.now.journal.items day.now.fills.items
         (texts_of day.now.out.items))) }
-    ensures sound { OnOk result (K.has_failed sink.new ≡ false) }
+    ensures not_failed { OnOk result (K.has_failed sink.new ≡ false) }
     ensures bytes { OnOk result (All (λ e. HasByteIds e.event) day.now.journal.items) }
     ensures memory { IfErr result (λ f. f ≢ HostFault.Write
         → (f ≡ HostFault.NoMemory (length day.now.journal.items + 1)) × (sink.new ≡ sink.old)) }
@@ -97,12 +97,12 @@ pub fn write_fills<K: Sink, A: Allocator>(
     fills: &[Fill],
     sink: &mut K,
 ) -> Result<(), HostFault>
-    requires sound { K.has_failed sink.old ≡ false }
+    requires not_failed { K.has_failed sink.old ≡ false }
     requires listed { All (λ f. IsListed rulebook.now f.instrument) fills.now }
     requires summable { All IsSummable fills.now }
     ensures ok { OnOk result
         (Appends (K.written sink.old) (K.written sink.new) (fills_text rulebook.now fills.now)) }
-    ensures sound { OnOk result (K.has_failed sink.new ≡ false) }
+    ensures not_failed { OnOk result (K.has_failed sink.new ≡ false) }
     ensures no_memory { IsErrOf result (HostFault.NoMemory 0) → sink.new ≡ sink.old }
     ensures write { IsErrOf result HostFault.Write → (K.has_failed sink.new ≡ true)
         × AppendsPrefix (K.written sink.old) (K.written sink.new)

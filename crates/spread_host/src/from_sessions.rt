@@ -8,7 +8,7 @@ ghost use Rattle.spread_host.specs.Headline.{IsJournalOfStreams, HasFills, HasOu
 ghost use Rattle.spread_host.specs.LiveDays.{IsRunDayFault};
 
 use text_day::Day;
-use live_day::{Caps, DayRules, SessionsDay, run_sessions};
+use live_day::{Caps, DaySettings, SessionsDay, run_sessions};
 use live_shared::Gate;
 use spread_rules_ids::Id;
 use spread_host_faults::HostFault;
@@ -60,7 +60,7 @@ pub fn run_day<R: Threads + Wait + Sync, G: Gate, A: Allocator + Copy + Send>(
     // Cites the ranges of a journal's fills, and that a rulebook is lawful.
     ranges();
     rulebook.months();
-    let rules = DayRules { rulebook, stamp };
+    let rules = DaySettings { rulebook, stamp };
     let SessionsDay { journal, applied } = run_sessions(rt, alloc, &rules, streams, gate, caps)?;
     Ok(Day {
         journal,

@@ -17,7 +17,7 @@ pub use from_journal::check;
 pub use from_lines::replay;
 pub use from_sessions::run_day;
 // Of the room live: what a day in threads is started with.
-pub use live_day::{Caps, DayRules};
+pub use live_day::{Caps, DaySettings};
 pub use live_shared::Gate;
 // Of spread_host_faults.
 pub use spread_host_faults::HostFault;

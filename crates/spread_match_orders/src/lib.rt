@@ -3,11 +3,11 @@
 #![tactic(auto)]
 
 mod newest;
-mod standing;
+mod entering;
 mod ticket;
 
 pub use newest::trade_newest;
-pub use standing::{add_order, resting_order};
+pub use entering::{add_order, resting_order};
 pub use ticket::{
     judge, keeps_place, moved_order, new_order, outcome_with, refusal, replace_refusal,
     resting_status,

@@ -7,7 +7,7 @@ ghost use Rattle.spread_rules_rulebook.specs.Rulebook.{month_count};
 ghost use Rattle.spread_match_trading.specs.Tradable.{IsTradable};
 ghost use Rattle.spread_match_trading.specs.code.Turns.{IsNewest};
 ghost use Rattle.spread_match_statuses.specs.code.Statuses.{statuses_after};
-ghost use Rattle.spread_match_orders.specs.code.Known.{orders_after_trading, trading_of};
+ghost use Rattle.spread_match_orders.specs.code.Entering.{orders_after_trading, trading_of};
 
 use spread_match_trading::trade;
 use spread_match_statuses::Statuses;

@@ -19,7 +19,7 @@ ghost use Rattle.spread_match_state.specs.Trade.{IsPriced};
 ghost use Rattle.spread_match_trading.specs.Tradable.{IsTradable};
 ghost use Rattle.spread_match_statuses.specs.code.Statuses.{statuses_after};
 ghost use Rattle.spread_match_state.specs.code.StateAfter.{with_order, with_refusal, refusal_in, matched_in, cancel_in, replaced_in, moved_in, trading_in, meaning_in, state_after, state_with, IsReady};
-ghost use Rattle.spread_match_orders.specs.code.Known.{AreKnown};
+ghost use Rattle.spread_match_orders.specs.code.Entering.{HaveStatuses};
 ghost use Rattle.spread_match_trading.specs.code.Turns.{IsNewest};
 
 use spread_rules_ids::Id;
@@ -99,7 +99,7 @@ impl<B: Book, A: Allocator + Copy> MarketState<B, A> {
         ensures after { OnOk result (self.new
             ≡ state_with self.old place session (New ticket.now)
             (refusal_in self.old session ticket.now reason)) }
-        ensures err { OnErr result (self.new ≡ self.old) }
+        ensures unchanged_on_err { OnErr result (self.new ≡ self.old) }
     {
         let used = self.statuses.add(OrderStatus {
             session,
@@ -121,7 +121,7 @@ impl<B: Book, A: Allocator + Copy> MarketState<B, A> {
             used ≡ false → self.new ≡ with_order self.old order.now) }
         ensures refused { IfOk result (λ used.
             used ≡ true → self.new ≡ with_refusal self.old order.now) }
-        ensures err { OnErr result (self.new ≡ self.old) }
+        ensures unchanged_on_err { OnErr result (self.new ≡ self.old) }
     {
         add_order(&mut self.book, &mut self.statuses, order)
     }
@@ -183,7 +183,7 @@ impl<B: Book, A: Allocator + Copy> MarketState<B, A> {
             ≡ state_with self.old new.now.place new.now.session (New new.now.ticket.now)
             (matched_in rules.now self.old new.now.place new.now.session new.now.ticket.now
             new.now.instrument)) }
-        ensures err { OnErr result (self.new ≡ self.old) }
+        ensures unchanged_on_err { OnErr result (self.new ≡ self.old) }
         ensures no_fills { OnErr result (fills.new.items ≡ fills.old.items) }
     {
         let ticket = new.ticket;
@@ -218,7 +218,7 @@ impl<B: Book, A: Allocator + Copy> MarketState<B, A> {
             ++ (meaning_in rules.now self.old place session (New ticket.now)).fills) }
         ensures after { OnOk result (self.new
             ≡ state_after rules.now self.old place session (New ticket.now)) }
-        ensures err { OnErr result (self.new ≡ self.old) }
+        ensures unchanged_on_err { OnErr result (self.new ≡ self.old) }
         ensures no_fills { OnErr result (fills.new.items ≡ fills.old.items) }
     {
         match judge(rules, ticket) {
@@ -257,7 +257,7 @@ impl<B: Book, A: Allocator + Copy> MarketState<B, A> {
     /// The session's resting order with that id. It stands at the place that the status of the id names, or nowhere.
     fn resting(&self, session: u8, id: &Id) -> Option<Order>
         requires places { PlacesDiffer self.now.orders }
-        requires known { AreKnown self.now.statuses self.now.orders }
+        requires known { HaveStatuses self.now.statuses self.now.orders }
         ensures { result ≡ find (is_own session id.now) self.now.orders }
     {
         resting_order(&self.book, &self.statuses, session, id)
@@ -266,7 +266,7 @@ impl<B: Book, A: Allocator + Copy> MarketState<B, A> {
     /// Ends the resting order with the original id.
     fn cancel(&mut self, place: u64, session: u8, id: &Id, original: &Id) -> Outcome
         requires places { PlacesDiffer self.old.orders }
-        requires known { AreKnown self.old.statuses self.old.orders }
+        requires known { HaveStatuses self.old.statuses self.old.orders }
         requires place { self.old.last < place }
         ensures outcome { result ≡ (cancel_in self.old session original.now).outcome }
         ensures after { self.new
@@ -297,7 +297,7 @@ impl<B: Book, A: Allocator + Copy> MarketState<B, A> {
         ensures after { OnOk result ((original : List ℕ) → self.new
             ≡ state_with self.old place session (Replace original ticket.now)
             (untraded refusal self.old.orders)) }
-        ensures err { OnErr result (self.new ≡ self.old) }
+        ensures unchanged_on_err { OnErr result (self.new ≡ self.old) }
     {
         self.statuses.add(OrderStatus {
             session,
@@ -318,7 +318,7 @@ impl<B: Book, A: Allocator + Copy> MarketState<B, A> {
         resting: &Order,
     ) -> Result<Outcome, NoMemory>
         requires places { PlacesDiffer self.old.orders }
-        requires known { AreKnown self.old.statuses self.old.orders }
+        requires known { HaveStatuses self.old.statuses self.old.orders }
         requires rests { Contains self.old.orders resting.now }
         requires unused { find (has_id resting.now.session ticket.now.id) self.old.statuses
             ≡ None }
@@ -329,7 +329,7 @@ impl<B: Book, A: Allocator + Copy> MarketState<B, A> {
         ensures after { OnOk result (self.new
             ≡ state_with self.old place resting.now.session (Replace resting.now.id ticket.now)
             (keeping_means self.old.orders ticket.now resting.now)) }
-        ensures err { OnErr result (self.new ≡ self.old) }
+        ensures unchanged_on_err { OnErr result (self.new ≡ self.old) }
     {
         let status = OrderStatus {
             session: resting.session,
@@ -368,7 +368,7 @@ impl<B: Book, A: Allocator + Copy> MarketState<B, A> {
         ensures after { OnOk result (self.new
             ≡ state_with self.old place resting.now.session (Replace resting.now.id ticket.now)
             (moved_in rules.now self.old place ticket.now resting.now)) }
-        ensures err { OnErr result (self.new ≡ self.old) }
+        ensures unchanged_on_err { OnErr result (self.new ≡ self.old) }
         ensures no_fills { OnErr result (fills.new.items ≡ fills.old.items) }
     {
         fills.reserve(3 * self.book.len().min(ticket.quantity as usize))?;
@@ -409,7 +409,7 @@ impl<B: Book, A: Allocator + Copy> MarketState<B, A> {
         ensures after { OnOk result (self.new
             ≡ state_with self.old place resting.now.session (Replace resting.now.id ticket.now)
             (replaced_in rules.now self.old place ticket.now resting.now)) }
-        ensures err { OnErr result (self.new ≡ self.old) }
+        ensures unchanged_on_err { OnErr result (self.new ≡ self.old) }
         ensures no_fills { OnErr result (fills.new.items ≡ fills.old.items) }
     {
         let session = resting.session;
@@ -447,7 +447,7 @@ impl<B: Book, A: Allocator + Copy> MarketState<B, A> {
             ++ (meaning_in rules.now self.old place entry.now.session entry.now.event).fills) }
         ensures after { OnOk result (self.new
             ≡ state_after rules.now self.old place entry.now.session entry.now.event) }
-        ensures err { OnErr result (self.new ≡ self.old) }
+        ensures unchanged_on_err { OnErr result (self.new ≡ self.old) }
         ensures no_fills { OnErr result (fills.new.items ≡ fills.old.items) }
     {
         match &entry.event {

@@ -4,7 +4,7 @@ ghost use Rattle.spread_rules.specs.declared.codes.ord_status.TheConstants.{REJE
 ghost use Rattle.spread_rules.specs.declared.outcome.OrderStatus.{OrderStatus};
 ghost use Rattle.std.specs.List.{find};
 ghost use Rattle.spread_rules.specs.Meaning.{has_id};
-ghost use Rattle.spread_match_statuses.specs.code.Statuses.{key_of_status, IsIndex, IsOpenRow, is_open, status_after_fill, status_after_replace, statuses_after, AreRefusedLater};
+ghost use Rattle.spread_match_statuses.specs.code.Statuses.{key_of_status, IsIndex, IsAcceptedRow, was_accepted, status_after_fill, status_after_replace, statuses_after, AreRefusedLater};
 ghost use Rattle.spread_rules.specs.Amended.{amended};
 ghost use Rattle.spread_books_plain.specs.Queues.{CanAmend};
 
@@ -95,8 +95,8 @@ fn has_id(status: &OrderStatus, session: u8, id: &Id) -> bool
 }
 
 /// Whether it is the status of the order of that session and id, which was not refused.
-fn is_open(status: &OrderStatus, session: u8, id: &Id) -> bool
-    ensures { result ≡ is_open session id.now status.now }
+fn was_accepted(status: &OrderStatus, session: u8, id: &Id) -> bool
+    ensures { result ≡ was_accepted session id.now status.now }
 {
     has_id(status, session, id) && status.status != ord_status::REJECTED
 }
@@ -109,11 +109,11 @@ fn row_at_place<A: Allocator + Copy>(
     session: u8,
     id: &Id,
 ) -> Option<usize>
-    ensures { IfSome result (IsOpenRow rows.now session id.now) }
+    ensures { IfSome result (IsAcceptedRow rows.now session id.now) }
 {
     let at = hints.find(&StatusRows { rows }, place)?;
     let status = rows.get(at)?;
-    if is_open(status, session, id) {
+    if was_accepted(status, session, id) {
         Some(at)
     } else {
         None
@@ -129,12 +129,12 @@ fn open_row<A: Allocator + Copy>(
 ) -> Option<usize>
     requires index { IsIndex first.now rows.now }
     requires later { AreRefusedLater rows.now }
-    ensures stands { IfSome result (IsOpenRow rows.now session id.now) }
-    ensures none { IfNone result (All (λ s. is_open session id.now s ≡ false) rows.now) }
+    ensures stands { IfSome result (IsAcceptedRow rows.now session id.now) }
+    ensures none { IfNone result (All (λ s. was_accepted session id.now s ≡ false) rows.now) }
 {
     let at = first.find(&StatusRows { rows }, &IdKey::new(session, id))?;
     let status = rows.get(at)?;
-    if is_open(status, session, id) {
+    if was_accepted(status, session, id) {
         Some(at)
     } else {
         None
@@ -179,7 +179,7 @@ impl<A: Allocator + Copy> Statuses<A> {
             used ≡ is_some (find (has_id status.session status.id) self.old)) }
         ensures ok { IfOk result (λ used. self.new
             ≡ self.old ++ record status { status = cond used REJECTED status.status } ∷ []) }
-        ensures err { OnErr result (self.new ≡ self.old) }
+        ensures unchanged_on_err { OnErr result (self.new ≡ self.old) }
     {
         self.rows.reserve(1)?;
         let key = IdKey::new(status.session, &status.id);
@@ -203,7 +203,7 @@ impl<A: Allocator + Copy> Statuses<A> {
         ensures statuses { OnOk result (self.new ≡ self.old ++ status ∷ []) }
         ensures orders { OnOk result
             (B.orders book.new ≡ amended status.place status.id quantity (B.orders book.old)) }
-        ensures err { OnErr result (self.new ≡ self.old) }
+        ensures unchanged_on_err { OnErr result (self.new ≡ self.old) }
         ensures as_before { OnErr result (B.orders book.new ≡ B.orders book.old) }
     {
         self.rows.reserve(1)?;
@@ -220,8 +220,8 @@ impl<A: Allocator + Copy> Statuses<A> {
 
     /// Where the order of that session and id stands, unless it was refused. It may be where that place was.
     fn row_of(&self, place: u64, session: u8, id: &Id) -> Option<usize>
-        ensures stands { IfSome result (IsOpenRow self.now session id.now) }
-        ensures none { IfNone result (All (λ s. is_open session id.now s ≡ false) self.now) }
+        ensures stands { IfSome result (IsAcceptedRow self.now session id.now) }
+        ensures none { IfNone result (All (λ s. was_accepted session id.now s ≡ false) self.now) }
     {
         match row_at_place(&self.rows, &self.hints, place, session, id) {
             Some(at) => Some(at),

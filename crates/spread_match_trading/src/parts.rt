@@ -17,7 +17,7 @@ pub fn turn_fills<'a, A: Allocator>(
     candidate: &Candidate,
     by: u32,
 ) -> SmallVec<Fill, 3, &'a A>
-    requires small { HasLegPrice candidate.now }
+    requires leg_price { HasLegPrice candidate.now }
     requires by { by ≡ least_left new.now candidate.now.counterparty }
     ensures { result.items ≡ fills_of (references_of rules.now) new.now candidate.now }
 {

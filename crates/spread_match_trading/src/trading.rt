@@ -79,7 +79,7 @@ fn put_fills<A: Allocator + Copy>(
     by: u32,
     fills: &mut Vec<Fill, A>,
 )
-    requires small { HasLegPrice candidate.now }
+    requires leg_price { HasLegPrice candidate.now }
     requires by { by ≡ least_left new.now candidate.now.counterparty }
     requires room { vec_len fills.old + 3 ≤ vec_capacity fills.old }
     ensures items { fills.new.items
@@ -118,7 +118,7 @@ fn turn_once<B: Book, A: Allocator + Copy>(
     candidate: &Candidate,
     fills: &mut Vec<Fill, A>,
 ) -> Order
-    requires small { HasLegPrice candidate.now }
+    requires leg_price { HasLegPrice candidate.now }
     requires stands { AllStandIn (B.orders book.old) candidate.now.counterparty }
     requires places { PlacesDiffer (B.orders book.old) }
     requires apart { AreApart candidate.now.counterparty }

@@ -28,7 +28,7 @@ impl OutboundSessions {
         requires session { session < SESSIONS }
         ensures sent { Sends self.old self.new lists.old lists.new
             (record { to = session; step = gap_fill first last } ∷ []) result }
-        ensures kept { OnErr result (self.new ≡ self.old) }
+        ensures unchanged_on_err { OnErr result (self.new ≡ self.old) }
         ensures lists_kept { OnErr result (KeepsBytes lists.old lists.new) }
     {
         let at = session as usize;

@@ -91,7 +91,7 @@ impl OutboundSessions {
         requires few { length (B.fields body.now) ≤ 18 }
         ensures sent { Sends self.old self.new lists.old lists.new
             (numbered_message session kind (B.fields body.now) ∷ []) result }
-        ensures kept { OnErr result (self.new ≡ self.old) }
+        ensures unchanged_on_err { OnErr result (self.new ≡ self.old) }
         ensures lists_kept { OnErr result (KeepsBytes lists.old lists.new) }
     {
         let at = session as usize;
@@ -130,7 +130,7 @@ impl OutboundSessions {
         requires few { length fields.now ≤ 18 }
         ensures sent { Sends self.old self.new lists.old lists.new
             (numbered_message session kind fields.now ∷ []) result }
-        ensures kept { OnErr result (self.new ≡ self.old) }
+        ensures unchanged_on_err { OnErr result (self.new ≡ self.old) }
         ensures lists_kept { OnErr result (KeepsBytes lists.old lists.new) }
     {
         self.send_body(lists, session, kind, &FieldList { fields })

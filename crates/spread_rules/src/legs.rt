@@ -12,7 +12,7 @@ use spread_rules_rulebook::{Instrument, Rulebook};
 /// The month's reference price.
 fn reference(rules: &Rulebook, month: u8) -> i64
     ensures value { result ≡ get_or (references_of rules.now) month (pos 0) }
-    ensures small { IsOrderPrice result }
+    ensures order_price { IsOrderPrice result }
 {
     if month < rules.months() {
         rules.reference(month)

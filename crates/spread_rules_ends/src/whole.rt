@@ -11,8 +11,8 @@ use crate::source::Failed;
 pub fn write_all<K: Sink>(sink: &mut K, bytes: &[u8]) -> Result<(), Failed>
     requires { K.has_failed sink.old ≡ false }
     ensures ok { OnOk result (Appends (K.written sink.old) (K.written sink.new) bytes.now) }
-    ensures sound { OnOk result (K.has_failed sink.new ≡ false) }
-    ensures err { OnErr result (K.has_failed sink.new ≡ true) }
+    ensures not_failed { OnOk result (K.has_failed sink.new ≡ false) }
+    ensures failed_on_err { OnErr result (K.has_failed sink.new ≡ true) }
     ensures front { OnErr result
         (AppendsPrefix (K.written sink.old) (K.written sink.new) bytes.now) }
 {

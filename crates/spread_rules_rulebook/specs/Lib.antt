@@ -2,5 +2,5 @@ pub mod Instruments
 pub mod Prices
 pub mod Rulebook
 pub mod RulebookText
-pub mod FirstRulebookText
+pub mod RulebookTextBeforePairs
 pub mod code

@@ -1,6 +1,6 @@
 //! Laws over the definitions alone.
 ghost use Rattle.std.specs.Prelude.{◌≡◌, ◌≢◌, true, Ok, Err, ℕ, List, Result};
-ghost use Rattle.spread_rules_rulebook.specs.FirstRulebookText.{FirstRules, HasNoPairLine, with_all_on, answer_with_all_on, ReadsRulebook as first_ReadsRulebook};
+ghost use Rattle.spread_rules_rulebook.specs.RulebookTextBeforePairs.{FirstRules, HasNoPairLine, with_all_on, answer_with_all_on, ReadsRulebook as first_ReadsRulebook};
 ghost use Rattle.spread_rules_rulebook.specs.Rulebook.{Rules, implied};
 ghost use Rattle.spread_rules_rulebook.specs.RulebookText.{ReadsRulebook};
 ghost use Rattle.spread_rules_rulebook.specs.declared.rule_fault.RuleFault.{RuleFault};

@@ -10,7 +10,7 @@ mod journal;
 #[cfg(test)]
 mod link;
 #[cfg(test)]
-mod pieces;
+mod blocks;
 #[cfg(test)]
 mod report;
 #[cfg(test)]

@@ -6,8 +6,8 @@ use Rattle.spread_rules.specs.declared.fill.Fill.{Fill}
 use Rattle.text_fills.specs.declared.totals.MonthTotals.{MonthTotals}
 use Rattle.text_fills.specs.Totals.{AreTotals}
 use Rattle.text_fills.specs.code.Sums.{empty_month}
-use Rattle.text_messages.specs.code.Pieces.{IsPut}
-use Rattle.text_messages.proofs.PiecesInTurn.{put_after, put_fails}
+use Rattle.text_messages.specs.code.Blocks.{IsPut}
+use Rattle.text_messages.proofs.BlocksInTurn.{put_after, put_fails}
 use Rattle.text_day.specs.Months.{month_line, month_lines_from}
 use Rattle.text_day.specs.code.LineParts.{totals_line, totals_lines_from}
 

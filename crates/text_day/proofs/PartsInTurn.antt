@@ -2,8 +2,8 @@
 use Rattle.std.proofs.Common.{◌≡◌, ℕ, Bool, List, ◌++◌, Option, Result, Ok, Err, sym, append_assoc}
 use Rattle.std.proofs.KnownBytes.{Appends-trans}
 use Rattle.std.specs.Io.KnownBytes.{Appends}
-use Rattle.text_messages.specs.code.Pieces.{Writes}
-use Rattle.text_messages.proofs.PiecesInTurn.{front_after}
+use Rattle.text_messages.specs.code.Blocks.{Writes}
+use Rattle.text_messages.proofs.BlocksInTurn.{front_after}
 
 -- a part that was written, and the next, whatever became of that one
 pub then_writes : {T E : Type 0} (r : Result T E) (a b c : Option (List ℕ)) (has_failed : Bool) (xs ys : List ℕ) → Appends a b xs → Writes r b c has_failed ys → Writes r a c has_failed (xs ++ ys)

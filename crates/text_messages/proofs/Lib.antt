@@ -1,4 +1,4 @@
 mod LinesInParts
 mod SessionLines
-pub mod PiecesInTurn
+pub mod BlocksInTurn
 pub mod LinesInTurn

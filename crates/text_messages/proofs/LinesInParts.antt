@@ -22,6 +22,6 @@ lead_of_two session d is h =
 pub line_of_three : (session : ℕ) (message text : List ℕ) → text ≡ line_lead session → outgoing_line session message ≡ text ++ (map shown_byte message ++ 10 ∷ [])
 line_of_three session message text is = append_assoc (line_lead session) (map shown_byte message) (10 ∷ []) ∙ ap (λ (t : List ℕ). t ++ (map shown_byte message ++ 10 ∷ [])) (sym is)
 
--- bytes that stand behind those of a piece are shown behind them
+-- bytes that stand behind those of a block are shown behind them
 pub shown_more : (old new bytes : List ℕ) → new ≡ old ++ bytes → map shown_byte new ≡ map shown_byte old ++ map shown_byte bytes
 shown_more old new bytes is = ap (λ (t : List ℕ). map shown_byte t) is ∙ map-append shown_byte old bytes

@@ -2,8 +2,8 @@
 use Rattle.std.proofs.Common.{◌≡◌, ℕ, zero, suc, ◌+◌, ◌<◌, List, [], ◌∷◌, ◌++◌, Option, length, take, get_or, refl, sym, ap, ◌∙◌, arith, subst, append_assoc, append-nil}
 use Rattle.std.specs.List.{flat_map}
 use Rattle.spread_rules_ends.specs.Ends.{AppendsPrefix}
-use Rattle.text_messages.specs.code.Pieces.{IsPut}
-use Rattle.text_messages.proofs.PiecesInTurn.{put_after, put_fails}
+use Rattle.text_messages.specs.code.Blocks.{IsPut}
+use Rattle.text_messages.proofs.BlocksInTurn.{put_after, put_fails}
 
 -- the line of one thing more
 one_more : {A : Type 0} (line : A → List ℕ) (things : List A) (i : ℕ) (d : A) → i < length things → flat_map line (take (i + 1) things) ≡ flat_map line (take i things) ++ line (get_or things i d)

@@ -1,3 +1,3 @@
 -- Words of the code alone: no public promise needs them to be read.
 pub mod LineLead
-pub mod Pieces
+pub mod Blocks

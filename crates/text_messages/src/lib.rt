@@ -1,8 +1,8 @@
-//! A text on its way out in pieces, and the lines of outgoing messages in a day's text.
+//! A text on its way out in blocks, and the lines of outgoing messages in a day's text.
 #![tactic(auto)]
 
 mod messages;
-mod pieces;
+mod blocks;
 
 pub use messages::write_sessions;
-pub use pieces::{PIECE_BYTES, TakesPieces, append, put_whole};
+pub use blocks::{BLOCK_BYTES, TakesBlocks, append, put_whole};

@@ -1,15 +1,15 @@
-//! The lines of outgoing messages, written in pieces. What stands in a piece is shown when the piece is written.
+//! The lines of outgoing messages, written in blocks. What stands in a block is shown when the block is written.
 ghost use Rattle.std.specs.Prelude.{◌≡◌, ◌<◌, ◌≤◌, ◌+◌, ◌++◌, ◌∷◌, [], All, map, length, min, OnOk, vec_len, vec_capacity, false};
 ghost use Rattle.fix_wire_frames.specs.Frames.{IsFrameRow};
 ghost use Rattle.text_messages.specs.Messages.{texts_of, shown_byte, outgoing_line, session_lines, outgoing_lines_from};
 ghost use Rattle.text_messages.specs.code.LineLead.{line_lead};
-ghost use Rattle.text_messages.specs.code.Pieces.{Puts, Writes};
+ghost use Rattle.text_messages.specs.code.Blocks.{Puts, Writes};
 
 use fix_wire_framer::first_of_row;
 use spread_rules_ids::limits::SESSIONS;
 use spread_rules_ends::Failed;
 use std::alloc::Allocator;
-use crate::pieces::{PIECE_BYTES, TakesPieces, append};
+use crate::blocks::{BLOCK_BYTES, TakesBlocks, append};
 
 /// Shows each byte 1 as `|`.
 fn show_field_ends(text: &mut [u8])
@@ -26,61 +26,61 @@ fn shown_byte(byte: u8) -> u8
     if byte == 1 { b'|' } else { byte }
 }
 
-/// Shows what stands in the piece, which is then taken. The whole piece at once: a loop over each message alone would
+/// Shows what stands in the block, which is then taken. The whole block at once: a loop over each message alone would
 /// spend most of its time on its last few bytes.
-fn give_shown<K: TakesPieces<A>, A: Allocator>(
-    piece: &mut Vec<u8, A>,
+fn give_shown<K: TakesBlocks<A>, A: Allocator>(
+    block: &mut Vec<u8, A>,
     sink: &mut K,
 ) -> Result<(), Failed>
-    requires works { K.has_failed sink.old ≡ false }
+    requires not_failed { K.has_failed sink.old ≡ false }
     ensures writes { Writes result (K.written sink.old) (K.written sink.new) (K.has_failed sink.new)
-        (map shown_byte piece.old.items) }
-    ensures items { OnOk result (piece.new.items ≡ []) }
-    ensures len { OnOk result (vec_len piece.new ≡ 0) }
-    ensures room { min PIECE_BYTES (vec_capacity piece.old) ≤ vec_capacity piece.new }
+        (map shown_byte block.old.items) }
+    ensures items { OnOk result (block.new.items ≡ []) }
+    ensures len { OnOk result (vec_len block.new ≡ 0) }
+    ensures room { min BLOCK_BYTES (vec_capacity block.old) ≤ vec_capacity block.new }
 {
-    show_field_ends(&mut piece[..]);
-    sink.take(piece)
+    show_field_ends(&mut block[..]);
+    sink.take(block)
 }
 
-/// Writes what stands in the piece, as it is shown, if it has no room for so many bytes more.
-fn make_room_shown<K: TakesPieces<A>, A: Allocator>(
-    piece: &mut Vec<u8, A>,
+/// Writes what stands in the block, as it is shown, if it has no room for so many bytes more.
+fn make_room_shown<K: TakesBlocks<A>, A: Allocator>(
+    block: &mut Vec<u8, A>,
     sink: &mut K,
     bytes: usize,
 ) -> Result<(), Failed>
-    requires works { K.has_failed sink.old ≡ false }
-    requires most { bytes ≤ min PIECE_BYTES (vec_capacity piece.old) }
+    requires not_failed { K.has_failed sink.old ≡ false }
+    requires most { bytes ≤ min BLOCK_BYTES (vec_capacity block.old) }
     ensures puts { Puts result (K.written sink.old) (K.written sink.new) (K.has_failed sink.new)
-        (map shown_byte piece.new.items) (map shown_byte piece.old.items) }
-    ensures room { OnOk result (vec_len piece.new + bytes ≤ vec_capacity piece.new) }
-    ensures capacity { min PIECE_BYTES (vec_capacity piece.old) ≤ vec_capacity piece.new }
+        (map shown_byte block.new.items) (map shown_byte block.old.items) }
+    ensures room { OnOk result (vec_len block.new + bytes ≤ vec_capacity block.new) }
+    ensures capacity { min BLOCK_BYTES (vec_capacity block.old) ≤ vec_capacity block.new }
 {
-    if piece.capacity() - piece.len() < bytes {
-        return give_shown(piece, sink);
+    if block.capacity() - block.len() < bytes {
+        return give_shown(block, sink);
     }
     Ok(())
 }
 
-/// Puts bytes behind those of the piece, which are shown and written each time that it is full.
-fn put_part<K: TakesPieces<A>, A: Allocator>(
-    piece: &mut Vec<u8, A>,
+/// Puts bytes behind those of the block, which are shown and written each time that it is full.
+fn put_part<K: TakesBlocks<A>, A: Allocator>(
+    block: &mut Vec<u8, A>,
     sink: &mut K,
     bytes: &[u8],
 ) -> Result<(), Failed>
-    requires works { K.has_failed sink.old ≡ false }
-    requires some { 0 < vec_capacity piece.old }
+    requires not_failed { K.has_failed sink.old ≡ false }
+    requires some { 0 < vec_capacity block.old }
     ensures puts { Puts result (K.written sink.old) (K.written sink.new) (K.has_failed sink.new)
-        (map shown_byte piece.new.items)
-        (map shown_byte piece.old.items ++ map shown_byte bytes.now) }
+        (map shown_byte block.new.items)
+        (map shown_byte block.old.items ++ map shown_byte bytes.now) }
     ensures room { OnOk result
-        (min PIECE_BYTES (vec_capacity piece.old) ≤ vec_capacity piece.new) }
+        (min BLOCK_BYTES (vec_capacity block.old) ≤ vec_capacity block.new) }
 {
     let mut rest = bytes;
     while !rest.is_empty() {
-        make_room_shown(piece, sink, 1)?;
-        let (now, later) = rest.split_at(rest.len().min(piece.capacity() - piece.len()));
-        append(piece, now);
+        make_room_shown(block, sink, 1)?;
+        let (now, later) = rest.split_at(rest.len().min(block.capacity() - block.len()));
+        append(block, now);
         rest = later;
     }
     Ok(())
@@ -112,131 +112,131 @@ fn lead(session: u8) -> &'static [u8]
     }
 }
 
-/// The line of a message that a whole piece has no room for. It is cut.
+/// The line of a message that a whole block has no room for. It is cut.
 #[inline(never)]
-fn put_long_message<K: TakesPieces<A>, A: Allocator>(
-    piece: &mut Vec<u8, A>,
+fn put_long_message<K: TakesBlocks<A>, A: Allocator>(
+    block: &mut Vec<u8, A>,
     sink: &mut K,
     session: u8,
     message: &[u8],
 ) -> Result<(), Failed>
-    requires works { K.has_failed sink.old ≡ false }
-    requires some { 0 < vec_capacity piece.old }
+    requires not_failed { K.has_failed sink.old ≡ false }
+    requires some { 0 < vec_capacity block.old }
     requires session { session < SESSIONS }
     ensures puts { Puts result (K.written sink.old) (K.written sink.new) (K.has_failed sink.new)
-        (map shown_byte piece.new.items)
-        (map shown_byte piece.old.items ++ outgoing_line session message.now) }
+        (map shown_byte block.new.items)
+        (map shown_byte block.old.items ++ outgoing_line session message.now) }
     ensures room { OnOk result
-        (min PIECE_BYTES (vec_capacity piece.old) ≤ vec_capacity piece.new) }
+        (min BLOCK_BYTES (vec_capacity block.old) ≤ vec_capacity block.new) }
 {
-    put_part(piece, sink, lead(session))?;
-    put_part(piece, sink, message)?;
-    put_part(piece, sink, b"\n")
+    put_part(block, sink, lead(session))?;
+    put_part(block, sink, message)?;
+    put_part(block, sink, b"\n")
 }
 
 /// Appends one message's line, for which there is room.
-fn append_line<A: Allocator>(piece: &mut Vec<u8, A>, lead: &[u8], message: &[u8])
-    requires { vec_len piece.old + length lead.now + length message.now + 1 ≤ vec_capacity piece.old }
-    ensures items { piece.new.items ≡ piece.old.items ++ (lead.now ++ message.now ++ 10 ∷ []) }
-    ensures room { vec_capacity piece.old ≤ vec_capacity piece.new }
+fn append_line<A: Allocator>(block: &mut Vec<u8, A>, lead: &[u8], message: &[u8])
+    requires { vec_len block.old + length lead.now + length message.now + 1 ≤ vec_capacity block.old }
+    ensures items { block.new.items ≡ block.old.items ++ (lead.now ++ message.now ++ 10 ∷ []) }
+    ensures room { vec_capacity block.old ≤ vec_capacity block.new }
 {
-    append(piece, lead);
-    append(piece, message);
-    piece.push_reserved(b'\n');
+    append(block, lead);
+    append(block, message);
+    block.push_reserved(b'\n');
 }
 
-/// One message's line. The piece is written first where it has no room for the line.
-fn put_message<K: TakesPieces<A>, A: Allocator>(
-    piece: &mut Vec<u8, A>,
+/// One message's line. The block is written first where it has no room for the line.
+fn put_message<K: TakesBlocks<A>, A: Allocator>(
+    block: &mut Vec<u8, A>,
     sink: &mut K,
     session: u8,
     message: &[u8],
 ) -> Result<(), Failed>
-    requires works { K.has_failed sink.old ≡ false }
-    requires some { 0 < vec_capacity piece.old }
+    requires not_failed { K.has_failed sink.old ≡ false }
+    requires some { 0 < vec_capacity block.old }
     requires session { session < SESSIONS }
     ensures puts { Puts result (K.written sink.old) (K.written sink.new) (K.has_failed sink.new)
-        (map shown_byte piece.new.items)
-        (map shown_byte piece.old.items ++ outgoing_line session message.now) }
+        (map shown_byte block.new.items)
+        (map shown_byte block.old.items ++ outgoing_line session message.now) }
     ensures room { OnOk result
-        (min PIECE_BYTES (vec_capacity piece.old) ≤ vec_capacity piece.new) }
+        (min BLOCK_BYTES (vec_capacity block.old) ≤ vec_capacity block.new) }
 {
     let lead = lead(session);
     let line = lead.len().saturating_add(message.len()).saturating_add(1);
-    if line > piece.capacity().min(PIECE_BYTES) {
-        return put_long_message(piece, sink, session, message);
+    if line > block.capacity().min(BLOCK_BYTES) {
+        return put_long_message(block, sink, session, message);
     }
-    make_room_shown(piece, sink, line)?;
-    append_line(piece, lead, message);
+    make_room_shown(block, sink, line)?;
+    append_line(block, lead, message);
     Ok(())
 }
 
 /// A line for each message of these bytes, which this session is sent. They are whole frames.
-fn put_outgoing<K: TakesPieces<A>, A: Allocator>(
-    piece: &mut Vec<u8, A>,
+fn put_outgoing<K: TakesBlocks<A>, A: Allocator>(
+    block: &mut Vec<u8, A>,
     sink: &mut K,
     session: u8,
     bytes: &[u8],
 ) -> Result<(), Failed>
-    requires works { K.has_failed sink.old ≡ false }
-    requires some { 0 < vec_capacity piece.old }
+    requires not_failed { K.has_failed sink.old ≡ false }
+    requires some { 0 < vec_capacity block.old }
     requires session { session < SESSIONS }
     requires row { IsFrameRow bytes.now }
     ensures puts { Puts result (K.written sink.old) (K.written sink.new) (K.has_failed sink.new)
-        (map shown_byte piece.new.items)
-        (map shown_byte piece.old.items ++ session_lines session bytes.now) }
+        (map shown_byte block.new.items)
+        (map shown_byte block.old.items ++ session_lines session bytes.now) }
     ensures room { OnOk result
-        (min PIECE_BYTES (vec_capacity piece.old) ≤ vec_capacity piece.new) }
+        (min BLOCK_BYTES (vec_capacity block.old) ≤ vec_capacity block.new) }
 {
     let mut rest = bytes;
     while let Some((message, later)) = first_of_row(rest) {
-        put_message(piece, sink, session, message)?;
+        put_message(block, sink, session, message)?;
         rest = later;
     }
     Ok(())
 }
 
 /// A line for each message of these lists, session 0 first.
-fn put_sessions<K: TakesPieces<A>, A: Allocator, B: Allocator>(
-    piece: &mut Vec<u8, A>,
+fn put_sessions<K: TakesBlocks<A>, A: Allocator, B: Allocator>(
+    block: &mut Vec<u8, A>,
     sink: &mut K,
     lists: &[Vec<u8, B>],
 ) -> Result<(), Failed>
-    requires works { K.has_failed sink.old ≡ false }
-    requires some { 0 < vec_capacity piece.old }
+    requires not_failed { K.has_failed sink.old ≡ false }
+    requires some { 0 < vec_capacity block.old }
     requires count { length lists.now ≤ SESSIONS }
     requires rows { All IsFrameRow (texts_of lists.now) }
     ensures puts { Puts result (K.written sink.old) (K.written sink.new) (K.has_failed sink.new)
-        (map shown_byte piece.new.items)
-        (map shown_byte piece.old.items ++ outgoing_lines_from 0 (texts_of lists.now)) }
+        (map shown_byte block.new.items)
+        (map shown_byte block.old.items ++ outgoing_lines_from 0 (texts_of lists.now)) }
     ensures room { OnOk result
-        (min PIECE_BYTES (vec_capacity piece.old) ≤ vec_capacity piece.new) }
+        (min BLOCK_BYTES (vec_capacity block.old) ≤ vec_capacity block.new) }
 {
     for (session, bytes) in lists.iter().enumerate() {
-        put_outgoing(piece, sink, session as u8, bytes)?;
+        put_outgoing(block, sink, session as u8, bytes)?;
     }
     Ok(())
 }
 
-/// Writes a line for each message of these lists, session 0 first, by way of a piece in which nothing stands yet, and
-/// takes no memory. The lists are sixteen at most, each of whole frames, or empty. Then the piece is empty again. Where a
-/// write fails, a front of the lines is out, and nothing is known of what stands in the piece.
-pub fn write_sessions<K: TakesPieces<A>, A: Allocator, B: Allocator>(
-    piece: &mut Vec<u8, A>,
+/// Writes a line for each message of these lists, session 0 first, by way of a block in which nothing stands yet, and
+/// takes no memory. The lists are sixteen at most, each of whole frames, or empty. Then the block is empty again. Where a
+/// write fails, a front of the lines is out, and nothing is known of what stands in the block.
+pub fn write_sessions<K: TakesBlocks<A>, A: Allocator, B: Allocator>(
+    block: &mut Vec<u8, A>,
     sink: &mut K,
     lists: &[Vec<u8, B>],
 ) -> Result<(), Failed>
-    requires works { K.has_failed sink.old ≡ false }
-    requires empty { piece.old.items ≡ [] }
-    requires some { 0 < vec_capacity piece.old }
+    requires not_failed { K.has_failed sink.old ≡ false }
+    requires empty { block.old.items ≡ [] }
+    requires some { 0 < vec_capacity block.old }
     requires count { length lists.now ≤ SESSIONS }
     requires rows { All IsFrameRow (texts_of lists.now) }
     ensures writes { Writes result (K.written sink.old) (K.written sink.new) (K.has_failed sink.new)
         (outgoing_lines_from 0 (texts_of lists.now)) }
-    ensures emptied { OnOk result (piece.new.items ≡ []) }
+    ensures emptied { OnOk result (block.new.items ≡ []) }
     ensures room { OnOk result
-        (min PIECE_BYTES (vec_capacity piece.old) ≤ vec_capacity piece.new) }
+        (min BLOCK_BYTES (vec_capacity block.old) ≤ vec_capacity block.new) }
 {
-    put_sessions(piece, sink, lists)?;
-    give_shown(piece, sink)
+    put_sessions(block, sink, lists)?;
+    give_shown(block, sink)
 }

@@ -1,4 +1,4 @@
--- The text of pieces to which one is added, its mark, and how far it was written.
+-- The text of blocks to which one is added, its mark, and how far it was written.
 use Rattle.std.proofs.Common.{◌≡◌, refl, ◌∙◌, ◌<◌, ◌++◌, ◌∷◌, [], ℕ, List, Option, Result, Ok, Err, Bool, true, false, OnOk, OnErr, length, vec_len, ◌==◌, is_ok, sym, ap, append-nil, arith}
 use Rattle.std.proofs.KnownBytes.{Appends-trans}
 use Rattle.std.proofs.lemmas.Bool.Decides.{nat_tests}
@@ -9,14 +9,14 @@ use Rattle.std.specs.declared.vec.Vec.{Vec}
 use Rattle.spread_rules_ends.specs.Ends.{AppendsPrefix}
 use Rattle.gate_link_stages.specs.Marks.{ends}
 use Rattle.gate_link_stages.proofs.Marks.{ends_more, ends_mark}
-use Rattle.text_messages.specs.code.Pieces.{Writes}
-use Rattle.text_messages.proofs.PiecesInTurn.{front_after, front_of_more}
-use Rattle.text_ring.specs.Pieces.{is_mark, text_in}
+use Rattle.text_messages.specs.code.Blocks.{Writes}
+use Rattle.text_messages.proofs.BlocksInTurn.{front_after, front_of_more}
+use Rattle.text_ring.specs.Blocks.{is_mark, text_in}
 
--- one piece more
+-- one block more
 pub text_more : {A : Type 0} (xs ys : List (Vec ℕ A)) (p : Vec ℕ A) → ys ≡ xs ++ p ∷ [] → text_in ys ≡ text_in xs ++ p.items
 text_more xs ys p more =
-    ap text_in more ∙ (flat_map-append (λ piece. piece.items) xs (p ∷ []) ∙ ap (λ t. text_in xs ++ t) (append-nil p.items))
+    ap text_in more ∙ (flat_map-append (λ block. block.items) xs (p ∷ []) ∙ ap (λ t. text_in xs ++ t) (append-nil p.items))
 
 pub is_mark_of : {A : Type 0} (p : Vec ℕ A) → p.items ≡ [] → is_mark p ≡ true
 is_mark_of p none = rw none refl
@@ -24,7 +24,7 @@ is_mark_of p none = rw none refl
 pub no_mark_of : {A : Type 0} (p : Vec ℕ A) → 0 < length p.items → is_mark p ≡ false
 no_mark_of p some = grind (arith, nat_tests, some)
 
--- a piece that is no mark, behind others
+-- a block that is no mark, behind others
 pub plain_more : {A : Type 0} (xs ys : List (Vec ℕ A)) (p : Vec ℕ A) (ended : Bool) → ended ≡ false → ends is_mark xs ended ≡ true → ys ≡ xs ++ p ∷ [] → is_mark p ≡ false → ends is_mark ys ended ≡ true
 plain_more xs ys p true not was more plain = absurd (cc not)
 plain_more xs ys p false not was more plain = rw more (ends_more is_mark xs p was plain)

@@ -1,12 +1,12 @@
-//! A ring of pieces of a text, from the thread that makes the text to one that writes it: while a piece is written the
-//! next one is made. Pieces come back when they were written, so that all memory is taken before the first.
+//! A ring of blocks of a text, from the thread that makes the text to one that writes it: while a block is written the
+//! next one is made. Blocks come back when they were written, so that all memory is taken before the first.
 #![tactic(auto)]
 
-mod piece;
+mod block;
 mod ring;
 mod sink;
 mod source;
 
-pub use ring::piece_ring;
-pub use sink::PieceSink;
-pub use source::PieceSource;
+pub use ring::block_ring;
+pub use sink::BlockSink;
+pub use source::BlockSource;

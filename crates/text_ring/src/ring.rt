@@ -2,40 +2,40 @@
 ghost use Rattle.std.specs.Prelude.{◌≡◌, [], IfOk, false};
 ghost use Rattle.text_ring.specs.Ends.{text_given, IsUnread};
 
-use crate::piece::{Emptied, Filled, PIECES, Piece};
-use crate::sink::PieceSink;
-use crate::source::PieceSource;
+use crate::block::{Emptied, Filled, BLOCKS, Block};
+use crate::sink::BlockSink;
+use crate::source::BlockSource;
 use rtrb::{Producer, RingBuffer};
 use std::alloc::{AllocError, Allocator};
 use std::sync::Wait;
-use text_messages::PIECE_BYTES;
+use text_messages::BLOCK_BYTES;
 
-/// Puts all pieces, empty, into the ring by which they come back.
+/// Puts all blocks, empty, into the ring by which they come back.
 fn put_empty<A: Allocator + Copy>(
     alloc: A,
-    emptied: &mut Producer<Piece<A>, A, Emptied>,
+    emptied: &mut Producer<Block<A>, A, Emptied>,
 ) -> Result<(), AllocError> {
-    for _ in 0..PIECES {
-        let piece = Vec::with_capacity(alloc, PIECE_BYTES)?;
-        let _ = emptied.push(piece);
+    for _ in 0..BLOCKS {
+        let block = Vec::with_capacity(alloc, BLOCK_BYTES)?;
+        let _ = emptied.push(block);
     }
     Ok(())
 }
 
 /// The two ends, and all memory that they take: four million bytes.
-pub fn piece_ring<'r, R: Wait, A: Allocator + Copy>(
+pub fn block_ring<'r, R: Wait, A: Allocator + Copy>(
     rt: &'r R,
     alloc: A,
-) -> Result<(PieceSink<'r, R, A>, PieceSource<A>), AllocError>
+) -> Result<(BlockSink<'r, R, A>, BlockSource<A>), AllocError>
     ensures sink { IfOk result (λ r. (text_given r.0 ≡ []) × (r.0.ended ≡ false)) }
     ensures source { IfOk result (λ r. IsUnread r.1) }
 {
-    let (filled, taken) = RingBuffer::<Piece<A>>::with_protocol::<A, Filled>(alloc, PIECES)?;
-    let (emptied, empty) = RingBuffer::<Piece<A>>::with_protocol::<A, Emptied>(alloc, PIECES)?;
+    let (filled, taken) = RingBuffer::<Block<A>>::with_protocol::<A, Filled>(alloc, BLOCKS)?;
+    let (emptied, empty) = RingBuffer::<Block<A>>::with_protocol::<A, Emptied>(alloc, BLOCKS)?;
     let mut emptied = emptied;
     put_empty(alloc, &mut emptied)?;
-    let sink = PieceSink::new(rt, filled, empty);
-    let source = PieceSource {
+    let sink = BlockSink::new(rt, filled, empty);
+    let source = BlockSource {
         filled: taken,
         emptied,
     };

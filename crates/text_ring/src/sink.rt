@@ -2,99 +2,99 @@
 ghost use Rattle.std.specs.Prelude.{◌≡◌, ◌≤◌, ◌++◌, ◌∷◌, [], Some, true, false, min, vec_len, vec_capacity};
 ghost use Rattle.rtrb.specs.Ring.{sent};
 ghost use Rattle.gate_link_stages.specs.Marks.{ends};
-ghost use Rattle.text_ring.specs.Pieces.{is_mark};
-ghost use Rattle.text_messages.specs.declared.pieces.TheConstants.{PIECE_BYTES};
+ghost use Rattle.text_ring.specs.Blocks.{is_mark};
+ghost use Rattle.text_messages.specs.declared.blocks.TheConstants.{BLOCK_BYTES};
 
-use crate::piece::{Emptied, Filled, Piece};
+use crate::block::{Emptied, Filled, Block};
 use spread_rules_ends::Failed;
 use rtrb::{Consumer, Producer, PushError};
 use live_shared::rest;
 use std::alloc::Allocator;
 use std::mem;
 use std::sync::Wait;
-use text_messages::{PIECE_BYTES, TakesPieces};
+use text_messages::{BLOCK_BYTES, TakesBlocks};
 
-/// Takes the pieces of a text, which go to another thread. It may move to another thread.
+/// Takes the blocks of a text, which go to another thread. It may move to another thread.
 #[derive(Drop)]
-pub struct PieceSink<'r, R, A: Allocator> {
+pub struct BlockSink<'r, R, A: Allocator> {
     rt: &'r R,
-    filled: Producer<Piece<A>, A, Filled>,
-    emptied: Consumer<Piece<A>, A, Emptied>,
+    filled: Producer<Block<A>, A, Filled>,
+    emptied: Consumer<Block<A>, A, Emptied>,
     ended: bool,
     // The mark comes last, and only where it is ended.
     ghost shape: { ends is_mark (sent filled) ended ≡ true },
 }
 
-/// Gives a piece on, as soon as the ring has room for it.
-fn give<R: Wait, A: Allocator>(rt: &R, filled: &mut Producer<Piece<A>, A, Filled>, piece: Piece<A>)
-    requires { PIECE_BYTES ≤ vec_capacity piece }
-    ensures { sent filled.new ≡ sent filled.old ++ piece ∷ [] }
+/// Gives a block on, as soon as the ring has room for it.
+fn give<R: Wait, A: Allocator>(rt: &R, filled: &mut Producer<Block<A>, A, Filled>, block: Block<A>)
+    requires { BLOCK_BYTES ≤ vec_capacity block }
+    ensures { sent filled.new ≡ sent filled.old ++ block ∷ [] }
 {
-    let mut piece = piece;
+    let mut block = block;
     let mut looks = 0u32;
     for _ in rt.forever() {
-        match filled.push(piece) {
+        match filled.push(block) {
             Ok(()) => return,
-            Err(PushError::Full(back)) => piece = back,
+            Err(PushError::Full(back)) => block = back,
         }
         looks = rest(rt, looks);
     }
     unreachable!()
 }
 
-/// An empty piece, as soon as one came back.
+/// An empty block, as soon as one came back.
 fn take_empty<R: Wait, A: Allocator>(
     rt: &R,
-    emptied: &mut Consumer<Piece<A>, A, Emptied>,
-) -> Piece<A>
+    emptied: &mut Consumer<Block<A>, A, Emptied>,
+) -> Block<A>
     ensures empty { result.items ≡ [] }
-    ensures room { PIECE_BYTES ≤ vec_capacity result }
+    ensures room { BLOCK_BYTES ≤ vec_capacity result }
 {
     let mut looks = 0u32;
     for _ in rt.forever() {
-        if let Ok(piece) = emptied.pop() {
-            return piece;
+        if let Ok(block) = emptied.pop() {
+            return block;
         }
         looks = rest(rt, looks);
     }
     unreachable!()
 }
 
-/// Takes a piece, and leaves an empty one in its place. One that has less room than the others stays, and its bytes are
+/// Takes a block, and leaves an empty one in its place. One that has less room than the others stays, and its bytes are
 /// copied.
-fn exchange<A: Allocator>(piece: &mut Piece<A>, empty: Piece<A>) -> Piece<A>
+fn exchange<A: Allocator>(block: &mut Block<A>, empty: Block<A>) -> Block<A>
     requires empty { empty.items ≡ [] }
-    requires room { PIECE_BYTES ≤ vec_capacity empty }
-    ensures items { result.items ≡ piece.old.items }
-    ensures room { PIECE_BYTES ≤ vec_capacity result }
-    ensures emptied { piece.new.items ≡ [] }
-    ensures len { vec_len piece.new ≡ 0 }
-    ensures kept { min PIECE_BYTES (vec_capacity piece.old) ≤ vec_capacity piece.new }
+    requires room { BLOCK_BYTES ≤ vec_capacity empty }
+    ensures items { result.items ≡ block.old.items }
+    ensures room { BLOCK_BYTES ≤ vec_capacity result }
+    ensures emptied { block.new.items ≡ [] }
+    ensures len { vec_len block.new ≡ 0 }
+    ensures kept { min BLOCK_BYTES (vec_capacity block.old) ≤ vec_capacity block.new }
 {
-    if PIECE_BYTES <= piece.capacity() {
-        return mem::replace(piece, empty);
+    if BLOCK_BYTES <= block.capacity() {
+        return mem::replace(block, empty);
     }
     let mut copy = empty;
-    match copy.extend_from_slice(piece) {
+    match copy.extend_from_slice(block) {
         Ok(()) => {}
         Err(_) => unreachable!(),
     }
-    piece.clear();
+    block.clear();
     copy
 }
 
-impl<'r, R: Wait, A: Allocator> PieceSink<'r, R, A> {
+impl<'r, R: Wait, A: Allocator> BlockSink<'r, R, A> {
     ghost use Rattle.text_ring.specs.Ends.{text_given};
 
     pub(crate) fn new(
         rt: &'r R,
-        filled: Producer<Piece<A>, A, Filled>,
-        emptied: Consumer<Piece<A>, A, Emptied>,
-    ) -> PieceSink<'r, R, A>
+        filled: Producer<Block<A>, A, Filled>,
+        emptied: Consumer<Block<A>, A, Emptied>,
+    ) -> BlockSink<'r, R, A>
         requires { sent filled ≡ [] }
         ensures { (result.filled ≡ filled) × (result.ended ≡ false) }
     {
-        PieceSink {
+        BlockSink {
             rt,
             filled,
             emptied,
@@ -116,21 +116,21 @@ impl<'r, R: Wait, A: Allocator> PieceSink<'r, R, A> {
     }
 }
 
-impl<'r, R: Wait, A: Allocator> TakesPieces<A> for PieceSink<'r, R, A> {
+impl<'r, R: Wait, A: Allocator> TakesBlocks<A> for BlockSink<'r, R, A> {
     ghost use Rattle.text_ring.specs.Ends.{text_given};
 
-    // The text of the pieces that were given on.
+    // The text of the blocks that were given on.
     ghost written = { λ s. Some (text_given s) };
 
     // No write fails here; behind the mark none may be asked for.
     ghost has_failed = { λ s. s.ended };
 
-    fn take(&mut self, piece: &mut Vec<u8, A>) -> Result<(), Failed> {
-        if piece.is_empty() {
+    fn take(&mut self, block: &mut Vec<u8, A>) -> Result<(), Failed> {
+        if block.is_empty() {
             return Ok(());
         }
         let empty = take_empty(self.rt, &mut self.emptied);
-        let full = exchange(piece, empty);
+        let full = exchange(block, empty);
         give(self.rt, &mut self.filled, full);
         Ok(())
     }

@@ -1,35 +1,35 @@
 //! The end that the thread has that writes a text.
 ghost use Rattle.std.specs.Prelude.{◌≡◌, ◌≤◌, true, false, is_ok, OnOk, OnErr, vec_capacity};
-ghost use Rattle.text_messages.specs.code.Pieces.{Writes};
-ghost use Rattle.text_messages.specs.declared.pieces.TheConstants.{PIECE_BYTES};
+ghost use Rattle.text_messages.specs.code.Blocks.{Writes};
+ghost use Rattle.text_messages.specs.declared.blocks.TheConstants.{BLOCK_BYTES};
 ghost use Rattle.text_ring.specs.Ends.{text_taken, IsUnread, IsRead};
 
-use crate::piece::{Emptied, Filled, Piece};
+use crate::block::{Emptied, Filled, Block};
 use spread_rules_ends::{Failed, Sink, write_all};
 use rtrb::{Consumer, Producer};
 use live_shared::{found, rest};
 use std::alloc::Allocator;
 use std::sync::Wait;
 
-/// What takes the pieces of a text. It may move to another thread.
+/// What takes the blocks of a text. It may move to another thread.
 #[derive(Drop)]
-pub struct PieceSource<A: Allocator> {
-    pub(crate) filled: Consumer<Piece<A>, A, Filled>,
-    pub(crate) emptied: Producer<Piece<A>, A, Emptied>,
+pub struct BlockSource<A: Allocator> {
+    pub(crate) filled: Consumer<Block<A>, A, Filled>,
+    pub(crate) emptied: Producer<Block<A>, A, Emptied>,
 }
 
-/// Gives back a piece that was written.
-fn give_back<A: Allocator>(emptied: &mut Producer<Piece<A>, A, Emptied>, piece: Piece<A>)
-    requires { PIECE_BYTES ≤ vec_capacity piece }
+/// Gives back a block that was written.
+fn give_back<A: Allocator>(emptied: &mut Producer<Block<A>, A, Emptied>, block: Block<A>)
+    requires { BLOCK_BYTES ≤ vec_capacity block }
 {
-    let mut piece = piece;
-    piece.clear();
-    // There is room for all pieces.
-    let _ = emptied.push(piece);
+    let mut block = block;
+    block.clear();
+    // There is room for all blocks.
+    let _ = emptied.push(block);
 }
 
-impl<A: Allocator> PieceSource<A> {
-    /// Writes the pieces as they come, up to the mark, behind a text whose writing ended so. Behind a write that
+impl<A: Allocator> BlockSource<A> {
+    /// Writes the blocks as they come, up to the mark, behind a text whose writing ended so. Behind a write that
     /// failed, that one's or one of its own, the others are taken, not written.
     pub fn write_to<R: Wait, K: Sink>(
         &mut self,
@@ -37,7 +37,7 @@ impl<A: Allocator> PieceSource<A> {
         sink: &mut K,
         so_far: Result<(), Failed>,
     ) -> Result<(), Failed>
-        requires works { OnOk so_far (K.has_failed sink.old ≡ false) }
+        requires not_failed { OnOk so_far (K.has_failed sink.old ≡ false) }
         requires failed { OnErr so_far (K.has_failed sink.old ≡ true) }
         requires unread { IsUnread self.old }
         ensures read { IsRead self.new }
@@ -49,15 +49,15 @@ impl<A: Allocator> PieceSource<A> {
         let mut looks = 0u32;
         for _ in rt.forever() {
             match self.filled.pop() {
-                Ok(piece) => {
-                    if piece.is_empty() {
+                Ok(block) => {
+                    if block.is_empty() {
                         return result;
                     }
                     looks = found(looks);
                     if result.is_ok() {
-                        result = write_all(sink, &piece);
+                        result = write_all(sink, &block);
                     }
-                    give_back(&mut self.emptied, piece);
+                    give_back(&mut self.emptied, block);
                 }
                 Err(_) => looks = rest(rt, looks),
             }

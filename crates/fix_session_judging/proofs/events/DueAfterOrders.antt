@@ -3,13 +3,13 @@ use Rattle.std.proofs.Common.{◌≡◌, ℕ, ◌+◌, ◌<◌, ◌≤◌, List,
 use Rattle.spread_rules.specs.declared.event.Event.TheVariants as events
 use Rattle.spread_rules.specs.declared.event.Ticket.{Ticket}
 use Rattle.fix_wire_frames.specs.Messages.{kind}
-use Rattle.fix_session_kinds.specs.declared.table.Meaning.TheVariants.{Gives}
+use Rattle.fix_session_kinds.specs.declared.table.Meaning.TheVariants.{Says}
 use Rattle.fix_session_kinds.specs.Table.{◌>>=◌, value_at, new_order, meaning_of_message}
 use Rattle.fix_session_kinds.specs.code.ByKind.{meaning_of_kind_text}
 use Rattle.fix_session_kinds.proofs.KindOfBytes.{meaning_is}
 use Rattle.fix_session_judging.specs.View.{due_after_accepted}
 
-order_due : (n : ℕ) (s : Result (List ℕ) ℕ) (r : Result Ticket ℕ) → due_after_accepted n (s >>= λ stamp. (r >>= λ t. Ok (Gives (events.New t)))) ≡ n + 1
+order_due : (n : ℕ) (s : Result (List ℕ) ℕ) (r : Result Ticket ℕ) → due_after_accepted n (s >>= λ stamp. (r >>= λ t. Ok (Says (events.New t)))) ≡ n + 1
 order_due n (Ok stamp) (Ok t) = refl
 order_due n (Ok stamp) (Err e) = refl
 order_due n (Err e) r = refl

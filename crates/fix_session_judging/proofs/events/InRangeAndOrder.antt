@@ -16,7 +16,7 @@ use Rattle.fix_wire_values.specs.Digits.{number_of}
 use Rattle.fix_wire_values.specs.Values.{is_number, within, number_in}
 use Rattle.fix_wire_frames.specs.Messages.{get, number, given_number}
 use Rattle.fix_session_kinds.specs.declared.table.Meaning.{Meaning}
-use Rattle.fix_session_kinds.specs.declared.table.Meaning.TheVariants.{Nothing, Gives, Fills}
+use Rattle.fix_session_kinds.specs.declared.table.Meaning.TheVariants.{Nothing, Says, GapFill}
 use Rattle.fix_session_judging.specs.declared.session.Logon.{Logon}
 use Rattle.fix_session_judging.specs.declared.session.Running.{Running}
 use Rattle.fix_session_judging.specs.declared.session.State.{State}
@@ -98,14 +98,14 @@ logon_holds m n = subst (May FitsLogon) (sym (logon_is m n)) (parts_hold m n)
 
 event_holds : (n : ℕ) (r : Result Meaning ℕ) → IsNumber n → Holds (FitsMeaning n) r → May IsGiven (event_of_accepted n r)
 event_holds n (Ok Nothing) num h = tt
-event_holds n (Ok (Gives e)) num h = h
-event_holds n (Ok (Fills next)) num h = tt
+event_holds n (Ok (Says e)) num h = h
+event_holds n (Ok (GapFill next)) num h = tt
 event_holds n (Err reason) num h = record { fits = (num, h); no_logon = refl; no_close = refl }
 
 next_holds : (n : ℕ) (r : Result Meaning ℕ) → IsNumber n → Holds (FitsMeaning n) r → 1 ≤ due_after_accepted n r
 next_holds n (Ok Nothing) num h = omega arith
-next_holds n (Ok (Gives e)) num h = omega arith
-next_holds n (Ok (Fills next)) num h = omega (arith, num.0, h)
+next_holds n (Ok (Says e)) num h = omega arith
+next_holds n (Ok (GapFill next)) num h = omega (arith, num.0, h)
 next_holds n (Err reason) num h = omega arith
 
 view_with_fair : (m : List ℕ) (n : ℕ) → IsNumber n → IsFair (view_with m n)

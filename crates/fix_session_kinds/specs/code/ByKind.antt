@@ -4,7 +4,7 @@ use Rattle.std.specs.Prelude.{ℕ, ◌==◌, List, [], ◌∷◌, Option, Result
 use Rattle.spread_rules.specs.declared.codes.session_reject_reason.TheConstants as reject
 use Rattle.fix_session_kinds.specs.declared.table.Meaning.{Meaning}
 use Rattle.fix_session_kinds.specs.Table.{◌>>=◌, meaning_by}
-use Rattle.fix_session_kinds.specs.code.Shown.{stamped}
+use Rattle.fix_session_kinds.specs.code.Readers.{stamped}
 
 -- what was said by a kind, if it is known and SendingTime stands
 abbrev pub known : Option (Result Meaning ℕ) → List ℕ → Result Meaning ℕ

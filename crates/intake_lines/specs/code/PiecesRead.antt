@@ -5,13 +5,13 @@ use Rattle.spread_rules_ids.specs.declared.bytes.TheConstants.{LINE_FEED}
 use Rattle.spread_rules_ids.specs.Cut.{Lacks}
 use Rattle.intake_lines.specs.LineText.{DayLine}
 use Rattle.intake_lines.specs.code.OneByOne.{lines_of, prepend, session_lines, lines_said}
-use Rattle.intake_lines.specs.code.Lanes.{AreFed}
+use Rattle.intake_lines.specs.code.LineSessions.{AreFed}
 use Rattle.intake_lines.specs.declared.day_reader.DayReader.{DayReader}
 
 -- No line that ended was bad. Whatever follows, the text says what was fed, and then what the rest says with it.
 pub record IsGoing {A : Type 0} (text : List ℕ) (reader : DayReader A) : Type 0 where
   pub done : List DayLine
-  pub fed : AreFed done reader.lanes
+  pub fed : AreFed done reader.line_sessions
   pub says : (more : List ℕ) → lines_said (text ++ more)
       ≡ prepend done (session_lines reader.number (lines_of (reader.rest.items ++ more)))
   -- no line ends in the rest

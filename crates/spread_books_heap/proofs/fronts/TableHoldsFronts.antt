@@ -13,7 +13,7 @@ use Rattle.spread_rules_rulebook.proofs.lists.Membership.{not_in_nil, in_head, i
 use Rattle.spread_books_plain.specs.Queues.{IsFront, IsFrontLevel, is_ahead}
 use Rattle.spread_books_rows.specs.Places.{Ascends}
 use Rattle.spread_books_queues.specs.FrontTable.{has_slot, slot_number, slot_of, slot_in, put_in, known_price, with_known_price, best_price_of, level_at}
-use Rattle.spread_books_heap.specs.code.FrontPrices.{IsBestPrice, HoldsPrices, becomes_front, may_be_at}
+use Rattle.spread_books_heap.specs.code.FrontPrices.{IsBestPrice, HoldsPrices, becomes_front, may_be_front}
 use Rattle.spread_books_queues.specs.declared.front_table.BestPrice.{BestPrice}
 use Rattle.spread_books_plain.proofs.fronts.FoldGivesFront.{same_queue}
 use Rattle.spread_books_rows.proofs.places.Ascending.{is_so, is_found}
@@ -171,11 +171,11 @@ not_nobody (x ∷ xs) place o c e h =
     ]
 
 -- whom the test tells apart
-apart : (f : Option Order) (b : Option BestPrice) (place : ℕ) → b ≡ option_map best_price_of f → may_be_at b place ≡ false → (h : Order) → f ≡ Some h → h.place ≡ place → ⊥
+apart : (f : Option Order) (b : Option BestPrice) (place : ℕ) → b ≡ option_map best_price_of f → may_be_front b place ≡ false → (h : Order) → f ≡ Some h → h.place ≡ place → ⊥
 apart None b place e t h is k = cc
 apart (Some g) b place e t h is k =
     let same : g.place ≡ place = ap (λ (p : Order). p.place) (let s : g ≡ h = cc in s) ∙ k in
-    let at : may_be_at (Some (best_price_of g)) place ≡ false = subst (λ (r : Option BestPrice). may_be_at r place ≡ false) e t in
+    let at : may_be_front (Some (best_price_of g)) place ≡ false = subst (λ (r : Option BestPrice). may_be_front r place ≡ false) e t in
     let n : (g.place == place) ≡ true = grind (arith, nat_tests) in
     cc
 
@@ -186,7 +186,7 @@ module _ (xs : List Order) (slots : List (Option BestPrice)) (o : Order) (h : Ho
   pub prices_removed : (b : Option BestPrice) → IsBestPrice (removed o.place xs) o.instrument o.side b → HoldsPrices (removed o.place xs) (with_known_price slots o.instrument o.side b)
   prices_removed b best = prices_put (removed o.place xs) slots o.instrument o.side others_removed b best
 
-  pub prices_unremoved : ((b : Option BestPrice) → known_price slots o.instrument o.side ≡ Some b → may_be_at b o.place ≡ false) → HoldsPrices (removed o.place xs) slots
+  pub prices_unremoved : ((b : Option BestPrice) → known_price slots o.instrument o.side ≡ Some b → may_be_front b o.place ≡ false) → HoldsPrices (removed o.place xs) slots
   prices_unremoved other =
       prices_kept (removed o.place xs) slots o.instrument o.side others_removed
       (λ b k. let a = h o.instrument o.side b k in (a.0, front_removed xs o.place o.instrument o.side a.0 (apart a.0 b o.place a.2 (other b k)) a.1, a.2))

@@ -36,6 +36,6 @@ becomes_front o None = true
 becomes_front o (Some b) = is_ahead_of o.side (best_price_of o) b
 
 -- no other order is known to be that front
-abbrev pub may_be_at : Option BestPrice → ℕ → Bool
-may_be_at None place = true
-may_be_at (Some b) place = b.place == place
+abbrev pub may_be_front : Option BestPrice → ℕ → Bool
+may_be_front None place = true
+may_be_front (Some b) place = b.place == place

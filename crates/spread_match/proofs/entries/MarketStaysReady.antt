@@ -23,7 +23,7 @@ use Rattle.spread_books_search.specs.Listed.{IsNearFirst, IsInMonths}
 use Rattle.spread_match_trading.specs.Tradable.{IsTradable}
 use Rattle.spread_match_state.specs.Trade.{IsPriced}
 use Rattle.spread_match_state.specs.code.StateAfter.{IsReady, first_status, meaning_in, state_after, state_with, statuses_after_replace}
-use Rattle.spread_match_orders.specs.code.Known.{AreKnown, place_of_id}
+use Rattle.spread_match_orders.specs.code.Entering.{HaveStatuses, place_of_id}
 use Rattle.spread_match_statuses.specs.code.Statuses.{status_after_fill, status_after_replace, statuses_after}
 use Rattle.spread_match_statuses.proofs.status_rows.MarkedRows.{KeepsName, has_id_kept, has_own_id}
 use Rattle.spread_match_statuses.proofs.status_rows.MarksOfEntries.{fill_keeps, replace_keeps}
@@ -224,7 +224,7 @@ replace_come rules xs place session original t used earlier (Some o) e differ P 
     (λ a p. traded_come (implied rules) (references_of rules) (moved_to place t o) (removed o.place xs) false P (All-filter (λ (w : Order). not (w.place == o.place)) (λ (w : Order). P w.session w.id w.place) xs h) (mine place (p (free a))))
     own
 
-known_after : (rules : Rules) (m : MarketState) (place session : ℕ) (event : Event) → PlacesDiffer m.orders → AreKnown m.statuses m.orders → AreKnown (state_after rules m place session event).statuses (meaning_in rules m place session event).orders
+known_after : (rules : Rules) (m : MarketState) (place session : ℕ) (event : Event) → PlacesDiffer m.orders → HaveStatuses m.statuses m.orders → HaveStatuses (state_after rules m place session event).statuses (meaning_in rules m place session event).orders
 known_after rules m place session event differ h = by_event event refl
   where
     e : EntryMeaning

@@ -18,7 +18,7 @@ use Rattle.spread_rules.specs.code.Cases.{status_at}
 use Rattle.spread_rules.specs.Meaning.{EntryMeaning, JournalState, PastTicket, has_id, is_filled, is_refused, is_replaced, names, asked_by, original_of, past_tickets, place_left, status_of, statuses_of, ticket_of, with_meaning}
 use Rattle.spread_rules_rulebook.proofs.lists.Membership.{in_head, in_tail, in_cons_cases, not_in_nil}
 use Rattle.spread_match_state.specs.code.StateAfter.{first_status, statuses_after_replace}
-use Rattle.spread_match_statuses.specs.code.Statuses.{is_open, status_after_fill, status_after_replace, statuses_after}
+use Rattle.spread_match_statuses.specs.code.Statuses.{was_accepted, status_after_fill, status_after_replace, statuses_after}
 use Rattle.spread_match.specs.Sound.{IsNamed, IsOriginalNamed}
 use Rattle.spread_match_statuses.proofs.status_rows.MarkedRows.{same_number}
 
@@ -97,11 +97,11 @@ filled_more fills entered f p =
     let filled = is_filled p.session p.ticket.id fills in
     let replaced = is_replaced p.session p.ticket.id entered in
     let test = f.session == p.session && bytes_eq f.id p.ticket.id && f.leaves == 0 in
-    let turned : (is_open f.session f.id s && f.leaves == 0) ≡ (test && not (s.status == 8)) =
+    let turned : (was_accepted f.session f.id s && f.leaves == 0) ≡ (test && not (s.status == 8)) =
     ap (λ (b : Bool). ((b && bytes_eq s.id f.id) && not (s.status == 8)) && f.leaves == 0) (number_turned p.session f.session)
     ∙ (ap (λ (b : Bool). ((f.session == p.session && b) && not (s.status == 8)) && f.leaves == 0) (bytes_turned p.ticket.id f.id)
     ∙ moved (f.session == p.session) (bytes_eq f.id p.ticket.id) (not (s.status == 8)) (f.leaves == 0)) in
-    put_status (is_open f.session f.id s && f.leaves == 0) s 2
+    put_status (was_accepted f.session f.id s && f.leaves == 0) s 2
     ∙ ap (λ (k : ℕ). record s { status = k })
     (ap (λ (b : Bool). cond b 2 s.status) turned
     ∙ (mark_filled_at refused filled replaced test

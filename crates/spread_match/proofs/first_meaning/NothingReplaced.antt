@@ -15,7 +15,7 @@ use Rattle.spread_rules.specs.declared.outcome.Outcome.TheVariants.{Rested, Fill
 use Rattle.spread_rules.specs.declared.outcome.OrderStatus.{OrderStatus}
 use Rattle.spread_rules.specs.Clearing.{Trading, begin, clear, removed}
 use Rattle.spread_rules.specs.Meaning.{JournalState, PastTicket, after_entry, cancel_means, filled, has_id, is_own, is_refused, meaning_of, new_means, no_entries, order_of, outcome_of, place_left, refusal_or_instrument, resting, statuses_of, with_meaning}
-use Rattle.spread_rules.specs.FirstMeaning.{is_replace, is_refused as was_refused}
+use Rattle.spread_rules.specs.MeaningBeforeReplaces.{is_replace, is_refused as was_refused}
 use Rattle.spread_rules_rulebook.specs.Rulebook.{Rules, find_symbol, month_count, references_of, implied}
 use Rattle.spread_rules_rulebook.proofs.lists.Membership.{not_in_nil}
 use Rattle.spread_match.specs.Sound.{IsSound}

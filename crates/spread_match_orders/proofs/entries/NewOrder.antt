@@ -12,7 +12,7 @@ use Rattle.spread_rules.proofs.clearings.ClearIsTurns.{clear_is}
 use Rattle.spread_rules.proofs.clearings.TurnsEnd.{keeps_turns}
 use Rattle.spread_books_search.specs.Listed.{IsNearFirst, IsInMonths}
 use Rattle.spread_match_trading.specs.Tradable.{IsTradable}
-use Rattle.spread_match_orders.specs.code.Known.{orders_after_trading}
+use Rattle.spread_match_orders.specs.code.Entering.{orders_after_trading}
 use Rattle.spread_match_trading.specs.code.Turns.{IsNewest}
 use Rattle.spread_rules_rulebook.specs.declared.instrument.Instrument.{Instrument}
 use Rattle.spread_rules.specs.declared.outcome.OrderStatus.{OrderStatus}

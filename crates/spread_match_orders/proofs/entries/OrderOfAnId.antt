@@ -12,24 +12,24 @@ use Rattle.spread_rules.specs.declared.outcome.OrderStatus.{OrderStatus}
 use Rattle.spread_rules.specs.Candidates.{PlacesDiffer}
 use Rattle.spread_rules.specs.Meaning.{has_id, is_own}
 use Rattle.spread_books_rows.proofs.places.Ascending.{unfound, unfound_by}
-use Rattle.spread_match_orders.specs.code.Known.{AreKnown, place_of_id}
+use Rattle.spread_match_orders.specs.code.Entering.{HaveStatuses, place_of_id}
 use Rattle.spread_match_orders.proofs.entries.FoundStands.{find_holds, find_none, find_stands}
 use Rattle.spread_match_statuses.proofs.status_rows.MarkedRows.{same_number}
 
 -- an order of that session and id stands at the place that their status names
-known_own : (xs : List Order) (ss : List OrderStatus) (session : ℕ) (id : List ℕ) (o : Order) → AreKnown ss xs → Contains xs o → is_own session id o ≡ true → place_of_id ss session id ≡ Some o.place
+known_own : (xs : List Order) (ss : List OrderStatus) (session : ℕ) (id : List ℕ) (o : Order) → HaveStatuses ss xs → Contains xs o → is_own session id o ≡ true → place_of_id ss session id ≡ Some o.place
 known_own xs ss session id o known c e =
     let k = and_parts (o.session == session) (bytes_eq o.id id) e in
     let at = All-contains (λ (w : Order). place_of_id ss w.session w.id ≡ Some w.place) xs o known c in
     subst (λ (n : ℕ). place_of_id ss n id ≡ Some o.place) (same_number o.session session k.0) (subst (λ (i : List ℕ). place_of_id ss o.session i ≡ Some o.place) ((bytes_eq-Decides o.id id).0 k.1) at)
 
 -- no order rests with it
-pub unused_rests : (xs : List Order) (ss : List OrderStatus) (session : ℕ) (id : List ℕ) → AreKnown ss xs → find (has_id session id) ss ≡ None → find (is_own session id) xs ≡ None
+pub unused_rests : (xs : List Order) (ss : List OrderStatus) (session : ℕ) (id : List ℕ) → HaveStatuses ss xs → find (has_id session id) ss ≡ None → find (is_own session id) xs ≡ None
 unused_rests xs ss session id known none = find_none (is_own session id) xs (λ o c e.
     let at = known_own xs ss session id o known c e in
     let no : ◌≡◌ {A = Option ℕ} None (Some o.place) = sym (ap (option_map (λ (s : OrderStatus). s.place)) none) ∙ at in cc)
 
-module _ (xs : List Order) (ss : List OrderStatus) (session : ℕ) (id : List ℕ) (s : OrderStatus) (differ : PlacesDiffer xs) (known : AreKnown ss xs) (is : find (has_id session id) ss ≡ Some s) where
+module _ (xs : List Order) (ss : List OrderStatus) (session : ℕ) (id : List ℕ) (s : OrderStatus) (differ : PlacesDiffer xs) (known : HaveStatuses ss xs) (is : find (has_id session id) ss ≡ Some s) where
   own_at : (o : Order) → Contains xs o → is_own session id o ≡ true → o.place ≡ s.place
   own_at o c e =
       let at = known_own xs ss session id o known c e in

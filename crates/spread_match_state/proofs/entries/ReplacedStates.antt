@@ -22,7 +22,7 @@ use Rattle.spread_books_plain.specs.Queues.{CanAmend}
 use Rattle.spread_match_state.specs.State.{MarketState}
 use Rattle.spread_match_trading.specs.Tradable.{IsTradable}
 use Rattle.spread_match_state.specs.code.StateAfter.{meaning_in, moved_in, replaced_in, state_after, state_with}
-use Rattle.spread_match_orders.specs.code.Known.{AreKnown, entered_status}
+use Rattle.spread_match_orders.specs.code.Entering.{HaveStatuses, entered_status}
 use Rattle.spread_match_orders.specs.code.Refusals.{replace_refusal}
 use Rattle.spread_match_statuses.specs.code.Statuses.{status_after_replace, statuses_after}
 use Rattle.spread_match_trading.specs.code.Turns.{IsNewest}
@@ -111,7 +111,7 @@ moved_state rules m place t r n orders statuses d same e f g =
 
 -- ---- a replace that keeps its place
 
-pub may_amend : (xs : List Order) (ss : List OrderStatus) (r : Order) (id : List ℕ) (quantity : ℕ) → PlacesDiffer xs → AreKnown ss xs → Contains xs r → find (has_id r.session id) ss ≡ None → done r < quantity → quantity ≤ 999999 →
+pub may_amend : (xs : List Order) (ss : List OrderStatus) (r : Order) (id : List ℕ) (quantity : ℕ) → PlacesDiffer xs → HaveStatuses ss xs → Contains xs r → find (has_id r.session id) ss ≡ None → done r < quantity → quantity ≤ 999999 →
     CanAmend xs r.place id quantity
 may_amend xs ss r id quantity differ known stands unused more most = record {
   order = r;

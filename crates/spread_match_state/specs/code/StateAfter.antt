@@ -15,7 +15,7 @@ use Rattle.spread_rules.specs.declared.event.Event.{Event}
 use Rattle.spread_rules.specs.declared.outcome.Outcome.{Outcome}
 use Rattle.spread_rules.specs.declared.outcome.Outcome.TheVariants.{Refused}
 use Rattle.spread_match_trading.specs.Tradable.{IsTradable}
-use Rattle.spread_match_orders.specs.code.Known.{entered_status, trading_of, AreKnown}
+use Rattle.spread_match_orders.specs.code.Entering.{entered_status, trading_of, HaveStatuses}
 use Rattle.spread_rules.specs.Meaning.{EntryMeaning, has_id, instrument_or_refusal_of, is_own, is_refused, meaning_with, moved_to, order_of, original_of, place_left, ticket_of, untraded, cancel_means}
 use Rattle.spread_rules_rulebook.specs.Rulebook.{implied, Rules, references_of}
 use Rattle.spread_match_state.specs.State.{MarketState}
@@ -114,4 +114,4 @@ with_refusal m o =
 pub record IsReady (months : ℕ) (m : MarketState) : Type 0 where
   pub tradable : IsTradable months m.orders
   pub below : All (λ o. o.place ≤ m.last) m.orders
-  pub known : AreKnown m.statuses m.orders
+  pub known : HaveStatuses m.statuses m.orders

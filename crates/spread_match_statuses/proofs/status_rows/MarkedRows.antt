@@ -16,7 +16,7 @@ use Rattle.spread_rules_ids.specs.IdKeys.{IsIdBytes, key_of}
 use Rattle.spread_books_ids.specs.declared.id_table.IdTable.{IdTable}
 use Rattle.spread_books_ids.specs.Ids.{first_row}
 use Rattle.spread_books_ids.specs.Tables.{IsTableOf}
-use Rattle.spread_match_statuses.specs.code.Statuses.{is_open, AreRefusedLater, key_of_status, IsIndex}
+use Rattle.spread_match_statuses.specs.code.Statuses.{was_accepted, AreRefusedLater, key_of_status, IsIndex}
 use Rattle.spread_match_statuses.proofs.status_rows.ByClOrdId.{find_is}
 
 -- ---- whose a status is
@@ -47,7 +47,7 @@ turned s t h = same_order s.session s.id t s h (has_own_id s)
 -- ---- the one that is open
 
 abbrev pub IsClosed : ℕ → List ℕ → OrderStatus → Type 0
-IsClosed session id s = is_open session id s ≡ false
+IsClosed session id s = was_accepted session id s ≡ false
 
 is_eight : (n : ℕ) → n ≡ 8 → not (n == 8) ≡ false
 is_eight n e = ap (λ (k : ℕ). not (k == 8)) e
@@ -56,7 +56,7 @@ closed_if : (session : ℕ) (id : List ℕ) (s : OrderStatus) (b : Bool) → has
 closed_if session id s true e h = ap (λ (b : Bool). b && not (s.status == 8)) e ∙ is_eight s.status (h refl)
 closed_if session id s false e h = ap (λ (b : Bool). b && not (s.status == 8)) e
 
-open_has_id : (session : ℕ) (id : List ℕ) (s : OrderStatus) → is_open session id s ≡ true → has_id session id s ≡ true
+open_has_id : (session : ℕ) (id : List ℕ) (s : OrderStatus) → was_accepted session id s ≡ true → has_id session id s ≡ true
 open_has_id session id s h = (and_parts (has_id session id s) (not (s.status == 8)) h).0
 
 -- behind the first of a session and id none is open
@@ -98,7 +98,7 @@ stands_closed session id (s ∷ ss) zero r h e = subst (IsClosed session id) (so
 stands_closed session id (s ∷ ss) (suc at) r h e = stands_closed session id ss at r (All-tail (IsClosed session id) s ss h) e
 
 -- the one that is open is changed, the others stay
-pub one_marked : (session : ℕ) (id : List ℕ) (g : OrderStatus → OrderStatus) (ss : List OrderStatus) (at : ℕ) (r : OrderStatus) → IsMarkOf session id g → AreRefusedLater ss → slice_get ss at ≡ Some r → is_open session id r ≡ true →
+pub one_marked : (session : ℕ) (id : List ℕ) (g : OrderStatus → OrderStatus) (ss : List OrderStatus) (at : ℕ) (r : OrderStatus) → IsMarkOf session id g → AreRefusedLater ss → slice_get ss at ≡ Some r → was_accepted session id r ≡ true →
     set ss at (g r) ≡ map g ss
 one_marked session id g [] at r m h e o = refl
 one_marked session id g (s ∷ ss) zero r m h e o =

@@ -5,7 +5,7 @@ use Rattle.std.proofs.lemmas.Bool.Decides.{nat_tests}
 use Rattle.spread_rules.specs.declared.fill.Fill.{Fill}
 use Rattle.spread_rules.specs.declared.outcome.OrderStatus.{OrderStatus}
 use Rattle.spread_rules.specs.Meaning.{has_id}
-use Rattle.spread_match_statuses.specs.code.Statuses.{is_open, status_after_fill, status_after_replace, AreRefusedLater, key_of_status, IsOpenRow}
+use Rattle.spread_match_statuses.specs.code.Statuses.{was_accepted, status_after_fill, status_after_replace, AreRefusedLater, key_of_status, IsAcceptedRow}
 use Rattle.spread_books_ids.proofs.TakenBack.{set_again}
 use Rattle.spread_match_statuses.proofs.status_rows.MarkedRows.{IsMarkOf, KeepsName, one_marked}
 
@@ -39,24 +39,24 @@ same_key false k s = refl
 
 pub fill_keeps : (f : Fill) → KeepsName (status_after_fill f)
 fill_keeps f = record {
-  session = λ s. same_session (is_open f.session f.id s && f.leaves == 0) 2 s;
-  id = λ s. same_id (is_open f.session f.id s && f.leaves == 0) 2 s;
-  place = λ s. same_place (is_open f.session f.id s && f.leaves == 0) 2 s;
+  session = λ s. same_session (was_accepted f.session f.id s && f.leaves == 0) 2 s;
+  id = λ s. same_id (was_accepted f.session f.id s && f.leaves == 0) 2 s;
+  place = λ s. same_place (was_accepted f.session f.id s && f.leaves == 0) 2 s;
   refused = λ s e. ap (λ (t : OrderStatus). t.status) (fill_refused f s e) ∙ e;
 }
 
 pub fill_key : (f : Fill) (s : OrderStatus) → key_of_status (status_after_fill f s) ≡ key_of_status s
-fill_key f s = same_key (is_open f.session f.id s && f.leaves == 0) 2 s
+fill_key f s = same_key (was_accepted f.session f.id s && f.leaves == 0) 2 s
 
 -- a fill that leaves something marks none
 pub no_mark : (f : Fill) (s : OrderStatus) → (f.leaves == 0) ≡ false → status_after_fill f s ≡ s
-no_mark f s e = by_test (is_open f.session f.id s)
+no_mark f s e = by_test (was_accepted f.session f.id s)
   where
     by_test : (a : Bool) → cond (a && f.leaves == 0) (record s { status = 2 }) s ≡ s
     by_test true = ap (λ (b : Bool). cond b (record s { status = 2 }) s) e
     by_test false = refl
 
-pub filled_row : (f : Fill) (s : OrderStatus) → is_open f.session f.id s ≡ true → f.leaves ≡ 0 → status_after_fill f s ≡ record s { status = 2 }
+pub filled_row : (f : Fill) (s : OrderStatus) → was_accepted f.session f.id s ≡ true → f.leaves ≡ 0 → status_after_fill f s ≡ record s { status = 2 }
 filled_row f s o e =
     ap (λ (b : Bool). cond (b && f.leaves == 0) (record s { status = 2 }) s) o
     ∙ ap (λ (n : ℕ). cond (n == 0) (record s { status = 2 }) s) e
@@ -85,7 +85,7 @@ replace_keeps session id = record {
 pub replace_key : (session : ℕ) (id : List ℕ) (s : OrderStatus) → key_of_status (status_after_replace session id s) ≡ key_of_status s
 replace_key session id s = same_key (has_id session id s && s.status == 4) 5 s
 
-pub replaced_row : (session : ℕ) (id : List ℕ) (s : OrderStatus) → is_open session id s ≡ true → s.status ≡ 4 → status_after_replace session id s ≡ record s { status = 5 }
+pub replaced_row : (session : ℕ) (id : List ℕ) (s : OrderStatus) → was_accepted session id s ≡ true → s.status ≡ 4 → status_after_replace session id s ≡ record s { status = 5 }
 replaced_row session id s o e =
     ap (λ (b : Bool). cond (b && s.status == 4) (record s { status = 5 }) s) (has (has_id session id s) (s.status == 8) o)
     ∙ ap (λ (n : ℕ). cond (n == 4) (record s { status = 5 }) s) e
@@ -109,16 +109,16 @@ leaves_some f (s ∷ ss) h =
     let e : (f.leaves == 0) ≡ false = grind (arith, nat_tests) in
     ap (λ (x : OrderStatus). x ∷ ss) (sym (no_mark f s e)) ∙ ap (λ (xs : List OrderStatus). status_after_fill f s ∷ xs) (leaves_some f ss h)
 
-row_is : (ss : List OrderStatus) (session : ℕ) (id : List ℕ) (at : ℕ) (now : OrderStatus) (o : IsOpenRow ss session id at) → now ≡ get_or ss at now → now ≡ o.status
+row_is : (ss : List OrderStatus) (session : ℕ) (id : List ℕ) (at : ℕ) (now : OrderStatus) (o : IsAcceptedRow ss session id at) → now ≡ get_or ss at now → now ≡ o.status
 row_is ss session id at now o e = e ∙ get_or_from_slice_get ss at o.status now o.stands
 
-pub set_filled : (f : Fill) (ss : List OrderStatus) (at : ℕ) (now : OrderStatus) → IsOpenRow ss f.session f.id at → AreRefusedLater ss → f.leaves ≡ 0 → now ≡ get_or ss at now →
+pub set_filled : (f : Fill) (ss : List OrderStatus) (at : ℕ) (now : OrderStatus) → IsAcceptedRow ss f.session f.id at → AreRefusedLater ss → f.leaves ≡ 0 → now ≡ get_or ss at now →
     set ss at (record now { status = 2 }) ≡ map (status_after_fill f) ss
 set_filled f ss at now o h none e =
     ap (λ (s : OrderStatus). set ss at (record s { status = 2 })) (row_is ss f.session f.id at now o e)
     ∙ (ap (set ss at) (sym (filled_row f o.status o.is none)) ∙ one_marked f.session f.id (status_after_fill f) ss at o.status (fill_marks f) h o.stands o.is)
 
-pub set_replaced : (session : ℕ) (id : List ℕ) (ss : List OrderStatus) (at : ℕ) (now : OrderStatus) → IsOpenRow ss session id at → AreRefusedLater ss → get_or ss at now ≡ now → now.status ≡ 4 → (next : OrderStatus) → next ≡ get_or ss at next →
+pub set_replaced : (session : ℕ) (id : List ℕ) (ss : List OrderStatus) (at : ℕ) (now : OrderStatus) → IsAcceptedRow ss session id at → AreRefusedLater ss → get_or ss at now ≡ now → now.status ≡ 4 → (next : OrderStatus) → next ≡ get_or ss at next →
     set ss at (record next { status = 5 }) ≡ map (status_after_replace session id) ss
 set_replaced session id ss at now o h e four next f =
     let same = row_is ss session id at now o (sym e) in
@@ -127,7 +127,7 @@ set_replaced session id ss at now o h e four next f =
     ∙ one_marked session id (status_after_replace session id) ss at o.status (replace_marks session id) h o.stands o.is)
 
 -- the one that is open is not canceled, so none is marked
-pub none_replaced : (session : ℕ) (id : List ℕ) (ss : List OrderStatus) (at : ℕ) (now : OrderStatus) → IsOpenRow ss session id at → AreRefusedLater ss → now ≡ get_or ss at now → (now.status ≡ 4 → ⊥) →
+pub none_replaced : (session : ℕ) (id : List ℕ) (ss : List OrderStatus) (at : ℕ) (now : OrderStatus) → IsAcceptedRow ss session id at → AreRefusedLater ss → now ≡ get_or ss at now → (now.status ≡ 4 → ⊥) →
     ss ≡ map (status_after_replace session id) ss
 none_replaced session id ss at now o h e four =
     let same = row_is ss session id at now o e in

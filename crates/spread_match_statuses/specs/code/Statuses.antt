@@ -11,13 +11,13 @@ use Rattle.spread_books_ids.specs.declared.id_table.IdTable.{IdTable}
 use Rattle.spread_books_ids.specs.Tables.{IsTableOf}
 
 -- the order of that session and id, which was not refused
-abbrev pub is_open : ℕ → List ℕ → OrderStatus → Bool
-is_open session id s = has_id session id s && not (s.status == ord_status.REJECTED)
+abbrev pub was_accepted : ℕ → List ℕ → OrderStatus → Bool
+was_accepted session id s = has_id session id s && not (s.status == ord_status.REJECTED)
 
 -- an order whose fill leaves nothing is filled
 abbrev pub status_after_fill : Fill → OrderStatus → OrderStatus
 status_after_fill f s =
-    cond (is_open f.session f.id s && f.leaves == 0) (record s { status = ord_status.FILLED }) s
+    cond (was_accepted f.session f.id s && f.leaves == 0) (record s { status = ord_status.FILLED }) s
 
 abbrev pub statuses_after_fill : List OrderStatus → Fill → List OrderStatus
 statuses_after_fill ss f = map (status_after_fill f) ss
@@ -48,7 +48,7 @@ pub record IsIndex {A : Type 0} (first : IdTable A) (rows : List OrderStatus) : 
   pub table : IsTableOf first (map key_of_status rows)
 
 -- at that row stands the order of that session and id, which was not refused
-pub record IsOpenRow (rows : List OrderStatus) (session : ℕ) (id : List ℕ) (at : ℕ) : Type 0 where
+pub record IsAcceptedRow (rows : List OrderStatus) (session : ℕ) (id : List ℕ) (at : ℕ) : Type 0 where
   pub status : OrderStatus
   pub stands : slice_get rows at ≡ Some status
-  pub is : is_open session id status ≡ true
+  pub is : was_accepted session id status ≡ true

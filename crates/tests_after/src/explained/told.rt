@@ -1,7 +1,7 @@
 //! What is told of an entry, in values.
 use crate::expect::holds;
 use crate::rules::three_months;
-use explain_entries::tell;
+use explain_entries::explain_entry;
 use spread_journal::read_journal;
 use spread_rules::Outcome;
 use tests_shared::FIRST_TRADE_JOURNAL;
@@ -13,7 +13,7 @@ fn second_order_of_the_first_trade(rt: HostRuntime) {
     let read = read_journal(rt.alloc(), FIRST_TRADE_JOURNAL);
     let journal = read.ok().expect(&rt, "a journal");
     holds(&rt, journal.len() == 4);
-    let told = tell(rt.alloc(), &rules, &journal[..2], &journal[2]).expect(&rt, "memory");
+    let told = explain_entry(rt.alloc(), &rules, &journal[..2], &journal[2]).expect(&rt, "memory");
     holds(
         &rt,
         matches!(told.outcome, Outcome::Filled) && told.named.is_none(),

@@ -9,7 +9,7 @@ use crate::expect::holds;
 use crate::rules::three_months;
 use apply_desk::apply_journal;
 use apply_desk::laws::{numbers_spent, one_by_one};
-use apply_market::{AppliedEntries, apply_entries, fills_of_journal};
+use apply_market::{MatchedJournal, apply_entries, fills_of_journal};
 use spread_books::Book;
 use spread_rules::{Entry, Fill, Rulebook};
 use std::alloc::Global;
@@ -60,7 +60,7 @@ fn apply_all(
     requires { All FitsEntry journal.now }
 {
     let count = journal.len();
-    let mut applied = AppliedEntries::with_capacity(alloc, rules, count).expect(rt, "memory");
+    let mut applied = MatchedJournal::with_capacity(alloc, rules, count).expect(rt, "memory");
     let mut seen = 0usize;
     for entry in journal {
         applied.apply(entry).expect(rt, "memory");
@@ -82,7 +82,7 @@ fn expect_whole(rt: &impl Abort, alloc: Global, rules: &Rulebook, journal: &[Ent
     holds(rt, whole.out.len() == 16);
     let alone = fills_of_journal(alloc, rules, journal).expect(rt, "memory");
     holds(rt, alone.as_slice() == fills);
-    let mut applied = AppliedEntries::new(alloc, rules).expect(rt, "memory");
+    let mut applied = MatchedJournal::new(alloc, rules).expect(rt, "memory");
     apply_entries(&mut applied, journal).expect(rt, "memory");
     holds(rt, applied.into_fills().as_slice() == fills);
 }

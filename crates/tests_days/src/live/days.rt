@@ -9,7 +9,7 @@ use text_day::{Day, put_months};
 use fix_wire::{Field, Head, Value, write_message};
 use fix_wire_frames::{msg_types, tags};
 use gate_link::LinkFault;
-use spread_host::{Caps, DayRules, Gate, HostFault, run_day};
+use spread_host::{Caps, DaySettings, Gate, HostFault, run_day};
 use live_day::run_sessions;
 use spread_rules::{Entry, Event, Rulebook, Side};
 use std::alloc::{AllocError, Allocator, Global};
@@ -411,7 +411,7 @@ fn no_bytes(rt: HostRuntime) {
 fn each_message_once(rt: HostRuntime) {
     let watch = Watch::new(64, Meeting::Nowhere);
     let rulebook = three_months(&rt);
-    let rules = DayRules {
+    let rules = DaySettings {
         rulebook: &rulebook,
         stamp: stamp(),
     };

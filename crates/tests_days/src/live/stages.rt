@@ -2,13 +2,13 @@
 use crate::expect::holds;
 use crate::rules::three_months;
 use apply_market::ApplyFault;
-use live_day::{Caps, DayRules, ThreadsFault, of_apply, stages_of};
+use live_day::{Caps, DaySettings, ThreadsFault, of_apply, stages_of};
 use tests_shared::stamp;
 
 #[test]
 fn stages_of_two_sessions(rt: HostRuntime) {
     let rulebook = three_months(&rt);
-    let rules = DayRules {
+    let rules = DaySettings {
         rulebook: &rulebook,
         stamp: stamp(),
     };

@@ -219,7 +219,7 @@ fn changes_of_a_session(rt: HostRuntime) {
     for place in 0..4usize {
         let message = Message::whole(FIRST_MESSAGES[place]).expect(&rt, "a message");
         let mut verdict = Verdict::Nothing;
-        let change = session.judged(&message, &mut verdict);
+        let change = session.judge_into(&message, &mut verdict);
         session.change(&verdict, change);
         expect_said(&rt, verdict, &FIRST_TRADE_SAYS[place]);
     }

@@ -12,7 +12,7 @@ fn a_gap_fill(rt: HostRuntime) {
     let frame = framed(&rt, rt.alloc(), "35=4|34=2|49=C1|56=HOST|52=S|36=9|123=Y|");
     let message = Message::whole(&frame).expect(&rt, "a frame");
     let meaning = meaning_of_message(&message, 2);
-    holds(&rt, matches!(meaning, Ok(Meaning::Fills(9))));
+    holds(&rt, matches!(meaning, Ok(Meaning::GapFill(9))));
 }
 
 /// Its texts, and the ticket that they are.

@@ -1,7 +1,7 @@
 use Rattle.std.proofs.Common.{ap}
 use Rattle.spread_journal_lines.specs.JournalText.{journal_text}
 use Rattle.text_ring.specs.Ends.{text_taken}
-use Rattle.text_messages.proofs.PiecesInTurn.{on_err}
+use Rattle.text_messages.proofs.BlocksInTurn.{on_err}
 use Rattle.exchange_print.proofs.TextInTurn.{both_written}
 use Rattle.exchange_print.proofs.printing.write_text.Goals as goal
 

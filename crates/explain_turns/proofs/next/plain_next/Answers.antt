@@ -15,5 +15,5 @@ returns c =
     record {
       next = subst (IsNextBest on n xs c.args.bound.now) (sym c.least_behind.ensures.value) (fold_is_next on n xs c.args.bound.now);
       least = λ none. c.least_behind.ensures.value ∙ ap (λ (b : Option Candidate). next_candidate_of on n b (counterparties xs)) none ∙ without_bound on n (counterparties xs);
-      small = c.least_behind.ensures.small;
+      small = c.least_behind.ensures.leg_price;
     }

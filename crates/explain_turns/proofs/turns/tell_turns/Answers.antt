@@ -3,7 +3,7 @@ use Rattle.std.proofs.lemmas.List.Elements.{All-push}
 use Rattle.spread_rules.specs.declared.order.Order.{Order}
 use Rattle.spread_rules.specs.Candidates.{HasOrderPrice}
 use Rattle.spread_rules.specs.Clearing.{begin}
-use Rattle.explain_turns.specs.declared.turn.Turn.{Turn}
+use Rattle.explain_turns.specs.declared.turn.ExplainedTurn.{ExplainedTurn}
 use Rattle.explain_turns.specs.Explained.{HaveLegPrices, IsTurn}
 use Rattle.explain_turns.specs.code.Turns.{IsAfter, IsNextTurn}
 use Rattle.explain_turns.proofs.turns_told.TurnsTold.{members_all, one_more, told_all, told_none}
@@ -22,11 +22,11 @@ loop-orders-preserved g c =
     let more = one_more rules n xs left orders c.loop-orders.turns.items t c.loop-orders.invariant.after is in
     record {
       after =
-          subst (λ (ts : List Turn). IsAfter rules n xs c.after_turn-left.result c.after_turn-left.new.orders.items ts) (sym c.in_ok-push.ensures.items)
+          subst (λ (ts : List ExplainedTurn). IsAfter rules n xs c.after_turn-left.result c.after_turn-left.new.orders.items ts) (sym c.in_ok-push.ensures.items)
           (subst (λ (o : Order). IsAfter rules n xs o c.after_turn-left.new.orders.items (c.loop-orders.turns.items ++ t ∷ [])) (sym c.after_turn-left.ensures.left)
           (subst (λ (ys : List Order). IsAfter rules n xs (record left { leaves = left.leaves - t.quantity }) ys (c.loop-orders.turns.items ++ t ∷ [])) (sym c.after_turn-left.ensures.orders) more));
       orders = subst (All HasOrderPrice) (sym c.after_turn-left.ensures.orders) (members_all t.quantity orders t.taken.counterparty c.loop-orders.invariant.orders);
-      small = subst (All HaveLegPrices) (sym c.in_ok-push.ensures.items) (All-push HaveLegPrices c.loop-orders.turns.items t c.loop-orders.invariant.small c.in-Some.ensures.small);
+      small = subst (All HaveLegPrices) (sym c.in_ok-push.ensures.items) (All-push HaveLegPrices c.loop-orders.turns.items t c.loop-orders.invariant.small c.in-Some.ensures.leg_price);
     }
 
 pub returns-clause-turns : goal.returns-clause-turns

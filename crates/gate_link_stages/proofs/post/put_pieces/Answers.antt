@@ -1,7 +1,7 @@
 use Rattle.std.proofs.Common.{◌≡◌, ◌∙◌, ◌≤◌, ◌<◌, ◌*◌, ◌+◌, ◌-◌, ◌++◌, false, true, ap, sym, refl, arith, subst, take, drop, length, take-add}
 use Rattle.std.proofs.lemmas.List.{take_more_set, take_all, length-set}
 use Rattle.gate_link_stages.specs.Pieces.{bytes_in, bytes_of_piece, is_mark}
-use Rattle.gate_link_stages.specs.declared.post.TheConstants.{PIECE_BYTES, MANY_PIECES}
+use Rattle.gate_link_stages.specs.declared.post.TheConstants.{POSTED_BYTES, MAX_POSTED_PIECES}
 use Rattle.gate_link_stages.specs.Marks.{ends}
 use Rattle.gate_link_stages.proofs.Marks.{ends_more}
 use Rattle.gate_link_stages.proofs.Pieces.{bytes_one}
@@ -27,8 +27,8 @@ loop-done-preserved c =
     let p = c.put_piece.new.piece in
     let n = c.min-n.result in
     let lt : done < length bytes = c.loop-done-test.true in
-    let level : done ≡ count * PIECE_BYTES = was.level lt in
-    let whole : length bytes ≤ MANY_PIECES * PIECE_BYTES = c.requires in
+    let level : done ≡ count * POSTED_BYTES = was.level lt in
+    let whole : length bytes ≤ MAX_POSTED_PIECES * POSTED_BYTES = c.requires in
     let free : count < length items = let long = was.long in omega (arith, lt, level, whole, long) in
     let more = take_more_set items count p free in
     let size : done + n - done ≡ n = omega arith in
@@ -44,7 +44,7 @@ loop-done-preserved c =
     }
 
 pub returns-clause-count : goal.returns-clause-count
-returns-clause-count c = c.loop-done.invariant.few MANY_PIECES c.requires
+returns-clause-count c = c.loop-done.invariant.few MAX_POSTED_PIECES c.requires
 
 pub returns-clause-bytes : goal.returns-clause-bytes
 returns-clause-bytes c =

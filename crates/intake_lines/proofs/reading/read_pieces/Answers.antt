@@ -57,7 +57,7 @@ loop-reader-preserved g c =
     let next = c.in_ok-take_piece.ensures.number in (
       omega (arith, whole, behind, kept, few, bound, same, piece),
       omega (arith, below, small),
-      c.in_ok-count.ensures.sound,
+      c.in_ok-count.ensures.not_failed,
       omega (arith, next, few, numbered),
       (
         input ++ more,

@@ -24,7 +24,7 @@ spread_within g c =
     row_within c.args.side c.loop-month.month c.args.via (length c.spread_cells-spreads.result.now) c.row_cell.result c.row_cell.ensures (omega (arith, under, first, both)) (omega (arith, within, most))
 
 spread_small : (g : _) (c : After-row_cell g) → IfSome (cost_of_cell (get_or c.spread_cells-spreads.result.now c.row_cell.result (pos 0))) IsOrderPrice
-spread_small g c = small_there c.spread_cells-spreads.result.now c.row_cell.result (pos 0) (spread_within g c) c.spread_cells-spreads.ensures.small
+spread_small g c = small_there c.spread_cells-spreads.result.now c.row_cell.result (pos 0) (spread_within g c) c.spread_cells-spreads.ensures.order_price
 
 spread_told : (g : _) (c : After-row_cell g) → cost_of_cell (get_or c.spread_cells-spreads.result.now c.row_cell.result (pos 0)) ≡ spread_cost c.args.costs.now c.args.side c.loop-month.month c.args.via
 spread_told g c =
@@ -76,11 +76,11 @@ loop-month-preserved g c =
                 let held = get_or cells n none in
                 let a = get_or c.spread_cells-spreads.result.now c.row_cell.result (pos 0) in
                 let b = c.outright_cell-outright.result in
-                let sum = sum_whole a b c.sum_of_cells-cost.result (spread_small g d) c.outright_cell-outright.ensures.small c.sum_of_cells-cost.ensures in
+                let sum = sum_whole a b c.sum_of_cells-cost.result (spread_small g d) c.outright_cell-outright.ensures.order_price c.sum_of_cells-cost.ensures in
                 let renewed : IsCheapest on ys s k months (pair_of_cell new) =
                 subst (λ (p : PairCost). IsCheapest on ys s k months (pair_of_cell p)) (sym (c.offer.ensures ∙ ap (λ (z : ℤ). sooner_of z c.args.via held) sum))
                 (came_told on xs ys s k months c.args.via here c.requires.within among c.args.costs.now held a b told (subst (λ (j : ℕ). j < months) e lt) (spread_told g d) c.outright_cell-outright.ensures.cost
-                (spread_small g d) c.outright_cell-outright.ensures.small (held_there on months xs cells s k n none at (subst (λ (i : ℕ). i < length cells) (sym at) (cell_within g d)) mine)) in
+                (spread_small g d) c.outright_cell-outright.ensures.order_price (held_there on months xs cells s k n none at (subst (λ (i : ℕ). i < length cells) (sym at) (cell_within g d)) mine)) in
                 subst (λ (j : ℕ). HasCheapest on months ys (pairs_of (slice_set cells n new)) s j) (sym e) (put_there on months ys cells s k n new at renewed)
           ];
     }

@@ -17,8 +17,8 @@ overflow_add-cost g c =
     let end = c.min-other_month-end.ensures in
     let under = c.loop-other_month-test.true in
     sum_fits (get_or xs k (pos 0)) (get_or ys k (pos 0))
-    (small_there xs k (pos 0) (omega (arith, end, under)) c.spread_row-spreads.ensures.small)
-    (small_there ys k (pos 0) (omega (arith, end, under)) c.outright_row-outrights.ensures.small)
+    (small_there xs k (pos 0) (omega (arith, end, under)) c.spread_row-spreads.ensures.order_price)
+    (small_there ys k (pos 0) (omega (arith, end, under)) c.outright_row-outrights.ensures.order_price)
 
 pub loop-other_month-preserved : goal.loop-other_month-preserved
 loop-other_month-preserved g c =
@@ -37,8 +37,8 @@ loop-other_month-preserved g c =
     let in_spreads : k < length xs = omega (arith, end, under) in
     let in_outrights : k < length ys = omega (arith, end, under) in
     let in_months : k < c.args.months = omega (arith, in_spreads, most) in
-    let first_small = small_there xs k (pos 0) in_spreads c.spread_row-spreads.ensures.small in
-    let second_small = small_there ys k (pos 0) in_outrights c.outright_row-outrights.ensures.small in
+    let first_small = small_there xs k (pos 0) in_spreads c.spread_row-spreads.ensures.order_price in
+    let second_small = small_there ys k (pos 0) in_outrights c.outright_row-outrights.ensures.order_price in
     let sum = sum_is a b first_small second_small in
     let more = λ (on : Pairs) (zs : List Order) (told : AreFrontCosts on c.args.months zs c.args.costs.now) (lt : c.args.month < c.args.months).
     least_more on zs c.args.side c.args.month k c.args.months c.args.costs.now a b least at told lt in_months

@@ -41,8 +41,8 @@ returns-then-implied-clause-best g c =
     (subst (λ (k : Instrument). implied_price n.side k a.side a.instrument b.side b.instrument a.price b.price ≡ Some price) c.in-Spread.is (priced on n a b price e.meets)) in
     covers a b price (record { stands = e.stands.0; instrument_is = shape.of; side_is = shape.sided }) (record { stands = e.stands.1; instrument_is = shape.and; side_is = shape.and_on }) e)
 
-pub returns-then-implied-clause-small : goal.returns-then-implied-clause-small
-returns-then-implied-clause-small g c =
+pub returns-then-implied-clause-leg_price : goal.returns-then-implied-clause-leg_price
+returns-then-implied-clause-leg_price g c =
     let n = c.args.new.now in
     let on = implied c.args.rules.now in
     let i = c.in-Spread.near in

@@ -42,7 +42,7 @@ returns-in-Some-front g c =
     let is : c.offer_pair.new.best ≡ better_of n c.args.best.now (candidate_of on n p) = c.offer_pair.ensures.value ∙ ap (better_of n c.args.best.now) (sym (candidate_on on n c.in-Some.a c.in-Some-front.b at)) in
     record {
       fair = subst (IsFair on n xs) (sym is) (better_has on (is_before n) (ranks on n) (IsEligible on n xs) c.args.best.now (candidate_of on n p) old (candidate_fair on n xs p (first.0.stands, second.0.stands)));
-      small = c.offer_pair.ensures.small;
+      small = c.offer_pair.ensures.leg_price;
       keeps = λ q h. subst (λ (r : Option Candidate). Beats n r q) (sym is) (stays_beaten on (is_before n) (ranks on n) c.args.best.now (candidate_of on n p) q h);
       covers = λ a b price r s e. subst (λ (o : Option Candidate). Beats n o (record { price = price; counterparty = Implied a b })) (sym is)
           (beaten_by on (is_before n) (ranks on n) c.args.best.now (candidate_of on n p) (record { price = price; counterparty = Implied a b })

@@ -14,5 +14,5 @@ loop-other_month-preserved g c =
     let is : c.cheaper-least.result ≡ cheaper_of least c.pair_cost-cost.result month = c.cheaper-least.ensures ∙ ap (cheaper_of least c.pair_cost-cost.result) c.from.ensures in
     record {
       cheapest = subst (IsCheapest on xs c.args.side c.args.month _) (sym is)
-          (cheapest_more on xs c.args.side c.args.month month least c.pair_cost-cost.result c.loop-other_month.invariant.cheapest c.pair_cost-cost.ensures.cost c.pair_cost-cost.ensures.small);
+          (cheapest_more on xs c.args.side c.args.month month least c.pair_cost-cost.result c.loop-other_month.invariant.cheapest c.pair_cost-cost.ensures.cost c.pair_cost-cost.ensures.leg_price);
     }

@@ -20,4 +20,4 @@ returns-in-Some-clause-cost g c =
     let is : IsFrontLevel xs c.args.instrument c.args.side (Some l) = subst (IsFrontLevel xs c.args.instrument c.args.side) c.in-Some.is c.front_level.ensures in
     let small = level_small xs c.args.instrument c.args.side l c.requires is in
     let paid : c.cost_in.result ≡ cost (other_side c.args.side) l.price = c.cost_in.ensures.cost ∙ ap (cost (other_side c.args.side)) (order_is l.price small) in
-    subst (HasFront xs c.args.instrument c.args.side) (sym (order_is c.cost_in.result c.cost_in.ensures.small)) (level_costs xs c.args.instrument c.args.side l c.cost_in.result is paid)
+    subst (HasFront xs c.args.instrument c.args.side) (sym (order_is c.cost_in.result c.cost_in.ensures.order_price)) (level_costs xs c.args.instrument c.args.side l c.cost_in.result is paid)

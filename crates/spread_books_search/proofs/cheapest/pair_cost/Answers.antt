@@ -43,5 +43,5 @@ returns-clause-cost g c =
     (subst (CostsOfFront xs q.instrument q.side) c.in-Some.is c.front_cost.ensures.cost)) in
     let second : CostsOfFront xs and (other_side c.args.side) (Some y) =
     subst (λ (s : Side). CostsOfFront xs and s (Some y)) c.opposite-opposite.ensures (subst (CostsOfFront xs and c.opposite-opposite.result) c.in-Some-front_cost.is c.front_cost-2.ensures.cost) in
-    let sum : c.together.result ≡ x +ℤ y = sum_passed x y c.together.result c.in-Some.ensures.small c.in-Some-front_cost.ensures.small c.together.ensures.sum in
-    subst (HasFronts (implied c.args.rules.now) xs c.args.side c.args.month c.args.other_month) (sym (leg_is c.together.result c.together.ensures.small ∙ sum)) (fronts_cost (implied c.args.rules.now) xs c.args.side c.args.month c.args.other_month x y (sym c.is_pair_on.ensures ∙ c.if-not-is_pair_on.false) first second)
+    let sum : c.together.result ≡ x +ℤ y = sum_passed x y c.together.result c.in-Some.ensures.order_price c.in-Some-front_cost.ensures.order_price c.together.ensures.sum in
+    subst (HasFronts (implied c.args.rules.now) xs c.args.side c.args.month c.args.other_month) (sym (leg_is c.together.result c.together.ensures.leg_price ∙ sum)) (fronts_cost (implied c.args.rules.now) xs c.args.side c.args.month c.args.other_month x y (sym c.is_pair_on.ensures ∙ c.if-not-is_pair_on.false) first second)

@@ -40,7 +40,7 @@ pub returns-clause-written : goal.returns-clause-written
 returns-clause-written g c =
     let told = g.K.Sink.written in
     let text = text_is c.args.journal_only c.args.rulebook.now c.args.stamp c.in_ok-day.day.journal.items _ _ c.in_ok-day.ensures.fills c.in_ok-day.ensures.outgoing in
-    (c.in_ok-write_day.ensures.sound, subst (λ (t : List ℕ). Appends (told c.args.sink.now) (told c.write_day.new.sink) t) text c.in_ok-write_day.ensures.ok)
+    (c.in_ok-write_day.ensures.not_failed, subst (λ (t : List ℕ). Appends (told c.args.sink.now) (told c.write_day.new.sink) t) text c.in_ok-write_day.ensures.ok)
 
 pub returns-in_err-write_day-clause-write : goal.returns-in_err-write_day-clause-write
 returns-in_err-write_day-clause-write g c e =

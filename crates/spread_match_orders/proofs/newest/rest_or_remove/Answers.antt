@@ -2,7 +2,7 @@ use Rattle.std.proofs.Common.{◌≡◌, ℕ, ◌-◌, ◌<◌, ◌≤◌, ◌==
 use Rattle.std.proofs.lemmas.Bool.Decides.{nat_tests}
 use Rattle.spread_rules.specs.declared.order.Order.{Order}
 use Rattle.spread_rules.specs.Clearing.{reduced, removed}
-use Rattle.spread_match_orders.specs.code.Known.{orders_after_trading}
+use Rattle.spread_match_orders.specs.code.Entering.{orders_after_trading}
 use Rattle.spread_match_orders.proofs.newest.rest_or_remove.Goals as goal
 
 module _ (immediate : Bool) (own : Order) (left : ℕ) (xs : List Order) where

@@ -2,7 +2,7 @@ use Rattle.std.proofs.Common.{◌≡◌, ◌≤◌, List, All, ◌++◌, ◌∷�
 use Rattle.spread_rules.specs.declared.order.Order.{Order}
 use Rattle.spread_rules.specs.Clearing.{removed}
 use Rattle.spread_rules_rulebook.specs.Rulebook.{references_of, implied}
-use Rattle.spread_match_orders.specs.code.Known.{orders_after_trading, trading_of}
+use Rattle.spread_match_orders.specs.code.Entering.{orders_after_trading, trading_of}
 use Rattle.spread_match_trading.specs.code.Turns.{IsNewest}
 use Rattle.spread_match_orders.proofs.entries.NewOrder.{newest_after, removed_newest, settled_is, clear_most}
 use Rattle.spread_match_orders.proofs.newest.trade_newest.Goals as goal

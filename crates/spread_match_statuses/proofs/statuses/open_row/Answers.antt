@@ -19,14 +19,14 @@ returns-in_err-status-clause-none g c =
     (none_open rows c.args.session c.args.id.now c.new.result c.find.result c.requires.index.bytes c.new.ensures.bytes c.new.ensures.key c.find.ensures c.requires.later
     (ap (option_and_then (slice_get rows)) c.in_ok-at.was ∙ slice_get_past rows c.in_ok-at.at past))
 
-pub returns-then-is_open-clause-stands : goal.returns-then-is_open-clause-stands
-returns-then-is_open-clause-stands g c =
+pub returns-then-was_accepted-clause-stands : goal.returns-then-was_accepted-clause-stands
+returns-then-was_accepted-clause-stands g c =
     let s = c.in_ok-status.status.now in
-    record { status = s; stands = read_row c.args.rows.now c.in_ok-at.at s s c.in_ok-status.ensures.lookup.0 c.in_ok-status.ensures.lookup.1; is = sym c.if-is_open.ensures }
+    record { status = s; stands = read_row c.args.rows.now c.in_ok-at.at s s c.in_ok-status.ensures.lookup.0 c.in_ok-status.ensures.lookup.1; is = sym c.if-was_accepted.ensures }
 
-pub returns-else-is_open-clause-none : goal.returns-else-is_open-clause-none
-returns-else-is_open-clause-none g c =
+pub returns-else-was_accepted-clause-none : goal.returns-else-was_accepted-clause-none
+returns-else-was_accepted-clause-none g c =
     let rows = c.args.rows.now in
     let s = c.in_ok-status.status.now in
     first_closed rows c.args.session c.args.id.now c.new.result c.find.result s c.requires.index.bytes c.new.ensures.bytes c.new.ensures.key c.find.ensures c.requires.later
-    (ap (option_and_then (slice_get rows)) c.in_ok-at.was ∙ read_row rows c.in_ok-at.at s s c.in_ok-status.ensures.lookup.0 c.in_ok-status.ensures.lookup.1) (sym c.if-is_open.ensures)
+    (ap (option_and_then (slice_get rows)) c.in_ok-at.was ∙ read_row rows c.in_ok-at.at s s c.in_ok-status.ensures.lookup.0 c.in_ok-status.ensures.lookup.1) (sym c.if-was_accepted.ensures)

@@ -12,15 +12,15 @@ use Rattle.spread_rules_rulebook.specs.declared.rulebook.Month.{Month}
 use Rattle.spread_rules_rulebook.specs.Rulebook.{names_of}
 use Rattle.text_day.specs.Months.{month_lines}
 use Rattle.text_day.specs.code.LineParts.{totals_lines}
-use Rattle.text_messages.specs.code.Pieces.{Writes}
-use Rattle.text_messages.proofs.PiecesInTurn.{front_after, front_of_more, on_ok_any, write_stops, none_on_err}
+use Rattle.text_messages.specs.code.Blocks.{Writes}
+use Rattle.text_messages.proofs.BlocksInTurn.{front_after, front_of_more, on_ok_any, write_stops, none_on_err}
 use Rattle.text_day.proofs.MonthLines.{lines_of_fills}
 use Rattle.text_day.proofs.PartsInTurn.{then_writes, behind_first}
 use Rattle.text_day.proofs.day_text.write_parts.Goals as goal
 
 pub returns-in_err-write_journal_lines : goal.returns-in_err-write_journal_lines
 returns-in_err-write_journal_lines g c =
-    let told = λ (k : _). g.K.TakesPieces.written k in
+    let told = λ (k : _). g.K.TakesBlocks.written k in
     let day = c.args.day.now in
     let before = journal_text day.journal.items in
     let fills = fill_lines c.args.rulebook.now day.fills.items in
@@ -37,7 +37,7 @@ returns-in_err-write_journal_lines g c =
 
 pub returns-in_err-write_fill_lines : goal.returns-in_err-write_fill_lines
 returns-in_err-write_fill_lines g c =
-    let told = λ (k : _). g.K.TakesPieces.written k in
+    let told = λ (k : _). g.K.TakesBlocks.written k in
     let day = c.args.day.now in
     let before = journal_text day.journal.items in
     let fills = fill_lines c.args.rulebook.now day.fills.items in
@@ -55,7 +55,7 @@ returns-in_err-write_fill_lines g c =
 
 pub returns : goal.returns
 returns g c =
-    let told = λ (k : _). g.K.TakesPieces.written k in
+    let told = λ (k : _). g.K.TakesBlocks.written k in
     let rules = c.args.rulebook.now in
     let day = c.args.day.now in
     let before = journal_text day.journal.items in
@@ -70,11 +70,11 @@ returns g c =
     let few = length-map rules.months (λ (m : Month). m.name) in
     let same = lines_of_fills (names_of rules) 0 day.fills.items c.write_fill_lines.new.totals summed (omega (arith, few, c.months.ensures.count, c.months.ensures.most)) in
     record {
-      writes = subst (λ (t : List ℕ). Writes last.result (told c.args.sink.now) (told last.new.sink) (g.K.TakesPieces.has_failed last.new.sink) t)
+      writes = subst (λ (t : List ℕ). Writes last.result (told c.args.sink.now) (told last.new.sink) (g.K.TakesBlocks.has_failed last.new.sink) t)
           (behind_first (before ++ fills) lines sums ∙ ap (λ (t : List ℕ). before ++ fills ++ lines ++ t) same)
-          (then_writes last.result (told c.args.sink.now) (told c.write_fill_lines.new.sink) (told last.new.sink) (g.K.TakesPieces.has_failed last.new.sink)
+          (then_writes last.result (told c.args.sink.now) (told c.write_fill_lines.new.sink) (told last.new.sink) (g.K.TakesBlocks.has_failed last.new.sink)
           (before ++ fills) (lines ++ sums) both
-          (subst (λ (o : List _). Writes last.result (told c.write_fill_lines.new.sink) (told last.new.sink) (g.K.TakesPieces.has_failed last.new.sink) (outgoing_lines_from 0 (texts_of o) ++ sums)) c.deref-3.ensures.value last.ensures.writes));
+          (subst (λ (o : List _). Writes last.result (told c.write_fill_lines.new.sink) (told last.new.sink) (g.K.TakesBlocks.has_failed last.new.sink) (outgoing_lines_from 0 (texts_of o) ++ sums)) c.deref-3.ensures.value last.ensures.writes));
       bytes = on_ok_any last.result
           (subst (λ (es : List Entry). All (λ (e : Entry). HasByteIds e.event) es) c.deref.ensures.value c.in_ok-write_journal_lines.ensures.bytes);
     }

@@ -3,4 +3,4 @@ use Rattle.rtrb.specs.Ring.{sent}
 use Rattle.text_ring.proofs.sink.give.Given as goal
 
 abbrev pub invariant-loop : goal.invariant-loop
-invariant-loop g l = (l.piece ≡ l.fn.piece) × (sent l.filled ≡ sent l.fn.filled)
+invariant-loop g l = (l.block ≡ l.fn.block) × (sent l.filled ≡ sent l.fn.filled)

@@ -2,7 +2,7 @@ use Rattle.std.proofs.Common.{◌+◌, ◌∙◌, sym, subst, refl}
 use Rattle.spread_rules.specs.Meaning.{meaning_of_journal}
 use Rattle.apply_market.specs.Application.{Application, HasApplied}
 use Rattle.apply_market.proofs.EntryByEntry.{applied_more}
-use Rattle.apply_market.proofs.apply.AppliedEntries.apply.Goals as goal
+use Rattle.apply_market.proofs.apply.MatchedJournal.apply.Goals as goal
 
 pub returns-in-Ok-clause-next : goal.returns-in-Ok-clause-next
 returns-in-Ok-clause-next g c es was =

@@ -1,7 +1,7 @@
 use Rattle.std.proofs.Common.{rules, [], sym, subst}
 use Rattle.spread_match.specs.State.{MarketView}
 use Rattle.apply_market.specs.Application.{HasApplied}
-use Rattle.apply_market.proofs.apply.AppliedEntries.with_capacity.Goals as goal
+use Rattle.apply_market.proofs.apply.MatchedJournal.with_capacity.Goals as goal
 
 -- with room made, the market is the one before the first entry
 pub returns-clause-start : goal.returns-clause-start

@@ -7,7 +7,7 @@ use Rattle.intake_lines.specs.code.OneByOne.{one_line}
 use Rattle.intake_lines.specs.LineText.{DayLine}
 use Rattle.intake_lines.specs.DayLines.{journal_of_lines}
 use Rattle.intake_lines.specs.JournalParts.{part_of}
-use Rattle.intake_lines.specs.code.Lanes.{TakesLine}
+use Rattle.intake_lines.specs.code.LineSessions.{TakesLine}
 use Rattle.intake_lines.specs.code.PiecesRead.{HasRead}
 use Rattle.intake_lines.proofs.SaidAsAWhole.{said_at_once}
 use Rattle.intake_lines.proofs.PiecesReadInTurn.{stopped_said, last_bad, ended, IsWholeJournal}
@@ -24,15 +24,15 @@ pub returns-then-not-is_good-clause-fault : goal.returns-then-not-is_good-clause
 returns-then-not-is_good-clause-fault g c input had =
     let r = c.args.self in
     let rest = c.deref.ensures.value in
-    let says = subst (λ (good : Bool). TakesLine good c.deref.result.now r.lanes c.take_line.new.self) c.if-not-is_good.true c.in_ok-is_good.ensures in
+    let says = subst (λ (good : Bool). TakesLine good c.deref.result.now r.line_sessions c.take_line.new.self) c.if-not-is_good.true c.in_ok-is_good.ensures in
     sym (said_at_once input) ∙ last_bad (with_soh input) r (had.going c.in_default.is) (ap one_line (sym rest) ∙ says)
 
 -- the journal of a text that was read to its end
 whole : (g : _) (c : In_ok-journal g) (text : List ℕ) → HasRead text c.args.self → IsWholeJournal text c.in_ok-journal.journal.items
 whole g c text had =
     let r = c.args.self in
-    let takes = subst (λ (t : List ℕ). TakesLine true t r.lanes c.take_line.new.self) c.deref.ensures.value
-    (subst (λ (good : Bool). TakesLine good c.deref.result.now r.lanes c.take_line.new.self) c.if-not-is_good.false c.in_ok-is_good.ensures) in
+    let takes = subst (λ (t : List ℕ). TakesLine true t r.line_sessions c.take_line.new.self) c.deref.ensures.value
+    (subst (λ (good : Bool). TakesLine good c.deref.result.now r.line_sessions c.take_line.new.self) c.if-not-is_good.false c.in_ok-is_good.ensures) in
     ended text r c.take_line.new.self c.in_ok-journal.journal.items had c.in_default.is takes c.in_ok-journal.ensures
 
 pub returns-then-len-gt-MAX_JOURNAL_ENTRIES-clause-fault : goal.returns-then-len-gt-MAX_JOURNAL_ENTRIES-clause-fault

@@ -30,6 +30,6 @@ invariant_of-self-2 g c =
     let f = with_quantity c.args.id c.args.quantity in
     let up = ascends_changed f (λ o. refl) c.args.place (xs ++ ys) c.self.invariant in
     let apart = changed_before xs ys c.args.place (sym c.newest_at.ensures ∙ c.in_default.is) f in
-    from_both c.amend.result c.amend.ensures.ok c.amend.ensures.err
+    from_both c.amend.result c.amend.ensures.ok c.amend.ensures.unchanged_on_err
     (λ e. subst (λ (zs : List Order). Ascends zs) (apart ∙ ap (λ (zs : List Order). zs ++ ys) (sym e)) up)
     (λ e. subst (λ (zs : List Order). Ascends (zs ++ ys)) (sym e) c.self.invariant)

@@ -10,12 +10,12 @@ use Rattle.spread_books_heap.proofs.heap_book.HeapBookBook.add.Goals as goal
 pub invariant_of-self : goal.invariant_of-self
 invariant_of-self g c =
     let thin = index_thinned c.self.inside.orders c.queue_number-queue.result c.self.inside.queues c.thin.new.self c.self.invariant c.thin.ensures in
-    index_same c.self.inside.orders c.thin.new.self c.add.new.self thin c.in_err-add.ensures.err
+    index_same c.self.inside.orders c.thin.new.self c.add.new.self thin c.in_err-add.ensures.unchanged_on_err
 
 pub invariant_of-self-then-is_err : goal.invariant_of-self-then-is_err
 invariant_of-self-then-is_err g c =
     let thin = index_thinned c.self.inside.orders c.queue_number-queue.result c.self.inside.queues c.thin.new.self c.self.invariant c.thin.ensures in
-    let same : c.push.new.self ≡ c.self.inside.orders = from_err c.push.result c.push.ensures.err (sym c.is_err.ensures.value ∙ c.if-is_err.true) in
+    let same : c.push.new.self ≡ c.self.inside.orders = from_err c.push.result c.push.ensures.unchanged_on_err (sym c.is_err.ensures.value ∙ c.if-is_err.true) in
     subst (λ (ys : List Order). IsIndex ys c.settle.new.self) (sym same)
     (index_restored c.self.inside.orders c.queue_number-queue.result c.new.result c.thin.new.self c.add.new.self c.settle.new.self thin c.in_ok-add.ensures.ok (subst (λ (ys : List Order). Settles ys c.queue_number-queue.result c.add.new.self c.settle.new.self) same c.settle.ensures))
 

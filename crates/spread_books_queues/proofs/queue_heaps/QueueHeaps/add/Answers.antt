@@ -8,12 +8,12 @@ said_anyhow : {X E P : Type 0} (r : Result X E) → P → OnErr r P
 said_anyhow (Ok x) p = tt
 said_anyhow (Err e) p = p
 
-pub returns-in_err-make_room-clause-err : goal.returns-in_err-make_room-clause-err
-returns-in_err-make_room-clause-err g c =
+pub returns-in_err-make_room-clause-unchanged_on_err : goal.returns-in_err-make_room-clause-unchanged_on_err
+returns-in_err-make_room-clause-unchanged_on_err g c =
     said_anyhow c.from_residual.result (subst (λ (q : List (List QueueRank)). SameRanks q (map ranks_in c.make_room.new.heaps.items)) c.self.view_is c.make_room.ensures.same)
 
-pub returns-in_err-push-clause-err : goal.returns-in_err-push-clause-err
-returns-in_err-push-clause-err g c =
+pub returns-in_err-push-clause-unchanged_on_err : goal.returns-in_err-push-clause-unchanged_on_err
+returns-in_err-push-clause-unchanged_on_err g c =
     let heaps = c.make_room.new.heaps.items in
     let own = c.push.new.self in
     let before = subst (λ (q : List (List QueueRank)). SameRanks q (map ranks_in heaps)) c.self.view_is c.make_room.ensures.same in

@@ -17,5 +17,5 @@ small g c = subst (λ (o : Option ℤ). IfSome o IsOrderPrice) (sym (told g c)) 
 pub returns-clause-cost : goal.returns-clause-cost
 returns-clause-cost g c = ap cost_of_cell (cell_whole c.cell_at.result (small g c)) ∙ (told g c ∙ ap (λ (rows : CostRows). cost_at rows.spreads (row_cell c.args.side c.args.month c.args.other_month)) c.self.view_is)
 
-pub returns-clause-small : goal.returns-clause-small
-returns-clause-small g c = subst (λ (a : ℤ). IfSome (cost_of_cell a) IsOrderPrice) (sym (cell_whole c.cell_at.result (small g c))) (small g c)
+pub returns-clause-order_price : goal.returns-clause-order_price
+returns-clause-order_price g c = subst (λ (a : ℤ). IfSome (cost_of_cell a) IsOrderPrice) (sym (cell_whole c.cell_at.result (small g c))) (small g c)

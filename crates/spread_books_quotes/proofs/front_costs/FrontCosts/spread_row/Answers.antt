@@ -9,8 +9,8 @@ row_is g c = c.row.ensures
     ∙ (ap (λ (f : ℕ). take c.args.months (drop f c.deref.result.now)) c.row_cell.ensures
     ∙ ap (λ (xs : List ℤ). take c.args.months (drop (row_cell c.args.side c.args.month 0) xs)) c.deref.ensures.value)
 
-pub returns-clause-small : goal.returns-clause-small
-returns-clause-small g c = row_small c.self.inside.spreads.items c.row.result.now (row_cell c.args.side c.args.month 0) c.args.months (row_is g c) c.self.invariant.0
+pub returns-clause-order_price : goal.returns-clause-order_price
+returns-clause-order_price g c = row_small c.self.inside.spreads.items c.row.result.now (row_cell c.args.side c.args.month 0) c.args.months (row_is g c) c.self.invariant.0
 
 pub returns-clause-costs : goal.returns-clause-costs
 returns-clause-costs g c = λ other lt.

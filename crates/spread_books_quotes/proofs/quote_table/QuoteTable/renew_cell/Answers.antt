@@ -31,7 +31,7 @@ returns-in-Came-clause-own g c = λ on xs ys told lt way keep h.
     let was : HasCheapest on months xs (pairs_of cells) s m = subst (λ (ps : List (Option PairCost)). HasCheapest on months xs ps s m) (sym c.self.view_is) h in
     let a = c.spread_cell-spread.result in
     let b = c.outright_cell.result in
-    let sum = sum_whole a b c.sum_of_cells-cost.result c.spread_cell-spread.ensures.small c.outright_cell.ensures.small c.sum_of_cells-cost.ensures in
+    let sum = sum_whole a b c.sum_of_cells-cost.result c.spread_cell-spread.ensures.order_price c.outright_cell.ensures.order_price c.sum_of_cells-cost.ensures in
     let before = c.if-n-len.true in
     let count = c.len.ensures in
     let all = c.self.inside.cells.ok.0 in
@@ -39,7 +39,7 @@ returns-in-Came-clause-own g c = λ on xs ys told lt way keep h.
     put_there on months ys cells s m n c.offer.new.held c.cell-n.ensures
     (subst (λ (p : PairCost). IsCheapest on ys s m months (pair_of_cell p)) (sym (c.offer.ensures ∙ ap (λ (z : ℤ). sooner_of z via c.index_mut.result.now) sum))
     (came_told on xs ys s m months via keep c.if-via-months.true among c.args.costs.now c.index_mut.result.now a b told lt c.spread_cell-spread.ensures.cost c.outright_cell.ensures.cost
-    c.spread_cell-spread.ensures.small c.outright_cell.ensures.small (subst (λ (p : PairCost). IsCheapest on xs s m months (pair_of_cell p)) (sym c.index_mut.ensures.value) held)))
+    c.spread_cell-spread.ensures.order_price c.outright_cell.ensures.order_price (subst (λ (p : PairCost). IsCheapest on xs s m months (pair_of_cell p)) (sym c.index_mut.ensures.value) held)))
 
 pub returns-in-Left-clause-own : goal.returns-in-Left-clause-own
 returns-in-Left-clause-own g c = λ on xs ys told lt way keep h.

@@ -9,7 +9,7 @@ use Rattle.spread_rules.specs.Clearing.{clear, removed, Trading}
 use Rattle.spread_rules.specs.Meaning.{has_id, moved_to}
 use Rattle.spread_rules_rulebook.specs.Rulebook.{month_count, references_of, implied}
 use Rattle.spread_match_state.specs.State.{MarketState}
-use Rattle.spread_match_orders.specs.code.Known.{entered_status}
+use Rattle.spread_match_orders.specs.code.Entering.{entered_status}
 use Rattle.spread_match_statuses.specs.code.Statuses.{status_after_replace, statuses_after}
 use Rattle.spread_match_orders.proofs.entries.NewOrder.{below_new, clear_same}
 use Rattle.spread_match_state.proofs.entries.ReplacedStates.{moved_newest, moved_rest, moved_state, moved_tradable, room_moved}

@@ -15,7 +15,7 @@ use Rattle.spread_books_search.specs.Listed.{IsNearFirst, IsInMonths}
 use Rattle.spread_match_state.specs.State.{MarketState}
 use Rattle.spread_match_trading.specs.Tradable.{IsTradable}
 use Rattle.spread_match_state.specs.code.StateAfter.{matched_in, state_with, trading_in, with_order}
-use Rattle.spread_match_orders.specs.code.Known.{entered_status}
+use Rattle.spread_match_orders.specs.code.Entering.{entered_status}
 use Rattle.spread_match_statuses.specs.code.Statuses.{statuses_after}
 use Rattle.spread_match_state.proofs.entries.IdNotUsed.{id_is_new}
 use Rattle.spread_match_orders.proofs.entries.NewOrder.{below_new, clear_same, rest_is, room_new, tradable_more}

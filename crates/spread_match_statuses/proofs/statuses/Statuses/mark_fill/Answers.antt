@@ -1,7 +1,7 @@
 use Rattle.std.proofs.Common.{◌≡◌, ℕ, List, map, set, subst, sym, ap, ◌∙◌, arith}
 use Rattle.std.proofs.lemmas.Option.{slice_get_within}
 use Rattle.spread_rules.specs.declared.outcome.OrderStatus.{OrderStatus}
-use Rattle.spread_match_statuses.specs.code.Statuses.{status_after_fill, AreRefusedLater, IsIndex, IsOpenRow}
+use Rattle.spread_match_statuses.specs.code.Statuses.{status_after_fill, AreRefusedLater, IsIndex, IsAcceptedRow}
 use Rattle.spread_match_statuses.proofs.status_rows.MarkedRows.{later_marked, index_marked, none_marked}
 use Rattle.spread_match_statuses.proofs.status_rows.MarksOfEntries.{leaves_some, set_filled, fill_keeps, fill_key, fill_marks}
 use Rattle.spread_match_statuses.proofs.statuses.Statuses.mark_fill.Given.{Over}
@@ -11,8 +11,8 @@ use Rattle.spread_match_statuses.proofs.statuses.Statuses.mark_fill.Goals.{After
 pub returns-then-fill-gt0 : goal.returns-then-fill-gt0
 returns-then-fill-gt0 g c = leaves_some c.args.fill.now c.args.self.now (let k = c.if-fill-gt0.true in omega (arith, k))
 
-row : (ss view : List OrderStatus) (session : ℕ) (id : List ℕ) (at : ℕ) → ss ≡ view → IsOpenRow view session id at → IsOpenRow ss session id at
-row ss view session id at e o = subst (λ (xs : List OrderStatus). IsOpenRow xs session id at) (sym e) o
+row : (ss view : List OrderStatus) (session : ℕ) (id : List ℕ) (at : ℕ) → ss ≡ view → IsAcceptedRow view session id at → IsAcceptedRow ss session id at
+row ss view session id at e o = subst (λ (xs : List OrderStatus). IsAcceptedRow xs session id at) (sym e) o
 
 pub index_mut-requires : goal.index_mut-requires
 index_mut-requires g c =

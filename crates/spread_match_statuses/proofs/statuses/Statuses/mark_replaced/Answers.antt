@@ -1,14 +1,14 @@
 use Rattle.std.proofs.Common.{◌≡◌, ℕ, List, map, set, subst, sym, ap, ◌∙◌}
 use Rattle.spread_rules.specs.declared.outcome.OrderStatus.{OrderStatus}
-use Rattle.spread_match_statuses.specs.code.Statuses.{status_after_replace, AreRefusedLater, IsIndex, IsOpenRow}
+use Rattle.spread_match_statuses.specs.code.Statuses.{status_after_replace, AreRefusedLater, IsIndex, IsAcceptedRow}
 use Rattle.spread_match_statuses.proofs.status_rows.MarkedRows.{later_marked, index_marked, none_marked}
 use Rattle.spread_match_statuses.proofs.status_rows.MarksOfEntries.{set_replaced, none_replaced, replace_keeps, replace_key, replace_marks}
 use Rattle.spread_match_statuses.proofs.statuses.Statuses.mark_replaced.Given.{Over}
 use Rattle.spread_match_statuses.proofs.statuses.Statuses.mark_replaced.Goals as goal
 use Rattle.spread_match_statuses.proofs.statuses.Statuses.mark_replaced.Goals.{After-self-1}
 
-row : (ss view : List OrderStatus) (session : ℕ) (id : List ℕ) (at : ℕ) → ss ≡ view → IsOpenRow view session id at → IsOpenRow ss session id at
-row ss view session id at e o = subst (λ (xs : List OrderStatus). IsOpenRow xs session id at) (sym e) o
+row : (ss view : List OrderStatus) (session : ℕ) (id : List ℕ) (at : ℕ) → ss ≡ view → IsAcceptedRow view session id at → IsAcceptedRow ss session id at
+row ss view session id at e o = subst (λ (xs : List OrderStatus). IsAcceptedRow xs session id at) (sym e) o
 
 marked : (g : Over) (c : After-self-1 g) → set c.self.inside.rows.items c.in-Some.at (record c.index_mut.result.now { status = 5 }) ≡ map (status_after_replace c.args.order.now.session c.args.order.now.id) c.self.inside.rows.items
 marked g c =

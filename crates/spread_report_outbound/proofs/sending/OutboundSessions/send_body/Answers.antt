@@ -59,7 +59,7 @@ returns-in_err-write_body-in-Some-clause-sent g c =
     let p = err_from_is_err_and c.from_residual.result c.from_residual.ensures.1 in
     rw (p.1, p.2, ← c.self.view_is) (record {
       stamp = refl;
-      result = appended_line (sessions_of i.numbers i.comp_ids) c.args.lists.now c.args.session c.index-lists-at.result c.write_body.new.out c.requires.lists c.requires.session c.in_err-write_body-in-Some.ensures.err;
+      result = appended_line (sessions_of i.numbers i.comp_ids) c.args.lists.now c.args.session c.index-lists-at.result c.write_body.new.out c.requires.lists c.requires.session c.in_err-write_body-in-Some.ensures.unchanged_on_err;
     })
 
 pub invariant_of-self-in-Some : goal.invariant_of-self-in-Some
@@ -116,4 +116,4 @@ pub returns-in_err-write_body-in-Some-clause-lists_kept : goal.returns-in_err-wr
 returns-in_err-write_body-in-Some-clause-lists_kept g c =
     let i = c.self.inside in
     let p = err_from_is_err_and c.from_residual.result c.from_residual.ensures.1 in
-    rw p.1 (kept_line (sessions_of i.numbers i.comp_ids) c.args.lists.now c.args.session c.index-lists-at.result c.write_body.new.out c.requires.lists c.requires.session c.in_err-write_body-in-Some.ensures.err)
+    rw p.1 (kept_line (sessions_of i.numbers i.comp_ids) c.args.lists.now c.args.session c.index-lists-at.result c.write_body.new.out c.requires.lists c.requires.session c.in_err-write_body-in-Some.ensures.unchanged_on_err)
