@@ -1,7 +1,7 @@
 -- The sessions' texts behind what was handed on of them before.
 use Rattle.std.proofs.Common.{refl, ◌≡◌, ◌∙◌, sym, ap, subst, ℕ, zero, suc, ◌<◌, List, [], ◌∷◌, ◌++◌, length, arith, append_assoc}
 use Rattle.spread_rules.specs.declared.event.Entry.{Entry}
-use Rattle.spread_report_outbound.specs.Sessions.{OutboundState, session_text}
+use Rattle.spread_report_outbound.specs.code.Sessions.{OutboundState, session_text}
 use Rattle.spread_report.specs.Running.{HasSent}
 use Rattle.spread_report.proofs.entries.OneEntryMore.{sent_same}
 use Rattle.apply_market.specs.Application.{Application, HasApplied, rules_of}

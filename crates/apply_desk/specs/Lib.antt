@@ -1,3 +1,3 @@
 pub mod Applied
 pub mod Sending
-pub use Rattle.apply_market.specs.declared.fault
+pub mod code

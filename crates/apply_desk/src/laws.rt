@@ -6,7 +6,7 @@ ghost use Rattle.spread_rules_rulebook.specs.Rulebook.{Rules};
 ghost use Rattle.spread_report.specs.Outgoing.{spends_numbers, AppliedEntry};
 ghost use Rattle.apply_desk.specs.Applied.{applied_entries, SpendsAt, applied_journal};
 ghost use Rattle.std.specs.List.{flat_map};
-ghost use Rattle.spread_rules.specs.Meaning.{meaning_of_journal};
+ghost use Rattle.spread_rules.specs.code.Meaning.{meaning_of_journal};
 
 /// Where outgoing numbers are spent at an entry's place, a session's numbers are spent behind that entry, and no
 /// session's before it.

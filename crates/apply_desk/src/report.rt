@@ -3,15 +3,16 @@ ghost use Rattle.std.specs.Prelude.{◌≡◌, ◌≢◌, ℕ, ◌<◌, ◌≤�
 ghost use Rattle.spread_rules_ids.specs.declared.limits.TheConstants.{SESSIONS};
 ghost use Rattle.spread_rules.specs.declared.event.Entry.{Entry};
 ghost use Rattle.spread_rules.specs.Journal.{FitsEntry};
-ghost use Rattle.spread_report_outbound.specs.Sessions.{bytes_of, session_text, texts_of};
-ghost use Rattle.apply_desk.specs.Applied.{IsApplyFault};
+ghost use Rattle.spread_report_outbound.specs.Sessions.{bytes_of};
+ghost use Rattle.spread_report_outbound.specs.code.Sessions.{session_text, texts_of};
+ghost use Rattle.apply_desk.specs.code.Applied.{IsApplyFault};
 ghost use Rattle.apply_desk.specs.Sending.{fault_at, HasReported, HasReportedBehind, IsReporting, SendsTheSame, sending_rules, stamp_of};
 ghost use Rattle.apply_market.specs.declared.fault.ApplyFault.TheVariants.{NoMemory};
 
-use spread_rules_ids::{Id, limits};
-use apply_market::{MatchedJournal, ApplyFault};
+use apply_market::{ApplyFault, MatchedJournal};
 use spread_report::{Desk, DeskFault};
 use spread_rules::{Entry, Fill, Rulebook};
+use spread_rules_ids::{Id, limits};
 use std::alloc::{AllocError, Allocator};
 use std::marker::Model;
 
@@ -33,7 +34,7 @@ pub struct ReportedEntries<'r, A: Allocator + Copy> {
 
 impl<'r, A: Allocator + Copy> Model for ReportedEntries<'r, A> {
     ghost use Rattle.std.specs.Prelude.{◌≡◌};
-    ghost use Rattle.spread_report_outbound.specs.Sessions.{texts_of};
+    ghost use Rattle.spread_report_outbound.specs.code.Sessions.{texts_of};
     ghost use Rattle.apply_market.specs.Application.{rules_of};
     ghost use Rattle.apply_desk.specs.Sending.{Sending};
 

@@ -1,2 +1,1 @@
 pub mod EntryByEntry
-pub use Rattle.spread_match.proofs.journals.InRange

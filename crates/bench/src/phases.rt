@@ -3,8 +3,8 @@ ghost use Rattle.std.specs.Prelude.{◌≤◌, length, OnOk};
 ghost use Rattle.spread_rules_ids.specs.declared.limits.TheConstants.{SESSIONS};
 
 use crate::sending::time_report;
-use spread_rules_ids::limits::SESSIONS;
 use bench_phases::{AtOnce, BenchFault, Measured, time_judge, time_match, time_scan, time_threads};
+use spread_rules_ids::limits::SESSIONS;
 use std::alloc::AllocGlobal;
 use std::thread::Threads;
 use std::time::{Clock, CpuClock};

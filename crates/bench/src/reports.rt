@@ -1,13 +1,12 @@
 //! What the sessions of an applied journal are sent.
 ghost use Rattle.std.specs.Prelude.{◌≤◌, length};
 
-use spread_rules_ids::Id;
 use bench_phases::BenchFault;
 use spread_journal::JournalFault;
-use spread_report::{Desk, DeskFault};
+use spread_report::{Desk, DeskFault, fit_fills, fits_outcome};
 use spread_rules::{Entry, Fill, Outcome, Rulebook};
+use spread_rules_ids::Id;
 use std::alloc::{AllocError, Allocator};
-use spread_report::{fit_fills, fits_outcome};
 
 /// All fills of a journal's entries, and each entry's outcome.
 #[derive(Drop)]

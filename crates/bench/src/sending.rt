@@ -4,7 +4,9 @@ ghost use Rattle.spread_rules.specs.Journal.{FitsEntry};
 ghost use Rattle.spread_match_state.specs.State.{empty_state};
 
 use crate::reports::{Applied, send_all};
-use bench_phases::{BenchFault, Beside, Measured, RUNS, Timer, apply_entry, bytes_of, read_inputs, scanned};
+use bench_phases::{
+    BenchFault, Beside, Measured, RUNS, Timer, apply_entry, bytes_of, read_inputs, scanned,
+};
 use spread_books::{Book, IndexBook};
 use spread_match::Market;
 use spread_rules::{Entry, NoMemory, Rulebook};

@@ -3,7 +3,7 @@ ghost use Rattle.std.specs.Prelude.{◌≡◌, ◌<◌, [], All, Ok, OnOk, OnErr
 ghost use Rattle.spread_journal.specs.Lawful.{IsTextOf};
 ghost use Rattle.spread_match.specs.Sound.{IsEntryApplied, IsStateOf};
 ghost use Rattle.spread_rules.specs.Journal.{FitsEntry};
-ghost use Rattle.spread_rules.specs.Meaning.{JournalState};
+ghost use Rattle.spread_rules.specs.code.Meaning.{JournalState};
 ghost use Rattle.spread_rules_rulebook.specs.RulebookText.{ReadsRulebook};
 ghost use Rattle.spread_match_state.specs.State.{empty_state};
 

@@ -1,8 +1,8 @@
 //! Gateways, rings and the sequencer, in two threads.
-use gate_link::{Burst, Gateway, Sequencer, Step, Takes, Turn, link};
 use crate::fault::BenchFault;
 use crate::timing::{Beside, Measured};
 use crate::wire::{PIECE, scanned};
+use gate_link::{Burst, Gateway, Sequencer, Step, Takes, Turn, link};
 use std::alloc::{AllocGlobal, Allocator, Global};
 use std::thread;
 use std::thread::{Threads, join_mut};

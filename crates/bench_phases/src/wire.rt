@@ -1,8 +1,8 @@
 //! Frames and messages.
 use crate::fault::BenchFault;
 use crate::timing::{Beside, Measured, RUNS, Timer};
-use fix_wire_framer::{Framer, Next};
 use fix_session::{Reader, Verdict};
+use fix_wire_framer::{Framer, Next};
 use std::time::CpuClock;
 
 /// A piece of a stream, as a connection would give it.

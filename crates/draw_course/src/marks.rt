@@ -1,8 +1,8 @@
 //! The marks of trades: circles where they are direct, diamonds where they are implied.
-use crate::svg_text::SvgText;
 use crate::course::Kind;
 use crate::points::ChartPoint;
 use crate::scale::length_of;
+use crate::svg_text::SvgText;
 use std::alloc::Allocator;
 
 /// How large a mark is at least and at most, in tenths: the distance of its edge from its middle where it is a circle.

@@ -45,7 +45,10 @@ impl ChartPoint {
 }
 
 /// The points of each cell as one, by kind, then from the top, then from the left.
-fn merged<A: Allocator + Copy>(alloc: A, points: &[ChartPoint]) -> Result<Vec<ChartPoint, A>, AllocError> {
+fn merged<A: Allocator + Copy>(
+    alloc: A,
+    points: &[ChartPoint],
+) -> Result<Vec<ChartPoint, A>, AllocError> {
     let mut fewer: Vec<ChartPoint, A> = Vec::new(alloc);
     for point in points {
         match fewer.last_mut() {

@@ -1,7 +1,7 @@
 //! The best prices of an instrument and side as a line of steps.
-use crate::svg_text::SvgText;
-use crate::scale::{EDGE, Scale, WIDTH};
 use crate::course::Stretch;
+use crate::scale::{EDGE, Scale, WIDTH};
+use crate::svg_text::SvgText;
 use std::alloc::Allocator;
 
 /// Where a line is. It has no height where no order rests.

@@ -8,9 +8,9 @@ ghost use Rattle.spread_rules.specs.Journal.{FitsEntry};
 use crate::fault::DrawFault;
 use crate::watch::courses_of;
 use draw_page::page_of;
-use spread_rules_ends::{Failed, Sink, write_all};
 use spread_journal::{JournalFault, read_journal};
 use spread_rules::{Entry, Rulebook};
+use spread_rules_ends::{Failed, Sink, write_all};
 use std::alloc::{AllocError, Allocator};
 
 /// The picture of a journal's day.

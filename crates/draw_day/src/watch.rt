@@ -3,8 +3,8 @@ ghost use Rattle.std.specs.Prelude.{◌<◌, ◌+◌, [], All, OnOk, length, tak
 ghost use Rattle.spread_rules.specs.Journal.{FitsEntry};
 ghost use Rattle.apply_market.specs.Application.{HasApplied};
 
-use draw_course::{Course, Kind, Trade, column_of};
 use apply_market::MatchedJournal;
+use draw_course::{Course, Kind, Trade, column_of};
 use spread_books::{Book, IndexBook};
 use spread_rules::{Entry, Event, Fill, Instrument, Outcome, Rulebook, Side};
 use std::alloc::{AllocError, Allocator};

@@ -1,5 +1,8 @@
 //! The panel of one instrument: its axes, its best prices as steps, its trades as marks.
-use draw_course::{Course, Kind, ChartPoint, Scale, Stretch, SvgText, WIDTH, first_multiple, length_of, points_of, put_marks, put_steps, scale_of, step, widened};
+use draw_course::{
+    ChartPoint, Course, Kind, Scale, Stretch, SvgText, WIDTH, first_multiple, length_of, points_of,
+    put_marks, put_steps, scale_of, step, widened,
+};
 use spread_rules::{Instrument, Rulebook};
 use std::alloc::{AllocError, Allocator};
 

@@ -1,9 +1,9 @@
 //! The program `exchange`: its words, what they ask for, and how it ends.
 #![tactic(auto)]
 
-use exchange_words::{read_words, refuse, words_of};
 use exchange_commands::run;
 use exchange_faults::tell;
+use exchange_words::{read_words, refuse, words_of};
 use std::process::ExitCode;
 
 fn main(rt: HostRuntime) -> ExitCode {

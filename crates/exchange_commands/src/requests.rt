@@ -1,13 +1,13 @@
 //! A function for each request of the command line.
-use bench::measure;
-use exchange_words::Request;
-use exchange_print::print_day;
-use exchange_faults::Fault;
-use spread_rules_ids::Id;
-use spread_rules_ends::{FromReader, ToWriter};
 use crate::files::{read_files, read_rules};
 use crate::tasks::run_journal;
+use bench::measure;
+use exchange_faults::Fault;
+use exchange_print::print_day;
+use exchange_words::Request;
 use spread_host::{Caps, Gate, HostFault, replay, run_day};
+use spread_rules_ends::{FromReader, ToWriter};
+use spread_rules_ids::Id;
 use std::fs::Files;
 use std::io;
 use std::sync::Wait;

@@ -1,9 +1,9 @@
 //! What is asked of a journal text: it is checked, held against a claim, explained, drawn.
 use crate::files::{read_file, read_rules};
-use exchange_words::Task;
-use explain_day::explain;
 use draw_day::draw;
 use exchange_faults::Fault;
+use exchange_words::Task;
+use explain_day::explain;
 use spread_host::{AuditFault, Difference, audit, check};
 use spread_rules::{Rulebook, ToWriter};
 use std::alloc::Global;

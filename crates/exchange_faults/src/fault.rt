@@ -1,11 +1,11 @@
 //! The fault lines and the statuses, as the manual has them.
 use bench::BenchFault;
-use explain_day::ExplainFault;
 use draw_day::DrawFault;
+use explain_day::ExplainFault;
+use gate_link_stages::LinkFault;
 use spread_host_faults::HostFault;
 use spread_journal::JournalFault;
 use spread_rules::RuleFault;
-use gate_link_stages::LinkFault;
 use std::fmt;
 
 /// Why the program ended without its text.

@@ -7,15 +7,15 @@ ghost use Rattle.text_messages.specs.code.Blocks.{Writes};
 ghost use Rattle.text_messages.specs.declared.blocks.TheConstants.{BLOCK_BYTES};
 ghost use Rattle.exchange_print.specs.Printing.{ArePrintable, IsPrintable};
 
-use text_day::{write_behind_journal, write_journal_lines};
-use text_ring::{BlockSource, block_ring};
 use spread_host::{Day, HostFault, write_day};
 use spread_rules::{Entry, Failed, Fill, Rulebook, Sink, ToWriter};
 use std::alloc::{AllocError, Global};
 use std::sync::Wait;
 use std::thread::{JoinHandle, Scope, Threads};
 use std::{io, thread};
+use text_day::{write_behind_journal, write_journal_lines};
 use text_messages::BLOCK_BYTES;
+use text_ring::{BlockSource, block_ring};
 
 /// What stands behind the journal in a day's text: the fills, and what each session is sent.
 #[derive(Drop)]

@@ -1,7 +1,7 @@
 //! What the command line asks for.
+use crate::parser::exchange_command;
 use clap::error::ErrorKind;
 use clap::{ArgMatches, Error};
-use crate::parser::exchange_command;
 use std::alloc::{AllocError, AllocGlobal, Global};
 use std::env::Env;
 use std::{env, io};

@@ -4,9 +4,9 @@ ghost use Rattle.spread_rules.specs.Journal.{FitsEntry};
 
 use crate::outcome_words::{put_loses_place, put_outcome};
 use crate::turn_words::put_turns;
-use explain_entries::{Words, put_entry, explain_entry};
-use spread_rules_ends::NoMemory;
+use explain_entries::{Words, explain_entry, put_entry};
 use spread_rules::{Entry, Rulebook};
+use spread_rules_ends::NoMemory;
 use std::alloc::Allocator;
 
 /// The words of the n-th entry from 0.

@@ -6,9 +6,9 @@ ghost use Rattle.explain_day.specs.declared.fault.ExplainFault.{ExplainFault};
 
 use crate::entry::words_of_entry;
 use crate::fault::ExplainFault;
-use spread_rules_ends::{Sink, write_all};
 use spread_journal::{JournalFault, read_journal};
 use spread_rules::Rulebook;
+use spread_rules_ends::{Sink, write_all};
 use std::alloc::Allocator;
 
 /// Reads a journal text, and writes in words what the entry of that place, from 1, meant: each turn with the candidate

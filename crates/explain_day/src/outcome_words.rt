@@ -1,5 +1,7 @@
 //! The line of what came of an entry.
-use explain_entries::{EntryExplanation, Words, put_new_refusal, put_nothing_resting, put_replace_refusal};
+use explain_entries::{
+    EntryExplanation, Words, put_new_refusal, put_nothing_resting, put_replace_refusal,
+};
 use spread_rules::{Entry, Event, Order, Outcome};
 use std::alloc::Allocator;
 
@@ -22,7 +24,11 @@ fn left_of<A: Allocator + Copy>(told: &EntryExplanation<A>) -> u32 {
 }
 
 /// A replace that was accepted: the order keeps its place, or another stands behind it.
-fn put_replaced<A: Allocator + Copy>(words: &mut Words<'_, A>, told: &EntryExplanation<A>, order: &Order) {
+fn put_replaced<A: Allocator + Copy>(
+    words: &mut Words<'_, A>,
+    told: &EntryExplanation<A>,
+    order: &Order,
+) {
     match &told.traded {
         None => {
             words.named(b"keeps its place ", order.place);

@@ -1,10 +1,10 @@
 //! The lines of turns.
 ghost use Rattle.std.specs.Prelude.{All};
-ghost use Rattle.spread_rules.specs.Candidates.{HasLegPrice};
+ghost use Rattle.spread_rules.specs.code.Candidates.{HasLegPrice};
 ghost use Rattle.explain_turns.specs.Explained.{HaveLegPrices};
 
 use explain_entries::{Traded, Words};
-use explain_turns::{Beyond, RankPoint, ExplainedTurn, point_between};
+use explain_turns::{Beyond, ExplainedTurn, RankPoint, point_between};
 use spread_rules::{Candidate, Counterparty, Instrument, Order};
 use std::alloc::Allocator;
 
@@ -109,7 +109,12 @@ fn put_next<A: Allocator + Copy>(
 }
 
 /// One turn: the candidate that was taken, and those that rank next.
-fn put_turn<A: Allocator + Copy>(words: &mut Words<'_, A>, new: &Order, number: u64, turn: &ExplainedTurn)
+fn put_turn<A: Allocator + Copy>(
+    words: &mut Words<'_, A>,
+    new: &Order,
+    number: u64,
+    turn: &ExplainedTurn,
+)
     requires { HaveLegPrices turn.now }
 {
     words.named(b"turn ", number);

@@ -4,9 +4,9 @@ use Rattle.std.proofs.lemmas.List.Elements.{All-filter, All-weaker}
 use Rattle.std.proofs.lemmas.List.{take_all}
 use Rattle.spread_rules.specs.declared.order.Order.{Order}
 use Rattle.spread_rules.specs.declared.event.Entry.{Entry}
-use Rattle.spread_rules.specs.Candidates.{HasOrderPrice}
+use Rattle.spread_rules.specs.code.Candidates.{HasOrderPrice}
 use Rattle.spread_rules.specs.Journal.{FitsEntry}
-use Rattle.spread_rules.specs.Meaning.{meaning_of_journal}
+use Rattle.spread_rules.specs.code.Meaning.{meaning_of_journal}
 use Rattle.spread_rules.specs.Ranges.{AreOrdersInRange, IsOrderInRange}
 use Rattle.spread_rules_rulebook.specs.Rulebook.{Rules, IsRules}
 use Rattle.explain_entries.specs.EntryExplained.{others_of, standing_at}

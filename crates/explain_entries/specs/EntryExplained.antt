@@ -9,7 +9,8 @@ use Rattle.spread_rules.specs.declared.event.Event.TheVariants.{New, Cancel, Rep
 use Rattle.spread_rules.specs.declared.outcome.Outcome.{Outcome}
 use Rattle.spread_rules.specs.declared.outcome.Outcome.TheVariants.{Replaced, Refused}
 use Rattle.spread_rules.specs.Clearing.{removed}
-use Rattle.spread_rules.specs.Meaning.{is_own, meaning_of_journal, order_of}
+use Rattle.spread_rules.specs.Meaning.{is_own, order_of}
+use Rattle.spread_rules.specs.code.Meaning.{meaning_of_journal}
 use Rattle.spread_rules_rulebook.specs.Rulebook.{Rules, find_symbol}
 
 -- the orders that rest behind these entries

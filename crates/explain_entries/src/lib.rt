@@ -3,8 +3,8 @@
 #![tactic(auto)]
 
 mod entry;
-mod refusal;
 mod orders_before;
+mod refusal;
 mod telling;
 mod told;
 mod words;

@@ -1,8 +1,8 @@
 //! Why an entry was refused, and what that rests on.
 use crate::words::Words;
-use spread_rules_ids::limits::MAX_ORDER_QTY;
 use spread_rules::codes::ord_status;
 use spread_rules::{Entry, Event, Id, Order, Ticket};
+use spread_rules_ids::limits::MAX_ORDER_QTY;
 use std::alloc::Allocator;
 
 /// Whether an entry is a new order or a replace of the session with that id.

@@ -1,7 +1,7 @@
 //! An entry told: what came of it, and how its order was traded.
 ghost use Rattle.std.specs.Option.{option_map};
 ghost use Rattle.std.specs.Prelude.{◌≡◌, ◌+◌, All, IfOk, IfSome, length};
-ghost use Rattle.spread_rules.specs.Candidates.{HasOrderPrice};
+ghost use Rattle.spread_rules.specs.code.Candidates.{HasOrderPrice};
 ghost use Rattle.spread_rules.specs.Clearing.{removed};
 ghost use Rattle.spread_rules.specs.Journal.{FitsEntry};
 ghost use Rattle.spread_rules.specs.Meaning.{order_of};

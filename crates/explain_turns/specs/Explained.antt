@@ -6,8 +6,10 @@ use Rattle.spread_rules.specs.declared.order.Side.{Side}
 use Rattle.spread_rules.specs.declared.order.Side.TheVariants.{Buy, Sell}
 use Rattle.spread_rules.specs.declared.candidate.Candidate.{Candidate}
 use Rattle.spread_rules.specs.declared.candidate.Rank.{Rank}
-use Rattle.spread_rules.specs.Candidates.{Pairs, HasLegPrice, IsBest, IsEligible, IsLeast, is_before, least_left}
-use Rattle.spread_rules.specs.Clearing.{Trading, begin, clear, leg_prices, next_candidate, turns}
+use Rattle.spread_rules.specs.Candidates.{Pairs, IsBest, IsEligible, IsLeast, is_before, least_left}
+use Rattle.spread_rules.specs.code.Candidates.{HasLegPrice}
+use Rattle.spread_rules.specs.Clearing.{Trading, clear, leg_prices}
+use Rattle.spread_rules.specs.code.Clearing.{begin, next_candidate, turns}
 use Rattle.spread_rules_rulebook.specs.Rulebook.{Rules, implied, references_of}
 use Rattle.explain_turns.specs.declared.turn.ExplainedTurn.{ExplainedTurn}
 use Rattle.explain_turns.specs.declared.turn.Beyond.{Beyond}
@@ -21,32 +23,32 @@ is_behind n (Some bound) o = is_before n bound o
 
 -- an eligible candidate behind the bound, and no eligible one behind the bound ranks before it
 pub record IsNext
-    (trades_implied : Pairs) (n : Order) (xs : List Order) (bound : Option Candidate) (o : Candidate) : Type 0 where
-  pub eligible : IsEligible trades_implied n xs o
+    (on : Pairs) (n : Order) (xs : List Order) (bound : Option Candidate) (o : Candidate) : Type 0 where
+  pub eligible : IsEligible on n xs o
   pub behind : is_behind n bound o ≡ true
   pub least :
-      (q : Candidate) → IsEligible trades_implied n xs q → is_behind n bound q ≡ true
+      (q : Candidate) → IsEligible on n xs q → is_behind n bound q ≡ true
       → is_before n q o ≡ false
 
 -- the next in rank behind the bound, and none only where no eligible candidate lies behind it
 abbrev pub IsNextBest :
     Pairs → Order → List Order → Option Candidate → Option Candidate → Type 0
-IsNextBest trades_implied n xs bound next =
+IsNextBest on n xs bound next =
     MatchOption next
-    ((q : Candidate) → IsEligible trades_implied n xs q → is_behind n bound q ≡ true → ⊥)
-    (IsNext trades_implied n xs bound)
+    ((q : Candidate) → IsEligible on n xs q → is_behind n bound q ≡ true → ⊥)
+    (IsNext on n xs bound)
 
 -- the next behind a candidate, and none behind none
 abbrev pub Follows : Pairs → Order → List Order → Option Candidate → Option Candidate → Type 0
-Follows trades_implied n xs None next = next ≡ None
-Follows trades_implied n xs (Some o) next = IsNextBest trades_implied n xs (Some o) next
+Follows on n xs None next = next ≡ None
+Follows on n xs (Some o) next = IsNextBest on n xs (Some o) next
 
 -- each is the next behind the one before it, the first behind the bound
 abbrev pub AreNext :
     Pairs → Order → List Order → Option Candidate → List (Option Candidate) → Type 0
-AreNext trades_implied n xs bound [] = Unit {0}
-AreNext trades_implied n xs bound (o ∷ os) =
-    Follows trades_implied n xs bound o × AreNext trades_implied n xs o os
+AreNext on n xs bound [] = Unit {0}
+AreNext on n xs bound (o ∷ os) =
+    Follows on n xs bound o × AreNext on n xs o os
 
 -- ---- turns
 

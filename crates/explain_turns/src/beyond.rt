@@ -1,13 +1,13 @@
 //! The best candidate beyond a new order's limit.
 ghost use Rattle.std.specs.Prelude.{◌≡◌, ◌<◌, All, IfSome};
-ghost use Rattle.spread_rules.specs.Candidates.{HasOrderPrice, HasLegPrice};
+ghost use Rattle.spread_rules.specs.code.Candidates.{HasOrderPrice, HasLegPrice};
 ghost use Rattle.spread_rules_rulebook.specs.Prices.{IsLegPrice, IsOrderPrice};
 ghost use Rattle.explain_turns.specs.Explained.{IsBeyond, ticks_between, without_limit};
 
 use crate::next::plain_next;
 use crate::turn::Beyond;
-use spread_rules_ids::limits::MAX_LEG_PRICE;
 use spread_rules::{Order, Rulebook, Side};
+use spread_rules_ids::limits::MAX_LEG_PRICE;
 
 /// The order at a limit that no price of a candidate lies beyond.
 fn without_limit(new: &Order) -> Order

@@ -10,5 +10,5 @@ mod turns;
 
 pub use next::plain_next;
 pub use point::{RankPoint, point_between};
-pub use turn::{Beyond, Explanation, ExplainedTurn};
+pub use turn::{Beyond, ExplainedTurn, Explanation};
 pub use turns::explain_order;

@@ -2,7 +2,7 @@
 ghost use Rattle.std.specs.Prelude.{◌≡◌, All, IfSome, None, false, fold, map};
 ghost use Rattle.spread_rules.specs.declared.candidate.Counterparty.TheVariants.{Direct, Implied};
 ghost use Rattle.spread_rules.specs.declared.order.Order.{Order};
-ghost use Rattle.spread_rules.specs.Candidates.{HasOrderPrice, HaveOrderPrices, HasLegPrice, counterparties, least_candidate};
+ghost use Rattle.spread_rules.specs.code.Candidates.{HasOrderPrice, HaveOrderPrices, HasLegPrice, counterparties, least_candidate};
 ghost use Rattle.spread_rules_rulebook.specs.Rulebook.{implied};
 ghost use Rattle.explain_turns.specs.Explained.{is_behind, IsNextBest};
 ghost use Rattle.explain_turns.specs.code.Search.{may_be_first, may_trade, next_candidate_of, next_of, next_step};

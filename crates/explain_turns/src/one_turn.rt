@@ -1,7 +1,8 @@
 //! One turn of a new order over a list of orders.
 ghost use Rattle.std.specs.Prelude.{◌≡◌, ◌-◌, All, IfSome, None, Some, fold};
 ghost use Rattle.spread_rules.specs.code.Cases.{with_less_left};
-ghost use Rattle.spread_rules.specs.Candidates.{HasOrderPrice, HasLegPrice, members};
+ghost use Rattle.spread_rules.specs.Candidates.{members};
+ghost use Rattle.spread_rules.specs.code.Candidates.{HasOrderPrice, HasLegPrice};
 ghost use Rattle.spread_rules.specs.Clearing.{after_fill, leg_prices, reduced, removed};
 ghost use Rattle.spread_rules_rulebook.specs.Rulebook.{implied};
 ghost use Rattle.explain_turns.specs.Explained.{AreNext, Follows, HaveLegPrices};

@@ -1,5 +1,6 @@
 //! Why one candidate ranks behind another.
-ghost use Rattle.spread_rules.specs.Candidates.{rank_of, HasLegPrice};
+ghost use Rattle.spread_rules.specs.Candidates.{rank_of};
+ghost use Rattle.spread_rules.specs.code.Candidates.{HasLegPrice};
 ghost use Rattle.explain_turns.specs.Explained.{IsPoint};
 
 use spread_rules::{Candidate, Order, ranking};

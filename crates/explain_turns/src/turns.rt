@@ -1,13 +1,14 @@
 //! The turns of a new order, one after another.
 ghost use Rattle.std.specs.Prelude.{◌≡◌, ◌-◌, All, IfOk, fold};
-ghost use Rattle.spread_rules.specs.Candidates.{HasOrderPrice, members};
+ghost use Rattle.spread_rules.specs.Candidates.{members};
+ghost use Rattle.spread_rules.specs.code.Candidates.{HasOrderPrice};
 ghost use Rattle.spread_rules.specs.Clearing.{after_fill};
 ghost use Rattle.explain_turns.specs.Explained.{AreTurns, HaveLegPrices, LiesBeyond, after_all_turns};
 ghost use Rattle.explain_turns.specs.code.Turns.{IsAfter};
 
 use crate::beyond::beyond_limit;
 use crate::one_turn::{next_turn, reduce_members};
-use crate::turn::{Explanation, ExplainedTurn};
+use crate::turn::{ExplainedTurn, Explanation};
 use spread_rules::{Order, Rulebook};
 use std::alloc::{AllocError, Allocator};
 
@@ -19,7 +20,11 @@ struct Told<A: Allocator + Copy> {
 }
 
 /// The members of a turn have so much less left. Answers what is left of the new order after it.
-fn after_turn<A: Allocator + Copy>(orders: &mut Vec<Order, A>, left: &Order, turn: &ExplainedTurn) -> Order
+fn after_turn<A: Allocator + Copy>(
+    orders: &mut Vec<Order, A>,
+    left: &Order,
+    turn: &ExplainedTurn,
+) -> Order
     ensures left { result
         ≡ record left.now { leaves = left.now.leaves - turn.now.quantity } }
     ensures orders { orders.new.items ≡ fold (after_fill turn.now.quantity) orders.old.items

@@ -12,8 +12,8 @@ ghost use Rattle.fix_session_judging.specs.Ahead.{IsAhead, after_ahead};
 ghost use Rattle.fix_session_judging.specs.code.Changes.{judgement_with};
 ghost use Rattle.fix_session.specs.code.ReaderFields.{IsKept};
 
-use fix_wire_framer::{Framer, Next};
 use fix_session_judging::{Ahead, Change, Session, Verdict, count_messages, judge_ahead};
+use fix_wire_framer::{Framer, Next};
 use spread_rules::{Entry, NoMemory};
 use std::alloc::{AllocError, Allocator};
 use std::marker::Model;

@@ -77,9 +77,3 @@ event ms p m =
 -- the events of the places in order
 abbrev pub message_events : List Numbered → List Event
 message_events ms = filter_map (λ place. event ms place.0 place.1) (enumerate_from 0 ms)
-
--- ---- words that the headline does not rest on
-
--- the Logon of the session: that of the first message, where it is a lawful one
-abbrev pub session_logon : List Numbered → Option Logon
-session_logon ms = option_and_then (λ m. logon_of m.text m.number) (slice_get ms 0)

@@ -12,7 +12,8 @@ use Rattle.fix_session_judging.specs.declared.session.Running.{Running}
 use Rattle.fix_session_judging.specs.declared.session.State.{State}
 use Rattle.fix_session_judging.specs.declared.session.State.TheVariants as states
 use Rattle.fix_session_judging.specs.declared.session.Session.{Session}
-use Rattle.fix_session_judging.specs.View.{Numbered, is_between, numbered, next_due, event_given, logon_in, is_logout, repeats}
+use Rattle.fix_session_judging.specs.View.{Numbered}
+use Rattle.fix_session_judging.specs.code.View.{is_between, numbered, next_due, event_given, logon_in, is_logout, repeats}
 
 abbrev pub new_session : Session
 new_session = record { state = states.Before }

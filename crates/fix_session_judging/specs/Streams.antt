@@ -5,7 +5,7 @@ use Rattle.spread_rules.specs.declared.event.Event.{Event}
 use Rattle.spread_rules.specs.declared.event.Event.TheVariants as variant
 use Rattle.fix_wire_frames.specs.Frames.{frames}
 use Rattle.fix_wire_frames.specs.Messages.{number}
-use Rattle.fix_session_judging.specs.View.{Numbered, numbered}
+use Rattle.fix_session_judging.specs.View.{Numbered}
 use Rattle.fix_session_judging.specs.Places.{live, message_events}
 
 -- the messages of a stream: the frames whose number can be read
@@ -25,15 +25,3 @@ stays_open stream = live (messages stream) (length (messages stream))
 abbrev pub whole : List ℕ → List Event
 whole stream =
     events stream ++ (if stays_open stream then variant.Close STREAM_ENDED ∷ [] else [])
-
--- ---- the same of frames: words that the headline does not rest on
-
-abbrev pub events_of : List (List ℕ) → List Event
-events_of fs = message_events (filter_map numbered fs)
-
-abbrev pub stays_open_of : List (List ℕ) → Bool
-stays_open_of fs = live (filter_map numbered fs) (length (filter_map numbered fs))
-
-abbrev pub whole_of : List (List ℕ) → List Event
-whole_of fs =
-    events_of fs ++ (if stays_open_of fs then variant.Close STREAM_ENDED ∷ [] else [])

@@ -1,6 +1,5 @@
 -- What a session reads in a message.
-use Rattle.std.specs.Prelude.{ℕ, ◌+◌, Bool, ◌&&◌, not, ◌==◌, List, [], ◌∷◌, Option, Some, None, option_map, Result, Ok, Err, if◌then◌else◌, codes}
-use Rattle.std.specs.Option.{option_eq}
+use Rattle.std.specs.Prelude.{ℕ, ◌+◌, ◌&&◌, not, ◌==◌, List, [], ◌∷◌, Option, Some, None, Result, Ok, Err, if◌then◌else◌, codes}
 use Rattle.std.specs.Result.{result_ok}
 use Rattle.std.specs.Str.{bytes_eq}
 use Rattle.spread_rules_ids.specs.declared.limits.TheConstants.{FIRST_MSG_SEQ_NUM}
@@ -9,10 +8,10 @@ use Rattle.spread_rules.specs.declared.event.Event.TheVariants as events
 use Rattle.fix_wire_frames.specs.declared.msg_types.TheConstants as msg_types
 use Rattle.fix_wire_frames.specs.declared.tags.TheConstants as tags
 use Rattle.fix_wire_values.specs.Values.{number_in}
-use Rattle.fix_wire_frames.specs.Messages.{get, kind, number}
+use Rattle.fix_wire_frames.specs.Messages.{kind, number}
 use Rattle.fix_session_kinds.specs.declared.table.Meaning.{Meaning}
 use Rattle.fix_session_kinds.specs.declared.table.Meaning.TheVariants.{Says, GapFill}
-use Rattle.fix_session_kinds.specs.Table.{◌>>=◌, value_at, id_at, choice_at, read_at, meaning_of_message}
+use Rattle.fix_session_kinds.specs.Table.{◌>>=◌, value_at, id_at, choice_at, read_at}
 use Rattle.fix_session_judging.specs.declared.session.Logon.{Logon}
 
 -- ---- the Logon
@@ -46,41 +45,3 @@ due_after_accepted n _ = n + 1
 pub record Numbered : Type 0 where
   pub number : ℕ
   pub text : List ℕ
-
--- ---- words that the headline does not rest on
-
--- a frame and its number, where that can be read
-abbrev pub numbered : List ℕ → Option Numbered
-numbered m = option_map (λ n. record { number = n; text = m }) (number m)
-
--- it stands, and is this text
-abbrev pub is_same_text : Option (List ℕ) → List ℕ → Bool
-is_same_text found text = option_eq bytes_eq found (Some text)
-
--- the message is from this client, to this host
-abbrev pub is_between : Numbered → List ℕ → List ℕ → Bool
-is_between m client host =
-    is_same_text (get tags.SENDER_COMP_ID m.text) client
-    && is_same_text (get tags.TARGET_COMP_ID m.text) host
-
--- what it says as a lawful Logon
-abbrev pub logon_in : Numbered → Option Logon
-logon_in m = logon_of m.text m.number
-
--- it may be a duplicate; it is a Logout
-abbrev pub repeats : Numbered → Bool
-repeats m = is_same_text (get tags.POSS_DUP_FLAG m.text) (codes "Y")
-
-abbrev pub is_logout : Numbered → Bool
-is_logout m = bytes_eq (kind m.text) (msg_types.LOGOUT ∷ [])
-
--- the number due after it, and its event, where it is accepted
-abbrev pub next_due : Numbered → ℕ
-next_due m = due_after_accepted m.number (meaning_of_message m.text m.number)
-
-abbrev pub event_given : Numbered → Option Event
-event_given m = event_of_accepted m.number (meaning_of_message m.text m.number)
-
--- a message whose number is n
-abbrev pub view_with : List ℕ → ℕ → Numbered
-view_with m n = record { number = n; text = m }

@@ -8,7 +8,8 @@ ghost use Rattle.spread_rules.specs.Journal.{FitsEvent, is_in_order};
 ghost use Rattle.fix_session_judging.specs.declared.session.Session.{Session};
 ghost use Rattle.fix_session_judging.specs.declared.session.Verdict.TheVariants.{Nothing};
 ghost use Rattle.fix_wire_frames.specs.Frames.{frames};
-ghost use Rattle.fix_session_judging.specs.Streams.{stays_open_of, events_of, whole_of, events, whole};
+ghost use Rattle.fix_session_judging.specs.Streams.{events, whole};
+ghost use Rattle.fix_session_judging.specs.code.Streams.{stays_open_of, events_of, whole_of};
 ghost use Rattle.fix_session_judging.specs.Steps.{new_session, judge, ended, is_closed, is_closing, event_in, events_said, session_after, events_at_end};
 
 /// A new session that judges the messages of a list one after another says the events of the list's places. Where it

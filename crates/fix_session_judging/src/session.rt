@@ -1,23 +1,25 @@
 //! A session, message by message: which number is due, and what each message says.
 ghost use Rattle.std.specs.Prelude.{◌≡◌, ◌≤◌, ◌+◌, ◌&&◌, Option, Some, false, bytes_eq, codes, [], ◌∷◌};
-ghost use Rattle.fix_wire_frames.specs.Messages.{get, kind, number, given_number};
+ghost use Rattle.fix_wire_frames.specs.Messages.{get, kind, number};
+ghost use Rattle.fix_wire_frames.specs.code.Messages.{given_number};
 ghost use Rattle.fix_wire_frames.specs.declared.msg_types.TheConstants as msg_types;
 ghost use Rattle.fix_wire_frames.specs.declared.tags.TheConstants as tags;
 ghost use Rattle.fix_session_kinds.specs.Table.{meaning_of_message};
-ghost use Rattle.fix_session_judging.specs.View.{is_same_text, logon_of, view_with, event_of_accepted, due_after_accepted};
+ghost use Rattle.fix_session_judging.specs.View.{logon_of, event_of_accepted, due_after_accepted};
+ghost use Rattle.fix_session_judging.specs.code.View.{is_same_text, view_with};
 ghost use Rattle.fix_session_judging.specs.code.Openings.{given_id, is_opening};
 ghost use Rattle.fix_session_judging.specs.declared.session.Session.{Session};
 ghost use Rattle.fix_session_judging.specs.declared.session.Running.{Running};
 ghost use Rattle.fix_session_judging.specs.code.Changes.{changed, judgement_in, judgement_of};
 ghost use Rattle.fix_session_judging.specs.Steps.{new_session, running, closes, opens, step_below, step_above, step_due, step_running, verdict_of, judge, ended, is_closed};
 
+use fix_session_kinds::{Meaning, meaning_of_message, order_texts, ticket_of};
 use fix_wire_frames::{Message, msg_types, tags};
 use fix_wire_values::read_number;
-use spread_rules_ids::Id;
-use spread_rules_ids::limits::{FIRST_MSG_SEQ_NUM, MAX_MSG_SEQ_NUM};
-use fix_session_kinds::{Meaning, meaning_of_message, order_texts, ticket_of};
 use spread_rules::Event;
 use spread_rules::codes::close_reason;
+use spread_rules_ids::Id;
+use spread_rules_ids::limits::{FIRST_MSG_SEQ_NUM, MAX_MSG_SEQ_NUM};
 
 /// What a session says to a message.
 #[derive(Clone, Copy, PartialEq, Eq)]

@@ -14,8 +14,10 @@ use Rattle.spread_rules.specs.declared.event.Event.{Event}
 use Rattle.spread_rules.specs.declared.event.Event.TheVariants as events
 use Rattle.fix_wire_values.specs.declared.values.Unread.{Unread}
 use Rattle.fix_wire_values.specs.declared.values.Unread.TheVariants.{Format, Range}
-use Rattle.fix_wire_values.specs.Digits.{is_point, is_zero, number_of}
-use Rattle.fix_wire_values.specs.Values.{is_number, within, number_in, quantity_in, hundredths, hundredths_in, price_in}
+use Rattle.fix_wire_values.specs.Digits.{number_of}
+use Rattle.fix_wire_values.specs.code.Digits.{is_point, is_zero}
+use Rattle.fix_wire_values.specs.Values.{is_number, within, number_in, quantity_in, hundredths_in, price_in}
+use Rattle.fix_wire_values.specs.code.Values.{hundredths}
 use Rattle.fix_wire_frames.specs.Messages.{get, kind}
 use Rattle.fix_session_kinds.specs.declared.table.Meaning.{Meaning}
 use Rattle.fix_session_kinds.specs.declared.table.Meaning.TheVariants.{Nothing, Says, GapFill}

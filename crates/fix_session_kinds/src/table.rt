@@ -13,10 +13,10 @@ ghost use Rattle.fix_session_kinds.specs.code.Readers.{bytes_behind, ticket_of, 
 
 use fix_wire_frames::{Message, field_values, msg_types, tags};
 use fix_wire_values::{Unread, read_number, read_price, read_quantity};
-use spread_rules_ids::Id;
-use spread_rules_ids::limits::FIRST_MSG_SEQ_NUM;
 use spread_rules::codes::session_reject_reason;
 use spread_rules::{Event, Side, Ticket};
+use spread_rules_ids::Id;
+use spread_rules_ids::limits::FIRST_MSG_SEQ_NUM;
 
 /// What an accepted message means.
 #[derive(Clone, Copy)]

@@ -1,5 +1,5 @@
 -- How a message is written, and that it is read back.
-use Rattle.std.specs.Prelude.{◌≡◌, ◌≢◌, ℕ, ◌%◌, ◌<◌, ◌≤◌, ◌^◌, Bool, true, if◌then◌else◌, Option, Some, None, option_map, take, List, [], ◌∷◌, ◌++◌, map, length, sum, decimal, unsigned_abs, codes}
+use Rattle.std.specs.Prelude.{◌≡◌, ◌≢◌, ℕ, ◌%◌, ◌<◌, ◌≤◌, ◌^◌, true, if◌then◌else◌, Option, Some, None, option_map, take, List, [], ◌∷◌, ◌++◌, map, length, sum, decimal, unsigned_abs, codes}
 use Rattle.std.specs.List.{flat_map, AllByRecursion}
 use Rattle.spread_rules_ids.specs.declared.bytes.TheConstants.{EQUALS, HYPHEN_MINUS, SOH}
 use Rattle.spread_rules_ids.specs.declared.limits.TheConstants.{MAX_BODY_LENGTH}
@@ -136,17 +136,3 @@ pub record IsReadBack (h : Head) (fs : List given.Field) : Type 0 where
   pub lawful : IsFrame (message_text h fs)
   pub same : fields (message_text h fs) ≡ all_fields h fs
   pub first : (more : List ℕ) → frames (message_text h fs ++ more) ≡ message_text h fs ∷ frames more
-
--- ---- words that the headline does not rest on
-
--- the fields of a duplicate alone
-abbrev pub only_if : Bool → given.Field → List given.Field
-only_if duplicate f = if duplicate then f ∷ [] else []
-
--- what CheckSum sums
-abbrev pub summed_text : List ℕ → List ℕ
-summed_text body = begin_text ++ (decimal (length body) ++ (SOH ∷ body))
-
--- a body within its frame
-abbrev pub frame_text : List ℕ → List ℕ
-frame_text body = summed_text body ++ checksum_field (sum (summed_text body) % 256)

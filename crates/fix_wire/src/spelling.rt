@@ -7,7 +7,8 @@ ghost use Rattle.fix_wire_frames.specs.Frames.{begin_text, checksum_field};
 ghost use Rattle.spread_rules_ids.specs.declared.bytes.TheConstants.{DIGIT_ZERO, EQUALS};
 ghost use Rattle.fix_wire.specs.declared.writer.Value.TheVariants.{Text};
 ghost use Rattle.spread_rules_ids.specs.Ids.{is_plain};
-ghost use Rattle.fix_wire.specs.Layout.{value_text, field_text, orig_time, summed_text, FitsValueOf, FitsValue};
+ghost use Rattle.fix_wire.specs.Layout.{value_text, field_text, orig_time, FitsValueOf, FitsValue};
+ghost use Rattle.fix_wire.specs.code.Layout.{summed_text};
 ghost use Rattle.fix_wire.specs.Spelling.{kind_text, orig_text, spelled, spelled_head, spelled_body};
 
 use crate::body::Body;

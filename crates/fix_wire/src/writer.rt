@@ -2,15 +2,16 @@
 ghost use Rattle.std.specs.Prelude.{◌≡◌, ◌++◌, ◌<◌, ◌≤◌, ◌*◌, ◌+◌, ◌^◌, ◌-◌, min, length, take};
 ghost use Rattle.std.specs.Prelude.{if◌then◌else◌, Option, Some, None, option_map, OnOk, OnErr};
 ghost use Rattle.std.specs.List.{AllByRecursion};
-ghost use Rattle.fix_wire.specs.Layout.{body_text, frame_text, message_text, SpellsHead};
+ghost use Rattle.fix_wire.specs.Layout.{body_text, message_text, SpellsHead};
+ghost use Rattle.fix_wire.specs.code.Layout.{frame_text};
 ghost use Rattle.fix_wire.specs.Layout.{FitsKind, FitsTags, FitsBody, FitsValueOf, IsReadBack};
 ghost use Rattle.fix_wire.specs.Spelling.{spelled_body};
 
 use crate::body::{Body, FieldList};
 use crate::parties::{MAX_PARTIES_LENGTH, SpelledParties};
 use crate::spelling::{put_checksum, put_summed};
-use spread_rules_ids::Id;
 use spread_rules_ends::NoMemory;
+use spread_rules_ids::Id;
 use std::alloc::Allocator;
 
 /// What a field holds. A price is in hundredths and prints with two places; a pair prints as `a-b`.

@@ -23,12 +23,3 @@ get tag m = option_map (λ f. f.value) (find (λ f. f.tag == tag) (fields m))
 abbrev pub number : List ℕ → Option ℕ
 number m = option_and_then (λ n. then_some (nat_le 1 n) n)
     (option_and_then (λ text. result_ok (number_in text)) (get tags.MSG_SEQ_NUM m))
-
--- ---- words that the headline does not rest on
-
--- the value of the first field with that tag as a number, where it can be read
-abbrev pub given_number : ℕ → List ℕ → Option ℕ
-given_number tag m = option_and_then (λ text. result_ok (number_in text)) (get tag m)
-
-abbrev pub first_value : List TagValue → List ℕ
-first_value fs = unwrap_or (option_map (λ f. f.value) (slice_get fs 0)) []

@@ -1,33 +1,7 @@
 -- Bytes of FIX, and texts that begin alike.
-use Rattle.std.specs.Prelude.{ℕ, Bool, true, false, ◌&&◌, ◌==◌, if◌then◌else◌, List, [], ◌∷◌, map, Option, Some, None}
-use Rattle.spread_rules_ids.specs.declared.bytes.TheConstants.{EQUALS, SOH, VERTICAL_BAR}
+use Rattle.std.specs.Prelude.{ℕ, ◌&&◌, ◌==◌, if◌then◌else◌, List, [], ◌∷◌, map}
+use Rattle.spread_rules_ids.specs.declared.bytes.TheConstants.{SOH, VERTICAL_BAR}
 
 -- a text in which each `|` stands for SOH, which no character shows
 abbrev pub with_soh : List ℕ → List ℕ
 with_soh text = map (λ b. if b == VERTICAL_BAR then SOH else b) text
-
--- ---- words that the headline does not rest on
-
--- SOH, which ends a field
-abbrev pub is_soh : ℕ → Bool
-is_soh b = b == SOH
-
--- `=`, which ends a tag
-abbrev pub is_equals : ℕ → Bool
-is_equals b = b == EQUALS
-
--- SOH is spelled `|`
-abbrev pub soh_for_bar : ℕ → ℕ
-soh_for_bar b = if b == VERTICAL_BAR then SOH else b
-
--- what follows a word that the text begins with
-abbrev pub stripped : List ℕ → List ℕ → Option (List ℕ)
-stripped [] text = Some text
-stripped (p ∷ ps) [] = None
-stripped (p ∷ ps) (b ∷ bs) = if p == b then stripped ps bs else None
-
--- the text is a proper prefix of the word
-abbrev pub is_cut_short : List ℕ → List ℕ → Bool
-is_cut_short [] text = false
-is_cut_short (p ∷ ps) [] = true
-is_cut_short (p ∷ ps) (b ∷ bs) = (p == b) && is_cut_short ps bs

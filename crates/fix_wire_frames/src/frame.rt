@@ -3,7 +3,8 @@ ghost use Rattle.std.specs.Prelude.{◌≡◌, ℕ, ◌+◌, ◌%◌, ◌≤◌,
 ghost use Rattle.std.specs.List.{position_or_len, starts_with};
 ghost use Rattle.std.specs.Str.{bytes_eq};
 ghost use Rattle.memchr.specs.Find.{is_byte};
-ghost use Rattle.fix_wire_frames.specs.Frames.{begin_text, header, header_after, body_at, is_body, is_intact, checksum_field, frame_length};
+ghost use Rattle.fix_wire_frames.specs.Frames.{begin_text, header, body_at, is_intact, checksum_field, frame_length};
+ghost use Rattle.fix_wire_frames.specs.code.Frames.{header_after, is_body};
 ghost use Rattle.fix_wire_frames.specs.Fields.{field_of_text};
 ghost use Rattle.fix_wire_frames.specs.Held.{from_first_start};
 ghost use Rattle.fix_wire_frames.specs.code.Marked.{IsMarked};
@@ -15,9 +16,9 @@ ghost use Rattle.fix_wire_frames.specs.code.Scans.{scan_front, first_field, lead
 use crate::marks::{Marks, next_soh};
 use crate::table::{FieldTable, FrameTable, are_fields};
 use fix_wire_values::limited_digits;
+use memchr::memchr;
 use spread_rules_ids::bytes::SOH;
 use spread_rules_ids::limits::{MAX_BODY_LENGTH, MIN_BODY_LENGTH};
-use memchr::memchr;
 
 /// How many bytes BeginString and the tag of BodyLength have.
 pub const BEGIN_BYTES: usize = 12;

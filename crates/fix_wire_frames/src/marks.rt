@@ -1,7 +1,7 @@
 //! Where the SOHs of a text stand, found a block of bytes at a time.
 ghost use Rattle.std.specs.Prelude.{◌≡◌, ◌+◌, ◌≤◌, ◌<◌, length, take, drop};
 ghost use Rattle.std.specs.List.{position_or_len};
-ghost use Rattle.fix_wire_frames.specs.Texts.{is_soh};
+ghost use Rattle.fix_wire_frames.specs.code.Texts.{is_soh};
 ghost use Rattle.fix_wire_frames.specs.code.Marked.{marks_of, IsMarked};
 
 use spread_rules_ids::bytes::SOH;

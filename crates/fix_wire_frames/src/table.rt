@@ -3,8 +3,8 @@ ghost use Rattle.std.specs.Prelude.{◌≡◌, ◌≤◌, ◌<◌, ◌^◌, leng
 ghost use Rattle.std.specs.Bool.{OnTrue};
 ghost use Rattle.std.specs.Option.{option_copied};
 ghost use Rattle.fix_wire_frames.specs.Fields.{fields_of_body};
-ghost use Rattle.fix_wire_frames.specs.Frames.{is_body};
-ghost use Rattle.fix_wire_frames.specs.Messages.{first_value};
+ghost use Rattle.fix_wire_frames.specs.code.Frames.{is_body};
+ghost use Rattle.fix_wire_frames.specs.code.Messages.{first_value};
 ghost use Rattle.fix_wire_frames.specs.code.Scans.{value_of};
 ghost use Rattle.fix_wire_frames.specs.code.Tabled.{IsTable, index_of, with_field};
 

@@ -8,9 +8,11 @@ use Rattle.std.proofs.lemmas.Option.{cond_some}
 use Rattle.std.proofs.lemmas.Bool.Decides.{nat_tests}
 use Rattle.std.proofs.lemmas.List.{append_assoc}
 use Rattle.fix_wire_values.proofs.SpelledNumbers.{number_after_push}
-use Rattle.fix_wire_values.specs.Digits.{is_zero, is_point, number_of}
-use Rattle.fix_wire_values.specs.Values.{within, hundredths, hundredths_in, is_number}
-use Rattle.fix_wire_values.specs.Values.{limited_digits}
+use Rattle.fix_wire_values.specs.Digits.{number_of}
+use Rattle.fix_wire_values.specs.code.Digits.{is_zero, is_point}
+use Rattle.fix_wire_values.specs.Values.{within, hundredths_in, is_number}
+use Rattle.fix_wire_values.specs.code.Values.{hundredths}
+use Rattle.fix_wire_values.specs.code.Values.{limited_digits}
 
 pub within_capped : (n c : ℕ) → within 1000000000 (min n 1000000000 * 100 + c) ≡ within 1000000000 (100 * n + c)
 within_capped n c = grind (arith, nat_tests)

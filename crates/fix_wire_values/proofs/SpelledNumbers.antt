@@ -6,7 +6,8 @@ use Rattle.std.specs.List.{list_all}
 use Rattle.std.proofs.lemmas.Bool.Decides.{nat_tests}
 use Rattle.std.proofs.lemmas.Bool.{and_parts}
 use Rattle.std.proofs.Math.Nat.{pow-suc}
-use Rattle.fix_wire_values.specs.Digits.{number_after, number_of}
+use Rattle.fix_wire_values.specs.Digits.{number_of}
+use Rattle.fix_wire_values.specs.code.Digits.{number_after}
 
 pub number_after_push : (n : ℕ) (ds : List ℕ) (d : ℕ) → number_after n (ds ++ d ∷ []) ≡ 10 * number_after n ds + (d - 48)
 number_after_push n [] d = refl

@@ -1,2 +1,3 @@
 pub mod Digits
 pub mod Values
+pub mod code

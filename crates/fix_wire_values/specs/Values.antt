@@ -1,5 +1,5 @@
 -- What the text of a value means, and how a price is written.
-use Rattle.std.specs.Prelude.{ℕ, ℤ, pos, neg_ℤ, ◌/◌, ◌%◌, Bool, ◌&&◌, not, ◌==◌, nat_le, nat_lt, if◌then◌else◌, List, [], ◌∷◌, ◌++◌, Option, Some, None, Result, Ok, Err, length, take, drop, slice_index, min, decimal, int_lt, unsigned_abs, codes}
+use Rattle.std.specs.Prelude.{ℕ, ℤ, pos, neg_ℤ, ◌/◌, ◌%◌, Bool, ◌&&◌, not, ◌==◌, nat_le, nat_lt, if◌then◌else◌, List, [], ◌∷◌, ◌++◌, Result, Ok, Err, length, take, drop, slice_index, decimal, int_lt, unsigned_abs, codes}
 use Rattle.std.specs.Char.{is_ascii_digit}
 use Rattle.std.specs.List.{list_all, before_first, after_first}
 use Rattle.std.specs.Result.{result_map_both}
@@ -53,22 +53,3 @@ abbrev pub price_text : ℤ → List ℕ
 price_text z =
     (if int_lt z (pos 0) then HYPHEN_MINUS ∷ [] else [])
     ++ (decimal (unsigned_abs z / 100) ++ (POINT ∷ two_digits (unsigned_abs z % 100)))
-
--- ---- words that the headline does not rest on
-
--- the number that digits spell, or the greatest price where it is more
-abbrev pub limited_digits : List ℕ → Option ℕ
-limited_digits text =
-    if list_all is_ascii_digit text then Some (min (number_of text) MAX_HUNDREDTHS) else None
-
--- the hundredths that the digits after the point spell
-abbrev pub cents : List ℕ → ℕ
-cents part = number_of (take 2 (part ++ codes "00"))
-
--- hundredths_in, of what stands before and after the point
-abbrev pub hundredths : List ℕ → List ℕ → Result ℕ Unread
-hundredths whole part =
-    if not (is_number (whole ++ part)) then Err Format
-    else (if list_all (λ b. b == DIGIT_ZERO) (drop 2 part)
-    then within MAX_HUNDREDTHS (number_of (whole ++ take 2 (part ++ codes "00")))
-    else Err Range)

@@ -2,11 +2,12 @@
 ghost use Rattle.std.specs.Prelude.{◌≡◌, ◌≤◌, ◌<◌, Option, Some, None, min, [], true};
 ghost use Rattle.std.specs.Char.{is_ascii_digit};
 ghost use Rattle.std.specs.List.{list_all, before_first, after_first};
-ghost use Rattle.fix_wire_values.specs.Digits.{is_point, is_zero};
-ghost use Rattle.fix_wire_values.specs.Values.{number_in, quantity_in, price_in, within, hundredths_in, cents, limited_digits};
+ghost use Rattle.fix_wire_values.specs.code.Digits.{is_point, is_zero};
+ghost use Rattle.fix_wire_values.specs.Values.{number_in, quantity_in, price_in, within, hundredths_in};
+ghost use Rattle.fix_wire_values.specs.code.Values.{cents, limited_digits};
 
-use spread_rules_ids::limits::MAX_NUMBER;
 use memchr::memchr;
+use spread_rules_ids::limits::MAX_NUMBER;
 
 /// The greatest price that is read, either way from 0, in hundredths.
 pub const MAX_HUNDREDTHS: u64 = 1_000_000_000;

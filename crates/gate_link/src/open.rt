@@ -6,9 +6,9 @@ ghost use Rattle.gate_link_sessions.specs.Fresh.{AreFresh};
 ghost use Rattle.gate_link_stages.specs.Faults.{Between};
 
 use crate::sequencer::Sequencer;
-use spread_rules_ids::limits::{MAX_JOURNAL_ENTRIES, MAX_RING, SESSIONS};
 use gate_link_sessions::{Gateway, rings};
 use gate_link_stages::LinkFault;
+use spread_rules_ids::limits::{MAX_JOURNAL_ENTRIES, MAX_RING, SESSIONS};
 use std::alloc::Allocator;
 
 /// The gateways of 1 to 16 sessions in their order, over rings of 1 to 4,096 events, and their sequencer, whose journal has

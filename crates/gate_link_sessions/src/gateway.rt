@@ -8,8 +8,8 @@ ghost use Rattle.fix_wire_frames.specs.Frames.{frames};
 ghost use Rattle.gate_link_sessions.specs.Rows.{entry_events};
 ghost use Rattle.std.specs.Prelude.{◌≡◌, ◌-◌, ℕ, List, ◌++◌, length, take, min, true, if◌then◌else◌, is_some};
 
-use fix_session_judging::Ahead;
 use fix_session::{Reader, Verdict};
+use fix_session_judging::Ahead;
 use rtrb::Producer;
 use spread_rules::{Entry, Event};
 use std::alloc::Allocator;

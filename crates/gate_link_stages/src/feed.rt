@@ -134,7 +134,10 @@ impl<A: Allocator> Feeder<A> {
             return Give::Level;
         }
         let rest = &journal[self.count..];
-        let most = rest.len().min(MAX_SLICE_ITEMS).min(self.producer.capacity());
+        let most = rest
+            .len()
+            .min(MAX_SLICE_ITEMS)
+            .min(self.producer.capacity());
         if !has_room(&mut self.producer, most) {
             return Give::Full;
         }

@@ -5,8 +5,8 @@ ghost use Rattle.gate_link_stages.specs.Feeding.{given, taken, feed_ended, take_
 
 use crate::fault::LinkFault;
 use crate::feed::{Fed, Feeder, Matcher};
-use spread_rules_ids::limits::MAX_RING;
 use rtrb::RingBuffer;
+use spread_rules_ids::limits::MAX_RING;
 use std::alloc::Allocator;
 
 /// Whether the end mark was taken. Then what was taken is what was given; else it is a beginning of it.

@@ -5,8 +5,8 @@ ghost use Rattle.gate_link_stages.specs.Posting.{posted, written, post_ended, wr
 
 use crate::fault::LinkFault;
 use crate::post::{PostedBytes, Poster, Writer};
-use spread_rules_ids::limits::MAX_RING;
 use rtrb::RingBuffer;
+use spread_rules_ids::limits::MAX_RING;
 use std::alloc::Allocator;
 
 /// Whether the end mark was taken. Then the writer has what was given; else a beginning of it.

@@ -4,10 +4,10 @@ ghost use Rattle.std.specs.Prelude.{◌≡◌, ◌↔◌, true, IsTrue};
 ghost use Rattle.spread_rules_ids.specs.Ids.{is_id};
 ghost use Rattle.spread_rules.specs.Journal.{FitsEntry, FitsEvent, FitsTicket, IsNumber, is_reject_reason};
 
-use spread_rules_ids::Id;
-use spread_rules_ids::limits::{MAX_MSG_SEQ_NUM, MAX_NUMBER, MAX_PRICE, SESSIONS};
 use spread_rules::codes::{close_reason, session_reject_reason as reject};
 use spread_rules::{Entry, Event, Ticket};
+use spread_rules_ids::Id;
+use spread_rules_ids::limits::{MAX_MSG_SEQ_NUM, MAX_NUMBER, MAX_PRICE, SESSIONS};
 
 /// Every id is one.
 fn is_id(id: &Id) -> bool

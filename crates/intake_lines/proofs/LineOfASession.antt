@@ -7,7 +7,7 @@ use Rattle.std.specs.List.{cons_option, range_with_len, starts_with}
 use Rattle.std.specs.Option.{option_to_list}
 use Rattle.std.proofs.lemmas.Bool.{cases_lt}
 use Rattle.std.proofs.lemmas.Bool.Decides.{nat_tests}
-use Rattle.fix_wire_frames.specs.Texts.{stripped}
+use Rattle.fix_wire_frames.specs.code.Texts.{stripped}
 use Rattle.fix_wire_frames.proofs.texts.WordAtTheFront.{behind_is}
 use Rattle.intake_lines.specs.LineText.{DayLine, session_line}
 use Rattle.intake_lines.specs.code.OneByOne.{day_line, line_by_bytes}

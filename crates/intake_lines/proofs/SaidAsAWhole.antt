@@ -4,7 +4,8 @@ use Rattle.std.specs.List.{list_any, flat_map, position_or_len}
 use Rattle.std.specs.Option.{option_to_list}
 use Rattle.std.proofs.lemmas.Bool.Decides.{nat_tests}
 use Rattle.fix_wire_frames.specs.Texts.{with_soh}
-use Rattle.intake_lines.specs.LineText.{DayLine, is_passed_over, session_line, is_bad, day_lines_of}
+use Rattle.intake_lines.specs.LineText.{DayLine, session_line, is_bad, day_lines_of}
+use Rattle.intake_lines.specs.code.LineText.{is_passed_over}
 use Rattle.intake_lines.proofs.LineOfASession.{by_number}
 use Rattle.intake_lines.specs.code.OneByOne.{line_by_bytes, lines_of, prepend, line_and_later, session_lines, lines_said}
 

@@ -7,8 +7,9 @@ use Rattle.fix_wire_framer.specs.Pieces.{SplitsInto}
 use Rattle.fix_session_judging.specs.declared.session.Session.{Session}
 use Rattle.fix_session_judging.specs.Reading.{ReaderState, new_reader, IsBehind}
 use Rattle.fix_session_judging.specs.Steps.{new_session, events_said, session_after, events_at_end}
-use Rattle.fix_session_judging.specs.Streams.{events, events_of, stays_open, stays_open_of}
-use Rattle.intake_lines.specs.DayLines.{new_events, read_on}
+use Rattle.fix_session_judging.specs.Streams.{events, stays_open}
+use Rattle.fix_session_judging.specs.code.Streams.{events_of, stays_open_of}
+use Rattle.intake_lines.specs.code.DayLines.{new_events, read_on}
 
 pub starts : IsBehind [] new_reader
 starts = record { left = λ more. refl; judged_all = refl }

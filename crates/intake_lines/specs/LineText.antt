@@ -1,5 +1,5 @@
 -- What day lines say.
-use Rattle.std.specs.Prelude.{ℕ, ◌+◌, Bool, true, false, not, ◌&&◌, ◌==◌, nat_eq, if◌then◌else◌, List, [], ◌∷◌, ◌++◌, map, filter, drop, length, decimal, Result, Ok, Err}
+use Rattle.std.specs.Prelude.{ℕ, ◌+◌, Bool, false, not, ◌&&◌, ◌==◌, nat_eq, if◌then◌else◌, List, [], ◌∷◌, ◌++◌, map, filter, drop, length, decimal, Result, Ok, Err}
 use Rattle.std.specs.List.{list_any, flat_map, position_or_len, range_with_len, slice_split, starts_with}
 use Rattle.spread_rules_ids.specs.declared.limits.TheConstants.{SESSIONS}
 use Rattle.spread_rules_ids.specs.declared.bytes.TheConstants.{COLON, LINE_FEED, NUMBER_SIGN}
@@ -28,10 +28,3 @@ day_lines_of text =
     let lines = slice_split (λ b. b == LINE_FEED) (with_soh text) in
     if list_any is_bad lines then Err (position_or_len is_bad lines + 1)
     else Ok (flat_map session_line lines)
-
--- ---- words that the headline does not rest on
-
--- an empty line, or a comment, which begins with `#`
-abbrev pub is_passed_over : List ℕ → Bool
-is_passed_over [] = true
-is_passed_over (b ∷ bs) = b == NUMBER_SIGN

@@ -7,16 +7,17 @@ ghost use Rattle.spread_rules_ids.specs.declared.bytes.TheConstants.{LINE_FEED};
 ghost use Rattle.spread_rules_ids.specs.Cut.{Lacks};
 ghost use Rattle.fix_wire_frames.specs.Texts.{with_soh};
 ghost use Rattle.spread_rules.specs.Journal.{IsLawful};
-ghost use Rattle.intake_lines.specs.Reading.{IsJournalOf, HasParts, IsLinesFault};
+ghost use Rattle.intake_lines.specs.Reading.{IsJournalOf};
+ghost use Rattle.intake_lines.specs.code.Reading.{HasParts, IsLinesFault};
 ghost use Rattle.intake_lines.specs.code.LineSessions.{IsFed, TakesLine};
 ghost use Rattle.intake_lines.specs.code.PiecesRead.{HasRead, IsReading, ReadsOn};
 
-use crate::line_sessions::SessionReaders;
 use crate::laws::day_journal;
+use crate::line_sessions::SessionReaders;
 use crate::lines::{LinesFault, put_field_ends};
+use spread_rules::Entry;
 use spread_rules_ids::cut_at;
 use spread_rules_ids::limits::MAX_JOURNAL_ENTRIES;
-use spread_rules::Entry;
 use std::alloc::{AllocError, Allocator};
 
 /// What stands between the pieces of day lines.

@@ -10,7 +10,8 @@ ghost use Rattle.fix_session_judging.specs.Steps.{events_said, events_at_end};
 ghost use Rattle.fix_session_judging.specs.Streams.{events, stays_open};
 ghost use Rattle.spread_rules.specs.Journal.{restricted, IsLawful};
 ghost use Rattle.intake_lines.specs.LineText.{DayLine};
-ghost use Rattle.intake_lines.specs.DayLines.{new_events, journal_of_lines, read_on};
+ghost use Rattle.intake_lines.specs.DayLines.{journal_of_lines};
+ghost use Rattle.intake_lines.specs.code.DayLines.{new_events, read_on};
 ghost use Rattle.intake_lines.specs.JournalParts.{AreOfSessions, part_of};
 
 use fix_session_judging::laws::{closed_after, judged, said_after};

@@ -2,8 +2,8 @@
 #![tactic(auto)]
 
 mod day_reader;
-mod line_sessions;
 pub mod laws;
+mod line_sessions;
 mod lines;
 mod reading;
 

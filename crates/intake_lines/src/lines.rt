@@ -4,8 +4,9 @@
 //! Empty lines and lines that begin with `#` are passed over.
 ghost use Rattle.std.specs.Prelude.{◌≡◌, ◌<◌, option_map, IfSome};
 ghost use Rattle.spread_rules_ids.specs.declared.limits.TheConstants.{SESSIONS};
-ghost use Rattle.fix_wire_frames.specs.Texts.{soh_for_bar, with_soh};
-ghost use Rattle.intake_lines.specs.LineText.{is_passed_over};
+ghost use Rattle.fix_wire_frames.specs.Texts.{with_soh};
+ghost use Rattle.fix_wire_frames.specs.code.Texts.{soh_for_bar};
+ghost use Rattle.intake_lines.specs.code.LineText.{is_passed_over};
 ghost use Rattle.intake_lines.specs.code.OneByOne.{day_line, line_by_bytes};
 ghost use Rattle.intake_lines.specs.declared.lines.LinesFault.TheVariants.{NoMemory};
 

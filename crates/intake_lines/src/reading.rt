@@ -5,14 +5,15 @@ ghost use Rattle.spread_rules_ids.specs.declared.limits.TheConstants.{MAX_INPUT_
 ghost use Rattle.spread_rules_ends.specs.Ends.{TakesAtMost};
 ghost use Rattle.fix_wire_frames.specs.Texts.{with_soh};
 ghost use Rattle.spread_rules.specs.Journal.{IsLawful};
-ghost use Rattle.intake_lines.specs.Reading.{IsJournalOf, HasParts, IsLinesFault};
+ghost use Rattle.intake_lines.specs.Reading.{IsJournalOf};
+ghost use Rattle.intake_lines.specs.code.Reading.{HasParts, IsLinesFault};
 ghost use Rattle.intake_lines.specs.code.PiecesRead.{HasRead, IsReading};
 
 use crate::day_reader::DayReader;
 use crate::lines::LinesFault;
-use spread_rules_ids::limits::MAX_INPUT_BYTES;
-use spread_rules_ends::{Failed, Source};
 use spread_rules::Entry;
+use spread_rules_ends::{Failed, Source};
+use spread_rules_ids::limits::MAX_INPUT_BYTES;
 use std::alloc::Allocator;
 
 /// How many bytes one read takes at most.

@@ -2,7 +2,7 @@
 use Rattle.std.proofs.Common.{◌≡◌, ◌∙◌, sym, ap, ℕ, ◌<◌, ◌≤◌, List, ◌++◌, length, inl, inr, arith, append-nil}
 use Rattle.std.proofs.lemmas.Bool.{cases_lt}
 use Rattle.spread_rules.specs.declared.event.Entry.{Entry}
-use Rattle.spread_report_outbound.specs.Sessions.{session_text}
+use Rattle.spread_report_outbound.specs.code.Sessions.{session_text}
 use Rattle.gate_link_sessions.proofs.PartOfASession.{row_past}
 use Rattle.gate_link_stages.specs.Posting.{posted}
 use Rattle.apply_desk.specs.Applied.{outgoing_bytes}

@@ -12,7 +12,7 @@ use Rattle.gate_link_sessions.specs.Rows.{row}
 use Rattle.spread_rules.proofs.journals.SessionParts.{restricted-append}
 use Rattle.gate_link_stages.specs.Feeding.{Agrees, taken}
 use Rattle.gate_link_stages.specs.Posting.{Finishes, ArePostPair}
-use Rattle.apply_desk.specs.Applied.{IsApplyFault}
+use Rattle.apply_desk.specs.code.Applied.{IsApplyFault}
 use Rattle.apply_market.specs.declared.fault.ApplyFault.{ApplyFault}
 use Rattle.apply_market.specs.declared.fault.ApplyFault.TheVariants.{NoMemory, NumbersSpent}
 use Rattle.live_sessions.specs.Streams.{IsBeginningOf, whole_at}

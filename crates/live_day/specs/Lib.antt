@@ -1,4 +1,3 @@
 pub mod Limits
 pub mod code
-pub use Rattle.live_matching.specs.Sending
 pub mod Streams

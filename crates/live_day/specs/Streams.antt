@@ -2,7 +2,7 @@
 use Rattle.std.specs.Prelude.{◌≡◌, ℕ, ◌+◌, ◌<◌, ◌≤◌, ◌⊎◌, List, length, Vec}
 use Rattle.spread_rules_ids.specs.declared.limits.TheConstants.{SESSIONS}
 use Rattle.spread_rules.specs.Journal.{restricted}
-use Rattle.spread_rules.specs.Meaning.{meaning_of_journal}
+use Rattle.spread_rules.specs.code.Meaning.{meaning_of_journal}
 use Rattle.spread_rules_rulebook.specs.Rulebook.{Rules}
 use Rattle.spread_report_outbound.specs.Rows.{IsRow}
 use Rattle.spread_report.specs.Messages.{messages_to}

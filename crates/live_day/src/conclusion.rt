@@ -9,10 +9,10 @@ ghost use Rattle.live_matching.specs.code.Posting.{posted_at};
 ghost use Rattle.live_sessions.specs.declared.sequencing.SequenceEnd.TheVariants as sequence_end;
 ghost use Rattle.live_writers.specs.code.Writing.{AreJoinedPairs, written_at};
 
-use apply_desk::FillsAndMessages;
 use crate::fault::{ThreadsFault, of_apply};
-use live_matching::{MatchEnd, Matched, PostedEntries};
+use apply_desk::FillsAndMessages;
 use gate_link::{Poster, agree, finished};
+use live_matching::{MatchEnd, Matched, PostedEntries};
 use live_sessions::{GivenStreams, SequenceEnd, Sequenced};
 use live_writers::Written;
 use spread_rules::Entry;

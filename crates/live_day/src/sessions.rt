@@ -1,17 +1,17 @@
 //! A day of sessions in threads: all are started, the journal is made in the caller's, and all are joined.
 ghost use Rattle.std.specs.Prelude.{◌≡◌, ◌≤◌, ℕ, length, IfOk, IfErr, OnOk};
 ghost use Rattle.spread_rules.specs.Journal.{IsLawful};
-ghost use Rattle.live_day.specs.Sending.{sending_rules, stamp_of};
+ghost use Rattle.apply_desk.specs.Sending.{sending_rules, stamp_of};
 ghost use Rattle.live_day.specs.code.Starting.{AreReady, IsRunning};
 ghost use Rattle.live_day.specs.Streams.{IsDayOfSessions, IsThreadsFault};
 ghost use Rattle.live_day.specs.Limits.{IsWithinLimits};
 
 use crate::conclusion::{SessionsDay, conclude};
-use crate::stages::{Caps, DaySettings, Stages, stages_of};
 use crate::fault::ThreadsFault;
+use crate::stages::{Caps, DaySettings, Stages, stages_of};
 use crate::starting::{RunningDay, start_day};
-use live_shared::{Gate, Shared};
 use live_sessions::{GivenStreams, SequenceEnd, sequence};
+use live_shared::{Gate, Shared};
 use live_writers::join_writers;
 use std::alloc::Allocator;
 use std::snapshot::Snapshot;

@@ -1,6 +1,6 @@
 //! What the threads of a day work with, made before any of them is started.
 ghost use Rattle.std.specs.Prelude.{◌≡◌, ℕ, [], length, IfOk, IfErr, OnOk, vec_len};
-ghost use Rattle.live_matching.specs.Sending.{sending_rules, stamp_of};
+ghost use Rattle.apply_desk.specs.Sending.{sending_rules, stamp_of};
 ghost use Rattle.gate_link_stages.specs.Faults.{IsRingRefusal, IsRingSize};
 ghost use Rattle.live_day.specs.Limits.{IsWithinLimits};
 ghost use Rattle.live_day.specs.code.Making.{IsMade, IsStagesFault};
@@ -8,13 +8,13 @@ ghost use Rattle.live_matching.specs.code.Posting.{NoneEnded, posted_at};
 ghost use Rattle.live_writers.specs.code.Writing.{ArePostPairs};
 
 use crate::fault::{ThreadsFault, of_apply};
-use live_matching::PostedEntries;
 use apply_desk::ReportedEntries;
 use gate_link::{
     Feeder, Gateway, LinkFault, Matcher, Poster, Sequencer, Writer, feed_ring, link, post_ring,
 };
-use spread_rules_ids::Id;
+use live_matching::PostedEntries;
 use spread_rules::Rulebook;
+use spread_rules_ids::Id;
 use std::alloc::Allocator;
 
 /// How many events each ring takes, 1 to 4,096, and how many entries the journal, at most 1,000,000.

@@ -4,19 +4,19 @@ ghost use Rattle.live_day.specs.code.Starting.{AreReady, IsRunning, IsStartFault
 ghost use Rattle.live_sessions.specs.code.Handing.{IsRoom};
 ghost use Rattle.live_day.specs.declared.fault.ThreadsFault.TheVariants.{NoMemory, Spawn};
 
-use apply_desk::FillsAndMessages;
-use crate::stages::Stages;
 use crate::fault::ThreadsFault;
-use live_matching::{MatchPromise, Matched, PostedEntries, start_matching};
+use crate::stages::Stages;
+use apply_desk::FillsAndMessages;
 use gate_link::Sequencer;
-use live_shared::{Gate, Shared};
-use live_sessions::{Started, Workers, join_all, start_all};
 use gate_link_stages::Feeder;
+use live_matching::{MatchPromise, Matched, PostedEntries, start_matching};
+use live_sessions::{Started, Workers, join_all, start_all};
+use live_shared::{Gate, Shared};
+use live_writers::{StartedWriters, Writing, join_writers, start_writers};
 use std::alloc::{AllocError, Allocator};
 use std::sync::Wait;
 use std::sync::atomic::Ordering;
 use std::thread::{PromisedHandle, Scope, Threads};
-use live_writers::{StartedWriters, Writing, join_writers, start_writers};
 
 /// A day all of whose threads were started: their handles, and what the sequencer works with.
 #[derive(Drop)]

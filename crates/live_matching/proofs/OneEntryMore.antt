@@ -2,7 +2,7 @@
 use Rattle.std.proofs.Common.{◌≡◌, ◌∙◌, refl, sym, ap, ℕ, ◌≤◌, ◌<◌, List, [], ◌++◌, length, arith, true}
 use Rattle.spread_rules.specs.declared.event.Entry.{Entry}
 use Rattle.gate_link_stages.specs.declared.post.Poster.{Poster}
-use Rattle.spread_report_outbound.specs.Sessions.{session_text}
+use Rattle.spread_report_outbound.specs.code.Sessions.{session_text}
 use Rattle.apply_desk.specs.Sending.{HasReported, HasReportedBehind, Sending}
 use Rattle.apply_desk.proofs.HandedOn.{behind_at, behind_length, handed_on}
 use Rattle.live_matching.specs.code.Posting.{HasMoved, HasPosted, posted_at}

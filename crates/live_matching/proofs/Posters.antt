@@ -7,7 +7,7 @@ use Rattle.std.proofs.lemmas.Bool.{cases_eq}
 use Rattle.gate_link_stages.specs.declared.post.Poster.{Poster}
 use Rattle.gate_link_stages.specs.Posting.{posted, post_ended, SamePoster}
 use Rattle.gate_link_sessions.proofs.PartOfASession.{row_at, row_same, row_other}
-use Rattle.spread_report_outbound.specs.Sessions.{session_text}
+use Rattle.spread_report_outbound.specs.code.Sessions.{session_text}
 use Rattle.live_matching.specs.code.Posting.{posted_at, NoneEnded, SamePosters}
 
 pub same_poster_trans : {A : Type 0} (a b d : Poster A) → SamePoster a b → SamePoster b d → SamePoster a d

@@ -4,9 +4,9 @@ use Rattle.spread_rules.specs.declared.event.Entry.{Entry}
 use Rattle.gate_link_stages.specs.Feeding.{AreFeedPair, SameFeeder, SameMatcher}
 use Rattle.gate_link_stages.specs.declared.feed.Feeder.{Feeder}
 use Rattle.gate_link_stages.specs.declared.feed.Matcher.{Matcher}
-use Rattle.live_matching.specs.Applied.{IsApplyFault}
+use Rattle.apply_desk.specs.code.Applied.{IsApplyFault}
 use Rattle.spread_rules_rulebook.specs.Rulebook.{Rules}
-use Rattle.live_matching.specs.Sending.{sending_rules}
+use Rattle.apply_desk.specs.Sending.{sending_rules}
 use Rattle.live_matching.specs.code.Posting.{HasPosted, StepEnds}
 use Rattle.live_matching.specs.declared.posting.PostedEntries.{PostedEntries}
 use Rattle.live_matching.specs.code.Matching.{MatchEnds}

@@ -6,13 +6,13 @@ ghost use Rattle.live_matching.specs.code.Posting.{IsUnfed};
 use crate::posting::PostedEntries;
 use crate::turns::{Matched, match_all};
 use gate_link_stages::Matcher;
+use live_shared::Gate;
 use std::alloc::Allocator;
 use std::snapshot::Snapshot;
 use std::sync::Wait;
 use std::sync::atomic::AtomicBool;
 use std::thread;
 use std::thread::{Promise, PromisedHandle, Scope, Threads};
-use live_shared::Gate;
 
 /// What it promises: its own ends of the rings, and what it made of the entries that it took.
 #[derive(Drop)]

@@ -6,8 +6,8 @@ ghost use Rattle.live_matching.specs.code.Posting.{CanPost, HasPosted, SamePoste
 
 use crate::posting::{PostedEntries, post_each};
 use apply_market::ApplyFault;
-use spread_rules::Entry;
 use gate_link_stages::fits_entry;
+use spread_rules::Entry;
 use std::alloc::Allocator;
 use std::sync::Wait;
 use std::sync::atomic::AtomicBool;

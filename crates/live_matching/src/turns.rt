@@ -1,18 +1,17 @@
 //! The entries of a journal taken from a ring as they come, applied, and what they send given to the writers.
 ghost use Rattle.std.specs.Prelude.{◌≡◌, ◌≤◌, length};
-ghost use Rattle.live_matching.specs.Sending.{sending_rules, stamp_of};
+ghost use Rattle.apply_desk.specs.Sending.{sending_rules, stamp_of};
 ghost use Rattle.live_matching.specs.code.Matching.{MatchEnds};
 ghost use Rattle.live_matching.specs.code.Posting.{IsUnfed, SamePosters};
 ghost use Rattle.gate_link_stages.specs.Feeding.{SameMatcher, taken};
 
-use crate::step::{MatchEnd, match_one};
 use crate::posting::{PostedEntries, end_each};
-use live_shared::{found, rest};
+use crate::step::{MatchEnd, match_one};
 use gate_link_stages::{Lent, Matcher};
+use live_shared::{Gate, found, rest};
 use std::alloc::Allocator;
 use std::sync::Wait;
 use std::sync::atomic::{AtomicBool, Ordering};
-use live_shared::Gate;
 
 /// What the matching thread hands back.
 #[derive(Drop)]

@@ -17,9 +17,3 @@ all_events {A} streams = sum_by (λ (v : Vec ℕ A). length (whole v.items)) str
 -- of each session, the journal has a beginning of the events of its stream
 abbrev pub IsBeginningOf : {A : Type 0} → List (Vec ℕ A) → List Entry → Type 0
 IsBeginningOf streams journal = (s : ℕ) → IsPrefix (restricted s journal) (whole_at streams s)
-
--- ---- words that the headline does not rest on
-
--- the events of a stream, its close included
-abbrev pub whole_stream : {A : Type 0} → Vec ℕ A → List Event
-whole_stream v = whole v.items

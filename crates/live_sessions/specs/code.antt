@@ -2,3 +2,4 @@ pub mod Handing
 pub mod Sequencing
 pub mod Workers
 pub mod Turning
+pub mod Streams

@@ -6,8 +6,8 @@ ghost use Rattle.gate_link_stages.specs.Feeding.{given, SameFeeder};
 ghost use Rattle.gate_link_stages.specs.declared.feed.Give.TheVariants.{Level};
 ghost use Rattle.live_sessions.specs.code.Turning.{EndsTurns, RoundEnds};
 
-use live_shared::{found, rest};
 use gate_link::{Feeder, Give, Sequencer, Takes};
+use live_shared::{found, rest};
 use spread_rules::Entry;
 use std::alloc::Allocator;
 use std::sync::Wait;

@@ -9,15 +9,14 @@ ghost use Rattle.live_sessions.specs.code.Workers.{IsUnused, HasSent, SameEvents
 use crate::workers::WorkerHandle;
 use fix_session_judging::Ahead;
 use gate_link::{Burst, Gateway, MAX_SLICE, Step};
+use live_shared::{Gate, Shared, found, rest};
 use spread_rules_ends::release;
-use live_shared::{found, rest};
 use std::alloc::Allocator;
 use std::snapshot::Snapshot;
 use std::sync::Wait;
 use std::sync::atomic::{AtomicBool, Ordering};
 use std::thread;
 use std::thread::{Promise, Scope, Threads};
-use live_shared::{Gate, Shared};
 
 /// What a worker's thread gives back: its own gateway, with what it sent of its own stream.
 #[derive(Drop)]

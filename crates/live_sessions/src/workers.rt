@@ -7,11 +7,11 @@ ghost use Rattle.live_sessions.specs.code.Handing.{AreStarted, AreKept};
 
 use crate::worker::{WorkerPromise, start};
 use gate_link::Gateway;
+use live_shared::{Gate, Shared, join_each};
 use std::alloc::Allocator;
 use std::snapshot::Snapshot;
 use std::sync::Wait;
 use std::thread::{PromisedHandle, Scope, Threads};
-use live_shared::{Gate, Shared, join_each};
 
 /// The handle of a session's thread.
 pub type WorkerHandle<A> = PromisedHandle<Gateway<A>, WorkerPromise<A>>;

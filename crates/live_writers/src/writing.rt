@@ -5,10 +5,8 @@ ghost use Rattle.gate_link_stages.specs.declared.post.Writer.{Writer};
 ghost use Rattle.gate_link_stages.specs.Posting.{SameWriter};
 ghost use Rattle.live_writers.specs.code.Writing.{AreWriting, AreWritten};
 
-use live_shared::{Gate, Shared};
-use live_shared::join_each;
 use gate_link::{Writer, Wrote};
-use live_shared::Pace;
+use live_shared::{Gate, Pace, Shared, join_each};
 use std::alloc::Allocator;
 use std::snapshot::Snapshot;
 use std::sync::Wait;

@@ -7,7 +7,8 @@ use Rattle.spread_rules.specs.declared.order.Order.{Order}
 use Rattle.spread_rules.specs.declared.candidate.Candidate.{Candidate}
 use Rattle.spread_rules.specs.declared.candidate.Choice.{Choice}
 use Rattle.spread_rules.specs.declared.candidate.Counterparty.TheVariants.{Implied}
-use Rattle.spread_rules.specs.Candidates.{Pairs, AllStandIn, price_of, is_before, members_of, HasOrderPrice}
+use Rattle.spread_rules.specs.Candidates.{Pairs, AllStandIn, price_of, is_before, members_of}
+use Rattle.spread_rules.specs.code.Candidates.{HasOrderPrice}
 use Rattle.spread_books_search.specs.Listed.{IsInMonths, IsNearFirst}
 
 -- the implied candidate of two orders
@@ -16,29 +17,29 @@ pair_at a b price = record { price = price; counterparty = Implied a b }
 
 -- two orders of the list that together meet the order at that price, be it within its limit or not
 pub record IsImplied
-    (trades_implied : Pairs) (n : Order) (xs : List Order) (a b : Order) (price : ℤ) : Type 0 where
+    (on : Pairs) (n : Order) (xs : List Order) (a b : Order) (price : ℤ) : Type 0 where
   pub stand : AllStandIn xs (Implied a b)
-  pub meet : price_of trades_implied n (Implied a b) ≡ Some price
+  pub meet : price_of on n (Implied a b) ≡ Some price
 
 -- the least in rank of all implied candidates, as many lots of it as both orders have left, and their places
 pub record IsLeastImplied
-    (trades_implied : Pairs) (n : Order) (xs : List Order) (quote : Choice) : Type 0 where
+    (on : Pairs) (n : Order) (xs : List Order) (quote : Choice) : Type 0 where
   pub first : Order
   pub second : Order
-  pub implied : IsImplied trades_implied n xs first second quote.price
+  pub implied : IsImplied on n xs first second quote.price
   pub least :
-      (a b : Order) (price : ℤ) → IsImplied trades_implied n xs a b price
+      (a b : Order) (price : ℤ) → IsImplied on n xs a b price
       → is_before n (pair_at a b price) (pair_at first second quote.price) ≡ false
   pub quantity : quote.quantity ≡ min first.leaves second.leaves
   pub members : quote.members ≡ members_of (Implied first second)
 
 -- the quote against every order of that instrument and side, and none only where no two orders meet one
 abbrev pub IsQuote : Pairs → List Order → Instrument → Side → Option Choice → Type 0
-IsQuote trades_implied xs instrument side quote =
+IsQuote on xs instrument side quote =
     (n : Order) → n.instrument ≡ instrument → n.side ≡ side
     → MatchOption quote
-    ((a b : Order) (price : ℤ) → IsImplied trades_implied n xs a b price → ⊥)
-    (IsLeastImplied trades_implied n xs)
+    ((a b : Order) (price : ℤ) → IsImplied on n xs a b price → ⊥)
+    (IsLeastImplied on n xs)
 
 -- orders as a market takes them: at prices of orders, of months that a rulebook may have, spreads near month first
 pub record AreQuotable (xs : List Order) : Type 0 where

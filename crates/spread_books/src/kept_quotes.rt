@@ -1,16 +1,16 @@
 //! What is kept of the fronts of a book: what they cost, and the pairs of them that cost the least.
 ghost use Rattle.std.specs.Prelude.{◌≡◌, ◌≤◌, List, All, IfOk};
 ghost use Rattle.spread_rules_ids.specs.declared.limits.TheConstants.{MAX_MONTHS};
-ghost use Rattle.spread_rules.specs.Candidates.{HasOrderPrice};
+ghost use Rattle.spread_rules.specs.code.Candidates.{HasOrderPrice};
 ghost use Rattle.spread_rules_rulebook.specs.Rulebook.{implied};
 ghost use Rattle.spread_rules.specs.declared.order.Order.{Order};
 ghost use Rattle.spread_books_search.specs.Listed.{IsInMonths};
 ghost use Rattle.spread_books_quotes.specs.code.QuoteTable.{known_pair, no_quotes, AreQuotes, HasCome, HasLeft, IsOneWay, ChangesOneQueue, is_as_good};
 ghost use Rattle.spread_books_quotes.specs.declared.quote_table.Change.TheVariants.{Came, Left};
 
-use spread_books_search::MonthPairs;
 use spread_books_plain::{Book, PairCost};
 use spread_books_quotes::{Change, FrontCosts, QuoteTable};
+use spread_books_search::MonthPairs;
 use spread_rules::{Level, NoMemory, Order, Side};
 use std::alloc::Allocator;
 use std::marker::Model;

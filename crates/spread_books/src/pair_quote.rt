@@ -1,10 +1,10 @@
 //! What the fronts of two queues together offer.
 ghost use Rattle.std.specs.Prelude.{◌≡◌, All};
-ghost use Rattle.spread_rules.specs.Candidates.{all_on, HasOrderPrice};
+ghost use Rattle.spread_rules.specs.code.Candidates.{all_on, HasOrderPrice};
 ghost use Rattle.spread_books.specs.code.PairQuote.{IsQuoteOfFronts};
 
-use spread_books_search::Queue;
 use spread_books_plain::Book;
+use spread_books_search::Queue;
 use spread_rules::{Choice, Counterparty, Instrument, Members, Order, Side, price_at};
 
 /// An order of that instrument and side, in all else like this one.

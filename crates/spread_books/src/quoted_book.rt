@@ -7,13 +7,13 @@ ghost use Rattle.spread_books_quotes.specs.code.PairsOn.{AreAllOn};
 ghost use Rattle.spread_books_quotes.specs.code.QuoteTable.{IsListed};
 
 use crate::kept_quotes::Quotes;
+use spread_books_heap::FrontBook;
+use spread_books_plain::{Book, PairCost};
+use spread_books_quotes::{Change, is_all_on};
 use spread_books_search::MonthPairs;
+use spread_rules::{Instrument, Level, NoMemory, Order, Rulebook, Side};
 use spread_rules_ids::Id;
 use spread_rules_ids::limits::MAX_PRICE;
-use spread_books_plain::{Book, PairCost};
-use spread_books_heap::FrontBook;
-use spread_books_quotes::{Change, is_all_on};
-use spread_rules::{Instrument, Level, NoMemory, Order, Rulebook, Side};
 use std::alloc::Allocator;
 use std::marker::Model;
 

@@ -7,8 +7,8 @@ ghost use Rattle.spread_books_rows.specs.Places.{HasPlace, Ascends};
 ghost use Rattle.spread_books_heap.specs.code.FrontPrices.{may_be_front, becomes_front, is_ahead_of, HoldsPrices};
 
 use crate::heap_book::HeapBook;
-use spread_books_queues::{BestPrice, FrontTable};
 use spread_books_plain::Book;
+use spread_books_queues::{BestPrice, FrontTable};
 use spread_rules::{Id, Instrument, Level, NoMemory, Order, Side};
 use std::alloc::Allocator;
 use std::marker::Model;

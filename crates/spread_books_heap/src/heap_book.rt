@@ -6,9 +6,9 @@ ghost use Rattle.spread_rules.specs.Clearing.{reduced, removed};
 ghost use Rattle.spread_books_rows.specs.Places.{HasMore, HasPlace, Ascends};
 ghost use Rattle.spread_books_heap.specs.code.FrontPrices.{IsBestPrice};
 
+use spread_books_plain::Book;
 use spread_books_queues::{BestPrice, QueueHeaps, QueueRank, queue_number};
 use spread_books_rows::PlaceRows;
-use spread_books_plain::Book;
 use spread_rules::{Id, Instrument, NoMemory, Order, Side};
 use std::alloc::Allocator;
 use std::marker::Model;

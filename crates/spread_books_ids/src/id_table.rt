@@ -12,8 +12,8 @@ ghost use Rattle.spread_books_ids.specs.code.Seeks.{EndsAt, IsSeek, with_number}
 
 use crate::rows::IdRows;
 use crate::spot::{Spot, spot_of};
-use spread_rules_ids::IdKey;
 use spread_rules_ends::NoMemory;
+use spread_rules_ids::IdKey;
 use std::alloc::Allocator;
 use std::collections::BTreeMap;
 

@@ -7,7 +7,7 @@ use Rattle.spread_rules_rulebook.specs.Prices.{IsLegPrice}
 use Rattle.spread_rules.specs.declared.order.Order.{Order}
 use Rattle.spread_rules.specs.Candidates.{Pairs, cost}
 use Rattle.spread_rules.specs.Legs.{other_side}
-use Rattle.spread_rules.specs.Quiet.{Rests}
+use Rattle.spread_rules.specs.code.Quiet.{Rests}
 use Rattle.spread_books_plain.specs.Queues.{IsFront}
 use Rattle.spread_books_plain.specs.declared.pair.PairCost.{PairCost}
 
@@ -21,8 +21,8 @@ spread_side side month other = cond (nat_lt month other) (other_side side) side
 
 -- whether the pair of these two months takes part in implied trading
 abbrev pub is_pair_on : Pairs → ℕ → ℕ → Bool
-is_pair_on trades_implied month other =
-    cond (nat_lt month other) (trades_implied month other) (trades_implied other month)
+is_pair_on on month other =
+    cond (nat_lt month other) (on month other) (on other month)
 
 -- what two such orders together cost a new order of that side and month
 abbrev pub cost_of_pair : Side → ℕ → ℕ → Order → Order → ℤ
@@ -32,15 +32,15 @@ cost_of_pair side month other a b =
 
 -- two orders of the queues that meet a new order of that side and month together, where their pair of months takes part
 pub record IsPair
-    (trades_implied : Pairs) (xs : List Order) (side : Side) (month other : ℕ) (a b : Order) : Type 0 where
-  pub on : is_pair_on trades_implied month other ≡ true
+    (on : Pairs) (xs : List Order) (side : Side) (month other : ℕ) (a b : Order) : Type 0 where
+  pub on : is_pair_on on month other ≡ true
   pub first : Rests xs (spread_of month other) (spread_side side month other) a
   pub second : Rests xs (Outright other) (other_side side) b
 
 -- the fronts of these queues, and what they cost
 pub record HasFronts
-    (trades_implied : Pairs) (xs : List Order) (side : Side) (month other : ℕ) (cost : ℤ) : Type 0 where
-  pub on : is_pair_on trades_implied month other ≡ true
+    (on : Pairs) (xs : List Order) (side : Side) (month other : ℕ) (cost : ℤ) : Type 0 where
+  pub on : is_pair_on on month other ≡ true
   pub a : Order
   pub b : Order
   pub first : IsFront xs (spread_of month other) (spread_side side month other) (Some a)
@@ -54,12 +54,12 @@ pub record IsNoCheaper (held : PairCost) (cost : ℤ) (other : ℕ) : Type 0 whe
 
 -- the fronts that cost the least among those of so many months whose pairs take part
 pub record IsCheapest
-    (trades_implied : Pairs) (xs : List Order) (side : Side) (month months : ℕ)
+    (on : Pairs) (xs : List Order) (side : Side) (month months : ℕ)
     (least : Option PairCost) : Type 0 where
-  pub fronts : IfSome least (λ l. HasFronts trades_implied xs side month l.other_month l.cost)
+  pub fronts : IfSome least (λ l. HasFronts on xs side month l.other_month l.cost)
   pub small : IfSome least (λ l. IsLegPrice l.cost)
   pub below : IfSome least (λ l. l.other_month < months)
   pub covers :
       (other : ℕ) (a b : Order) → other < months
-      → IsPair trades_implied xs side month other a b
+      → IsPair on xs side month other a b
       → IsSomeAnd least (λ l. IsNoCheaper l (cost_of_pair side month other a b) other)

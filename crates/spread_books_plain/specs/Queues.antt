@@ -11,9 +11,10 @@ use Rattle.spread_rules.specs.declared.order.Side.{Side}
 use Rattle.spread_rules_rulebook.specs.declared.instrument.Instrument.{Instrument}
 use Rattle.spread_rules.specs.declared.order.Order.{Order}
 use Rattle.spread_rules.specs.declared.order.Level.{Level}
-use Rattle.spread_rules.specs.Candidates.{same_instrument, cost, better_by}
+use Rattle.spread_rules.specs.Candidates.{same_instrument, cost}
+use Rattle.spread_rules.specs.code.Candidates.{better_by}
 use Rattle.spread_rules.specs.Legs.{other_side, is_side}
-use Rattle.spread_rules.specs.Quiet.{Rests}
+use Rattle.spread_rules.specs.code.Quiet.{Rests}
 
 abbrev pub is_in : Instrument → Side → Order → Bool
 is_in instrument side o = same_instrument o.instrument instrument && is_side o.side side

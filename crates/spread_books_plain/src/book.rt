@@ -3,18 +3,18 @@ ghost use Rattle.std.specs.Prelude.{◌≡◌, ◌==◌, ◌<◌, ◌++◌, ◌�
 ghost use Rattle.std.specs.List.{find};
 ghost use Rattle.spread_rules_ids.specs.declared.limits.TheConstants.{MAX_MONTHS};
 ghost use Rattle.spread_rules_rulebook.specs.Rulebook.{implied};
-ghost use Rattle.spread_rules.specs.Candidates.{HasOrderPrice};
+ghost use Rattle.spread_rules.specs.code.Candidates.{HasOrderPrice};
 ghost use Rattle.spread_rules.specs.Clearing.{reduced, removed};
 ghost use Rattle.spread_rules.specs.Meaning.{is_own};
 ghost use Rattle.spread_rules.specs.declared.order.Order.{Order};
-ghost use Rattle.spread_rules.specs.Amended.{amended};
+ghost use Rattle.spread_rules.specs.code.Amended.{amended};
 ghost use Rattle.spread_books_plain.specs.Pairs.{IsCheapest};
 ghost use Rattle.spread_books_plain.specs.Queues.{CanAmend, IsFront, IsFrontLevel};
 ghost use Rattle.spread_books_rows.specs.Places.{HasMore, HasPlace};
 
 use crate::pair::PairCost;
-use spread_rules_ids::Id;
 use spread_rules::{Instrument, Level, NoMemory, Order, Rulebook, Side};
+use spread_rules_ids::Id;
 
 /// Resting orders, seen as the list of them in order of place.
 pub trait Book {

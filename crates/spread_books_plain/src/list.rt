@@ -4,14 +4,14 @@ ghost use Rattle.std.specs.List.{find};
 ghost use Rattle.spread_rules.specs.code.Cases.{with_less_left, amended_at};
 ghost use Rattle.spread_rules.specs.Clearing.{reduced, removed};
 ghost use Rattle.spread_rules.specs.Meaning.{is_own};
-ghost use Rattle.spread_rules.specs.Amended.{amended};
+ghost use Rattle.spread_rules.specs.code.Amended.{amended};
 ghost use Rattle.spread_books_plain.specs.Queues.{is_in, front_step};
 
 use crate::book::Book;
 use crate::queue::{front_with, is_in};
-use spread_rules_ids::Id;
 use spread_books_rows::{is_own, with_quantity};
 use spread_rules::{Instrument, NoMemory, Order, Side};
+use spread_rules_ids::Id;
 use std::alloc::Allocator;
 use std::marker::Model;
 

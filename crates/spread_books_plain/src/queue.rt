@@ -1,6 +1,6 @@
 //! Where an order stands among others: in which queue, and ahead of whom.
 ghost use Rattle.std.specs.Prelude.{◌≡◌, None, Some};
-ghost use Rattle.spread_rules.specs.Candidates.{better_by};
+ghost use Rattle.spread_rules.specs.code.Candidates.{better_by};
 ghost use Rattle.spread_books_plain.specs.Queues.{is_ahead, is_in};
 
 use spread_rules::{Instrument, Order, Side};

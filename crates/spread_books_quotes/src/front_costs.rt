@@ -2,7 +2,7 @@
 ghost use Rattle.std.specs.Prelude.{◌≡◌, ◌<◌, ◌≤◌, ◌+ℤ◌, ℕ, List, All, length, take, drop, slice_set, IfOk, IfSome, unwrap_or};
 ghost use Rattle.spread_rules_ids.specs.declared.limits.TheConstants.{MAX_MONTHS};
 ghost use Rattle.spread_rules.specs.declared.order.Order.{Order};
-ghost use Rattle.spread_rules.specs.Candidates.{HasOrderPrice};
+ghost use Rattle.spread_rules.specs.code.Candidates.{HasOrderPrice};
 ghost use Rattle.spread_rules_rulebook.specs.Prices.{IsOrderPrice};
 ghost use Rattle.spread_rules_rulebook.specs.Rulebook.{implied};
 ghost use Rattle.spread_books_search.specs.Listed.{IsInMonths};
@@ -10,10 +10,10 @@ ghost use Rattle.spread_books_quotes.specs.code.FrontCosts.{cell_of, cell_at, co
 ghost use Rattle.spread_books_quotes.specs.declared.front_costs.TheConstants.{NO_COST};
 ghost use Rattle.spread_books_quotes.specs.code.QuoteTable.{ChangesOneQueue};
 
-use spread_books_search::{MonthPairs, front_cost, is_pair_on};
-use spread_rules_ids::limits::MAX_MONTHS;
 use spread_books_plain::Book;
+use spread_books_search::{MonthPairs, front_cost, is_pair_on};
 use spread_rules::{Instrument, NoMemory, Order, Side};
+use spread_rules_ids::limits::MAX_MONTHS;
 use std::alloc::Allocator;
 use std::marker::Model;
 

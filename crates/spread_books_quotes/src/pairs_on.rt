@@ -3,8 +3,8 @@ ghost use Rattle.std.specs.Prelude.{◌↔◌, IsTrue};
 ghost use Rattle.spread_rules_rulebook.specs.Rulebook.{implied};
 ghost use Rattle.spread_books_quotes.specs.code.PairsOn.{IsRowOn, AreAllOn};
 
-use spread_rules_ids::limits::MAX_MONTHS;
 use spread_rules::Rulebook;
+use spread_rules_ids::limits::MAX_MONTHS;
 
 /// Whether each pair with that near month takes part.
 fn is_row_on(rules: &Rulebook, near: u8) -> bool

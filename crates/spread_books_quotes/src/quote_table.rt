@@ -11,11 +11,11 @@ ghost use Rattle.spread_books_quotes.specs.code.FrontCosts.{AreFrontCosts, cell_
 ghost use Rattle.spread_books_quotes.specs.code.QuoteTable.{known_pair, AreCheapest, AreAmong, ChangesOneQueue, IsOneWay, KeepsOtherSide, RenewsCell};
 ghost use Rattle.spread_books_quotes.specs.declared.quote_table.Change.TheVariants.{Came, Left};
 
-use crate::front_costs::{FrontCosts, NO_PAIR, ROW_CELLS, side_month_cell, row_cell, sum_of_cells};
+use crate::front_costs::{FrontCosts, NO_PAIR, ROW_CELLS, row_cell, side_month_cell, sum_of_cells};
 use crate::renewal::{cheapest_of_row, is_sooner};
-use spread_rules_ids::limits::MAX_MONTHS;
 use spread_books_plain::PairCost;
 use spread_rules::{Instrument, NoMemory, Order, Side};
+use spread_rules_ids::limits::MAX_MONTHS;
 use std::alloc::Allocator;
 use std::marker::Model;
 
@@ -99,13 +99,13 @@ fn renew_left<A: Allocator + Copy>(
     month: u8,
     via: u8,
 )
-    ensures { (trades_implied : Pairs) (xs ys : List Order)
-        → AreFrontCosts trades_implied months ys costs.now
+    ensures { (on : Pairs) (xs ys : List Order)
+        → AreFrontCosts on months ys costs.now
         → month < months
         → AreAmong ys xs
         → KeepsOthers xs ys side month via
-        → IsCheapest trades_implied xs side month months (pair_of_cell held.old)
-        → IsCheapest trades_implied ys side month months (pair_of_cell held.new) }
+        → IsCheapest on xs side month months (pair_of_cell held.old)
+        → IsCheapest on ys side month months (pair_of_cell held.new) }
 {
     if held.other_month == u64::from(via) {
         *held = cheapest_of_row(costs, months, side, month);
@@ -231,12 +231,12 @@ impl<A: Allocator + Copy> QuoteTable<A> {
     pub fn renew(&mut self, costs: &FrontCosts<A>, months: u8, order: &Order, change: Change)
         requires within { IsInMonths months order.now.instrument }
         requires most { months ≤ MAX_MONTHS }
-        ensures { (trades_implied : Pairs) (xs ys : List Order)
-            → AreFrontCosts trades_implied months ys costs.now
+        ensures { (on : Pairs) (xs ys : List Order)
+            → AreFrontCosts on months ys costs.now
             → IsOneWay change xs ys
             → ChangesOneQueue xs ys order.now.instrument order.now.side
-            → AreCheapest trades_implied months xs self.old
-            → AreCheapest trades_implied months ys self.new }
+            → AreCheapest on months xs self.old
+            → AreCheapest on months ys self.new }
     {
         let side = order.side.opposite();
         match order.instrument {

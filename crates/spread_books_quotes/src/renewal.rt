@@ -7,9 +7,9 @@ ghost use Rattle.spread_books_search.specs.code.Cheapest.{is_sooner};
 ghost use Rattle.spread_books_quotes.specs.code.FrontCosts.{AreFrontCosts, pair_of_cell};
 
 use crate::front_costs::{FrontCosts, NO_PAIR};
-use spread_rules_ids::limits::MAX_MONTHS;
 use spread_books_plain::PairCost;
 use spread_rules::Side;
+use spread_rules_ids::limits::MAX_MONTHS;
 use std::alloc::Allocator;
 
 /// What costs the least among the fronts of all other months whose pair with that month takes part, and the earliest
@@ -21,10 +21,10 @@ pub fn cheapest_of_row<A: Allocator + Copy>(
     side: Side,
     month: u8,
 ) -> PairCost
-    ensures { (trades_implied : Pairs) (xs : List Order)
-        → AreFrontCosts trades_implied months xs costs.now
+    ensures { (on : Pairs) (xs : List Order)
+        → AreFrontCosts on months xs costs.now
         → month < months
-        → IsCheapest trades_implied xs side month months (pair_of_cell result) }
+        → IsCheapest on xs side month months (pair_of_cell result) }
 {
     let spreads = costs.spread_row(side, month, months);
     let outrights = costs.outright_row(side, months);

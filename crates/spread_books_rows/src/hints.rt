@@ -64,7 +64,11 @@ impl<A: Allocator + Copy> Hints<A> {
     /// The same of a place that is so many places behind the first one, and behind all guesses.
     #[inline(never)]
     fn note_behind(&mut self, place: u64, n: usize, row: u32) {
-        let most = self.rows.len().saturating_mul(2).saturating_add(MAX_GAP_PLACES);
+        let most = self
+            .rows
+            .len()
+            .saturating_mul(2)
+            .saturating_add(MAX_GAP_PLACES);
         if !self.rows.is_empty() && n < most {
             let _ = self.rows.resize(n.saturating_add(GUESSES_AHEAD), row);
         } else {

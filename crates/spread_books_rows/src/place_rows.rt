@@ -9,15 +9,15 @@ ghost use Rattle.std.specs.Option.{option_copied};
 ghost use Rattle.spread_rules.specs.declared.order.Order.{Order};
 ghost use Rattle.spread_rules.specs.Clearing.{reduced, removed};
 ghost use Rattle.spread_books_rows.specs.declared.row.Row.{Row};
-ghost use Rattle.spread_rules.specs.Amended.{amended};
+ghost use Rattle.spread_rules.specs.code.Amended.{amended};
 ghost use Rattle.spread_rules.specs.Meaning.{is_own};
 ghost use Rattle.spread_books_rows.specs.Places.{HasMore, HasPlace, Ascends};
 ghost use Rattle.spread_books_rows.specs.code.Rows.{live, Rises};
 
 use crate::amend::with_quantity;
+use crate::hints::Hints;
 use crate::own::is_own;
 use crate::row::Row;
-use crate::hints::Hints;
 use crate::rows::PlacedRows;
 use spread_rules::{Id, NoMemory, Order};
 use std::alloc::Allocator;

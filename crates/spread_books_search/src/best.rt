@@ -2,7 +2,8 @@
 ghost use Rattle.std.specs.Prelude.{◌≡◌, ◌<◌, All, IfSome, None, true, false};
 ghost use Rattle.spread_rules_ids.specs.declared.limits.TheConstants.{MAX_MONTHS};
 ghost use Rattle.spread_rules.specs.code.Cases.{better_of};
-ghost use Rattle.spread_rules.specs.Candidates.{Pairs, all_on, takes_part, candidate_of, cost, HasOrderPrice, HasLegPrice, IsBest};
+ghost use Rattle.spread_rules.specs.Candidates.{Pairs, cost, IsBest};
+ghost use Rattle.spread_rules.specs.code.Candidates.{all_on, takes_part, candidate_of, HasOrderPrice, HasLegPrice};
 ghost use Rattle.spread_rules_rulebook.specs.Prices.{IsLegPrice};
 ghost use Rattle.spread_rules_rulebook.specs.Rulebook.{implied, month_count};
 ghost use Rattle.spread_rules.specs.declared.candidate.Counterparty.TheVariants.{Implied};
@@ -113,11 +114,11 @@ fn with_fronts<B: Book>(
 )
     requires order_price { All HasOrderPrice (B.orders book.now) }
     requires best { IfSome best.old HasLegPrice }
-    ensures { (trades_implied : Pairs)
-        → takes_part trades_implied new.now.instrument first.instrument ≡ true
-        → IsFair trades_implied new.now (B.orders book.now) best.old
-        → Offers trades_implied new.now (B.orders book.now) best.old best.new
-        (CoversTwo trades_implied new.now (B.orders book.now)
+    ensures { (on : Pairs)
+        → takes_part on new.now.instrument first.instrument ≡ true
+        → IsFair on new.now (B.orders book.now) best.old
+        → Offers on new.now (B.orders book.now) best.old best.new
+        (CoversTwo on new.now (B.orders book.now)
         first.instrument first.side second.instrument second.side) }
 {
     if let Some(a) = book.front(first.instrument, first.side) {
@@ -138,11 +139,11 @@ fn with_queues<B: Book>(
 )
     requires order_price { All HasOrderPrice (B.orders book.now) }
     requires best { IfSome best.old HasLegPrice }
-    ensures { (trades_implied : Pairs)
-        → takes_part trades_implied new.now.instrument first.instrument ≡ true
-        → IsFair trades_implied new.now (B.orders book.now) best.old
-        → Offers trades_implied new.now (B.orders book.now) best.old best.new
-        (CoversTwo trades_implied new.now (B.orders book.now)
+    ensures { (on : Pairs)
+        → takes_part on new.now.instrument first.instrument ≡ true
+        → IsFair on new.now (B.orders book.now) best.old
+        → Offers on new.now (B.orders book.now) best.old best.new
+        (CoversTwo on new.now (B.orders book.now)
         first.instrument first.side second.instrument second.side) }
 {
     if fronts_meet(book, new, first, second) {

@@ -1,6 +1,7 @@
 //! The pair of fronts that costs the least among those of all other months.
 ghost use Rattle.std.specs.Prelude.{◌≡◌, ◌+ℤ◌, All, IfSome, None};
-ghost use Rattle.spread_rules.specs.Candidates.{cost, HasOrderPrice};
+ghost use Rattle.spread_rules.specs.Candidates.{cost};
+ghost use Rattle.spread_rules.specs.code.Candidates.{HasOrderPrice};
 ghost use Rattle.spread_rules_rulebook.specs.Rulebook.{implied};
 ghost use Rattle.spread_rules_rulebook.specs.Prices.{IsOrderPrice, IsLegPrice};
 ghost use Rattle.spread_rules.specs.Legs.{other_side};

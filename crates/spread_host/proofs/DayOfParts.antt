@@ -4,7 +4,7 @@ use Rattle.spread_rules_ids.specs.declared.limits.TheConstants.{SESSIONS}
 use Rattle.spread_rules.specs.declared.event.Entry.{Entry}
 use Rattle.spread_rules.specs.declared.fill.Fill.{Fill}
 use Rattle.spread_rules.specs.Journal.{IsLawful}
-use Rattle.spread_rules.specs.Meaning.{meaning_of_journal}
+use Rattle.spread_rules.specs.code.Meaning.{meaning_of_journal}
 use Rattle.spread_rules.specs.Ranges.{IsFillInRange}
 use Rattle.spread_rules_rulebook.specs.Rulebook.{Rules, IsRules}
 use Rattle.spread_report_outbound.specs.Rows.{IsRow}

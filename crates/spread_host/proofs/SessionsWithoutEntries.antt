@@ -5,14 +5,16 @@ use Rattle.std.specs.List.{AllByRecursion, concat, enumerate_from}
 use Rattle.std.proofs.lemmas.Bool.{cases_eq, eq-eqb, ne_eqb}
 use Rattle.spread_rules.specs.declared.event.Entry.{Entry}
 use Rattle.spread_rules.specs.Journal.{restricted}
-use Rattle.spread_rules.specs.Meaning.{JournalState, meaning_of, after_entry, no_entries}
+use Rattle.spread_rules.specs.code.Meaning.{JournalState, meaning_of, after_entry, no_entries}
 use Rattle.spread_rules_rulebook.specs.Rulebook.{Rules}
 use Rattle.spread_report_orders.specs.ExecutionReports.{ExecutionReport, report_step}
 use Rattle.spread_report.specs.EntryMessages.{entry_reports}
-use Rattle.spread_report_outbound.specs.Steps.{OutgoingStep, logged_on, numbered, gap_fill, steps_texts, outbound_before_logon}
+use Rattle.spread_report_outbound.specs.Steps.{OutgoingStep, logged_on, numbered, gap_fill, steps_texts}
+use Rattle.spread_report_outbound.specs.code.Steps.{outbound_before_logon}
 use Rattle.spread_report.specs.Outgoing.{AppliedEntry, entry_steps, session_steps}
 use Rattle.spread_report.specs.Messages.{messages_to}
-use Rattle.apply_desk.specs.Applied.{applied_entries_from, outgoing_bytes}
+use Rattle.apply_desk.specs.Applied.{outgoing_bytes}
+use Rattle.apply_desk.specs.code.Applied.{applied_entries_from}
 use Rattle.apply_desk.proofs.OneByOne.{entries_are}
 
 -- ---- messages, which bring no CompIDs

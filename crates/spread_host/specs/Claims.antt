@@ -2,7 +2,7 @@
 use Rattle.std.specs.Prelude.{◌≡◌, ℕ, List}
 use Rattle.spread_rules.specs.declared.fill.Fill.{Fill}
 use Rattle.spread_rules_rulebook.specs.Rulebook.{Rules}
-use Rattle.text_day.specs.DayText.{fills_text}
+use Rattle.text_day.specs.code.DayText.{fills_text}
 use Rattle.text_day.specs.Differences.{DiffersFirst}
 use Rattle.spread_host.specs.Checks.{IsChecked, IsCheckFault}
 use Rattle.spread_host.specs.declared.from_claim.AuditFault.{AuditFault}

@@ -7,23 +7,24 @@ ghost use Rattle.spread_rules.specs.Journal.{IsLawful};
 ghost use Rattle.spread_rules_rulebook.specs.Rulebook.{IsListed};
 ghost use Rattle.spread_journal_lines.specs.JournalText.{HasByteIds};
 ghost use Rattle.fix_wire_frames.specs.Frames.{IsFrameRow};
-ghost use Rattle.apply_desk.specs.Applied.{IsApplyFault};
-ghost use Rattle.text_day.specs.DayText.{AreShown, day_text, fills_text};
+ghost use Rattle.apply_desk.specs.code.Applied.{IsApplyFault};
+ghost use Rattle.text_day.specs.DayText.{AreShown};
+ghost use Rattle.text_day.specs.code.DayText.{day_text, fills_text};
 ghost use Rattle.text_messages.specs.Messages.{texts_of};
 ghost use Rattle.text_fills.specs.Totals.{IsSummable};
 ghost use Rattle.spread_host.specs.Headline.{HasFills, HasOutgoing, BoughtIsSold, PaidIsReceived, IsAlwaysQuiet, IsDayOf};
 ghost use Rattle.spread_host_faults.specs.declared.fault.HostFault.{HostFault};
 
-use apply_market::ApplyFault;
 use apply_desk::apply_journal;
-use text_day::{Day, TextFault};
-use text_messages::TakesBlocks;
-use spread_rules_ids::Id;
-use spread_rules_ends::Sink;
+use apply_market::ApplyFault;
 use spread_host_faults::HostFault;
 use spread_match::laws::ranges;
 use spread_rules::{Entry, Fill, Rulebook};
+use spread_rules_ends::Sink;
+use spread_rules_ids::Id;
 use std::alloc::Allocator;
+use text_day::{Day, TextFault};
+use text_messages::TakesBlocks;
 
 /// The day of a journal: its entries are applied in order.
 pub fn day_of<A: Allocator + Copy>(

@@ -2,13 +2,13 @@
 ghost use Rattle.std.specs.Prelude.{IfErr, OnOk};
 ghost use Rattle.spread_host.specs.Claims.{IsRight, IsAuditFault};
 
-use text_day::{Difference, first_difference, text_of_fills};
-use spread_host_faults::HostFault;
 use apply_market::fills_of_journal;
+use spread_host_faults::HostFault;
 use spread_journal::{JournalFault, read_journal};
 use spread_match::laws::ranges;
 use spread_rules::Rulebook;
 use std::alloc::Allocator;
+use text_day::{Difference, first_difference, text_of_fills};
 
 /// Why a claim was not confirmed.
 #[derive(Drop)]

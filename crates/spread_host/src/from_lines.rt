@@ -11,12 +11,12 @@ ghost use Rattle.spread_host_faults.specs.declared.fault.HostFault.{HostFault};
 
 use crate::day::{day_of, write_day};
 use intake_lines::read_day_lines;
-use text_day::Day;
-use spread_rules_ids::Id;
-use spread_rules_ends::{Sink, Source};
 use spread_host_faults::HostFault;
 use spread_rules::Rulebook;
+use spread_rules_ends::{Sink, Source};
+use spread_rules_ids::Id;
 use std::alloc::Allocator;
+use text_day::Day;
 
 /// Reads day lines to their end, applies their journal, and writes the day's text, or the journal text alone, and nothing else.
 ///

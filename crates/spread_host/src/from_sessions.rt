@@ -7,16 +7,16 @@ ghost use Rattle.gate_link_stages.specs.Faults.{Between};
 ghost use Rattle.spread_host.specs.Headline.{IsJournalOfStreams, HasFills, HasOutgoing, BoughtIsSold, PaidIsReceived, IsAlwaysQuiet, IsDayOf};
 ghost use Rattle.spread_host.specs.LiveDays.{IsRunDayFault};
 
-use text_day::Day;
 use live_day::{Caps, DaySettings, SessionsDay, run_sessions};
 use live_shared::Gate;
-use spread_rules_ids::Id;
 use spread_host_faults::HostFault;
 use spread_match::laws::ranges;
 use spread_rules::Rulebook;
+use spread_rules_ids::Id;
 use std::alloc::Allocator;
 use std::sync::Wait;
 use std::thread::Threads;
+use text_day::Day;
 
 /// Runs a day in threads: one for each of 1 to 16 streams, session 0 first, one that applies the journal's entries while
 /// it grows, one for each session that collects what it is sent, and the sequencer in the caller's.

@@ -2,13 +2,13 @@
 ghost use Rattle.std.specs.Prelude.{◌≡◌};
 ghost use Rattle.spread_host_faults.specs.Faults.{number_of, of_apply, of_lines, of_text, of_threads};
 
+use apply_market::ApplyFault;
+use gate_link_stages::LinkFault;
 use intake_lines::LinesFault;
 use live_day::ThreadsFault;
-use text_day::TextFault;
-use apply_market::ApplyFault;
 use spread_journal::JournalFault;
 use spread_rules_rulebook::RuleFault;
-use gate_link_stages::LinkFault;
+use text_day::TextFault;
 use thiserror::Error;
 
 /// Why a run ended without its day.

@@ -6,9 +6,9 @@ ghost use Rattle.spread_rules.specs.Candidates.{PlacesDiffer};
 ghost use Rattle.spread_rules.specs.Meaning.{has_id, is_own};
 ghost use Rattle.spread_match_orders.specs.code.Entering.{entered_status, HaveStatuses};
 
+use spread_books_plain::Book;
 use spread_books_rows::is_own;
 use spread_match_statuses::Statuses;
-use spread_books_plain::Book;
 use spread_rules::codes::ord_status;
 use spread_rules::{Id, NoMemory, Order, OrderStatus};
 use std::alloc::Allocator;

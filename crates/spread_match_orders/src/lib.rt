@@ -2,12 +2,12 @@
 //! in, is found by its id, and is traded.
 #![tactic(auto)]
 
-mod newest;
 mod entering;
+mod newest;
 mod ticket;
 
-pub use newest::trade_newest;
 pub use entering::{add_order, resting_order};
+pub use newest::trade_newest;
 pub use ticket::{
     judge, keeps_place, moved_order, new_order, outcome_with, refusal, replace_refusal,
     resting_status,

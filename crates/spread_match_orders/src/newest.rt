@@ -2,16 +2,16 @@
 ghost use Rattle.std.specs.Prelude.{◌≡◌, ◌≤◌, ◌+◌, ◌*◌, ◌++◌, min, drop, length};
 ghost use Rattle.std.specs.Vec.{vec_len, vec_capacity};
 ghost use Rattle.spread_rules.specs.Clearing.{removed};
-ghost use Rattle.spread_rules.specs.Meaning.{resting};
+ghost use Rattle.spread_rules.specs.code.Meaning.{resting};
 ghost use Rattle.spread_rules_rulebook.specs.Rulebook.{month_count};
 ghost use Rattle.spread_match_trading.specs.Tradable.{IsTradable};
 ghost use Rattle.spread_match_trading.specs.code.Turns.{IsNewest};
 ghost use Rattle.spread_match_statuses.specs.code.Statuses.{statuses_after};
 ghost use Rattle.spread_match_orders.specs.code.Entering.{orders_after_trading, trading_of};
 
-use spread_match_trading::trade;
-use spread_match_statuses::Statuses;
 use spread_books_plain::Book;
+use spread_match_statuses::Statuses;
+use spread_match_trading::trade;
 use spread_rules::{Fill, Order, Rulebook};
 use std::alloc::Allocator;
 

@@ -4,14 +4,15 @@ ghost use Rattle.spread_rules.specs.declared.codes.ord_rej_reason.TheConstants.{
 ghost use Rattle.spread_rules.specs.declared.outcome.Outcome.TheVariants.{Refused};
 ghost use Rattle.spread_rules.specs.declared.outcome.OrderStatus.{OrderStatus};
 ghost use Rattle.spread_rules.specs.Amended.{done};
-ghost use Rattle.spread_rules.specs.Meaning.{order_of, outcome_of, refusal_or_instrument, resting_status, may_replace, keeps_place, moved_to};
+ghost use Rattle.spread_rules.specs.Meaning.{order_of, outcome_of, may_replace};
+ghost use Rattle.spread_rules.specs.code.Meaning.{refusal_or_instrument, resting_status, keeps_place, moved_to};
 ghost use Rattle.spread_rules_rulebook.specs.Rulebook.{find_symbol};
 ghost use Rattle.spread_match_orders.specs.code.Refusals.{replace_refusal};
 
-use spread_rules_ids::limits;
 use spread_books_rows::with_quantity;
 use spread_rules::codes::{cxl_rej_reason, ord_rej_reason, ord_status};
 use spread_rules::{Instrument, Order, Outcome, Rulebook, Ticket};
+use spread_rules_ids::limits;
 
 /// The instrument, or why the ticket is refused, for one whose id was not used.
 pub fn judge(rules: &Rulebook, ticket: &Ticket) -> Result<Instrument, u8>

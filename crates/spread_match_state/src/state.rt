@@ -11,7 +11,8 @@ ghost use Rattle.spread_rules.specs.Amended.{done};
 ghost use Rattle.spread_rules.specs.Candidates.{PlacesDiffer};
 ghost use Rattle.spread_rules.specs.Clearing.{removed};
 ghost use Rattle.spread_rules_rulebook.specs.Prices.{IsOrderPrice};
-ghost use Rattle.spread_rules.specs.Meaning.{has_id, is_own, is_refused, resting, resting_status, keeps_place, cancel_of_nothing_resting, untraded};
+ghost use Rattle.spread_rules.specs.Meaning.{has_id, is_own, is_refused, cancel_of_nothing_resting, untraded};
+ghost use Rattle.spread_rules.specs.code.Meaning.{resting, resting_status, keeps_place};
 ghost use Rattle.spread_rules_rulebook.specs.Rulebook.{month_count};
 ghost use Rattle.spread_match_state.specs.State.{empty_state};
 ghost use Rattle.spread_books_search.specs.Listed.{IsInMonths, IsNearBeforeFar};
@@ -22,15 +23,18 @@ ghost use Rattle.spread_match_state.specs.code.StateAfter.{with_order, with_refu
 ghost use Rattle.spread_match_orders.specs.code.Entering.{HaveStatuses};
 ghost use Rattle.spread_match_trading.specs.code.Turns.{IsNewest};
 
-use spread_rules_ids::Id;
-use spread_match_orders::{add_order, judge, keeps_place, moved_order, new_order, outcome_with, refusal, replace_refusal, resting_order, resting_status, trade_newest};
-use spread_books_rows::with_quantity;
-use spread_match_statuses::Statuses;
 use spread_books_plain::Book;
+use spread_books_rows::with_quantity;
+use spread_match_orders::{
+    add_order, judge, keeps_place, moved_order, new_order, outcome_with, refusal, replace_refusal,
+    resting_order, resting_status, trade_newest,
+};
+use spread_match_statuses::Statuses;
 use spread_rules::codes::{cxl_rej_reason, ord_rej_reason, ord_status};
 use spread_rules::{
     Entry, Event, Fill, Instrument, NoMemory, Order, OrderStatus, Outcome, Rulebook, Ticket,
 };
+use spread_rules_ids::Id;
 use std::alloc::Allocator;
 use std::marker::Model;
 

@@ -5,15 +5,15 @@ ghost use Rattle.spread_rules.specs.declared.outcome.OrderStatus.{OrderStatus};
 ghost use Rattle.std.specs.List.{find};
 ghost use Rattle.spread_rules.specs.Meaning.{has_id};
 ghost use Rattle.spread_match_statuses.specs.code.Statuses.{key_of_status, IsIndex, IsAcceptedRow, was_accepted, status_after_fill, status_after_replace, statuses_after, AreRefusedLater};
-ghost use Rattle.spread_rules.specs.Amended.{amended};
+ghost use Rattle.spread_rules.specs.code.Amended.{amended};
 ghost use Rattle.spread_books_plain.specs.Queues.{CanAmend};
 
-use spread_rules_ids::{Id, IdKey};
-use spread_books_rows::{Hints, PlacedRows};
-use spread_books_plain::Book;
 use spread_books_ids::{IdRows, IdTable};
+use spread_books_plain::Book;
+use spread_books_rows::{Hints, PlacedRows};
 use spread_rules::codes::ord_status;
 use spread_rules::{Fill, NoMemory, Order, OrderStatus};
+use spread_rules_ids::{Id, IdKey};
 use std::alloc::Allocator;
 use std::marker::Model;
 

@@ -1,7 +1,8 @@
 -- Which lists of resting orders a new order can be traded with.
 use Rattle.std.specs.Prelude.{ℕ, ◌<◌, List, All}
 use Rattle.spread_rules.specs.declared.order.Order.{Order}
-use Rattle.spread_rules.specs.Candidates.{HasOrderPrice, PlacesDiffer}
+use Rattle.spread_rules.specs.Candidates.{PlacesDiffer}
+use Rattle.spread_rules.specs.code.Candidates.{HasOrderPrice}
 use Rattle.spread_books_search.specs.Listed.{IsInMonths, IsNearFirst}
 
 -- what a list has to be, to be traded with

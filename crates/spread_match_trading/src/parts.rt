@@ -1,6 +1,7 @@
 //! The up to three fills of one turn.
 ghost use Rattle.std.specs.Prelude.{◌≡◌};
-ghost use Rattle.spread_rules.specs.Candidates.{least_left, HasLegPrice};
+ghost use Rattle.spread_rules.specs.Candidates.{least_left};
+ghost use Rattle.spread_rules.specs.code.Candidates.{HasLegPrice};
 ghost use Rattle.spread_rules.specs.Clearing.{fills_of};
 ghost use Rattle.spread_rules_rulebook.specs.Rulebook.{references_of};
 

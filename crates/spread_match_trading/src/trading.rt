@@ -1,14 +1,15 @@
 //! Turns over a book.
 ghost use Rattle.std.specs.Prelude.{◌≡◌, ◌<◌, ◌≤◌, ◌+◌, ◌-◌, ◌*◌, ◌++◌, ◌∷◌, [], List, Contains, vec_len, vec_capacity, fold, min, length};
-ghost use Rattle.spread_rules.specs.Candidates.{least_left, AllStandIn, HasLegPrice, PlacesDiffer, members};
+ghost use Rattle.spread_rules.specs.Candidates.{least_left, AllStandIn, PlacesDiffer, members};
+ghost use Rattle.spread_rules.specs.code.Candidates.{HasLegPrice};
 ghost use Rattle.spread_rules.specs.Clearing.{leg_prices_of_fill, fill_of, after_fill, fills_of, clear};
 ghost use Rattle.spread_match_trading.specs.Tradable.{IsTradable};
 ghost use Rattle.spread_match_trading.specs.code.Turns.{HaveLeft, AreApart};
 ghost use Rattle.spread_rules_rulebook.specs.Rulebook.{implied, month_count, references_of};
 
 use crate::parts::turn_fills;
-use spread_books_search::best_candidate;
 use spread_books_plain::Book;
+use spread_books_search::best_candidate;
 use spread_rules::{Candidate, Counterparty, Fill, Instrument, Order, Rulebook, quantity_with};
 use std::alloc::Allocator;
 

@@ -10,12 +10,12 @@ ghost use Rattle.spread_report.specs.EntryMessages.{close_steps, order_cancel_re
 use crate::entry::CancelRefusal;
 use fix_wire::{Field, Value};
 use fix_wire_frames::{msg_types, tags};
-use spread_rules_ids::Id;
-use spread_rules_ids::limits::SESSIONS;
+use spread_report_fields::{ENCRYPT_METHOD_NONE, number_field, text_field};
 use spread_report_orders::CancelRequest;
 use spread_report_outbound::{DeskFault, OutboundSessions};
-use spread_report_fields::{ENCRYPT_METHOD_NONE, number_field, text_field};
 use spread_rules::codes::close_reason;
+use spread_rules_ids::Id;
+use spread_rules_ids::limits::SESSIONS;
 use std::alloc::Allocator;
 
 /// Answers a Logon.

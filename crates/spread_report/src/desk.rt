@@ -3,15 +3,16 @@ ghost use Rattle.std.specs.Prelude.{◌≡◌, ℕ, ◌<◌, ◌++◌, false, le
 ghost use Rattle.spread_rules.specs.Ranges.{FitsOutcome, FitFills};
 ghost use Rattle.spread_report_outbound.specs.declared.fault.DeskFault.TheVariants.{NumbersSpent};
 ghost use Rattle.spread_report_outbound.specs.Rows.{IsRow};
-ghost use Rattle.spread_report_outbound.specs.Sessions.{sessions_starting, sessions_at, bytes_of, outbound_at, KeepsBytes};
+ghost use Rattle.spread_report_outbound.specs.Sessions.{bytes_of};
+ghost use Rattle.spread_report_outbound.specs.code.Sessions.{sessions_starting, sessions_at, outbound_at, KeepsBytes};
 ghost use Rattle.spread_report.specs.Running.{RunsOut};
 ghost use Rattle.spread_report.specs.code.PerSession.{entry_bytes, entry_texts, entry_outbound, entry_spends, applied_at};
 
 use crate::entry::{AppliedEntry, note_comp_ids, send_entry};
-use spread_rules_ids::Id;
-use spread_rules_ids::limits::SESSIONS;
 use spread_report_outbound::{DeskFault, OutboundSessions};
 use spread_rules::{Entry, Fill, Outcome, Rulebook};
+use spread_rules_ids::Id;
+use spread_rules_ids::limits::SESSIONS;
 use std::alloc::Allocator;
 use std::marker::Model;
 
@@ -23,7 +24,7 @@ pub struct Desk {
 }
 
 impl Model for Desk {
-    ghost use Rattle.spread_report_outbound.specs.Sessions.{OutboundState};
+    ghost use Rattle.spread_report_outbound.specs.code.Sessions.{OutboundState};
     ghost use Rattle.spread_report.specs.code.DeskFields.{outbound_of};
 
     ghost Value = { OutboundState };

@@ -8,20 +8,20 @@ ghost use Rattle.spread_report.specs.code.PerSession.{noted_messages, outbound_a
 ghost use Rattle.spread_report_orders.specs.code.Reports.{reports_of, reports_from};
 ghost use Rattle.spread_report.specs.code.Addressed.{event_messages};
 ghost use Rattle.spread_report_orders.specs.ExecutionReports.{new_report, fills_reports};
-ghost use Rattle.spread_report_outbound.specs.Sessions.{outbound_at};
+ghost use Rattle.spread_report_outbound.specs.code.Sessions.{outbound_at};
 
 use crate::admin::{
     send_cancel_reject, send_heartbeat, send_logon, send_logout, send_reject, send_resend_request,
 };
-use spread_rules_ids::Id;
-use spread_rules_ids::limits::SESSIONS;
+use spread_report_fields::{CXL_REJ_RESPONSE_TO_CANCEL, CXL_REJ_RESPONSE_TO_REPLACE, symbol_of};
 use spread_report_orders::{
     CancelRequest, NewOrder, send_accepted, send_cancelled, send_ended, send_fills, send_rejected,
     send_replaced,
 };
 use spread_report_outbound::{CompIds, DeskFault, OutboundSessions};
-use spread_report_fields::{CXL_REJ_RESPONSE_TO_CANCEL, CXL_REJ_RESPONSE_TO_REPLACE, symbol_of};
 use spread_rules::{Entry, Event, Fill, Outcome, Rulebook, Ticket};
+use spread_rules_ids::Id;
+use spread_rules_ids::limits::SESSIONS;
 use std::alloc::Allocator;
 
 /// An entry at its place in the journal, and what came of it.

@@ -6,10 +6,10 @@ ghost use Rattle.spread_rules_ids.specs.declared.limits.TheConstants.{SESSIONS, 
 ghost use Rattle.spread_rules_ids.specs.Ids.{is_id};
 ghost use Rattle.spread_rules_rulebook.specs.Rulebook.{Rules};
 ghost use Rattle.spread_report.specs.Outgoing.{AppliedEntry};
-ghost use Rattle.spread_report_outbound.specs.Steps.{outbound_before_logon};
+ghost use Rattle.spread_report_outbound.specs.code.Steps.{outbound_before_logon};
 ghost use Rattle.spread_report_outbound.specs.Rows.{IsRow};
 ghost use Rattle.spread_report.specs.code.PerSession.{entry_bytes, entry_texts, entry_outbound, entry_spends, outgoing_starting, messages_starting, spends_from};
-ghost use Rattle.spread_report_outbound.specs.Sessions.{OutboundState, sessions_starting, session_text, outbound_at};
+ghost use Rattle.spread_report_outbound.specs.code.Sessions.{OutboundState, sessions_starting, session_text, outbound_at};
 ghost use Rattle.spread_report.specs.Running.{HasSent, RunsOut};
 ghost use Rattle.spread_report.specs.Ranges.{AreNames, EntryInRange};
 

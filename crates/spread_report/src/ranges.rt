@@ -3,8 +3,8 @@ ghost use Rattle.std.specs.Prelude.{◌↔◌, IsTrue};
 ghost use Rattle.spread_rules_rulebook.specs.Rulebook.{IsListed};
 ghost use Rattle.spread_rules.specs.Ranges.{FitsOutcome, FitsFill, FitFills};
 
-use spread_rules_ids::limits::SESSIONS;
 use spread_rules::{Event, Fill, Instrument, Outcome, Rulebook};
+use spread_rules_ids::limits::SESSIONS;
 
 /// Whether the rulebook has the instrument.
 fn is_listed(rules: &Rulebook, instrument: Instrument) -> bool

@@ -1,1 +1,3 @@
 pub mod ReportBodies
+pub mod Codes
+pub mod Fields

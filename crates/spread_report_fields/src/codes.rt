@@ -1,6 +1,7 @@
 //! The code sets of execution reports, and the values of fields that are always the same.
 ghost use Rattle.std.specs.Prelude.{◌≡◌};
-ghost use Rattle.spread_report_fields.specs.Codes as code;
+ghost use Rattle.spread_report_fields.specs.Codes.{side_code};
+ghost use Rattle.spread_report_fields.specs.code.Codes as code;
 
 use spread_rules::Side;
 use spread_rules::codes::ord_status;
@@ -74,7 +75,7 @@ impl MultiLegReportingType {
 /// Side (tag 54).
 #[inline(always)]
 pub fn side_code(side: Side) -> u64
-    ensures { result ≡ code.side_code side }
+    ensures { result ≡ side_code side }
 {
     match side {
         Side::Buy => 1,

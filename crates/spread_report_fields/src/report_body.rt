@@ -8,8 +8,8 @@ ghost use Rattle.spread_report_fields.specs.code.ReportBodies.{order_fields, eve
 use crate::codes::{EXEC_TRANS_TYPE_NEW, MultiLegReportingType, OrdStatus, side_code};
 use fix_wire::{Body, Field, Value, put_field, put_text_field};
 use fix_wire_frames::tags;
-use spread_rules_ids::Id;
 use spread_rules::Side;
+use spread_rules_ids::Id;
 
 /// ExecID (tag 17): the place of the entry, and the report's index among its reports, from 1.
 #[derive(Clone, Copy)]

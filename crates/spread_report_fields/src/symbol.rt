@@ -3,9 +3,9 @@ ghost use Rattle.std.specs.Prelude.{◌≡◌, ◌≤◌, ◌<◌, ◌+◌, ◌+
 ghost use Rattle.spread_rules_ids.specs.declared.bytes.TheConstants.{HYPHEN_MINUS};
 ghost use Rattle.spread_rules_rulebook.specs.Rulebook.{IsListed, symbol_of};
 
+use spread_rules::{Instrument, Rulebook};
 use spread_rules_ids::Id;
 use spread_rules_ids::limits::MAX_ID_LENGTH;
-use spread_rules::{Instrument, Rulebook};
 
 /// Writes two names with a dash between to the front of the text, and tells how many bytes they are.
 fn write_joined(text: &mut [u8], first: &[u8], second: &[u8]) -> usize

@@ -4,7 +4,7 @@ use Rattle.std.proofs.lemmas.Grind.{flat_map-append}
 use Rattle.std.proofs.lemmas.List.{take_more, take-append-drop}
 use Rattle.std.specs.declared.vec.Vec.{Vec}
 use Rattle.spread_report_outbound.specs.declared.fault.DeskFault.{DeskFault}
-use Rattle.spread_report_outbound.specs.Sessions.{OutboundState}
+use Rattle.spread_report_outbound.specs.code.Sessions.{OutboundState}
 use Rattle.spread_report_outbound.specs.code.Sending.{Sends}
 use Rattle.spread_report_outbound.proofs.MoreMessages.{all_sent, sends_after, sends_no_more}
 use Rattle.spread_rules.specs.declared.fill.Fill.{Fill}

@@ -10,11 +10,13 @@ ghost use Rattle.spread_report_orders.specs.ExecutionReports.{fill_reports, fill
 ghost use Rattle.spread_report_orders.specs.code.Reports.{report, reports_from, part_report, leg_reports, reports_of, fill_status, report_count};
 
 use fix_wire_frames::msg_types;
+use spread_report_fields::{
+    ExecId, FillReport, MultiLegReportingType, OrdStatus, OrderReport, symbol_of,
+};
+use spread_report_outbound::{DeskFault, OutboundSessions};
+use spread_rules::{Fill, Instrument, Rulebook, Side};
 use spread_rules_ids::Id;
 use spread_rules_ids::limits::SESSIONS;
-use spread_report_outbound::{DeskFault, OutboundSessions};
-use spread_report_fields::{ExecId, FillReport, MultiLegReportingType, OrdStatus, OrderReport, symbol_of};
-use spread_rules::{Fill, Instrument, Rulebook, Side};
 use std::alloc::Allocator;
 
 /// What one report of a fill tells: the whole fill, or one leg of a spread's.

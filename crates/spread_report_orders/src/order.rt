@@ -5,11 +5,11 @@ ghost use Rattle.spread_report_orders.specs.ExecutionReports.{new_report};
 ghost use Rattle.spread_report_orders.specs.code.Reports.{report, rejected_report, ended_report, cancelled_report, replaced_report};
 
 use fix_wire_frames::msg_types;
+use spread_report_fields::{CancelReport, ExecId, OrdStatus, OrderReport, RejectReport};
+use spread_report_outbound::{DeskFault, OutboundSessions};
+use spread_rules::{Order, Ticket};
 use spread_rules_ids::Id;
 use spread_rules_ids::limits::SESSIONS;
-use spread_report_outbound::{DeskFault, OutboundSessions};
-use spread_report_fields::{CancelReport, ExecId, OrdStatus, OrderReport, RejectReport};
-use spread_rules::{Order, Ticket};
 use std::alloc::Allocator;
 
 /// A new order, at its entry's place.

@@ -12,7 +12,8 @@ use Rattle.spread_report_outbound.specs.Rows.{IsRow}
 use Rattle.spread_report_outbound.specs.code.PerSession.{messages_bytes, texts_to, outbound_after, spends}
 use Rattle.spread_report_outbound.proofs.Steps.{outbound_after-append, messages_bytes-append, texts_to-append, spends-append}
 use Rattle.spread_report_outbound.proofs.FrameRows.{rows_both}
-use Rattle.spread_report_outbound.specs.Sessions.{OutboundState, bytes_of, outbound_at}
+use Rattle.spread_report_outbound.specs.Sessions.{bytes_of}
+use Rattle.spread_report_outbound.specs.code.Sessions.{OutboundState, outbound_at}
 use Rattle.spread_report_outbound.specs.code.Sending.{Sends, Sent, OnlyAppended, NumbersRunOut, SendResult}
 
 pub row-append : (stamp : List ℕ) (s : ℕ) (l k : OutboundSession) (xs ys : List AddressedStep) → k ≡ outbound_after s l xs

@@ -8,15 +8,17 @@ use Rattle.std.specs.declared.vec.Vec.{Vec}
 use Rattle.spread_report_outbound.specs.declared.session.OutboundSession.{OutboundSession}
 use Rattle.spread_report_outbound.specs.declared.session.CompIds.{CompIds}
 use Rattle.spread_report_outbound.specs.declared.fault.DeskFault.{DeskFault}
-use Rattle.spread_report_outbound.specs.Steps.{OutgoingStep, gap_fill, step_texts, after_step, outbound_before_logon, head_of}
-use Rattle.spread_report_fields.specs.Fields.{text_field, number_field}
+use Rattle.spread_report_outbound.specs.Steps.{OutgoingStep, gap_fill, step_texts, after_step, head_of}
+use Rattle.spread_report_outbound.specs.code.Steps.{outbound_before_logon}
+use Rattle.spread_report_fields.specs.code.Fields.{text_field, number_field}
 use Rattle.spread_report_outbound.specs.code.Addressed.{AddressedStep, new_seq_no}
 use Rattle.spread_report_outbound.specs.code.PerSession.{message_bytes, is_above_limit, messages_bytes, texts_to, outbound_after, spends}
 use Rattle.std.specs.List.{concat}
 use Rattle.fix_wire.specs.Layout.{message_text}
 use Rattle.spread_report_outbound.specs.Rows.{IsRow}
 use Rattle.spread_report_outbound.proofs.FrameRows.{no_row}
-use Rattle.spread_report_outbound.specs.Sessions.{bytes_of, outbound_at, KeepsBytes}
+use Rattle.spread_report_outbound.specs.Sessions.{bytes_of}
+use Rattle.spread_report_outbound.specs.code.Sessions.{outbound_at, KeepsBytes}
 use Rattle.spread_report_outbound.specs.code.Sending.{Sent, OnlyAppended, NumbersRunOut, SendResult}
 
 -- the message

@@ -6,7 +6,7 @@ use Rattle.std.proofs.lemmas.Bool.{cases_eq, eq-eqb, ne_eqb}
 use Rattle.std.proofs.lemmas.List.{length-set, get_or_default, get_or-set_same, get_or-set_other}
 use Rattle.spread_report_outbound.specs.declared.session.OutboundSession.{OutboundSession}
 use Rattle.spread_report_outbound.specs.declared.session.CompIds.{CompIds}
-use Rattle.spread_report_outbound.specs.Sessions.{outbound_at}
+use Rattle.spread_report_outbound.specs.code.Sessions.{outbound_at}
 use Rattle.spread_report_outbound.specs.code.Sending.{sessions_of}
 
 abbrev pub session_of : ℕ → Option CompIds → OutboundSession

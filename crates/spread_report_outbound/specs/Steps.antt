@@ -1,5 +1,5 @@
 -- A step of what a session is sent: the message that it is, and the session's next number and CompIDs after it.
-use Rattle.std.specs.Prelude.{ℕ, ◌+◌, ◌==◌, nat_lt, Bool, true, false, ◌||◌, if◌then◌else◌, List, [], ◌∷◌, ◌++◌, codes, Option, Some, None}
+use Rattle.std.specs.Prelude.{ℕ, ◌+◌, ◌==◌, nat_lt, Bool, true, false, ◌||◌, if◌then◌else◌, List, [], ◌∷◌, ◌++◌, codes, Option, Some}
 use Rattle.std.specs.Option.{is_some}
 use Rattle.fix_wire_frames.specs.declared.msg_types.TheConstants as msg_types
 use Rattle.fix_wire_frames.specs.declared.tags.TheConstants as tags
@@ -55,9 +55,3 @@ abbrev pub steps_texts : List ℕ → OutboundSession → List OutgoingStep → 
 steps_texts stamp out [] = []
 steps_texts stamp out (c ∷ cs) =
     step_texts stamp out.comp_ids out.next c ++ steps_texts stamp (after_step out c) cs
-
--- ---- words that the headline does not rest on
-
--- before its Logon, with this next number
-abbrev pub outbound_before_logon : ℕ → OutboundSession
-outbound_before_logon next = record { next = next; comp_ids = None }

@@ -3,3 +3,5 @@ pub mod Addressed
 pub mod PerSession
 pub mod Sending
 pub mod TakingBack
+pub mod Sessions
+pub mod Steps

@@ -1,6 +1,6 @@
 //! Gap fills, which use no number.
 ghost use Rattle.std.specs.Prelude.{◌≡◌, ◌<◌, ◌≤◌, ◌∷◌, [], length, OnErr};
-ghost use Rattle.spread_report_outbound.specs.Sessions.{KeepsBytes};
+ghost use Rattle.spread_report_outbound.specs.code.Sessions.{KeepsBytes};
 ghost use Rattle.spread_report_outbound.specs.Steps.{gap_fill};
 ghost use Rattle.spread_report_outbound.specs.code.Addressed as addressed;
 ghost use Rattle.spread_report_outbound.specs.code.Sending.{Sends};
@@ -9,9 +9,9 @@ use crate::fault::DeskFault;
 use crate::sending::OutboundSessions;
 use fix_wire::{Field, Head, Value, write_message};
 use fix_wire_frames::{msg_types, tags};
+use spread_report_fields::{number_field, text_field};
 use spread_rules_ids::Id;
 use spread_rules_ids::limits::SESSIONS;
-use spread_report_fields::{number_field, text_field};
 use std::alloc::Allocator;
 
 impl OutboundSessions {

@@ -1,7 +1,7 @@
 //! Messages that bear their session's next number.
 ghost use Rattle.std.specs.Prelude.{◌≡◌, ◌≢◌, ℕ, ◌<◌, ◌≤◌, ◌==◌, ◌∷◌, [], true, length, Some, OnErr, if◌then◌else◌};
 ghost use Rattle.std.specs.List.{list_all};
-ghost use Rattle.spread_report_outbound.specs.Sessions.{sessions_starting, sessions_at, outbound_at, KeepsBytes};
+ghost use Rattle.spread_report_outbound.specs.code.Sessions.{sessions_starting, sessions_at, outbound_at, KeepsBytes};
 ghost use Rattle.spread_report_outbound.specs.code.Addressed.{has_tag, numbered_message};
 ghost use Rattle.spread_report_outbound.specs.code.Sending.{Sends};
 
@@ -33,7 +33,7 @@ pub struct OutboundSessions {
 }
 
 impl Model for OutboundSessions {
-    ghost use Rattle.spread_report_outbound.specs.Sessions.{OutboundState};
+    ghost use Rattle.spread_report_outbound.specs.code.Sessions.{OutboundState};
     ghost use Rattle.spread_report_outbound.specs.code.Sending.{state_of, AreKept};
 
     ghost Value = { OutboundState };

@@ -1,7 +1,8 @@
 //! What was sent is taken back where an entry is refused.
 ghost use Rattle.std.specs.Prelude.{◌≡◌, ℕ, ◌<◌, List, length, take, slice_index_or};
 ghost use Rattle.spread_rules_ids.specs.declared.limits.TheConstants.{SESSIONS};
-ghost use Rattle.spread_report_outbound.specs.Sessions.{OutboundState, bytes_of, texts_of, session_text};
+ghost use Rattle.spread_report_outbound.specs.Sessions.{bytes_of};
+ghost use Rattle.spread_report_outbound.specs.code.Sessions.{OutboundState, texts_of, session_text};
 
 use crate::parties::spell_parties;
 use crate::sending::OutboundSessions;

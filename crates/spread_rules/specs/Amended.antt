@@ -13,9 +13,3 @@ with_quantity id quantity o = record o { id = id; quantity = quantity; leaves = 
 -- the order of that place is changed so
 abbrev pub with_changed : ℕ → (Order → Order) → List Order → List Order
 with_changed place change xs = map (λ o. if o.place == place then change o else o) xs
-
--- ---- words that the headline does not rest on
-
--- the order of that place is amended
-abbrev pub amended : ℕ → List ℕ → ℕ → List Order → List Order
-amended place id quantity xs = with_changed place (with_quantity id quantity) xs

@@ -1,6 +1,6 @@
 //! The leg prices of the spread that takes part in a trade.
 ghost use Rattle.std.specs.Prelude.{◌≡◌, get_or, pos};
-ghost use Rattle.spread_rules.specs.Candidates.{HasLegPrice};
+ghost use Rattle.spread_rules.specs.code.Candidates.{HasLegPrice};
 ghost use Rattle.spread_rules.specs.Clearing.{leg_prices};
 ghost use Rattle.spread_rules_rulebook.specs.Prices.{IsOrderPrice};
 ghost use Rattle.spread_rules_rulebook.specs.Rulebook.{references_of};

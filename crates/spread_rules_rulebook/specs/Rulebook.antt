@@ -91,17 +91,3 @@ symbol_of rules (Spread i j) =
 -- the instrument with that symbol
 abbrev pub find_symbol : Rules → List ℕ → Option Instrument
 find_symbol rules symbol = find (λ i. bytes_eq (symbol_of rules i) symbol) (instruments_of rules)
-
--- ---- words that the headline does not rest on
-
--- which switch is that of a pair, the near month first
-abbrev pub switch_number : ℕ → ℕ → ℕ
-switch_number near far = near * MAX_MONTHS + far
-
--- how a pair was switched, none where it was not
-abbrev pub switch_of : List (Option Bool) → ℕ → ℕ → Option Bool
-switch_of switches near far = get_or switches (switch_number near far) None
-
--- the spreads with this far month: one for each nearer month
-abbrev pub spreads_to : ℕ → List Instrument
-spreads_to far = map (λ near. Spread near far) (range_with_len 0 far)

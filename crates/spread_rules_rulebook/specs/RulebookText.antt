@@ -4,7 +4,8 @@ use Rattle.std.specs.Fmt.{signed_decimal}
 use Rattle.spread_rules_ids.specs.declared.bytes.TheConstants.{LINE_FEED, NUMBER_SIGN, SPACE}
 use Rattle.spread_rules_ids.specs.Cut.{Lacks}
 use Rattle.spread_rules_ids.specs.declared.limits.TheConstants as limits
-use Rattle.spread_rules_rulebook.specs.Rulebook.{Rules, IsMonth, IsTick, switch_number, switch_of}
+use Rattle.spread_rules_rulebook.specs.Rulebook.{Rules, IsMonth, IsTick}
+use Rattle.spread_rules_rulebook.specs.code.Rulebook.{switch_number, switch_of}
 use Rattle.spread_rules_rulebook.specs.declared.rulebook.Month.{Month}
 use Rattle.spread_rules_rulebook.specs.declared.rule_fault.RuleFault.{RuleFault}
 use Rattle.spread_rules_rulebook.specs.declared.rule_fault.RuleFault.TheVariants.{BadLine, NoMonth, TooManyMonths, NamedTwice, NoMemory}

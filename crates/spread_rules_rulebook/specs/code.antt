@@ -1,2 +1,3 @@
 pub mod RulebookFields
 pub mod DraftFields
+pub mod Rulebook

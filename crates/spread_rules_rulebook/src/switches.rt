@@ -1,6 +1,6 @@
 //! Which pairs of months were switched on or off for implied trading.
 ghost use Rattle.std.specs.Prelude.{◌≡◌, ◌<◌, length, set, Some, true, unwrap_or};
-ghost use Rattle.spread_rules_rulebook.specs.Rulebook.{switch_number, switch_of};
+ghost use Rattle.spread_rules_rulebook.specs.code.Rulebook.{switch_number, switch_of};
 ghost use Rattle.spread_rules_rulebook.specs.RulebookText.{no_switches};
 
 use spread_rules_ids::limits;

@@ -3,7 +3,7 @@ ghost use Rattle.std.specs.Io.KnownBytes.{Appends, IsAtEnd};
 ghost use Rattle.std.specs.Prelude.{◌≡◌, ℕ, ◌<◌, ◌≤◌, ◌⊎◌, ◌≢◌, Contains, IfOk, IfErr, IfSome, OnOk, IsErrOf, length, take, true, false, Ok};
 ghost use Rattle.spread_rules_ids.specs.declared.limits.TheConstants.{MAX_INPUT_BYTES, SESSIONS};
 ghost use Rattle.spread_rules.specs.Journal.{IsLawful};
-ghost use Rattle.spread_rules.specs.Legs.{bought, sold, paid, received};
+ghost use Rattle.spread_rules.specs.code.Legs.{bought, sold, paid, received};
 ghost use Rattle.spread_rules.specs.Meaning.{filled};
 ghost use Rattle.spread_rules.specs.Quiet.{IsQuiet};
 ghost use Rattle.spread_rules_rulebook.specs.Rulebook.{implied};
@@ -17,16 +17,17 @@ ghost use Rattle.spread_report_outbound.specs.Sessions.{bytes_of};
 ghost use Rattle.spread_journal.specs.JournalReading.{ReadsJournal};
 ghost use Rattle.spread_journal_lines.specs.JournalText.{journal_text};
 ghost use Rattle.apply_desk.specs.Applied.{outgoing_bytes, applied_entries, applied_journal};
-ghost use Rattle.intake_lines.specs.Reading.{IsJournalOf, HasParts};
+ghost use Rattle.intake_lines.specs.Reading.{IsJournalOf};
+ghost use Rattle.intake_lines.specs.code.Reading.{HasParts};
 ghost use Rattle.spread_host.specs.Days.{IsReplayFault, IsPartOut, text_of_day};
 ghost use Rattle.spread_host_faults.specs.declared.fault.HostFault.{HostFault};
 
-use text_day::Day;
-use spread_rules_ids::Id;
 use spread_host::{HostFault, replay};
 use spread_journal::laws::read_back;
 use spread_rules::{Rulebook, Sink, Source};
+use spread_rules_ids::Id;
 use std::alloc::Allocator;
+use text_day::Day;
 
 /// A day of day lines.
 pub fn day_of_lines<S: Source, K: Sink, A: Allocator + Copy>(

@@ -2,10 +2,10 @@
 ghost use Rattle.std.specs.Prelude.{◌<◌, length};
 
 use crate::expect::holds;
-use intake_lines::{DayReader, LinesFault, read_day_lines};
 use intake_lines::laws::day_journal;
-use spread_rules_ends::{FromReader, TestSource};
+use intake_lines::{DayReader, LinesFault, read_day_lines};
 use spread_rules::{Entry, Event};
+use spread_rules_ends::{FromReader, TestSource};
 use std::alloc::Global;
 use std::io::Read;
 use std::process::Abort;

@@ -3,10 +3,10 @@ ghost use Rattle.std.specs.Prelude.{[]};
 ghost use Rattle.spread_books_ids.specs.Tables.{IsTableOf};
 
 use crate::expect::holds;
-use spread_rules_ids::IdKey;
-use spread_books_rows::Hints;
 use spread_books_ids::{IdRows, IdTable, Noted};
+use spread_books_rows::Hints;
 use spread_rules::NoMemory;
+use spread_rules_ids::IdKey;
 use std::alloc::Allocator;
 use std::process::Abort;
 use tests_shared::{Refusing, id};

@@ -1,9 +1,9 @@
 //! Tests by subject, and the orders that they share.
 ghost use Rattle.std.specs.Prelude.{neg_ℤ, pos, ◌≤ℤ◌};
-ghost use Rattle.spread_rules.specs.Candidates.{HasOrderPrice};
+ghost use Rattle.spread_rules.specs.code.Candidates.{HasOrderPrice};
 
-use spread_rules_ids::Id;
 use spread_rules::{Instrument, Order, Side};
+use spread_rules_ids::Id;
 
 mod candidates;
 mod plain_matcher;

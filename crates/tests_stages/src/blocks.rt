@@ -3,15 +3,15 @@ ghost use Rattle.std.specs.Prelude.{◌≡◌, false};
 ghost use Rattle.text_ring.specs.Ends.{IsUnread};
 
 use crate::expect::holds;
-use text_ring::{BlockSink, BlockSource, block_ring};
+use spread_rules_ends::TestSink;
 use std::alloc::{Allocator, Global};
 use std::process::Abort;
 use std::sync::Wait;
 use std::thread;
 use std::thread::Threads;
 use tests_shared::Refusing;
-use spread_rules_ends::TestSink;
 use text_messages::{BLOCK_BYTES, TakesBlocks};
+use text_ring::{BlockSink, BlockSource, block_ring};
 
 const LINE: &[u8] = b"abcdefghi\n";
 

@@ -4,13 +4,13 @@
 #![tactic(auto)]
 
 #[cfg(test)]
+mod blocks;
+#[cfg(test)]
 mod expect;
 #[cfg(test)]
 mod journal;
 #[cfg(test)]
 mod link;
-#[cfg(test)]
-mod blocks;
 #[cfg(test)]
 mod report;
 #[cfg(test)]

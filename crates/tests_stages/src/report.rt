@@ -2,11 +2,10 @@
 use crate::expect::holds_for;
 use crate::rules::three_months;
 use crate::said::{Said, entry_of};
-use spread_report::{Desk, DeskFault};
+use spread_report::{Desk, DeskFault, fit_fills, fits_outcome};
 use spread_rules::{Entry, Event, Fill, Instrument, Order, Outcome, Rulebook, Side};
 use std::alloc::{Allocator, Global};
 use std::process::Abort;
-use spread_report::{fit_fills, fits_outcome};
 use tests_shared::{id, stamp};
 
 mod admin_messages;

@@ -8,7 +8,8 @@ use Rattle.text_fills.specs.Totals.{AreTotals}
 use Rattle.text_fills.specs.code.Sums.{empty_month}
 use Rattle.text_messages.specs.code.Blocks.{IsPut}
 use Rattle.text_messages.proofs.BlocksInTurn.{put_after, put_fails}
-use Rattle.text_day.specs.Months.{month_line, month_lines_from}
+use Rattle.text_day.specs.Months.{month_line}
+use Rattle.text_day.specs.code.Months.{month_lines_from}
 use Rattle.text_day.specs.code.LineParts.{totals_line, totals_lines_from}
 
 -- one more month's line

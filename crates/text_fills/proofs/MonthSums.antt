@@ -15,7 +15,8 @@ use Rattle.spread_rules_rulebook.specs.declared.instrument.Instrument.{Instrumen
 use Rattle.spread_rules_rulebook.specs.declared.instrument.Instrument.TheVariants.{Outright, Spread}
 use Rattle.spread_rules.specs.declared.fill.Fill.{Fill}
 use Rattle.spread_rules.specs.code.Cases.{quantity_in, money_in}
-use Rattle.spread_rules.specs.Legs.{Leg, is_side, legs_by, legs_in, legs, quantities, money_of_legs, other_side}
+use Rattle.spread_rules.specs.Legs.{is_side, other_side}
+use Rattle.spread_rules.specs.code.Legs.{Leg, legs_by, legs_in, legs, quantities, money_of_legs}
 use Rattle.spread_rules.proofs.clearings.SumsOverLegs.{bought_is, sold_is, paid_is, received_is}
 use Rattle.text_fills.specs.declared.totals.MonthTotals.{MonthTotals}
 use Rattle.text_fills.specs.Totals.{AreTotals, IsSummable}

@@ -1,7 +1,6 @@
 -- The lines of fills: the place of the entry, the order, its session, and the trade.
 use Rattle.std.specs.Prelude.{ℕ, ℤ, List, [], ◌∷◌, ◌++◌, codes, decimal}
 use Rattle.std.specs.Fmt.{signed_decimal}
-use Rattle.std.specs.List.{flat_map}
 use Rattle.spread_rules_rulebook.specs.declared.instrument.Instrument.{Instrument}
 use Rattle.spread_rules_rulebook.specs.declared.instrument.Instrument.TheVariants.{Outright, Spread}
 use Rattle.spread_rules.specs.declared.fill.Fill.{Fill}
@@ -23,9 +22,3 @@ fill_line rules f =
     ++ (SPACE ∷ side_byte f.side ∷ SPACE ∷ decimal f.quantity ++ SPACE ∷ signed_decimal f.price)
     ++ legs_text f.instrument f.near f.far
     ++ LINE_FEED ∷ []
-
--- ---- words of `check` and of the code
-
--- a line for each fill, in order
-abbrev pub fill_lines : Rules → List Fill → List ℕ
-fill_lines rules fills = flat_map (fill_line rules) fills

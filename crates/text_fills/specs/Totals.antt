@@ -4,7 +4,7 @@ use Rattle.spread_rules_ids.specs.declared.limits.TheConstants.{MAX_MONTHS, MAX_
 use Rattle.spread_rules_rulebook.specs.declared.instrument.Instrument.{Instrument}
 use Rattle.spread_rules_rulebook.specs.declared.instrument.Instrument.TheVariants.{Outright, Spread}
 use Rattle.spread_rules.specs.declared.fill.Fill.{Fill}
-use Rattle.spread_rules.specs.Legs.{bought, sold, paid, received}
+use Rattle.spread_rules.specs.code.Legs.{bought, sold, paid, received}
 use Rattle.spread_rules_rulebook.specs.Prices.{IsLegPrice}
 use Rattle.text_fills.specs.declared.totals.MonthTotals.{MonthTotals}
 

@@ -5,8 +5,8 @@ ghost use Rattle.spread_rules_rulebook.specs.Prices.{IsLegPrice};
 ghost use Rattle.text_fills.specs.Totals.{AreTotals, IsSummable, IsBelow};
 ghost use Rattle.text_fills.specs.code.Sums.{plus_leg, with_leg, HasRoom, with_fill, empty_months};
 
-use spread_rules_ids::limits::{MAX_MONTHS, MAX_ORDER_QTY};
 use spread_rules::{Fill, Instrument, Side};
+use spread_rules_ids::limits::{MAX_MONTHS, MAX_ORDER_QTY};
 
 /// The sums of one month over all legs: quantities in lots, and money in hundredths times lots.
 #[derive(Clone, Copy, PartialEq, Eq)]

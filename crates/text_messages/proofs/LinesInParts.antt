@@ -2,7 +2,8 @@
 use Rattle.std.proofs.Common.{◌≡◌, ℕ, ◌+◌, ◌/◌, ◌%◌, ◌<◌, List, [], ◌∷◌, ◌++◌, map, decimal, sym, ap, ◌∙◌, arith, append_assoc}
 use Rattle.std.proofs.lemmas.Fmt.{decimal_step, decimal_digit}
 use Rattle.std.proofs.lemmas.List.{map-append}
-use Rattle.text_messages.specs.Messages.{shown_byte, outgoing_line}
+use Rattle.text_messages.specs.Messages.{outgoing_line}
+use Rattle.text_messages.specs.code.Messages.{shown_byte}
 use Rattle.text_messages.specs.code.LineLead.{line_lead}
 
 -- the lead of a session below 10, and of one of two digits

@@ -1,7 +1,7 @@
 -- The outgoing lines of sessions, one after another.
 use Rattle.std.proofs.Common.{◌≡◌, ℕ, zero, suc, ◌+◌, ◌<◌, List, [], ◌∷◌, ◌++◌, length, take, get_or, refl, sym, ap, ◌∙◌, arith}
 use Rattle.std.proofs.lemmas.List.{append_assoc, append-nil}
-use Rattle.text_messages.specs.Messages.{session_lines, outgoing_lines_from}
+use Rattle.text_messages.specs.code.Messages.{session_lines, outgoing_lines_from}
 
 -- one more session's lines
 pub sessions_next : (lists : List (List ℕ)) (k i : ℕ) → i < length lists

@@ -1,3 +1,4 @@
 -- Words of the code alone: no public promise needs them to be read.
 pub mod LineLead
 pub mod Blocks
+pub mod Messages

@@ -1,15 +1,16 @@
 //! The lines of outgoing messages, written in blocks. What stands in a block is shown when the block is written.
 ghost use Rattle.std.specs.Prelude.{◌≡◌, ◌<◌, ◌≤◌, ◌+◌, ◌++◌, ◌∷◌, [], All, map, length, min, OnOk, vec_len, vec_capacity, false};
 ghost use Rattle.fix_wire_frames.specs.Frames.{IsFrameRow};
-ghost use Rattle.text_messages.specs.Messages.{texts_of, shown_byte, outgoing_line, session_lines, outgoing_lines_from};
+ghost use Rattle.text_messages.specs.Messages.{texts_of, outgoing_line};
+ghost use Rattle.text_messages.specs.code.Messages.{shown_byte, session_lines, outgoing_lines_from};
 ghost use Rattle.text_messages.specs.code.LineLead.{line_lead};
 ghost use Rattle.text_messages.specs.code.Blocks.{Puts, Writes};
 
-use fix_wire_framer::first_of_row;
-use spread_rules_ids::limits::SESSIONS;
-use spread_rules_ends::Failed;
-use std::alloc::Allocator;
 use crate::blocks::{BLOCK_BYTES, TakesBlocks, append};
+use fix_wire_framer::first_of_row;
+use spread_rules_ends::Failed;
+use spread_rules_ids::limits::SESSIONS;
+use std::alloc::Allocator;
 
 /// Shows each byte 1 as `|`.
 fn show_field_ends(text: &mut [u8])

@@ -2,7 +2,7 @@
 ghost use Rattle.std.specs.Prelude.{◌≡◌, [], IfOk, false};
 ghost use Rattle.text_ring.specs.Ends.{text_given, IsUnread};
 
-use crate::block::{Emptied, Filled, BLOCKS, Block};
+use crate::block::{BLOCKS, Block, Emptied, Filled};
 use crate::sink::BlockSink;
 use crate::source::BlockSource;
 use rtrb::{Producer, RingBuffer};

@@ -5,10 +5,10 @@ ghost use Rattle.gate_link_stages.specs.Marks.{ends};
 ghost use Rattle.text_ring.specs.Blocks.{is_mark};
 ghost use Rattle.text_messages.specs.declared.blocks.TheConstants.{BLOCK_BYTES};
 
-use crate::block::{Emptied, Filled, Block};
-use spread_rules_ends::Failed;
-use rtrb::{Consumer, Producer, PushError};
+use crate::block::{Block, Emptied, Filled};
 use live_shared::rest;
+use rtrb::{Consumer, Producer, PushError};
+use spread_rules_ends::Failed;
 use std::alloc::Allocator;
 use std::mem;
 use std::sync::Wait;

@@ -4,10 +4,10 @@ ghost use Rattle.text_messages.specs.code.Blocks.{Writes};
 ghost use Rattle.text_messages.specs.declared.blocks.TheConstants.{BLOCK_BYTES};
 ghost use Rattle.text_ring.specs.Ends.{text_taken, IsUnread, IsRead};
 
-use crate::block::{Emptied, Filled, Block};
-use spread_rules_ends::{Failed, Sink, write_all};
-use rtrb::{Consumer, Producer};
+use crate::block::{Block, Emptied, Filled};
 use live_shared::{found, rest};
+use rtrb::{Consumer, Producer};
+use spread_rules_ends::{Failed, Sink, write_all};
 use std::alloc::Allocator;
 use std::sync::Wait;
 

@@ -4,7 +4,8 @@ use Rattle.spread_rules.specs.declared.order.Order.{Order}
 use Rattle.spread_rules.specs.declared.candidate.Candidate.{Candidate}
 use Rattle.spread_rules.specs.declared.candidate.Counterparty.{Counterparty}
 use Rattle.spread_rules.specs.code.Cases.{step, better_of}
-use Rattle.spread_rules.specs.Candidates.{Pairs, AllStandIn, candidate_of, counterparties, is_before, least_candidate, price_of}
+use Rattle.spread_rules.specs.Candidates.{Pairs, AllStandIn, is_before, price_of}
+use Rattle.spread_rules.specs.code.Candidates.{candidate_of, counterparties, least_candidate}
 use Rattle.spread_rules.proofs.ranks.FirstOfAFold.{IsFirst, fold_first}
 use Rattle.spread_rules.proofs.ranks.PlainIsLeast.{ranks, candidate_is, eligible_candidate, listed, of_list, IsOwn}
 use Rattle.explain_turns.specs.Explained.{is_behind, IsNextBest}

@@ -9,7 +9,8 @@ use Rattle.spread_rules.specs.declared.candidate.Candidate.{Candidate}
 use Rattle.spread_rules.specs.declared.candidate.Counterparty.{Counterparty}
 use Rattle.spread_rules.specs.declared.candidate.Counterparty.TheVariants.{Implied}
 use Rattle.spread_rules.specs.code.Cases.{price_if, offered_if, better_of}
-use Rattle.spread_rules.specs.Candidates.{Pairs, all_on, implied_price, takes_part, candidate_of, candidate_at}
+use Rattle.spread_rules.specs.Candidates.{Pairs}
+use Rattle.spread_rules.specs.code.Candidates.{all_on, implied_price, takes_part, candidate_of, candidate_at}
 use Rattle.spread_rules.proofs.ranks.PairsSwitched.{candidate_on, candidate_off, price_switched}
 use Rattle.explain_turns.specs.code.Search.{may_be_first, next_step, only_behind}
 

@@ -7,8 +7,10 @@ use Rattle.spread_rules.specs.declared.order.Order.{Order}
 use Rattle.spread_rules.specs.declared.candidate.Counterparty.{Counterparty}
 use Rattle.spread_rules.specs.declared.candidate.Counterparty.TheVariants.{Direct, Implied}
 use Rattle.spread_rules.specs.code.Cases.{with_less_left}
-use Rattle.spread_rules.specs.Candidates.{Pairs, HasOrderPrice, members}
-use Rattle.spread_rules.specs.Clearing.{Trading, after_fill, after_match, begin, clear, next_candidate, reduced, removed, turn, turns}
+use Rattle.spread_rules.specs.Candidates.{Pairs, members}
+use Rattle.spread_rules.specs.code.Candidates.{HasOrderPrice}
+use Rattle.spread_rules.specs.Clearing.{Trading, after_fill, clear, reduced, removed}
+use Rattle.spread_rules.specs.code.Clearing.{after_match, begin, next_candidate, turn, turns}
 use Rattle.spread_rules_rulebook.specs.Rulebook.{Rules, implied, references_of}
 use Rattle.spread_rules.proofs.clearings.ClearIsTurns.{clear_is}
 use Rattle.spread_rules.proofs.clearings.TurnsEnd.{enough, one_end}

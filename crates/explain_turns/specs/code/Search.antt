@@ -10,13 +10,14 @@ use Rattle.spread_rules.specs.declared.order.Order.{Order}
 use Rattle.spread_rules.specs.declared.candidate.Candidate.{Candidate}
 use Rattle.spread_rules.specs.declared.candidate.Counterparty.{Counterparty}
 use Rattle.spread_rules.specs.declared.candidate.Counterparty.TheVariants.{Direct, Implied}
-use Rattle.spread_rules.specs.Candidates.{Pairs, candidate_of, takes_part, are_opposite}
+use Rattle.spread_rules.specs.Candidates.{Pairs}
+use Rattle.spread_rules.specs.code.Candidates.{candidate_of, takes_part, are_opposite}
 use Rattle.explain_turns.specs.Explained.{is_behind}
 
 -- whether a counterparty takes part: a pair of orders does where the pair of months does
 abbrev pub may_trade : Pairs → Order → Counterparty → Bool
-may_trade trades_implied n (Direct o) = true
-may_trade trades_implied n (Implied a b) = takes_part trades_implied n.instrument a.instrument
+may_trade on n (Direct o) = true
+may_trade on n (Implied a b) = takes_part on n.instrument a.instrument
 
 -- the candidate, where it ranks behind the bound
 abbrev pub only_behind : Order → Option Candidate → Option Candidate → Option Candidate
@@ -25,16 +26,16 @@ only_behind n bound (Some o) = cond (is_behind n bound o) (Some o) None
 
 -- the eligible candidate that a counterparty makes, where it ranks behind the bound
 abbrev pub next_of : Pairs → Order → Option Candidate → Counterparty → Option Candidate
-next_of trades_implied n bound p = only_behind n bound (candidate_of trades_implied n p)
+next_of on n bound p = only_behind n bound (candidate_of on n p)
 
 abbrev pub next_step :
     Pairs → Order → Option Candidate → Option Candidate → Counterparty → Option Candidate
-next_step trades_implied n bound best p = better_of n best (next_of trades_implied n bound p)
+next_step on n bound best p = better_of n best (next_of on n bound p)
 
 -- the least of these that rank behind the bound
 abbrev pub next_candidate_of :
     Pairs → Order → Option Candidate → List Counterparty → Option Candidate
-next_candidate_of trades_implied n bound ps = fold (next_step trades_implied n bound) None ps
+next_candidate_of on n bound ps = fold (next_step on n bound) None ps
 
 -- an order of this side and instrument may be the first of two that meet an order
 abbrev pub may_be_first : Side → Instrument → Side → Instrument → Bool

@@ -2,7 +2,7 @@
 -- Words of the code alone.
 use Rattle.std.specs.Prelude.{◌≡◌, ℕ, ◌<◌, List, length, get_or, Option, Some, None}
 use Rattle.spread_rules.specs.declared.order.Order.{Order}
-use Rattle.spread_rules.specs.Clearing.{begin, next_candidate}
+use Rattle.spread_rules.specs.code.Clearing.{begin, next_candidate}
 use Rattle.spread_rules_rulebook.specs.Rulebook.{Rules, implied}
 use Rattle.explain_turns.specs.declared.turn.ExplainedTurn.{ExplainedTurn}
 use Rattle.explain_turns.specs.Explained.{IsTurn, after_turns}

@@ -11,7 +11,8 @@ use Rattle.fix_session_judging.specs.declared.session.State.TheVariants as state
 use Rattle.fix_session_judging.specs.declared.session.Session.{Session}
 use Rattle.fix_session_judging.specs.declared.session.Verdict.{Verdict}
 use Rattle.fix_session_judging.specs.declared.session.Verdict.TheVariants as verdicts
-use Rattle.fix_session_judging.specs.View.{Numbered, is_between, numbered, next_due, event_given, logon_in, is_logout, repeats}
+use Rattle.fix_session_judging.specs.View.{Numbered}
+use Rattle.fix_session_judging.specs.code.View.{is_between, numbered, next_due, event_given, logon_in, is_logout, repeats}
 use Rattle.fix_session_judging.specs.Steps.{running, closed, verdict_of, closes, opens, step_below, step_above, step_due, step_running, step_at, step_or_stay, judge, ended, is_closed, is_closing}
 use Rattle.fix_session_kinds.proofs.TableInRange.{IsGiven}
 use Rattle.fix_session_judging.proofs.events.InRangeAndOrder.{May, IsFair, view_fair}

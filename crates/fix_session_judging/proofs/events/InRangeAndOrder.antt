@@ -7,14 +7,16 @@ use Rattle.std.specs.List.{All, cons_option}
 use Rattle.std.proofs.lemmas.Bool.Decides.{nat_tests}
 use Rattle.std.proofs.lemmas.List.Elements.{All-nil, All-cons, All-head, All-tail}
 use Rattle.spread_rules_ids.specs.Ids.{is_id, id_of}
-use Rattle.spread_rules.specs.Journal.{IsNumber, FitsEvent, is_logon, is_close, is_end, is_running, is_in_order, starts_in_order}
+use Rattle.spread_rules.specs.Journal.{IsNumber, FitsEvent, is_logon, is_close, is_in_order}
+use Rattle.spread_rules.specs.code.Journal.{is_end, is_running, starts_in_order}
 use Rattle.spread_rules.proofs.journals.SessionParts.{order_by_event}
 use Rattle.spread_rules.specs.declared.event.Event.{Event}
 use Rattle.spread_rules.specs.declared.event.Event.TheVariants as events
 use Rattle.fix_wire_values.specs.declared.values.Unread.TheVariants.{Range, Format}
 use Rattle.fix_wire_values.specs.Digits.{number_of}
 use Rattle.fix_wire_values.specs.Values.{is_number, within, number_in}
-use Rattle.fix_wire_frames.specs.Messages.{get, number, given_number}
+use Rattle.fix_wire_frames.specs.Messages.{get, number}
+use Rattle.fix_wire_frames.specs.code.Messages.{given_number}
 use Rattle.fix_session_kinds.specs.declared.table.Meaning.{Meaning}
 use Rattle.fix_session_kinds.specs.declared.table.Meaning.TheVariants.{Nothing, Says, GapFill}
 use Rattle.fix_session_judging.specs.declared.session.Logon.{Logon}
@@ -25,7 +27,8 @@ use Rattle.fix_session_judging.specs.declared.session.Session.{Session}
 use Rattle.fix_session_judging.specs.declared.session.Verdict.{Verdict}
 use Rattle.fix_session_kinds.specs.Table.{meaning_of_message}
 use Rattle.fix_session_judging.specs.code.Openings.{◌>>=◌, is_opening, given_id, logon_by_parts}
-use Rattle.fix_session_judging.specs.View.{Numbered, is_between, logon_of, event_of_accepted, due_after_accepted, view_with, numbered, next_due, event_given, logon_in, is_logout, repeats}
+use Rattle.fix_session_judging.specs.View.{Numbered, logon_of, event_of_accepted, due_after_accepted}
+use Rattle.fix_session_judging.specs.code.View.{is_between, view_with, numbered, next_due, event_given, logon_in, is_logout, repeats}
 use Rattle.fix_session_judging.specs.Steps.{new_session, running, closed, verdict_of, logon_event, closes, opens, step_below, step_above, step_due, step_running, step_at, step_or_stay, judge, event_in, events_said, session_after, events_at_end}
 use Rattle.fix_session_kinds.proofs.TableInRange.{Holds, IsGiven, FitsMeaning, meaning_holds}
 use Rattle.fix_session_judging.proofs.events.StateOfPlaces.{cons_two}

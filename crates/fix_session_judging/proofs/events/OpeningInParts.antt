@@ -7,7 +7,8 @@ use Rattle.std.proofs.lemmas.Bool.Decides.{nat_tests}
 use Rattle.spread_rules_ids.specs.Ids.{id_of}
 use Rattle.fix_wire_values.specs.declared.values.Unread.{Unread}
 use Rattle.fix_wire_values.specs.Values.{number_in}
-use Rattle.fix_wire_frames.specs.Messages.{get, kind, given_number}
+use Rattle.fix_wire_frames.specs.Messages.{get, kind}
+use Rattle.fix_wire_frames.specs.code.Messages.{given_number}
 use Rattle.fix_session_kinds.specs.Table.{◌>>=◌, value_at, id_at, choice_at, reason_of, read_at}
 use Rattle.fix_session_judging.specs.declared.session.Logon.{Logon}
 use Rattle.fix_session_judging.specs.View.{logon_of}

@@ -11,7 +11,8 @@ use Rattle.fix_session_kinds.proofs.KindOfBytes.{meaning_is}
 use Rattle.fix_session_judging.specs.declared.session.Logon.{Logon}
 use Rattle.fix_session_judging.specs.declared.session.State.TheVariants as states
 use Rattle.fix_session_judging.specs.declared.session.Session.{Session}
-use Rattle.fix_session_judging.specs.View.{logon_of, due_after_accepted, view_with}
+use Rattle.fix_session_judging.specs.View.{logon_of, due_after_accepted}
+use Rattle.fix_session_judging.specs.code.View.{view_with}
 use Rattle.fix_session_judging.specs.code.Openings.{is_opening, logon_by_parts}
 use Rattle.fix_session_judging.proofs.events.OpeningInParts.{logon_is}
 use Rattle.fix_session_judging.specs.Steps.{judge, opens, step_at, step_or_stay}

@@ -12,9 +12,11 @@ use Rattle.spread_rules.specs.declared.event.Event.{Event}
 use Rattle.spread_rules.specs.declared.event.Event.TheVariants as variant
 use Rattle.fix_session_judging.specs.declared.session.Logon.{Logon}
 use Rattle.fix_session_judging.specs.declared.session.Session.{Session}
-use Rattle.fix_session_judging.specs.View.{Numbered, is_between, numbered, next_due, event_given, logon_in, is_logout, repeats}
-use Rattle.fix_session_judging.specs.Places.{session_logon, closing, is_accepted, live, due, has_open_gap, event, message_events}
-use Rattle.fix_session_judging.specs.Streams.{whole_of}
+use Rattle.fix_session_judging.specs.View.{Numbered}
+use Rattle.fix_session_judging.specs.code.View.{is_between, numbered, next_due, event_given, logon_in, is_logout, repeats}
+use Rattle.fix_session_judging.specs.Places.{closing, is_accepted, live, due, has_open_gap, event, message_events}
+use Rattle.fix_session_judging.specs.code.Places.{session_logon}
+use Rattle.fix_session_judging.specs.code.Streams.{whole_of}
 use Rattle.fix_session_judging.specs.Steps as steps
 use Rattle.fix_session_judging.specs.Steps.{step, judge, event_in, events_said, session_after, events_at_end, new_session, closed}
 

@@ -7,7 +7,8 @@ use Rattle.spread_rules_ids.specs.Ids.{id_of}
 use Rattle.spread_rules_ids.specs.declared.limits.TheConstants.{FIRST_MSG_SEQ_NUM}
 use Rattle.fix_wire_frames.specs.declared.msg_types.TheConstants as msg_types
 use Rattle.fix_wire_frames.specs.declared.tags.TheConstants as tags
-use Rattle.fix_wire_frames.specs.Messages.{get, kind, given_number}
+use Rattle.fix_wire_frames.specs.Messages.{get, kind}
+use Rattle.fix_wire_frames.specs.code.Messages.{given_number}
 use Rattle.fix_session_kinds.specs.Table.{value_at}
 use Rattle.fix_session_judging.specs.declared.session.Logon.{Logon}
 

@@ -8,7 +8,8 @@ use Rattle.fix_wire.specs.declared.writer.Head.{Head}
 use Rattle.fix_wire.specs.declared.writer.SpelledHead.{SpelledHead}
 use Rattle.fix_wire.specs.declared.writer.Value.TheVariants.{Text}
 use Rattle.fix_wire.specs.declared.writer.Field as given
-use Rattle.fix_wire.specs.Layout.{field, field_text, only_if, head_fields, orig_time, SpellsHead}
+use Rattle.fix_wire.specs.Layout.{field, field_text, head_fields, orig_time, SpellsHead}
+use Rattle.fix_wire.specs.code.Layout.{only_if}
 use Rattle.fix_wire.specs.Spelling.{kind_text, orig_text, spelled, spelled_head}
 use Rattle.fix_wire_values.proofs.Appended.{step}
 

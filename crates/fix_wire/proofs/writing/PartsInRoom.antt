@@ -6,7 +6,7 @@ use Rattle.std.proofs.lemmas.Slice.{take-put_mid}
 use Rattle.std.proofs.Math.Seq.{take-add}
 use borrow.Rule.Slice.PartMut.{put_mid}
 use Rattle.fix_wire_frames.specs.Frames.{begin_text}
-use Rattle.fix_wire.specs.Layout.{summed_text}
+use Rattle.fix_wire.specs.code.Layout.{summed_text}
 use Rattle.fix_wire_values.proofs.LastTwoDigits.{three_digits}
 
 -- where a part ends

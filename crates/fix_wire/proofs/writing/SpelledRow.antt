@@ -5,9 +5,10 @@ use Rattle.std.specs.List.{position_or_len, list_all, flat_map}
 use Rattle.std.proofs.lemmas.List.{take_at, append_assoc}
 use Rattle.std.proofs.lemmas.Bool.{and_parts, not-true}
 use Rattle.std.proofs.lemmas.Bool.Decides.{nat_tests}
-use Rattle.fix_wire_frames.specs.Texts.{is_equals}
+use Rattle.fix_wire_frames.specs.code.Texts.{is_equals}
 use Rattle.fix_wire_values.specs.Digits.{number_of}
-use Rattle.fix_wire_frames.specs.Fields.{TagValue, field_texts, prepended, with_first, field_of_text, field_with, is_tag, fields_of_texts, fields_of_body}
+use Rattle.fix_wire_frames.specs.Fields.{TagValue, field_of_text, fields_of_body}
+use Rattle.fix_wire_frames.specs.code.Fields.{field_texts, prepended, with_first, field_with, is_tag, fields_of_texts}
 use Rattle.fix_wire_frames.proofs.fields.TextsOfABody.{prepended_first, fields_are}
 use Rattle.fix_wire_frames.proofs.fields.ShortTags.{digit_is_not_equals}
 

@@ -18,13 +18,17 @@ use Rattle.fix_wire.specs.declared.writer.Value.TheVariants.{Text, Number, Price
 use Rattle.fix_wire.specs.declared.writer.Field as given
 use Rattle.fix_wire.specs.declared.writer.Head.{Head}
 use Rattle.fix_wire.specs.declared.writer.SpelledHead.{SpelledHead}
-use Rattle.fix_wire_frames.specs.Texts.{is_soh}
-use Rattle.fix_wire_values.specs.Digits.{number_after, number_of, two_digits}
-use Rattle.fix_wire_frames.specs.Fields.{TagValue, is_tag, fields_of_body}
-use Rattle.fix_wire_frames.specs.Frames.{begin_text, header, header_after, header_with, is_body_length, is_body, is_intact, is_intact_by_size, body_at, frame_length, intact_length, frame_at, frames, checksum_field}
+use Rattle.fix_wire_frames.specs.code.Texts.{is_soh}
+use Rattle.fix_wire_values.specs.Digits.{number_of, two_digits}
+use Rattle.fix_wire_values.specs.code.Digits.{number_after}
+use Rattle.fix_wire_frames.specs.Fields.{TagValue, fields_of_body}
+use Rattle.fix_wire_frames.specs.code.Fields.{is_tag}
+use Rattle.fix_wire_frames.specs.Frames.{begin_text, header, is_body_length, is_intact, body_at, frame_length, frame_at, frames, checksum_field}
+use Rattle.fix_wire_frames.specs.code.Frames.{header_after, header_with, is_body, is_intact_by_size, intact_length}
 use Rattle.fix_wire_frames.specs.Messages.{fields}
 use Rattle.spread_rules_ids.specs.Ids.{is_plain}
-use Rattle.fix_wire.specs.Layout.{field, field_text, only_if, head_fields, field_of_given, all_fields, body_text, summed_text, frame_text, message_text, value_text, FitsTypes, FitsValue, FitsValueOf, FitsTags, FitsField, FitsHead, FitsMessage, IsReadBack, SpellsHead}
+use Rattle.fix_wire.specs.Layout.{field, field_text, head_fields, field_of_given, all_fields, body_text, message_text, value_text, FitsTypes, FitsValue, FitsValueOf, FitsTags, FitsField, FitsHead, FitsMessage, IsReadBack, SpellsHead}
+use Rattle.fix_wire.specs.code.Layout.{only_if, summed_text, frame_text}
 use Rattle.fix_wire.specs.Spelling.{spelled_body}
 use Rattle.fix_wire.proofs.writing.HeadFields.{head_spelled}
 use Rattle.fix_wire.proofs.writing.SpelledRow as spelled

@@ -5,8 +5,9 @@ use Rattle.std.proofs.lemmas.Bool.{false≢true}
 use Rattle.std.proofs.lemmas.Option.{cond_some, option_and_then_some}
 use Rattle.std.proofs.Math.Seq.{drop-append_seam}
 use Rattle.fix_wire_frames.specs.declared.frame.FrameHeader.{FrameHeader}
-use Rattle.fix_wire_frames.specs.Frames.{begin_text, header, header_after, frame_at, frame_length, frames, IsFrame, IsFrameRow}
-use Rattle.fix_wire_frames.specs.Texts.{stripped}
+use Rattle.fix_wire_frames.specs.Frames.{begin_text, header, frame_at, frame_length, frames, IsFrame, IsFrameRow}
+use Rattle.fix_wire_frames.specs.code.Frames.{header_after}
+use Rattle.fix_wire_frames.specs.code.Texts.{stripped}
 use Rattle.fix_wire_frames.proofs.texts.WordAtTheFront.{behind_is}
 use Rattle.fix_wire_frames.proofs.texts.HeaderAtTheFront.{header_is}
 use Rattle.fix_wire_frames.proofs.framing.FrontStays.{frame_stays, frame_within, frame_parts}

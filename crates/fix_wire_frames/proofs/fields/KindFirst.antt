@@ -3,9 +3,10 @@ use Rattle.std.proofs.Common.{◌≡◌, ℕ, Bool, true, false, ◌&&◌, nat_e
 use Rattle.std.specs.Bool.{then_some}
 use Rattle.std.specs.List.{starts_with}
 use Rattle.std.proofs.lemmas.Bool.{and_parts, false≢true, eqb-true}
-use Rattle.fix_wire_frames.specs.Fields.{TagValue, field_texts, prepended, fields_of_texts, fields_of_body, fields_by_texts}
-use Rattle.fix_wire_frames.specs.Frames.{is_body}
-use Rattle.fix_wire_frames.specs.Messages.{first_value}
+use Rattle.fix_wire_frames.specs.Fields.{TagValue, fields_of_body}
+use Rattle.fix_wire_frames.specs.code.Fields.{field_texts, prepended, fields_of_texts, fields_by_texts}
+use Rattle.fix_wire_frames.specs.code.Frames.{is_body}
+use Rattle.fix_wire_frames.specs.code.Messages.{first_value}
 use Rattle.fix_wire_frames.specs.code.Scans.{value_of}
 use Rattle.fix_wire_frames.proofs.fields.TextsOfABody.{fields_are}
 

@@ -7,7 +7,7 @@ use Rattle.std.proofs.lemmas.Bool.Decides.{nat_tests}
 use Rattle.std.proofs.lemmas.List.{drop-take, drop-drop, take-take, length-drop, length-take-le}
 use Rattle.std.proofs.lemmas.Slice.{between_is}
 use Rattle.fix_wire_frames.specs.declared.frame.Tag.{Tag}
-use Rattle.fix_wire_frames.specs.Texts.{is_soh}
+use Rattle.fix_wire_frames.specs.code.Texts.{is_soh}
 use Rattle.fix_wire_frames.specs.Fields.{TagValue, field_of_text}
 use Rattle.fix_wire_frames.specs.code.Scans.{first_field, field_up_to, tag_view, leading_field_view}
 use Rattle.fix_wire_values.proofs.FirstPlace.{front_found, front_none}

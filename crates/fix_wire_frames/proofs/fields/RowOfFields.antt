@@ -5,7 +5,7 @@ use Rattle.std.specs.List.{position_or_len, list_all}
 use Rattle.std.proofs.lemmas.List.Sums.{fails_before_first, passes_at_first}
 use Rattle.std.proofs.lemmas.Bool.{cases_lt, false≢true}
 use Rattle.std.proofs.lemmas.Bool.Decides.{nat_tests}
-use Rattle.fix_wire_frames.specs.Texts.{is_soh, is_equals}
+use Rattle.fix_wire_frames.specs.code.Texts.{is_soh, is_equals}
 use Rattle.fix_wire_values.specs.Digits.{number_of}
 use Rattle.std.proofs.lemmas.List.Folds.{list_all_at}
 use Rattle.std.specs.Char.{is_ascii_digit}
@@ -13,7 +13,8 @@ use Rattle.std.proofs.lemmas.List.{length-take-le, get_or-take}
 use Rattle.fix_wire_frames.specs.declared.frame.FrameHeader.{FrameHeader}
 use Rattle.fix_wire_frames.specs.Frames.{header, body_at}
 use Rattle.fix_wire_frames.specs.Messages.{fields}
-use Rattle.fix_wire_frames.specs.Fields.{TagValue, field_texts, prepended, with_first, field_of_text, field_with, is_tag, fields_of_texts, fields_of_body, fields_by_texts}
+use Rattle.fix_wire_frames.specs.Fields.{TagValue, field_of_text, fields_of_body}
+use Rattle.fix_wire_frames.specs.code.Fields.{field_texts, prepended, with_first, field_with, is_tag, fields_of_texts, fields_by_texts}
 use Rattle.fix_wire_frames.proofs.fields.TextsOfABody.{prepended_first, fields_are}
 use Rattle.fix_wire_frames.specs.code.Scans.{first_field, field_up_to, value_of}
 

@@ -3,7 +3,7 @@ use Rattle.std.proofs.Common.{◌≡◌, ◌≢◌, ℕ, ◌+◌, ◌*◌, ◌-�
 use Rattle.std.specs.Char.{is_ascii_digit}
 use Rattle.std.specs.List.{position_or_len, list_all}
 use Rattle.std.proofs.lemmas.Bool.Decides.{nat_tests}
-use Rattle.fix_wire_frames.specs.Texts.{is_equals}
+use Rattle.fix_wire_frames.specs.code.Texts.{is_equals}
 use Rattle.fix_wire_frames.specs.Fields.{field_of_text}
 use Rattle.fix_wire_values.proofs.FirstPlace.{same}
 use Rattle.fix_wire_frames.proofs.fields.RowOfFields.{field_found}

@@ -8,8 +8,9 @@ use Rattle.std.specs.Str.{bytes_eq}
 use Rattle.std.proofs.Math.Bool.{and-false}
 use Rattle.std.proofs.lemmas.Bool.{false≢true}
 use Rattle.std.proofs.lemmas.Bool.Decides.{nat_tests}
-use Rattle.fix_wire_frames.specs.Texts.{is_soh}
-use Rattle.fix_wire_frames.specs.Fields.{TagValue, field_texts, prepended, with_first, field_of_text, fields_of_texts, fields_of_body, fields_by_texts}
+use Rattle.fix_wire_frames.specs.code.Texts.{is_soh}
+use Rattle.fix_wire_frames.specs.Fields.{TagValue, field_of_text, fields_of_body}
+use Rattle.fix_wire_frames.specs.code.Fields.{field_texts, prepended, with_first, fields_of_texts, fields_by_texts}
 
 pub prepended_first : (b : ℕ) (p : List ℕ) (o : Option (List (List ℕ))) → option_and_then (prepended b) (option_map (with_first p) o) ≡ option_map (with_first (b ∷ p)) o
 prepended_first b p None = refl

@@ -2,7 +2,8 @@
 use Rattle.std.proofs.Common.{◌≡◌, ℕ, true, List, Some, length, option_map, sym, ap, ◌∙◌, subst}
 use Rattle.std.proofs.lemmas.Bool.{and_parts}
 use Rattle.std.proofs.lemmas.Option.{same_Some}
-use Rattle.fix_wire_frames.specs.Frames.{IsFrame, header, body_at, is_body}
+use Rattle.fix_wire_frames.specs.Frames.{IsFrame, header, body_at}
+use Rattle.fix_wire_frames.specs.code.Frames.{is_body}
 use Rattle.fix_wire_frames.proofs.framing.FrontStays.{frame_parts}
 
 -- it is one

@@ -11,9 +11,10 @@ use Rattle.std.proofs.lemmas.Option.{none-some, option_and_then_some, cond_some,
 use Rattle.std.proofs.lemmas.Bool.{false≢true, cases_lt, eqb-true, leb-true, ltb-true, or_from, or_parts, and_parts}
 use Rattle.std.proofs.lemmas.Bool.Decides.{nat_tests}
 use Rattle.fix_wire_frames.specs.declared.frame.FrameHeader.{FrameHeader}
-use Rattle.fix_wire_frames.specs.Texts.{stripped, is_cut_short, is_soh}
+use Rattle.fix_wire_frames.specs.code.Texts.{stripped, is_cut_short, is_soh}
 use Rattle.fix_wire_values.specs.Digits.{number_of}
-use Rattle.fix_wire_frames.specs.Frames.{begin_text, header, header_after, header_with, is_body_length, is_length_open, is_unfinished, is_intact, is_intact_by_size, is_body, body_at, intact_length, frame_length, frame_at, may_begin}
+use Rattle.fix_wire_frames.specs.Frames.{begin_text, header, is_body_length, is_intact, body_at, frame_length, frame_at, may_begin}
+use Rattle.fix_wire_frames.specs.code.Frames.{header_after, header_with, is_length_open, is_unfinished, is_intact_by_size, is_body, intact_length}
 use Rattle.fix_wire_frames.proofs.fields.RowOfFields.{place_within}
 use Rattle.fix_wire_frames.proofs.texts.HeaderAtTheFront.{header_is, front_is}
 use Rattle.fix_wire_frames.proofs.framing.IntactFrame.{intact_is}

@@ -9,8 +9,9 @@ use Rattle.std.proofs.lemmas.List.Folds.{list_all_at}
 use Rattle.std.proofs.lemmas.List.Sums.{passes_at_first}
 use Rattle.fix_wire_values.specs.Digits.{number_of}
 use Rattle.fix_wire_values.proofs.FirstPlace.{first_nowhere}
-use Rattle.fix_wire_frames.specs.Texts.{is_soh}
-use Rattle.fix_wire_frames.specs.Frames.{header_after, header_with, is_body_length}
+use Rattle.fix_wire_frames.specs.code.Texts.{is_soh}
+use Rattle.fix_wire_frames.specs.Frames.{is_body_length}
+use Rattle.fix_wire_frames.specs.code.Frames.{header_after, header_with}
 use Rattle.fix_wire_frames.specs.code.Scans.{header_read}
 use Rattle.fix_wire_frames.proofs.framing.FrontStays.{not_a_length, no_header}
 

@@ -4,7 +4,8 @@ use Rattle.std.specs.List.{starts_with}
 use Rattle.std.specs.Str.{bytes_eq}
 use Rattle.std.proofs.lemmas.Bool.Decides.{nat_tests}
 use Rattle.fix_wire_frames.specs.declared.frame.FrameHeader.{FrameHeader}
-use Rattle.fix_wire_frames.specs.Frames.{is_intact, is_intact_by_size, body_at, is_body, checksum_field, frame_length}
+use Rattle.fix_wire_frames.specs.Frames.{is_intact, body_at, checksum_field, frame_length}
+use Rattle.fix_wire_frames.specs.code.Frames.{is_intact_by_size, is_body}
 use Rattle.fix_wire_frames.proofs.texts.WordAtTheFront.{eqb_swap}
 
 -- ---- its CheckSum as what the text goes on with, and as its last bytes

@@ -4,7 +4,7 @@ use Rattle.std.specs.Char.{is_ascii_digit}
 use Rattle.std.specs.List.{list_all}
 use Rattle.std.proofs.lemmas.Bool.Decides.{nat_tests}
 use Rattle.fix_wire_values.proofs.FirstPlace.{first_here, before_more}
-use Rattle.fix_wire_frames.specs.Frames.{header_after}
+use Rattle.fix_wire_frames.specs.code.Frames.{header_after}
 use Rattle.fix_wire_frames.specs.code.Scans.{header_read}
 use Rattle.fix_wire_frames.proofs.framing.HeaderDigits.{header_found}
 

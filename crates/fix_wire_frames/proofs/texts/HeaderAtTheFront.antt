@@ -10,9 +10,10 @@ use Rattle.std.proofs.lemmas.List.{length-take-le}
 use Rattle.std.proofs.lemmas.Option.{cond_some}
 use Rattle.fix_wire_values.specs.Digits.{number_of}
 use Rattle.fix_wire_frames.specs.declared.frame.FrameHeader.{FrameHeader}
-use Rattle.fix_wire_frames.specs.Texts.{stripped, is_cut_short, is_soh}
+use Rattle.fix_wire_frames.specs.code.Texts.{stripped, is_cut_short, is_soh}
 use Rattle.fix_wire_frames.specs.declared.frame.Scan.TheVariants.{Incomplete, Frame}
-use Rattle.fix_wire_frames.specs.Frames.{begin_text, header, header_after, is_body_length, is_length_open, is_front_open, is_unfinished, is_intact, is_body, body_at, frame_length, intact_length}
+use Rattle.fix_wire_frames.specs.Frames.{begin_text, header, is_body_length, is_intact, body_at, frame_length}
+use Rattle.fix_wire_frames.specs.code.Frames.{header_after, is_length_open, is_front_open, is_unfinished, is_body, intact_length}
 use Rattle.fix_wire_frames.specs.code.Scans.{is_header_open, scan_front, scan_with}
 use Rattle.fix_wire_frames.proofs.texts.WordAtTheFront.{behind_is, some_where, eqb_swap, ltb_suc}
 use Rattle.fix_wire_frames.proofs.fields.RowOfFields.{place_within}

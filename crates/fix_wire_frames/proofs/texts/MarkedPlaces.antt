@@ -7,7 +7,7 @@ use Rattle.std.proofs.lemmas.Simd.{leading_from_mask_l, trailing_mask_l, length-
 use Rattle.std.proofs.lemmas.List.{drop-take, drop-drop, length-take, length-append, length-take-le, length-drop, take_all}
 use Rattle.std.proofs.lemmas.Nat.{and_block}
 use lib.Bits.{bit_and, and_self}
-use Rattle.fix_wire_frames.specs.Texts.{is_soh}
+use Rattle.fix_wire_frames.specs.code.Texts.{is_soh}
 use Rattle.fix_wire_frames.specs.code.Marked.{marks_of, zeros}
 use Rattle.fix_wire_values.proofs.FirstPlace.{front_none}
 

@@ -3,8 +3,9 @@ use Rattle.std.proofs.Common.{◌≡◌, ℕ, suc, ◌<◌, Bool, true, false, c
 use Rattle.std.specs.Bool.{then_some}
 use Rattle.std.specs.List.{starts_with}
 use Rattle.std.proofs.lemmas.Bool.Decides.{nat_tests}
-use Rattle.fix_wire_frames.specs.Texts.{stripped, is_cut_short}
-use Rattle.fix_wire_frames.specs.Frames.{begin_text, is_length_open}
+use Rattle.fix_wire_frames.specs.code.Texts.{stripped, is_cut_short}
+use Rattle.fix_wire_frames.specs.Frames.{begin_text}
+use Rattle.fix_wire_frames.specs.code.Frames.{is_length_open}
 use Rattle.fix_wire_frames.specs.code.Scans.{is_header_open}
 
 pub behind_is : (word text : List ℕ) → stripped word text ≡ cond (starts_with nat_eq text word) (Some (drop (length word) text)) None

@@ -3,7 +3,7 @@
 use Rattle.std.specs.Prelude.{◌≡◌, ℕ, ◌+◌, ◌-◌, ◌*◌, ◌≤◌, if◌then◌else◌, List, [], ◌∷◌, ◌++◌, replicate, take, drop}
 use Rattle.fix_wire_frames.specs.declared.marks.TheConstants.{BLOCK_BYTES}
 use Rattle.fix_wire_frames.specs.declared.marks.Marks.{Marks}
-use Rattle.fix_wire_frames.specs.Texts.{is_soh}
+use Rattle.fix_wire_frames.specs.code.Texts.{is_soh}
 
 -- bit k is 1 where the byte with index k is SOH
 abbrev pub marks_of : List ℕ → ℕ

@@ -9,9 +9,10 @@ use Rattle.fix_wire_frames.specs.declared.frame.Scan.{Scan}
 use Rattle.fix_wire_frames.specs.declared.frame.Scan.TheVariants.{Frame, Incomplete, Garbled}
 use Rattle.fix_wire_frames.specs.declared.frame.LeadingField.{LeadingField}
 use Rattle.fix_wire_frames.specs.declared.frame.Tag.{Tag}
-use Rattle.fix_wire_frames.specs.Texts.{is_soh, stripped, is_cut_short}
+use Rattle.fix_wire_frames.specs.code.Texts.{is_soh, stripped, is_cut_short}
 use Rattle.fix_wire_frames.specs.Fields.{TagValue, fields_of_body, field_of_text}
-use Rattle.fix_wire_frames.specs.Frames.{begin_text, frame_at, may_begin, is_length_open}
+use Rattle.fix_wire_frames.specs.Frames.{begin_text, frame_at, may_begin}
+use Rattle.fix_wire_frames.specs.code.Frames.{is_length_open}
 
 abbrev pub scan_with : Bool → Option ℕ → Scan
 scan_with may (Some n) = Frame n

@@ -4,8 +4,9 @@ use Rattle.std.specs.Prelude.{ℕ, ◌+◌, ◌-◌, ◌==◌, ◌&&◌, nat_le,
 use Rattle.std.specs.Char.{is_ascii_digit}
 use Rattle.std.specs.List.{slice_split}
 use Rattle.spread_rules_ids.specs.declared.bytes.TheConstants.{COLON, DIGIT_ZERO, LINE_FEED}
-use Rattle.fix_wire_frames.specs.Texts.{stripped}
-use Rattle.intake_lines.specs.LineText.{DayLine, is_passed_over}
+use Rattle.fix_wire_frames.specs.code.Texts.{stripped}
+use Rattle.intake_lines.specs.LineText.{DayLine}
+use Rattle.intake_lines.specs.code.LineText.{is_passed_over}
 
 -- the lines of a text: what stands between its line feeds
 abbrev pub lines_of : List ℕ → List (List ℕ)

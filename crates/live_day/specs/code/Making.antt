@@ -5,8 +5,8 @@ use Rattle.gate_link.specs.Links.{IsLinkOf, room_of}
 use Rattle.gate_link.specs.Opening.{IsRefusal}
 use Rattle.gate_link_sessions.specs.Fresh.{AreFresh}
 use Rattle.gate_link_stages.specs.Feeding.{given, AreFeedPair}
-use Rattle.live_matching.specs.fault.ApplyFault.{ApplyFault}
-use Rattle.live_matching.specs.fault.ApplyFault.TheVariants as apply
+use Rattle.apply_market.specs.declared.fault.ApplyFault.{ApplyFault}
+use Rattle.apply_market.specs.declared.fault.ApplyFault.TheVariants as apply
 use Rattle.live_writers.specs.code.Writing.{ArePostPairs}
 use Rattle.live_matching.specs.code.Posting.{IsUnfed}
 use Rattle.live_day.specs.declared.fault.ThreadsFault.{ThreadsFault}

@@ -4,8 +4,8 @@ use Rattle.std.specs.Prelude.{◌≡◌, ◌≤◌, List, length}
 use Rattle.spread_rules.specs.declared.event.Entry.{Entry}
 use Rattle.gate_link_stages.specs.Feeding.{taken, SameMatcher}
 use Rattle.gate_link_stages.specs.declared.feed.Matcher.{Matcher}
-use Rattle.live_matching.specs.Applied.{IsApplyFault}
-use Rattle.live_matching.specs.Sending.{sending_rules, stamp_of}
+use Rattle.apply_desk.specs.code.Applied.{IsApplyFault}
+use Rattle.apply_desk.specs.Sending.{sending_rules, stamp_of}
 use Rattle.live_matching.specs.code.Posting.{HasPosted, SamePosters}
 use Rattle.live_matching.specs.declared.turns.Matched.{Matched}
 use Rattle.live_matching.specs.declared.step.MatchEnd.{MatchEnd}

@@ -3,13 +3,13 @@
 use Rattle.std.specs.Prelude.{◌≡◌, ℕ, ◌<◌, ◌≤◌, Bool, true, false, map, List, [], ◌∷◌, ◌++◌, length, slice_index_or}
 use Rattle.spread_rules_ids.specs.declared.limits.TheConstants.{SESSIONS}
 use Rattle.spread_rules.specs.declared.event.Entry.{Entry}
-use Rattle.spread_report_outbound.specs.Sessions.{session_text}
+use Rattle.spread_report_outbound.specs.code.Sessions.{session_text}
 use Rattle.gate_link_sessions.specs.Rows.{row}
 use Rattle.gate_link_stages.specs.Feeding.{taken, take_ended}
 use Rattle.gate_link_stages.specs.Posting.{posted, post_ended, SamePoster}
 use Rattle.gate_link_stages.specs.declared.feed.Matcher.{Matcher}
 use Rattle.gate_link_stages.specs.declared.post.Poster.{Poster}
-use Rattle.apply_desk.specs.Applied.{IsApplyFault}
+use Rattle.apply_desk.specs.code.Applied.{IsApplyFault}
 use Rattle.apply_desk.specs.Sending.{HasReportedBehind, sending_rules}
 use Rattle.live_matching.specs.declared.posting.PostedEntries.{PostedEntries}
 use Rattle.live_matching.specs.declared.step.MatchEnd.{MatchEnd}

@@ -11,9 +11,10 @@ use Rattle.spread_rules.specs.declared.order.Order.{Order}
 use Rattle.spread_rules.specs.declared.candidate.Candidate.{Candidate}
 use Rattle.spread_rules.specs.declared.candidate.Choice.{Choice}
 use Rattle.spread_rules.specs.declared.candidate.Counterparty.TheVariants.{Implied}
-use Rattle.spread_rules.specs.Candidates.{Pairs, all_on, takes_part, price_of, implied_price, candidate_of, candidate_at, is_within_limit, is_before, IsEligible}
+use Rattle.spread_rules.specs.Candidates.{Pairs, price_of, is_within_limit, is_before, IsEligible}
+use Rattle.spread_rules.specs.code.Candidates.{all_on, takes_part, implied_price, candidate_of, candidate_at}
 use Rattle.spread_rules.specs.Legs.{other_side}
-use Rattle.spread_rules.specs.Quiet.{Rests}
+use Rattle.spread_rules.specs.code.Quiet.{Rests}
 use Rattle.spread_books_search.specs.Listed.{IsInMonths}
 use Rattle.spread_books.specs.Quotes.{pair_at, IsImplied, IsLeastImplied, IsQuote, AreQuotable}
 use Rattle.spread_books_plain.specs.declared.pair.PairCost.{PairCost}

@@ -7,7 +7,7 @@ use Rattle.spread_rules.specs.declared.order.Side.TheVariants.{Buy, Sell}
 use Rattle.spread_rules_rulebook.specs.declared.instrument.Instrument.{Instrument}
 use Rattle.spread_rules_rulebook.proofs.lists.Membership.{not_in_nil}
 use Rattle.spread_rules.specs.declared.order.Order.{Order}
-use Rattle.spread_rules.specs.Quiet.{Rests}
+use Rattle.spread_rules.specs.code.Quiet.{Rests}
 use Rattle.spread_books_queues.specs.FrontTable.{best_price_of}
 use Rattle.spread_books_queues.specs.declared.front_table.BestPrice.{BestPrice}
 use Rattle.spread_books_queues.specs.declared.queue_rank.QueueRank.{QueueRank}

@@ -10,7 +10,8 @@ use Rattle.spread_rules_rulebook.specs.declared.instrument.Instrument.{Instrumen
 use Rattle.spread_rules.specs.declared.order.Order.{Order}
 use Rattle.spread_rules.specs.Clearing.{reduced, removed}
 use Rattle.spread_rules_rulebook.proofs.lists.Membership.{not_in_nil, in_map, from_map}
-use Rattle.spread_rules.specs.Amended.{amended, with_quantity}
+use Rattle.spread_rules.specs.Amended.{with_quantity}
+use Rattle.spread_rules.specs.code.Amended.{amended}
 use Rattle.spread_books_queues.specs.declared.queue_rank.QueueRank.{QueueRank}
 use Rattle.spread_books_queues.specs.QueueRanks.{queue_of, rank_of, rank_cmp, HasMonths}
 use Rattle.spread_books_queues.specs.code.Heaps.{ranks_at, Joins, SameRanks, IsLed, KeepsRanks, HasSettled, HasThinned, ChangesQueue, Settles, Thins}

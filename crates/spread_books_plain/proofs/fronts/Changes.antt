@@ -10,8 +10,8 @@ use Rattle.spread_rules.specs.declared.order.Side.{Side}
 use Rattle.spread_rules_rulebook.specs.declared.instrument.Instrument.{Instrument}
 use Rattle.spread_rules.specs.declared.order.Order.{Order}
 use Rattle.spread_rules.specs.declared.order.Level.{Level}
-use Rattle.spread_rules.specs.Candidates.{better_by}
-use Rattle.spread_rules.specs.Quiet.{Rests}
+use Rattle.spread_rules.specs.code.Candidates.{better_by}
+use Rattle.spread_rules.specs.code.Quiet.{Rests}
 use Rattle.spread_rules.specs.Clearing.{removed}
 use Rattle.spread_rules_rulebook.proofs.lists.Membership.{in_head, in_map, from_map}
 use Rattle.spread_books_plain.specs.Queues.{IsFront, IsFrontLevel, is_in, is_ahead, queue_cmp}

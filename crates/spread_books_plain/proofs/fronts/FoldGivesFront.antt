@@ -11,7 +11,7 @@ use Rattle.spread_rules_rulebook.specs.declared.instrument.Instrument.{Instrumen
 use Rattle.spread_rules_rulebook.specs.declared.instrument.Instrument.TheVariants.{Outright, Spread}
 use Rattle.spread_rules.specs.declared.order.Order.{Order}
 use Rattle.spread_rules.specs.Candidates.{same_instrument, cost}
-use Rattle.spread_rules.specs.Quiet.{Rests}
+use Rattle.spread_rules.specs.code.Quiet.{Rests}
 use Rattle.spread_rules.proofs.ranks.FirstOfAFold.{IsFirst, fold_first}
 use Rattle.spread_books_plain.specs.Queues.{is_in, is_ahead, queue_cmp, IsFront, front_step}
 use Rattle.spread_rules.specs.Legs.{is_side, other_side}

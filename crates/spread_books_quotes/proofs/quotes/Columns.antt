@@ -11,7 +11,7 @@ use Rattle.spread_rules.specs.declared.order.Order.{Order}
 use Rattle.spread_rules.specs.Candidates.{Pairs, cost}
 use Rattle.spread_rules_rulebook.specs.Prices.{IsLegPrice}
 use Rattle.spread_rules.specs.Legs.{other_side}
-use Rattle.spread_rules.specs.Quiet.{Rests}
+use Rattle.spread_rules.specs.code.Quiet.{Rests}
 use Rattle.spread_books_rows.proofs.places.Ascending.{is_so}
 use Rattle.spread_books_plain.specs.declared.pair.PairCost.{PairCost}
 use Rattle.spread_books_plain.specs.Pairs.{spread_of, spread_side, cost_of_pair, IsPair, HasFronts, IsNoCheaper, IsCheapest}

@@ -7,10 +7,11 @@ use Rattle.spread_rules.specs.declared.order.Side.{Side}
 use Rattle.spread_rules_rulebook.specs.declared.instrument.Instrument.{Instrument}
 use Rattle.spread_rules.specs.declared.order.Order.{Order}
 use Rattle.spread_rules.specs.declared.order.Level.{Level}
-use Rattle.spread_rules.specs.Candidates.{cost, all_on}
+use Rattle.spread_rules.specs.Candidates.{cost}
+use Rattle.spread_rules.specs.code.Candidates.{all_on}
 use Rattle.spread_rules.specs.Clearing.{removed}
 use Rattle.spread_rules.specs.Legs.{other_side}
-use Rattle.spread_rules.specs.Quiet.{Rests}
+use Rattle.spread_rules.specs.code.Quiet.{Rests}
 use Rattle.spread_books_rows.specs.Places.{Ascends}
 use Rattle.spread_books_rows.proofs.places.Ascending.{one_at_a_place, is_so, from_removed, in_removed}
 use Rattle.spread_books_rows.proofs.places.ChangedAt.{changed_at, changed, key_kept}

@@ -100,17 +100,17 @@ with_spread_cost rows side near far cost = record rows {
 
 -- what the front of the month's spread with that other month costs, none where their pair takes no part
 pub record IsSpreadCost
-    (trades_implied : Pairs) (xs : List Order) (side : Side) (month other : ℕ) (cost : Option ℤ) : Type 0 where
-  pub on : is_pair_on trades_implied month other ≡ true
+    (on : Pairs) (xs : List Order) (side : Side) (month other : ℕ) (cost : Option ℤ) : Type 0 where
+  pub on : is_pair_on on month other ≡ true
       → CostsOfFront xs (spread_of month other) (spread_side side month other) cost
-  pub off : is_pair_on trades_implied month other ≡ false → cost ≡ None
+  pub off : is_pair_on on month other ≡ false → cost ≡ None
 
 -- the rows tell what the fronts of so many months cost
 pub record AreFrontCosts
-    (trades_implied : Pairs) (months : ℕ) (xs : List Order) (rows : CostRows) : Type 0 where
+    (on : Pairs) (months : ℕ) (xs : List Order) (rows : CostRows) : Type 0 where
   pub spread_count : length rows.spreads ≡ months * 2 * MAX_MONTHS
   pub outright_count : length rows.outrights ≡ 2 * MAX_MONTHS
   pub spreads : (side : Side) (month other : ℕ) → month < months → other < months
-      → IsSpreadCost trades_implied xs side month other (spread_cost rows side month other)
+      → IsSpreadCost on xs side month other (spread_cost rows side month other)
   pub outrights : (side : Side) (other : ℕ) → other < months
       → CostsOfFront xs (Outright other) (other_side side) (outright_cost rows side other)

@@ -6,9 +6,9 @@ use Rattle.spread_rules.specs.Candidates.{Pairs}
 
 -- each pair with that near month does
 abbrev pub IsRowOn : Pairs → ℕ → Type 0
-IsRowOn trades_implied near =
-    (far : ℕ) → far < limits.MAX_MONTHS → trades_implied near far ≡ true
+IsRowOn on near =
+    (far : ℕ) → far < limits.MAX_MONTHS → on near far ≡ true
 
 -- each pair of the months that a rulebook can have does
 abbrev pub AreAllOn : Pairs → Type 0
-AreAllOn trades_implied = (near : ℕ) → near < limits.MAX_MONTHS → IsRowOn trades_implied near
+AreAllOn on = (near : ℕ) → near < limits.MAX_MONTHS → IsRowOn on near

@@ -6,7 +6,8 @@ use Rattle.spread_rules.specs.declared.order.Side.{Side}
 use Rattle.spread_rules_rulebook.specs.declared.instrument.Instrument.{Instrument}
 use Rattle.spread_rules.specs.declared.order.Order.{Order}
 use Rattle.spread_rules.specs.declared.order.Level.{Level}
-use Rattle.spread_rules.specs.Candidates.{Pairs, cost, HasOrderPrice}
+use Rattle.spread_rules.specs.Candidates.{Pairs, cost}
+use Rattle.spread_rules.specs.code.Candidates.{HasOrderPrice}
 use Rattle.spread_rules.specs.Clearing.{removed}
 use Rattle.spread_rules.specs.Legs.{other_side}
 use Rattle.spread_books_rows.specs.Places.{Ascends}
@@ -26,16 +27,16 @@ known_pair cells side month = slice_get cells (cell_of side month)
 
 -- what it has costs the least
 abbrev pub HasCheapest : Pairs → ℕ → List Order → List (Option PairCost) → Side → ℕ → Type 0
-HasCheapest trades_implied months xs cells side month =
+HasCheapest on months xs cells side month =
     (least : Option PairCost)
     → known_pair cells side month ≡ Some least
-    → IsCheapest trades_implied xs side month months least
+    → IsCheapest on xs side month months least
 
 -- and so in each cell
 abbrev pub AreCheapest : Pairs → ℕ → List Order → List (Option PairCost) → Type 0
-AreCheapest trades_implied months xs cells =
+AreCheapest on months xs cells =
     (side : Side) (month : ℕ)
-    → month < months → HasCheapest trades_implied months xs cells side month
+    → month < months → HasCheapest on months xs cells side month
 
 -- in no queue but that one the front costs something else
 abbrev pub ChangesOneQueue : List Order → List Order → Instrument → Side → Type 0
@@ -61,13 +62,13 @@ KeepsOtherSide side old new =
 abbrev pub RenewsCell :
     Change → CostRows → ℕ → Side → ℕ → List (Option PairCost) → List (Option PairCost) → ℕ → Type 0
 RenewsCell change costs months side via old new month =
-    (trades_implied : Pairs) (xs ys : List Order)
-    → AreFrontCosts trades_implied months ys costs
+    (on : Pairs) (xs ys : List Order)
+    → AreFrontCosts on months ys costs
     → month < months
     → IsOneWay change xs ys
     → KeepsOthers xs ys side month via
-    → HasCheapest trades_implied months xs old side month
-    → HasCheapest trades_implied months ys new side month
+    → HasCheapest on months xs old side month
+    → HasCheapest on months ys new side month
 
 -- whether an order at that level is as good as this one for who meets it
 abbrev pub is_as_good : Option Level → Order → Bool
@@ -102,21 +103,21 @@ abbrev pub no_quotes : ℕ → QuotesView
 no_quotes months = record { costs = no_costs months; cells = replicate (months * 2) None }
 
 -- the rows tell what the fronts cost, and each cell what costs the least
-pub record AreQuotes (trades_implied : Pairs) (months : ℕ) (xs : List Order) (quotes : QuotesView) : Type 0 where
-  pub costs : AreFrontCosts trades_implied months xs quotes.costs
-  pub cheapest : AreCheapest trades_implied months xs quotes.cells
+pub record AreQuotes (on : Pairs) (months : ℕ) (xs : List Order) (quotes : QuotesView) : Type 0 where
+  pub costs : AreFrontCosts on months xs quotes.costs
+  pub cheapest : AreCheapest on months xs quotes.cells
 
 -- the orders are of so many months and at prices of orders, and the quotes are theirs
 pub record IsQuoted
-    (trades_implied : Pairs) (months : ℕ) (xs : List Order) (quotes : QuotesView) : Type 0 where
+    (on : Pairs) (months : ℕ) (xs : List Order) (quotes : QuotesView) : Type 0 where
   pub small : All HasOrderPrice xs
   pub within : All (λ o. IsInMonths months o.instrument) xs
-  pub hold : AreQuotes trades_implied months xs quotes
+  pub hold : AreQuotes on months xs quotes
 
 -- so it is as long as each order that came was of these months and at such a price
 pub record KeepsQuotes
-    (all_on listed : Bool) (trades_implied : Pairs) (months : ℕ) (xs : List Order)
+    (all_on listed : Bool) (on : Pairs) (months : ℕ) (xs : List Order)
     (quotes : QuotesView) : Type 0 where
   pub most : months ≤ limits.MAX_MONTHS
-  pub on : all_on ≡ true → AreAllOn trades_implied
-  pub quoted : listed ≡ true → IsQuoted trades_implied months xs quotes
+  pub on : all_on ≡ true → AreAllOn on
+  pub quoted : listed ≡ true → IsQuoted on months xs quotes

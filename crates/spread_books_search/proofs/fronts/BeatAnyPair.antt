@@ -9,9 +9,10 @@ use Rattle.spread_rules.specs.declared.order.Order.{Order}
 use Rattle.spread_rules.specs.declared.candidate.Counterparty.{Counterparty}
 use Rattle.spread_rules.specs.declared.candidate.Counterparty.TheVariants.{Direct, Implied}
 use Rattle.spread_rules.specs.declared.candidate.Candidate.{Candidate}
-use Rattle.spread_rules.specs.Candidates.{implied_price, cost, is_within_limit, price_of, candidate_of, better_by, AllStandIn, rank_cmp, Pairs, all_on, takes_part, IsEligible}
+use Rattle.spread_rules.specs.Candidates.{cost, is_within_limit, price_of, AllStandIn, rank_cmp, Pairs, IsEligible}
+use Rattle.spread_rules.specs.code.Candidates.{implied_price, candidate_of, better_by, all_on, takes_part}
 use Rattle.spread_rules_rulebook.specs.Instruments.{month_of}
-use Rattle.spread_rules.specs.Quiet.{Rests}
+use Rattle.spread_rules.specs.code.Quiet.{Rests}
 use Rattle.spread_rules.proofs.ranks.PlainIsLeast.{candidate_is}
 use Rattle.spread_books_plain.specs.Queues.{IsFront}
 use Rattle.spread_rules.specs.Legs.{other_side}

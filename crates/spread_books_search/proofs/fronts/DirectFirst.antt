@@ -10,7 +10,8 @@ use Rattle.spread_rules.specs.declared.candidate.Candidate.{Candidate}
 use Rattle.spread_rules.specs.declared.candidate.Counterparty.{Counterparty}
 use Rattle.spread_rules.specs.declared.candidate.Counterparty.TheVariants.{Direct, Implied}
 use Rattle.spread_rules.specs.code.Cases.{price_if}
-use Rattle.spread_rules.specs.Candidates.{Pairs, all_on, cost, price_of, same_instrument, are_opposite, candidate_at, candidate_of, is_within_limit, rank_at, rank_cmp, HasOrderPrice, HasLegPrice}
+use Rattle.spread_rules.specs.Candidates.{Pairs, cost, price_of, same_instrument, is_within_limit, rank_at, rank_cmp}
+use Rattle.spread_rules.specs.code.Candidates.{all_on, are_opposite, candidate_at, candidate_of, HasOrderPrice, HasLegPrice}
 use Rattle.spread_rules.specs.Legs.{other_side}
 use Rattle.spread_rules.specs.declared.order.Side.{Side}
 use Rattle.spread_rules.specs.declared.order.Side.TheVariants.{Buy, Sell}

@@ -9,8 +9,9 @@ use Rattle.spread_rules.specs.declared.candidate.Counterparty.TheVariants.{Direc
 use Rattle.spread_rules.specs.declared.candidate.Counterparty.{Counterparty}
 use Rattle.spread_rules.specs.code.Cases.{price_if, level_of}
 use Rattle.spread_rules.specs.Legs.{other_side}
-use Rattle.spread_rules.specs.Candidates.{Pairs, candidate_of, candidate_at, is_within_limit}
-use Rattle.spread_rules.specs.Quiet.{Rests}
+use Rattle.spread_rules.specs.Candidates.{Pairs, is_within_limit}
+use Rattle.spread_rules.specs.code.Candidates.{candidate_of, candidate_at}
+use Rattle.spread_rules.specs.code.Quiet.{Rests}
 use Rattle.spread_books_plain.specs.Queues.{IsFront, IsFrontLevel}
 use Rattle.spread_books_search.specs.code.Best.{CoversOne, CoversTwo, IsBeyond}
 use Rattle.spread_books_search.proofs.fronts.BeatAnyPair.{front_beats, fronts_beat}

@@ -17,7 +17,8 @@ use Rattle.spread_rules.specs.declared.order.Order.{Order}
 use Rattle.spread_rules.specs.declared.candidate.Counterparty.TheVariants.{Implied}
 use Rattle.spread_rules.specs.declared.candidate.Candidate.{Candidate}
 use Rattle.spread_rules.specs.code.Cases.{price_if}
-use Rattle.spread_rules.specs.Candidates.{implied_price, cost, is_within_limit, rank_cmp, price_of, is_before, IsEligible, takes_part, all_on, Pairs, HasOrderPrice}
+use Rattle.spread_rules.specs.Candidates.{cost, is_within_limit, rank_cmp, price_of, is_before, IsEligible, Pairs}
+use Rattle.spread_rules.specs.code.Candidates.{implied_price, takes_part, all_on, HasOrderPrice}
 use Rattle.spread_rules_rulebook.specs.Instruments.{month_of}
 use Rattle.spread_rules_rulebook.specs.Prices.{IsOrderPrice, IsLegPrice}
 use Rattle.spread_rules.specs.Legs.{other_side}

@@ -10,7 +10,8 @@ use Rattle.spread_rules.specs.declared.order.Side.TheVariants.{Buy, Sell}
 use Rattle.spread_rules_rulebook.specs.declared.instrument.Instrument.{Instrument}
 use Rattle.spread_rules_rulebook.specs.declared.instrument.Instrument.TheVariants.{Outright, Spread}
 use Rattle.spread_rules.specs.code.Cases.{price_if}
-use Rattle.spread_rules.specs.Candidates.{implied_price, cost, is_within_limit, rank_cmp}
+use Rattle.spread_rules.specs.Candidates.{cost, is_within_limit, rank_cmp}
+use Rattle.spread_rules.specs.code.Candidates.{implied_price}
 use Rattle.spread_rules.specs.Legs.{other_side}
 use Rattle.spread_rules.proofs.clearings.BoughtIsSold.{so_is}
 

@@ -10,9 +10,10 @@ use Rattle.spread_rules.specs.declared.order.Order.{Order}
 use Rattle.spread_rules.specs.declared.candidate.Counterparty.{Counterparty}
 use Rattle.spread_rules.specs.declared.candidate.Counterparty.TheVariants.{Direct, Implied}
 use Rattle.spread_rules.specs.declared.candidate.Candidate.{Candidate}
-use Rattle.spread_rules.specs.Candidates.{implied_price, are_opposite, IsEligible, Pairs, IsBest}
+use Rattle.spread_rules.specs.Candidates.{IsEligible, Pairs, IsBest}
+use Rattle.spread_rules.specs.code.Candidates.{implied_price, are_opposite}
 use Rattle.spread_rules_rulebook.specs.Instruments.{month_of}
-use Rattle.spread_rules.specs.Quiet.{Rests}
+use Rattle.spread_rules.specs.code.Quiet.{Rests}
 use Rattle.spread_rules.specs.Legs.{other_side}
 use Rattle.spread_rules.proofs.clearings.BoughtIsSold.{same_instrument_is, so_true}
 use Rattle.spread_books_search.specs.Listed.{IsInMonths}

@@ -7,7 +7,7 @@ use Rattle.spread_rules_rulebook.specs.declared.instrument.Instrument.{Instrumen
 use Rattle.spread_rules_rulebook.specs.declared.instrument.Instrument.TheVariants.{Outright}
 use Rattle.spread_rules.specs.declared.order.Order.{Order}
 use Rattle.spread_rules.specs.Candidates.{Pairs, cost}
-use Rattle.spread_rules.specs.Quiet.{Rests}
+use Rattle.spread_rules.specs.code.Quiet.{Rests}
 use Rattle.spread_rules.specs.Legs.{other_side}
 use Rattle.spread_books_plain.specs.Pairs.{IsPair, HasFronts, spread_of, spread_side}
 use Rattle.spread_books_plain.specs.Queues.{IsFront}
@@ -27,10 +27,10 @@ CostsOfFront xs instrument side (Some paid) = HasFront xs instrument side paid
 
 -- what the fronts of the two queues cost, and none where a queue is empty or the pair of months takes no part
 abbrev pub CostsOfFronts : Pairs → List Order → Side → ℕ → ℕ → Option ℤ → Type 0
-CostsOfFronts trades_implied xs side month other None =
-    (a b : Order) → IsPair trades_implied xs side month other a b → ⊥
-CostsOfFronts trades_implied xs side month other (Some cost) =
-    HasFronts trades_implied xs side month other cost
+CostsOfFronts on xs side month other None =
+    (a b : Order) → IsPair on xs side month other a b → ⊥
+CostsOfFronts on xs side month other (Some cost) =
+    HasFronts on xs side month other cost
 
 -- the one of two that costs less, the earlier one where they cost the same
 abbrev pub cheaper_of : Option PairCost → Option ℤ → ℕ → Option PairCost

@@ -14,7 +14,8 @@ use Rattle.spread_rules.specs.declared.candidate.Counterparty.{Counterparty}
 use Rattle.spread_rules.specs.declared.candidate.Counterparty.TheVariants.{Direct, Implied}
 use Rattle.spread_rules.specs.code.Cases.{with_less_left}
 use Rattle.spread_rules.specs.Candidates.{least_left, AllStandIn, is_within_limit, PlacesDiffer, Pairs, members}
-use Rattle.spread_rules.specs.Clearing.{Trading, next_candidate, turn, turns, after_match, after_fill, removed, reduced, fills_of, fill_of, leg_prices}
+use Rattle.spread_rules.specs.Clearing.{Trading, after_fill, removed, reduced, fills_of, fill_of, leg_prices}
+use Rattle.spread_rules.specs.code.Clearing.{next_candidate, turn, turns, after_match}
 use Rattle.spread_rules_rulebook.proofs.lists.Membership.{in_cons_cases, not_in_nil, from_map}
 use Rattle.spread_rules.proofs.clearings.TurnsEnd.{members_rest, next_meets, next_left, next_least, from_filter, less_place}
 use Rattle.spread_match_trading.specs.Tradable.{IsTradable}
@@ -25,7 +26,8 @@ use Rattle.spread_match_trading.proofs.turns.StaysTradable.{still_tradable}
 use Rattle.spread_match_trading.proofs.turns.OneTurn.{least_some}
 use Rattle.spread_match_trading.proofs.turns.StaysAfterAFill.{still_there, still_differ}
 use Rattle.spread_match_statuses.proofs.status_rows.MarkedRows.{same_number}
-use Rattle.spread_rules.specs.Meaning.{PastTicket, filled}
+use Rattle.spread_rules.specs.Meaning.{filled}
+use Rattle.spread_rules.specs.code.Meaning.{PastTicket}
 
 filled_one : (gs : List Fill) (f : Fill) (b : Bool) → sum_by (λ g. g.quantity) (gs ++ cond b (f ∷ []) []) ≡ sum_by (λ g. g.quantity) gs + cond b f.quantity 0
 filled_one gs f true = sum_by_push (λ (g : Fill). g.quantity) gs f

@@ -11,10 +11,13 @@ use Rattle.spread_rules.specs.declared.event.Event.TheVariants.{Logon, New, Canc
 use Rattle.spread_rules.specs.declared.outcome.OrderStatus.{OrderStatus}
 use Rattle.spread_rules.specs.declared.outcome.Outcome.{Outcome}
 use Rattle.spread_rules.specs.declared.outcome.Outcome.TheVariants.{Filled, Ended, Rested}
-use Rattle.spread_rules.specs.Candidates.{HasOrderPrice, PlacesDiffer, Pairs}
-use Rattle.spread_rules.specs.Clearing.{Trading, next_candidate, turn, turns, after_match, begin, clear, removed}
+use Rattle.spread_rules.specs.Candidates.{PlacesDiffer, Pairs}
+use Rattle.spread_rules.specs.code.Candidates.{HasOrderPrice}
+use Rattle.spread_rules.specs.Clearing.{Trading, clear, removed}
+use Rattle.spread_rules.specs.code.Clearing.{next_candidate, turn, turns, after_match, begin}
 use Rattle.spread_rules_rulebook.specs.Prices.{IsOrderPrice}
-use Rattle.spread_rules.specs.Meaning.{EntryMeaning, cancel_means, has_id, is_own, is_refused, moved_to, new_means, order_of, original_of, outcome_of, place_left, refusal_or_instrument, replace_means, resting, ticket_of}
+use Rattle.spread_rules.specs.Meaning.{EntryMeaning, cancel_means, has_id, is_own, is_refused, new_means, order_of, outcome_of, place_left, replace_means, ticket_of}
+use Rattle.spread_rules.specs.code.Meaning.{moved_to, original_of, refusal_or_instrument, resting}
 use Rattle.spread_rules_rulebook.specs.Rulebook.{Rules, month_count, references_of, find_symbol, implied}
 use Rattle.spread_rules.proofs.clearings.ClearIsTurns.{clear_is}
 use Rattle.spread_rules.proofs.clearings.TurnsEnd.{members_rest, next_meets}
@@ -35,7 +38,8 @@ use Rattle.spread_match_state.proofs.entries.MayRest.{MayRest, moved_rests, remo
 use Rattle.spread_match.proofs.entries.PastStaysSound.{later_all, new_rests, rests_all, rest_tradable}
 use Rattle.spread_match_orders.proofs.entries.FoundStands.{find_stands}
 use Rattle.spread_match_state.proofs.entries.Replaces.{CanReplace, all_amended, amended_tradable, by_replace, from_amended, own_is}
-use Rattle.spread_rules.specs.Amended.{amended, done}
+use Rattle.spread_rules.specs.Amended.{done}
+use Rattle.spread_rules.specs.code.Amended.{amended}
 use Rattle.spread_rules.specs.declared.fill.Fill.{Fill}
 
 traded_tradable : (on : Pairs) (references : List ℤ) (months : ℕ) (t : Trading) (r : Option Candidate) → next_candidate on t ≡ r → IsTradable months t.orders → IsTradable months (after_match references t r).orders

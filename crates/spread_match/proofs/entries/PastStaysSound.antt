@@ -8,8 +8,10 @@ use Rattle.spread_rules.specs.declared.order.Order.{Order}
 use Rattle.spread_rules_rulebook.specs.declared.instrument.Instrument.{Instrument}
 use Rattle.spread_rules.specs.declared.fill.Fill.{Fill}
 use Rattle.spread_rules.specs.code.Cases.{keeping_means}
-use Rattle.spread_rules.specs.Candidates.{HasOrderPrice, Pairs}
-use Rattle.spread_rules.specs.Clearing.{Trading, begin, clear, removed}
+use Rattle.spread_rules.specs.Candidates.{Pairs}
+use Rattle.spread_rules.specs.code.Candidates.{HasOrderPrice}
+use Rattle.spread_rules.specs.Clearing.{Trading, clear, removed}
+use Rattle.spread_rules.specs.code.Clearing.{begin}
 use Rattle.spread_rules_rulebook.proofs.lists.Membership.{in_head, in_tail, not_in_nil}
 use Rattle.spread_rules.proofs.clearings.ClearIsTurns.{clear_is}
 use Rattle.spread_rules.proofs.clearings.TurnsEnd.{from_filter}
@@ -30,8 +32,10 @@ use Rattle.spread_match.proofs.entries.FillsCounted.{IsRunning, running}
 use Rattle.spread_match_state.proofs.entries.NamedInstrument.{listed_found, near_of, months_of}
 use Rattle.spread_rules_rulebook.specs.Prices.{IsOrderPrice}
 use Rattle.spread_match_orders.proofs.entries.NewOrder.{tradable_more, clear_all, clear_keeps, taken_is, below_new}
-use Rattle.spread_rules.specs.Meaning.{EntryMeaning, JournalState, PastTicket, cancel_means, filled, has_id, is_own, is_refused, meaning_of, meaning_with, moved_to, new_means, order_of, original_of, refusal_or_instrument, replace_means, resting, statuses_of, ticket_of, with_meaning}
-use Rattle.spread_rules.specs.Amended.{amended, done, with_quantity}
+use Rattle.spread_rules.specs.Meaning.{EntryMeaning, cancel_means, filled, has_id, is_own, is_refused, meaning_with, new_means, order_of, replace_means, ticket_of}
+use Rattle.spread_rules.specs.code.Meaning.{JournalState, PastTicket, meaning_of, moved_to, original_of, refusal_or_instrument, resting, statuses_of, with_meaning}
+use Rattle.spread_rules.specs.Amended.{done, with_quantity}
+use Rattle.spread_rules.specs.code.Amended.{amended}
 use Rattle.spread_match_orders.proofs.entries.FoundStands.{find_stands}
 use Rattle.spread_match_state.proofs.entries.MayRest.{MayRest, moved_rests, removed_tradable}
 use Rattle.spread_match_state.proofs.entries.Replaces.{IsOwn, accepted_unused, amended_place, amended_tradable, by_replace, from_amended, none_refused, own_is}

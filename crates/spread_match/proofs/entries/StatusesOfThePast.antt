@@ -15,7 +15,8 @@ use Rattle.spread_rules.specs.declared.event.Ticket.{Ticket}
 use Rattle.spread_rules.specs.declared.outcome.Outcome.{Outcome}
 use Rattle.spread_rules.specs.declared.outcome.OrderStatus.{OrderStatus}
 use Rattle.spread_rules.specs.code.Cases.{status_at}
-use Rattle.spread_rules.specs.Meaning.{EntryMeaning, JournalState, PastTicket, has_id, is_filled, is_refused, is_replaced, names, asked_by, original_of, past_tickets, place_left, status_of, statuses_of, ticket_of, with_meaning}
+use Rattle.spread_rules.specs.Meaning.{EntryMeaning, has_id, is_filled, is_refused, place_left, ticket_of}
+use Rattle.spread_rules.specs.code.Meaning.{JournalState, PastTicket, is_replaced, names, asked_by, original_of, past_tickets, status_of, statuses_of, with_meaning}
 use Rattle.spread_rules_rulebook.proofs.lists.Membership.{in_head, in_tail, in_cons_cases, not_in_nil}
 use Rattle.spread_match_state.specs.code.StateAfter.{first_status, statuses_after_replace}
 use Rattle.spread_match_statuses.specs.code.Statuses.{was_accepted, status_after_fill, status_after_replace, statuses_after}

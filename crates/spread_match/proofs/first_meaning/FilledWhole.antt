@@ -8,8 +8,10 @@ use Rattle.std.proofs.lemmas.Slice.Eq.{bytes_eq-Decides}
 use Rattle.spread_rules.specs.declared.order.Order.{Order}
 use Rattle.spread_rules.specs.declared.fill.Fill.{Fill}
 use Rattle.spread_rules.specs.declared.candidate.Candidate.{Candidate}
-use Rattle.spread_rules.specs.Clearing.{Trading, after_fill, after_match, next_candidate, turn, turns}
-use Rattle.spread_rules.specs.Meaning.{PastTicket, filled, is_filled, is_refused}
+use Rattle.spread_rules.specs.Clearing.{Trading, after_fill}
+use Rattle.spread_rules.specs.code.Clearing.{after_match, next_candidate, turn, turns}
+use Rattle.spread_rules.specs.Meaning.{filled, is_filled, is_refused}
+use Rattle.spread_rules.specs.code.Meaning.{PastTicket}
 use Rattle.spread_rules.proofs.clearings.TurnsEnd.{members_rest, next_left, next_least, next_meets}
 use Rattle.spread_match.proofs.entries.FillsCounted.{AreCounted, IsFill, IsRunning, each_after, filled_other, filled_own, member_filled, own_filled, running_with, turn_keeps, test_same}
 use Rattle.spread_match_statuses.proofs.status_rows.MarkedRows.{same_number}

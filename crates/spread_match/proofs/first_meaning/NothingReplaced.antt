@@ -13,8 +13,10 @@ use Rattle.spread_rules.specs.declared.event.Event.TheVariants.{Logon, New, Canc
 use Rattle.spread_rules.specs.declared.outcome.Outcome.{Outcome}
 use Rattle.spread_rules.specs.declared.outcome.Outcome.TheVariants.{Rested, Filled, Ended, Refused}
 use Rattle.spread_rules.specs.declared.outcome.OrderStatus.{OrderStatus}
-use Rattle.spread_rules.specs.Clearing.{Trading, begin, clear, removed}
-use Rattle.spread_rules.specs.Meaning.{JournalState, PastTicket, after_entry, cancel_means, filled, has_id, is_own, is_refused, meaning_of, new_means, no_entries, order_of, outcome_of, place_left, refusal_or_instrument, resting, statuses_of, with_meaning}
+use Rattle.spread_rules.specs.Clearing.{Trading, clear, removed}
+use Rattle.spread_rules.specs.code.Clearing.{begin}
+use Rattle.spread_rules.specs.Meaning.{cancel_means, filled, has_id, is_own, is_refused, new_means, order_of, outcome_of, place_left}
+use Rattle.spread_rules.specs.code.Meaning.{JournalState, PastTicket, after_entry, meaning_of, no_entries, refusal_or_instrument, resting, statuses_of, with_meaning}
 use Rattle.spread_rules.specs.MeaningBeforeReplaces.{is_replace, is_refused as was_refused}
 use Rattle.spread_rules_rulebook.specs.Rulebook.{Rules, find_symbol, month_count, references_of, implied}
 use Rattle.spread_rules_rulebook.proofs.lists.Membership.{not_in_nil}

@@ -9,7 +9,8 @@ use Rattle.spread_rules.specs.declared.event.Event.TheVariants.{Logon, New, Canc
 use Rattle.spread_rules.specs.declared.outcome.Outcome.{Outcome}
 use Rattle.spread_rules.specs.declared.outcome.OrderStatus.{OrderStatus}
 use Rattle.spread_rules.specs.code.Cases.{status_at}
-use Rattle.spread_rules.specs.Meaning.{EntryMeaning, JournalState, PastTicket, after_entry, filled, is_filled, is_refused, is_replaced, meaning_of, meaning_with, meanings_from, meanings_of, names, no_entries, status_of, statuses_of, asked_by}
+use Rattle.spread_rules.specs.Meaning.{EntryMeaning, filled, is_filled, is_refused, meaning_with}
+use Rattle.spread_rules.specs.code.Meaning.{JournalState, PastTicket, after_entry, is_replaced, meaning_of, meanings_from, meanings_of, names, no_entries, status_of, statuses_of, asked_by}
 use Rattle.spread_rules.specs.MeaningBeforeReplaces.{FirstState, PastNew, is_replace, new_of, after_entry as first_after_entry, is_refused as was_refused, meaning_of as first_meaning_of, meaning_with as first_meaning_with, meanings_from as first_meanings_from, meanings_of as first_meanings_of, status_of as first_status_of, statuses_of as first_statuses_of, with_meaning as first_with_meaning}
 use Rattle.spread_rules_rulebook.specs.Rulebook.{Rules, month_count}
 use Rattle.spread_rules_rulebook.proofs.lists.Membership.{in_head, in_tail}

@@ -18,11 +18,14 @@ use Rattle.spread_rules.specs.declared.event.Event.TheVariants.{Logon, New, Canc
 use Rattle.spread_rules.specs.declared.event.Ticket.{Ticket}
 use Rattle.spread_rules.specs.declared.outcome.OrderStatus.{OrderStatus}
 use Rattle.spread_rules.specs.code.Cases.{leg_prices_of_single, leg_prices_of_pair}
-use Rattle.spread_rules.specs.Candidates.{implied_price, price_of, least_left, AllStandIn}
+use Rattle.spread_rules.specs.Candidates.{price_of, least_left, AllStandIn}
+use Rattle.spread_rules.specs.code.Candidates.{implied_price}
 use Rattle.spread_rules_rulebook.specs.Instruments.{month_of}
 use Rattle.spread_rules_rulebook.specs.Prices.{IsLegPrice, IsOrderPrice}
-use Rattle.spread_rules.specs.Clearing.{Trading, next_candidate, turn, turns, after_match, begin, clear, removed, fills_of, fill_of, leg_prices, leg_prices_of_fill}
-use Rattle.spread_rules.specs.Meaning.{EntryMeaning, JournalState, PastTicket, after_entries, after_entry, cancel_means, has_id, is_own, meaning_of, meaning_of_journal, moved_to, new_means, no_entries, order_of, refusal_or_instrument, replace_means, resting, statuses_of}
+use Rattle.spread_rules.specs.Clearing.{Trading, clear, removed, fills_of, fill_of, leg_prices, leg_prices_of_fill}
+use Rattle.spread_rules.specs.code.Clearing.{next_candidate, turn, turns, after_match, begin}
+use Rattle.spread_rules.specs.Meaning.{EntryMeaning, cancel_means, has_id, is_own, new_means, order_of, replace_means}
+use Rattle.spread_rules.specs.code.Meaning.{JournalState, PastTicket, after_entries, after_entry, meaning_of, meaning_of_journal, moved_to, no_entries, refusal_or_instrument, resting, statuses_of}
 use Rattle.spread_rules_rulebook.specs.Rulebook.{Rules, IsRules, IsListed, month_count, references_of, find_symbol, implied}
 use Rattle.spread_rules_rulebook.proofs.lists.Membership.{in_cons_cases, in_head, in_tail, not_in_nil}
 use Rattle.spread_rules.proofs.clearings.ClearIsTurns.{clear_is}
@@ -40,7 +43,7 @@ use Rattle.spread_match.proofs.entries.PastStaysSound.{AsksFor, started, entry_k
 use Rattle.spread_match_state.proofs.entries.MayRest.{removed_tradable}
 use Rattle.spread_match_orders.proofs.entries.FoundStands.{find_stands}
 use Rattle.spread_match_state.proofs.entries.Replaces.{all_amended, by_replace, own_is}
-use Rattle.spread_rules.specs.Amended.{amended}
+use Rattle.spread_rules.specs.code.Amended.{amended}
 use Rattle.spread_rules.specs.declared.outcome.Outcome.TheVariants.{Rested}
 use Rattle.spread_match.proofs.journals.AfterEveryEntry.{none_sound}
 

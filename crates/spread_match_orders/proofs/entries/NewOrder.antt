@@ -5,8 +5,10 @@ use Rattle.std.proofs.lemmas.List.Elements.{All-contains, Contains-get_or, Conta
 use Rattle.spread_rules.specs.declared.order.Order.{Order}
 use Rattle.spread_rules.specs.declared.candidate.Candidate.{Candidate}
 use Rattle.spread_rules.specs.code.Cases.{with_less_left}
-use Rattle.spread_rules.specs.Candidates.{least_left, HasOrderPrice, Pairs, PlacesDiffer}
-use Rattle.spread_rules.specs.Clearing.{Trading, next_candidate, turn, turns, after_match, begin, clear, removed, reduced}
+use Rattle.spread_rules.specs.Candidates.{least_left, Pairs, PlacesDiffer}
+use Rattle.spread_rules.specs.code.Candidates.{HasOrderPrice}
+use Rattle.spread_rules.specs.Clearing.{Trading, clear, removed, reduced}
+use Rattle.spread_rules.specs.code.Clearing.{next_candidate, turn, turns, after_match, begin}
 use Rattle.spread_rules_rulebook.proofs.lists.Membership.{in_head, in_tail}
 use Rattle.spread_rules.proofs.clearings.ClearIsTurns.{clear_is}
 use Rattle.spread_rules.proofs.clearings.TurnsEnd.{keeps_turns}
@@ -20,7 +22,8 @@ use Rattle.spread_rules.specs.declared.event.Ticket.{Ticket}
 use Rattle.spread_rules.specs.declared.outcome.Outcome.TheVariants.{Rested, Filled, Ended}
 use Rattle.spread_match_trading.proofs.turns.NotAgainstItself.{map_push}
 use Rattle.spread_match_trading.proofs.turns.StaysTradable.{members_all}
-use Rattle.spread_rules.specs.Meaning.{is_refused, refusal_or_instrument, outcome_of, resting}
+use Rattle.spread_rules.specs.Meaning.{is_refused, outcome_of}
+use Rattle.spread_rules.specs.code.Meaning.{refusal_or_instrument, resting}
 use Rattle.spread_rules_rulebook.specs.Rulebook.{Rules, find_symbol}
 
 filter_all : (p : Order → Bool) (xs : List Order) → ((o : Order) → Contains xs o → p o ≡ true) → filter p xs ≡ xs

@@ -3,9 +3,9 @@ use Rattle.std.proofs.Common.{ℕ, ◌==◌, ◌<◌, not, List, Contains}
 use Rattle.std.proofs.lemmas.List.Elements.{All-contains, All-filter}
 use Rattle.spread_rules.specs.declared.order.Order.{Order}
 use Rattle.spread_rules.specs.declared.event.Ticket.{Ticket}
-use Rattle.spread_rules.specs.Candidates.{HasOrderPrice}
+use Rattle.spread_rules.specs.code.Candidates.{HasOrderPrice}
 use Rattle.spread_rules.specs.Clearing.{removed}
-use Rattle.spread_rules.specs.Meaning.{moved_to}
+use Rattle.spread_rules.specs.code.Meaning.{moved_to}
 use Rattle.spread_rules.proofs.clearings.TurnsEnd.{from_filter}
 use Rattle.spread_rules_rulebook.specs.Prices.{IsOrderPrice}
 use Rattle.spread_books_search.specs.Listed.{IsNearFirst, IsInMonths}

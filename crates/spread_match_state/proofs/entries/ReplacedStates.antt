@@ -15,7 +15,8 @@ use Rattle.spread_rules.specs.code.Cases.{clearing_means, keeping_means, moving_
 use Rattle.spread_rules.specs.Amended.{done}
 use Rattle.spread_rules.specs.Candidates.{PlacesDiffer}
 use Rattle.spread_rules.specs.Clearing.{Trading, clear, removed}
-use Rattle.spread_rules.specs.Meaning.{has_id, instrument_or_refusal_of, is_own, is_refused, keeps_place, may_replace, moved_to, order_of, outcome_of, place_left, replace_means, replace_refused, resting}
+use Rattle.spread_rules.specs.Meaning.{has_id, instrument_or_refusal_of, is_own, is_refused, may_replace, order_of, outcome_of, place_left, replace_means}
+use Rattle.spread_rules.specs.code.Meaning.{keeps_place, moved_to, replace_refused, resting}
 use Rattle.spread_rules_rulebook.specs.Prices.{IsOrderPrice}
 use Rattle.spread_rules_rulebook.specs.Rulebook.{Rules, references_of, implied}
 use Rattle.spread_books_plain.specs.Queues.{CanAmend}

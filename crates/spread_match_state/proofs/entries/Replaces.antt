@@ -18,11 +18,14 @@ use Rattle.spread_rules.specs.declared.event.Event.{Event}
 use Rattle.spread_rules.specs.declared.event.Event.TheVariants.{Logon, New, Cancel, Replace, TestReply, Gap, Resend, Reject, Close}
 use Rattle.spread_rules.specs.declared.outcome.OrderStatus.{OrderStatus}
 use Rattle.spread_rules.specs.code.Cases.{amended_at, keeping_means, moving_means, replace_of_resting}
-use Rattle.spread_rules.specs.Amended.{done, with_quantity, amended}
-use Rattle.spread_rules.specs.Candidates.{HasOrderPrice, same_instrument}
+use Rattle.spread_rules.specs.Amended.{done, with_quantity}
+use Rattle.spread_rules.specs.code.Amended.{amended}
+use Rattle.spread_rules.specs.Candidates.{same_instrument}
+use Rattle.spread_rules.specs.code.Candidates.{HasOrderPrice}
 use Rattle.spread_rules.specs.Clearing.{clear, removed}
 use Rattle.spread_rules.specs.Legs.{is_side}
-use Rattle.spread_rules.specs.Meaning.{EntryMeaning, JournalState, cancel_of_nothing_resting, has_id, is_own, is_refused, keeps_place, may_replace, meaning_of, moved_to, new_means, refusal_or_instrument, replace_means, replace_refused, statuses_of, ticket_of}
+use Rattle.spread_rules.specs.Meaning.{EntryMeaning, cancel_of_nothing_resting, has_id, is_own, is_refused, may_replace, new_means, replace_means, ticket_of}
+use Rattle.spread_rules.specs.code.Meaning.{JournalState, keeps_place, meaning_of, moved_to, refusal_or_instrument, replace_refused, statuses_of}
 use Rattle.spread_rules.proofs.clearings.BoughtIsSold.{same_instrument_is}
 use Rattle.spread_rules_rulebook.specs.Rulebook.{Rules, find_symbol, references_of, implied}
 use Rattle.spread_rules_rulebook.proofs.lists.Membership.{from_map}

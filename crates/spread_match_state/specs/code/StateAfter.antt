@@ -16,7 +16,8 @@ use Rattle.spread_rules.specs.declared.outcome.Outcome.{Outcome}
 use Rattle.spread_rules.specs.declared.outcome.Outcome.TheVariants.{Refused}
 use Rattle.spread_match_trading.specs.Tradable.{IsTradable}
 use Rattle.spread_match_orders.specs.code.Entering.{entered_status, trading_of, HaveStatuses}
-use Rattle.spread_rules.specs.Meaning.{EntryMeaning, has_id, instrument_or_refusal_of, is_own, is_refused, meaning_with, moved_to, order_of, original_of, place_left, ticket_of, untraded, cancel_means}
+use Rattle.spread_rules.specs.Meaning.{EntryMeaning, has_id, instrument_or_refusal_of, is_own, is_refused, meaning_with, order_of, place_left, ticket_of, untraded, cancel_means}
+use Rattle.spread_rules.specs.code.Meaning.{moved_to, original_of}
 use Rattle.spread_rules_rulebook.specs.Rulebook.{implied, Rules, references_of}
 use Rattle.spread_match_state.specs.State.{MarketState}
 use Rattle.spread_match_statuses.specs.code.Statuses.{status_after_replace, statuses_after}

@@ -11,7 +11,8 @@ use Rattle.spread_rules.specs.declared.candidate.Candidate.{Candidate}
 use Rattle.spread_rules.specs.declared.candidate.Counterparty.{Counterparty}
 use Rattle.spread_rules.specs.declared.candidate.Counterparty.TheVariants.{Direct, Implied}
 use Rattle.spread_rules.specs.code.Cases.{with_less_left}
-use Rattle.spread_rules.specs.Candidates.{implied_price, are_opposite, price_of, IsEligible, AllStandIn, PlacesDiffer, IsBest, Pairs}
+use Rattle.spread_rules.specs.Candidates.{price_of, IsEligible, AllStandIn, PlacesDiffer, IsBest, Pairs}
+use Rattle.spread_rules.specs.code.Candidates.{implied_price, are_opposite}
 use Rattle.spread_rules.specs.Clearing.{removed, reduced}
 use Rattle.spread_match_trading.specs.code.Turns.{AreApart}
 use Rattle.spread_rules.proofs.clearings.BoughtIsSold.{so_true}

@@ -8,7 +8,8 @@ use Rattle.spread_rules.specs.declared.candidate.Candidate.{Candidate}
 use Rattle.spread_rules.specs.declared.candidate.Counterparty.{Counterparty}
 use Rattle.spread_rules.specs.declared.candidate.Counterparty.TheVariants.{Direct, Implied}
 use Rattle.spread_rules.specs.Candidates.{IsLeast, AllStandIn, least_left, IsBest, Pairs, members}
-use Rattle.spread_rules.specs.Clearing.{Trading, next_candidate, turns, after_match, begin, clear, fills_of, after_fill}
+use Rattle.spread_rules.specs.Clearing.{Trading, clear, fills_of, after_fill}
+use Rattle.spread_rules.specs.code.Clearing.{next_candidate, turns, after_match, begin}
 use Rattle.spread_match_trading.specs.Tradable.{IsTradable}
 use Rattle.spread_match_trading.specs.code.Turns.{IsAfter}
 use Rattle.spread_match_trading.proofs.turns.NotAgainstItself.{best_of_others}

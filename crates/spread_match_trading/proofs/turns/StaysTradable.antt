@@ -7,8 +7,10 @@ use Rattle.spread_rules.specs.declared.candidate.Candidate.{Candidate}
 use Rattle.spread_rules.specs.declared.candidate.Counterparty.{Counterparty}
 use Rattle.spread_rules.specs.declared.candidate.Counterparty.TheVariants.{Direct, Implied}
 use Rattle.spread_rules.specs.code.Cases.{with_less_left}
-use Rattle.spread_rules.specs.Candidates.{price_of, AllStandIn, least_left, least_candidate, counterparties, HasOrderPrice, Pairs, PlacesDiffer, IsBest, members}
-use Rattle.spread_rules.specs.Clearing.{Trading, next_candidate, turn, turns, begin, clear, after_fill, removed, reduced}
+use Rattle.spread_rules.specs.Candidates.{price_of, AllStandIn, least_left, Pairs, PlacesDiffer, IsBest, members}
+use Rattle.spread_rules.specs.code.Candidates.{least_candidate, counterparties, HasOrderPrice}
+use Rattle.spread_rules.specs.Clearing.{Trading, clear, after_fill, removed, reduced}
+use Rattle.spread_rules.specs.code.Clearing.{next_candidate, turn, turns, begin}
 use Rattle.spread_rules.proofs.ranks.LeastIsOne.{best_is_first}
 use Rattle.spread_rules.proofs.clearings.ClearIsTurns.{clear_is}
 use Rattle.spread_rules.proofs.clearings.TurnsEnd.{enough, one_end, keeps_turns}

@@ -6,7 +6,7 @@ use Rattle.spread_rules.specs.declared.fill.Fill.{Fill}
 use Rattle.spread_rules.specs.declared.candidate.Counterparty.{Counterparty}
 use Rattle.spread_rules.specs.declared.candidate.Counterparty.TheVariants.{Direct, Implied}
 use Rattle.spread_rules.specs.Candidates.{Pairs}
-use Rattle.spread_rules.specs.Clearing.{turns, begin}
+use Rattle.spread_rules.specs.code.Clearing.{turns, begin}
 
 -- at least so much is left of each order
 abbrev pub HaveLeft : ℕ → Counterparty → Type 0
@@ -20,13 +20,13 @@ AreApart (Implied a b) = a.place ≢ b.place
 
 -- the book and the fills are as some number of turns leaves them; own is the new order as it was added
 pub record IsAfter
-    (trades_implied : Pairs) (references : List ℤ) (own : Order) (rest : List Order)
+    (on : Pairs) (references : List ℤ) (own : Order) (rest : List Order)
     (left : Order) (orders : List Order) (fills : List Fill) : Type 0 where
   pub count : ℕ
-  pub left_is : left ≡ (turns trades_implied references count (begin own rest)).new
+  pub left_is : left ≡ (turns on references count (begin own rest)).new
   pub orders_is :
-      orders ≡ (turns trades_implied references count (begin own rest)).orders ++ own ∷ []
-  pub fills_is : fills ≡ (turns trades_implied references count (begin own rest)).fills
+      orders ≡ (turns on references count (begin own rest)).orders ++ own ∷ []
+  pub fills_is : fills ≡ (turns on references count (begin own rest)).fills
 
 -- a list that ends with this order, the only one of its place
 pub record IsNewest (own : Order) (xs : List Order) : Type 0 where

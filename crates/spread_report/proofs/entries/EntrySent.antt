@@ -21,7 +21,8 @@ use Rattle.spread_report.specs.code.Addressed.{event_messages, entry_messages}
 use Rattle.spread_report_outbound.specs.code.PerSession.{texts_to, messages_bytes, outbound_after, spends}
 use Rattle.spread_report.specs.code.PerSession.{entry_texts, entry_bytes, entry_outbound, entry_spends, opening, noted_messages, outbound_at_entry}
 use Rattle.spread_report_outbound.proofs.Steps.{outbound_after-append, texts_to-append, spends-append}
-use Rattle.spread_report_outbound.specs.Sessions.{bytes_of, outbound_at}
+use Rattle.spread_report_outbound.specs.Sessions.{bytes_of}
+use Rattle.spread_report_outbound.specs.code.Sessions.{outbound_at}
 use Rattle.spread_report.specs.Running.{RunsOut}
 use Rattle.spread_report_outbound.specs.code.Sending.{SendResult}
 

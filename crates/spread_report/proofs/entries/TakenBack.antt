@@ -8,7 +8,7 @@ use Rattle.spread_rules.specs.declared.event.Event.TheVariants.{Logon, New, Canc
 use Rattle.spread_report_outbound.specs.declared.fault.DeskFault.{DeskFault}
 use Rattle.spread_report_outbound.specs.declared.fault.DeskFault.TheVariants.{NoMemory, NumbersSpent}
 use Rattle.spread_report_outbound.specs.declared.session.OutboundSession.{OutboundSession}
-use Rattle.spread_report_outbound.specs.Sessions.{OutboundState, texts_of, outbound_at}
+use Rattle.spread_report_outbound.specs.code.Sessions.{OutboundState, texts_of, outbound_at}
 use Rattle.spread_report_outbound.specs.code.Addressed.{AddressedStep}
 use Rattle.spread_report_outbound.specs.code.Sending.{OnlyAppended, SendResult}
 use Rattle.spread_report_outbound.specs.code.TakingBack.{SentSince}

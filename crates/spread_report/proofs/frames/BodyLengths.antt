@@ -8,7 +8,8 @@ use Rattle.fix_wire.specs.declared.writer.Value.TheVariants.{Text, Number, Price
 use Rattle.fix_wire.specs.declared.writer.Field as given
 use Rattle.fix_wire.specs.declared.writer.Head.{Head}
 use Rattle.fix_wire_values.specs.Digits.{two_digits}
-use Rattle.fix_wire.specs.Layout.{value_text, field_text, field, only_if, head_fields, body_text, FitsValue, FitsField}
+use Rattle.fix_wire.specs.Layout.{value_text, field_text, field, head_fields, body_text, FitsValue, FitsField}
+use Rattle.fix_wire.specs.code.Layout.{only_if}
 use Rattle.fix_wire_values.specs.Values.{price_text}
 
 -- a value of at most 41 bytes

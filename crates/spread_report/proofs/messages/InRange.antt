@@ -28,7 +28,7 @@ use Rattle.spread_report_orders.specs.code.Reports.{report, reports_from, reject
 use Rattle.spread_report.specs.code.Addressed.{entry_messages}
 use Rattle.spread_report.specs.code.Reports.{place_field}
 use Rattle.spread_report_orders.proofs.OneFillMore.{reports_length}
-use Rattle.spread_report_fields.specs.Fields.{text_field, number_field, price_field, pair_field}
+use Rattle.spread_report_fields.specs.code.Fields.{text_field, number_field, price_field, pair_field}
 use Rattle.fix_wire.specs.Layout.{field}
 use Rattle.fix_wire.specs.declared.writer.Value.TheVariants.{Text, Number}
 use Rattle.spread_report_fields.specs.Codes.{side_code}

@@ -7,7 +7,8 @@ use Rattle.std.proofs.lemmas.Bool.{cases_lt}
 use Rattle.std.proofs.lemmas.Bool.Decides.{nat_tests}
 use Rattle.spread_rules_rulebook.specs.Rulebook.{Rules}
 use Rattle.spread_report_outbound.specs.declared.session.OutboundSession.{OutboundSession}
-use Rattle.spread_report_outbound.specs.Steps.{OutgoingStep, logged_on, numbered, gap_fill, after_step, outbound_before_logon}
+use Rattle.spread_report_outbound.specs.Steps.{OutgoingStep, logged_on, numbered, gap_fill, after_step}
+use Rattle.spread_report_outbound.specs.code.Steps.{outbound_before_logon}
 use Rattle.spread_report.specs.Outgoing.{AppliedEntry, session_steps, spends_numbers}
 use Rattle.spread_report_outbound.specs.code.PerSession.{pass_limit}
 use Rattle.spread_report.specs.code.PerSession.{spends_from}

@@ -10,7 +10,8 @@ use Rattle.spread_rules.specs.declared.event.Event.TheVariants.{Logon}
 use Rattle.spread_rules.specs.declared.outcome.Outcome.{Outcome}
 use Rattle.spread_rules_rulebook.specs.Rulebook.{Rules}
 use Rattle.spread_report_outbound.specs.declared.session.OutboundSession.{OutboundSession}
-use Rattle.spread_report_outbound.specs.Steps.{logged_on, steps_texts, after_step, outbound_before_logon}
+use Rattle.spread_report_outbound.specs.Steps.{logged_on, steps_texts, after_step}
+use Rattle.spread_report_outbound.specs.code.Steps.{outbound_before_logon}
 use Rattle.spread_report.specs.Outgoing.{AppliedEntry, session_steps}
 use Rattle.spread_report_outbound.specs.code.Addressed.{AddressedStep, numbered_message}
 use Rattle.spread_report_outbound.specs.code.PerSession.{pass_limit, texts_to, messages_bytes, outbound_after, spends}

@@ -6,7 +6,7 @@ use Rattle.fix_wire.specs.declared.writer.Field.{Field}
 use Rattle.fix_wire.specs.declared.writer.Value.TheVariants.{Text, Number}
 use Rattle.fix_wire.specs.Layout.{field}
 use Rattle.spread_report_fields.specs.declared.codes.TheConstants.{ENCRYPT_METHOD_NONE}
-use Rattle.spread_report_fields.specs.Fields.{text_field, number_field}
+use Rattle.spread_report_fields.specs.code.Fields.{text_field, number_field}
 
 -- OrderID in an OrderCancelReject: the place of the order that was named, or `NONE`
 abbrev pub place_field : ℕ → Field

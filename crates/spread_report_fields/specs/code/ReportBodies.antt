@@ -8,8 +8,9 @@ use Rattle.spread_report_fields.specs.declared.report_body.OrderReport.{OrderRep
 use Rattle.spread_report_fields.specs.declared.report_body.RejectReport.{RejectReport}
 use Rattle.spread_report_fields.specs.declared.report_body.CancelReport.{CancelReport}
 use Rattle.spread_report_fields.specs.declared.report_body.FillReport.{FillReport}
-use Rattle.spread_report_fields.specs.Codes.{side_code, ord_status_code, multi_leg_code}
-use Rattle.spread_report_fields.specs.Fields.{text_field, number_field, price_field, pair_field}
+use Rattle.spread_report_fields.specs.Codes.{side_code}
+use Rattle.spread_report_fields.specs.code.Codes.{ord_status_code, multi_leg_code}
+use Rattle.spread_report_fields.specs.code.Fields.{text_field, number_field, price_field, pair_field}
 
 -- OrderID and ClOrdID
 abbrev pub order_fields : OrderReport → List Field

@@ -13,7 +13,7 @@ use Rattle.spread_rules_rulebook.specs.Rulebook.{Rules, symbol_of}
 use Rattle.spread_rules.specs.Legs.{other_side}
 use Rattle.spread_report_fields.specs.declared.codes.MultiLegReportingType.{MultiLegReportingType}
 use Rattle.spread_report_fields.specs.declared.codes.MultiLegReportingType.TheVariants.{IndividualLeg}
-use Rattle.spread_report_fields.specs.Codes.{multi_leg_code}
+use Rattle.spread_report_fields.specs.code.Codes.{multi_leg_code}
 use Rattle.spread_report_fields.specs.declared.codes.OrdStatus.{OrdStatus}
 use Rattle.spread_report_fields.specs.declared.codes.OrdStatus.TheVariants as status
 use Rattle.spread_report_orders.specs.ExecutionReports.{ExecutionReport, report_step, plain_report, order_report}

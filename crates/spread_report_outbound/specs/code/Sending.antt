@@ -13,7 +13,8 @@ use Rattle.spread_report_outbound.specs.declared.sending.OutboundSessions.TheIns
 use Rattle.spread_report_outbound.specs.code.Addressed.{AddressedStep}
 use Rattle.spread_report_outbound.specs.Rows.{IsRow}
 use Rattle.spread_report_outbound.specs.code.PerSession.{messages_bytes, texts_to, outbound_after, spends}
-use Rattle.spread_report_outbound.specs.Sessions.{OutboundState, bytes_of, outbound_at}
+use Rattle.spread_report_outbound.specs.Sessions.{bytes_of}
+use Rattle.spread_report_outbound.specs.code.Sessions.{OutboundState, outbound_at}
 
 -- each session with its next number and its CompIDs
 abbrev pub sessions_of : List ℕ → List (Option CompIds) → List OutboundSession

@@ -3,7 +3,7 @@
 use Rattle.std.specs.Prelude.{◌≡◌, ◌≢◌, ℕ, ◌<◌, List, length, take, slice_index_or}
 use Rattle.spread_rules_ids.specs.declared.limits.TheConstants.{SESSIONS}
 use Rattle.spread_report_outbound.specs.declared.taking_back.Mark.{Mark}
-use Rattle.spread_report_outbound.specs.Sessions.{OutboundState, session_text, outbound_at}
+use Rattle.spread_report_outbound.specs.code.Sessions.{OutboundState, session_text, outbound_at}
 
 -- what was noted when the sessions were in this state and their lists had these texts, before an entry of that session
 pub record IsMark (m : Mark) (session : ℕ) (before : OutboundState)

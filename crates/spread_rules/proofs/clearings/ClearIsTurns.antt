@@ -5,8 +5,10 @@ use Rattle.std.specs.Fn.{iterate}
 use Rattle.std.specs.Option.{option_map_or}
 use Rattle.spread_rules.specs.declared.order.Order.{Order}
 use Rattle.spread_rules.specs.declared.candidate.Candidate.{Candidate}
-use Rattle.spread_rules.specs.Candidates.{Pairs, counterparties, least_candidate}
-use Rattle.spread_rules.specs.Clearing.{Trading, after_match, after_trade, begin, clear, match_once, turn, turns}
+use Rattle.spread_rules.specs.Candidates.{Pairs}
+use Rattle.spread_rules.specs.code.Candidates.{counterparties, least_candidate}
+use Rattle.spread_rules.specs.Clearing.{Trading, after_trade, clear, match_once}
+use Rattle.spread_rules.specs.code.Clearing.{after_match, begin, turn, turns}
 use Rattle.spread_rules.proofs.ranks.BestIsLeast.{best_is}
 
 module _ (on : Pairs) (references : List ℤ) where

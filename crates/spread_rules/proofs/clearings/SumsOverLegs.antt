@@ -11,7 +11,8 @@ use Rattle.spread_rules_rulebook.specs.declared.instrument.Instrument.{Instrumen
 use Rattle.spread_rules_rulebook.specs.declared.instrument.Instrument.TheVariants.{Outright, Spread}
 use Rattle.spread_rules_rulebook.specs.Instruments.{month_of}
 use Rattle.spread_rules.specs.declared.fill.Fill.{Fill}
-use Rattle.spread_rules.specs.Legs.{Leg, is_side, legs_of, bought, sold, paid, received, legs_by, legs_in, legs, quantities, money_of_legs}
+use Rattle.spread_rules.specs.Legs.{is_side, legs_of}
+use Rattle.spread_rules.specs.code.Legs.{Leg, bought, sold, paid, received, legs_by, legs_in, legs, quantities, money_of_legs}
 
 -- ---- the legs
 

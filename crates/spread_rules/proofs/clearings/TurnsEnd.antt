@@ -6,8 +6,10 @@ use Rattle.spread_rules.specs.declared.candidate.Candidate.{Candidate}
 use Rattle.spread_rules.specs.declared.candidate.Counterparty.{Counterparty}
 use Rattle.spread_rules.specs.declared.candidate.Counterparty.TheVariants.{Direct, Implied}
 use Rattle.spread_rules.specs.code.Cases.{with_less_left}
-use Rattle.spread_rules.specs.Candidates.{IsLeast, least_candidate, counterparties, least_left, AllStandIn, price_of, members}
-use Rattle.spread_rules.specs.Clearing.{Trading, next_candidate, turn, turns, after_match, after_fill, removed, reduced}
+use Rattle.spread_rules.specs.Candidates.{IsLeast, least_left, AllStandIn, price_of, members}
+use Rattle.spread_rules.specs.code.Candidates.{least_candidate, counterparties}
+use Rattle.spread_rules.specs.Clearing.{Trading, after_fill, removed, reduced}
+use Rattle.spread_rules.specs.code.Clearing.{next_candidate, turn, turns, after_match}
 use Rattle.spread_rules.specs.Quiet.{IsQuiet}
 use Rattle.spread_rules_rulebook.proofs.lists.Membership.{not_in_nil, in_head, in_tail, in_cons_cases, from_map, in_map}
 use Rattle.spread_rules.proofs.ranks.PlainIsLeast.{first_is_least}

@@ -16,7 +16,8 @@ use Rattle.spread_rules.specs.declared.order.Side.TheVariants.{Buy, Sell}
 use Rattle.spread_rules.specs.declared.candidate.Candidate.{Candidate}
 use Rattle.spread_rules.specs.declared.candidate.Counterparty.{Counterparty}
 use Rattle.spread_rules.specs.declared.candidate.Counterparty.TheVariants.{Direct, Implied}
-use Rattle.spread_rules.specs.Candidates.{Pairs, meeting, precedence, rank, best_candidate, candidate_at, candidate_of, is_within_limit, price_of, cost, rank_at, rank_cmp, is_before, better_by, counterparties, least_candidate}
+use Rattle.spread_rules.specs.Candidates.{Pairs, meeting, precedence, rank, best_candidate, is_within_limit, price_of, cost, rank_at, rank_cmp, is_before}
+use Rattle.spread_rules.specs.code.Candidates.{candidate_at, candidate_of, better_by, counterparties, least_candidate}
 use Rattle.spread_rules.specs.Legs.{is_side}
 
 -- ---- numbers rank as integers do

@@ -2,7 +2,7 @@
 use Rattle.std.proofs.Common.{◌≡◌, fold, List, [], ◌∷◌, ◌++◌, inl, inr, refl, subst, sym, ap, Contains, Option, Some, None, Bool, true, false, cond, append_assoc, append-nil}
 use Rattle.std.specs.Cmp.{IsStrictWeakOrder}
 use Rattle.std.proofs.lemmas.List.Elements.{Contains-append_left, Contains-push, Contains-push_cases}
-use Rattle.spread_rules.specs.Candidates.{better_by}
+use Rattle.spread_rules.specs.code.Candidates.{better_by}
 use Rattle.spread_rules_rulebook.proofs.lists.Membership.{not_in_nil}
 
 module _ {P O : Type 0} (before : O → O → Bool) (order : IsStrictWeakOrder before) (f : P → Option O) where

@@ -11,7 +11,8 @@ use Rattle.spread_rules.specs.declared.candidate.Candidate.{Candidate}
 use Rattle.spread_rules.specs.declared.candidate.Counterparty.{Counterparty}
 use Rattle.spread_rules.specs.declared.candidate.Counterparty.TheVariants.{Direct, Implied}
 use Rattle.spread_rules.specs.declared.candidate.Rank.{Rank}
-use Rattle.spread_rules.specs.Candidates.{IsBest, IsEligible, IsLeast, PlacesDiffer, AllStandIn, rank_cmp, rank_of, rank_at, cost, least_candidate, counterparties}
+use Rattle.spread_rules.specs.Candidates.{IsBest, IsEligible, IsLeast, PlacesDiffer, AllStandIn, rank_cmp, rank_of, rank_at, cost}
+use Rattle.spread_rules.specs.code.Candidates.{least_candidate, counterparties}
 use Rattle.spread_rules.proofs.ranks.PlainIsLeast.{rank_total, first_is_least}
 use Rattle.spread_rules.specs.Candidates.{Pairs}
 

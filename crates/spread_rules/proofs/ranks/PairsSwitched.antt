@@ -6,7 +6,8 @@ use Rattle.spread_rules_rulebook.specs.declared.instrument.Instrument.{Instrumen
 use Rattle.spread_rules_rulebook.specs.declared.instrument.Instrument.TheVariants.{Outright, Spread}
 use Rattle.spread_rules.specs.declared.candidate.Counterparty.TheVariants.{Direct, Implied}
 use Rattle.spread_rules.specs.code.Cases.{step, offered_if}
-use Rattle.spread_rules.specs.Candidates.{Pairs, all_on, takes_part, price_of_three, implied_price, price_of, candidate_at, candidate_of}
+use Rattle.spread_rules.specs.Candidates.{Pairs, price_of_three, price_of}
+use Rattle.spread_rules.specs.code.Candidates.{all_on, takes_part, implied_price, candidate_at, candidate_of}
 use Rattle.spread_rules.specs.Legs.{is_side}
 use Rattle.std.specs.Prelude.{ℤ, ◌+ℤ◌, ◌-ℤ◌, if◌then◌else◌, List, [], ◌∷◌, map, fold}
 use Rattle.spread_rules.specs.declared.candidate.Candidate.{Candidate}

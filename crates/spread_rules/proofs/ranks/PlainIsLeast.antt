@@ -10,7 +10,8 @@ use Rattle.spread_rules.specs.declared.candidate.Candidate.{Candidate}
 use Rattle.spread_rules.specs.declared.candidate.Rank.{Rank}
 use Rattle.spread_rules.specs.declared.candidate.Counterparty.{Counterparty}
 use Rattle.spread_rules.specs.declared.candidate.Counterparty.TheVariants.{Direct, Implied}
-use Rattle.spread_rules.specs.Candidates.{least_candidate, candidate_of, candidate_at, price_of, is_within_limit, is_before, rank_of, rank_cmp, IsEligible, IsLeast, AllStandIn, counterparties}
+use Rattle.spread_rules.specs.Candidates.{price_of, is_within_limit, is_before, rank_of, rank_cmp, IsEligible, IsLeast, AllStandIn}
+use Rattle.spread_rules.specs.code.Candidates.{least_candidate, candidate_of, candidate_at, counterparties}
 use Rattle.spread_rules_rulebook.proofs.lists.Membership.{in_map, from_map, in_flat_map, from_flat_map}
 use Rattle.spread_rules.proofs.ranks.FirstOfAFold.{IsFirst, fold_first}
 use Rattle.spread_rules.specs.Candidates.{Pairs}

@@ -13,10 +13,13 @@ use Rattle.spread_rules.specs.declared.candidate.Candidate.{Candidate}
 use Rattle.spread_rules.specs.declared.candidate.Counterparty.{Counterparty}
 use Rattle.spread_rules.specs.declared.event.Ticket.{Ticket}
 use Rattle.spread_rules.specs.declared.outcome.Outcome.TheVariants.{Replaced}
-use Rattle.spread_rules.specs.Amended.{with_quantity, amended}
-use Rattle.spread_rules.specs.Candidates.{Pairs, price_of_three, candidate_of, is_before, better_by}
+use Rattle.spread_rules.specs.Amended.{with_quantity}
+use Rattle.spread_rules.specs.code.Amended.{amended}
+use Rattle.spread_rules.specs.Candidates.{Pairs, price_of_three, is_before}
+use Rattle.spread_rules.specs.code.Candidates.{candidate_of, better_by}
 use Rattle.spread_rules.specs.Clearing.{Trading}
-use Rattle.spread_rules.specs.Legs.{Leg, is_side}
+use Rattle.spread_rules.specs.Legs.{is_side}
+use Rattle.spread_rules.specs.code.Legs.{Leg}
 use Rattle.spread_rules.specs.Meaning.{EntryMeaning, outcome_of, traded, untraded, replace_means}
 
 -- ---- candidates
@@ -44,7 +47,7 @@ better_of n = better_by (is_before n)
 
 -- the best so far and one more counterparty
 abbrev pub step : Pairs → Order → Option Candidate → Counterparty → Option Candidate
-step trades_implied n best p = better_of n best (candidate_of trades_implied n p)
+step on n best p = better_of n best (candidate_of on n p)
 
 -- ---- fills
 

@@ -2,7 +2,8 @@
 use Rattle.std.proofs.Common.{◌≡◌, ℕ, ℤ, ◌+◌, ◌<◌, Bool, true, false, eqb, length, get_or, List, [], ◌∷◌, ◌++◌, Option, Some, None, Result, Ok, Err, refl, sym, ap, ◌∙◌, subst, arith}
 use Rattle.std.specs.Fmt.{signed_decimal}
 use Rattle.spread_rules_ids.specs.Cut.{Lacks}
-use Rattle.spread_rules_rulebook.specs.Rulebook.{Rules, IsMonth, IsTick, switch_of}
+use Rattle.spread_rules_rulebook.specs.Rulebook.{Rules, IsMonth, IsTick}
+use Rattle.spread_rules_rulebook.specs.code.Rulebook.{switch_of}
 use Rattle.spread_rules_rulebook.specs.code.DraftFields.{HasDistinctNames}
 use Rattle.spread_rules_rulebook.specs.declared.rule_fault.RuleFault.TheVariants.{BadLine, TooManyMonths, NamedTwice}
 use Rattle.spread_rules_rulebook.proofs.rulebook_texts.DraftsOneLineMore.{names_push}

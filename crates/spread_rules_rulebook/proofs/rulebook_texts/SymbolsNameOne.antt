@@ -12,7 +12,8 @@ use Rattle.spread_rules_ids.specs.Cut.{Lacks}
 use Rattle.spread_rules_rulebook.specs.declared.instrument.Instrument.{Instrument}
 use Rattle.spread_rules_rulebook.specs.declared.instrument.Instrument.TheVariants.{Outright, Spread}
 use Rattle.spread_rules_rulebook.specs.declared.rulebook.Month.{Month}
-use Rattle.spread_rules_rulebook.specs.Rulebook.{Rules, IsRules, IsMonth, is_name_byte, month_count, names_of, spreads_to, instruments_of, IsListed, symbol_of, find_symbol}
+use Rattle.spread_rules_rulebook.specs.Rulebook.{Rules, IsRules, IsMonth, is_name_byte, month_count, names_of, instruments_of, IsListed, symbol_of, find_symbol}
+use Rattle.spread_rules_rulebook.specs.code.Rulebook.{spreads_to}
 use Rattle.spread_rules_rulebook.proofs.rulebook_texts.NamesHaveNoSpace.{Lacks-name}
 use Rattle.spread_rules_rulebook.proofs.lists.Membership.{not_in_nil, in_head, in_tail, in_cons_cases, in_map, from_map, in_flat_map, from_flat_map}
 use Rattle.spread_rules_ids.proofs.Cuts.{cut_once, not_lacking}

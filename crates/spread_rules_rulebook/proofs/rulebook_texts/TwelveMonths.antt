@@ -2,7 +2,8 @@
 use Rattle.std.proofs.Common.{◌≡◌, ◌≢◌, ℕ, zero, suc, inl, inr, Bool, true, List, ◌∷◌, ◌++◌, get_or, replicate, codes, Option, None, Result, Ok, Err, refl, sym, ap, ◌∙◌, arith}
 use Rattle.std.specs.Prelude.{◌⊎◌, unwrap_or}
 use Rattle.std.proofs.lemmas.List.{append_assoc}
-use Rattle.spread_rules_rulebook.specs.Rulebook.{implied, switch_number}
+use Rattle.spread_rules_rulebook.specs.Rulebook.{implied}
+use Rattle.spread_rules_rulebook.specs.code.Rulebook.{switch_number}
 use Rattle.spread_rules_rulebook.specs.RulebookText.{SoFar, no_switches, LineGives, skipped, tick, no_tick, no_line, twice, month, EndGives, none, some, Reads, last, last_fault, more, fault, ReadsRulebook}
 use Rattle.spread_rules_rulebook.specs.RulebookTextBeforePairs.{FirstRules, HasNoPairLine, with_all_on, answer_with_all_on, ReadsRulebook as first_ReadsRulebook, SoFar as FirstSoFar, LineGives as FirstGives, skipped as first_skipped, tick as first_tick, no_tick as first_no_tick, no_month as first_no_month, too_many as first_too_many, twice as first_twice, month as first_month, EndGives as FirstEnds, none as first_none, some as first_some, Reads as FirstReads, last as first_last, last_fault as first_last_fault, more as first_more, fault as first_fault}
 use Rattle.spread_rules_rulebook.specs.declared.rule_fault.RuleFault.{RuleFault}

@@ -1,8 +1,8 @@
 //! Pictures of small days, their parts counted and placed by hand.
 use crate::expect::holds;
 use crate::rules::three_months;
-use draw_day::draw;
 use draw_course::put_bytes;
+use draw_day::draw;
 use spread_rules::TestSink;
 use std::alloc::Global;
 use std::process::Abort;

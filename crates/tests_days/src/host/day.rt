@@ -7,13 +7,13 @@ ghost use Rattle.text_messages.specs.Messages.{texts_of};
 use super::read_again;
 use crate::expect::holds;
 use crate::rules::three_months;
-use text_day::{Day, write_behind_journal, write_journal_lines};
-use text_messages::write_sessions;
 use spread_host::{day_of, write_day};
 use spread_rules::{Rulebook, TestSink};
 use std::alloc::Global;
 use std::process::Abort;
 use tests_shared::{FIRST_TRADE_JOURNAL, FIRST_TRADE_TEXT, stamp};
+use text_day::{Day, write_behind_journal, write_journal_lines};
+use text_messages::write_sessions;
 
 /// A journal, and what is written of its day.
 struct Written {

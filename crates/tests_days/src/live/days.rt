@@ -5,18 +5,20 @@ use crate::expect::holds;
 use crate::live::headline::day_of_streams;
 use crate::live::watch::{Meeting, Point, Watch};
 use crate::rules::three_months;
-use text_day::{Day, put_months};
 use fix_wire::{Field, Head, Value, write_message};
 use fix_wire_frames::{msg_types, tags};
 use gate_link::LinkFault;
-use spread_host::{Caps, DaySettings, Gate, HostFault, run_day};
 use live_day::run_sessions;
+use spread_host::{Caps, DaySettings, Gate, HostFault, run_day};
 use spread_rules::{Entry, Event, Rulebook, Side};
 use std::alloc::{AllocError, Allocator, Global};
 use std::process::Abort;
 use std::sync::Wait;
 use std::thread::Threads;
-use tests_shared::{FIRST_LOGON, FIRST_TRADE, FIRST_TRADE_SENT, first_logon, first_order, id, is_first_sent, stamp};
+use tests_shared::{
+    FIRST_LOGON, FIRST_TRADE, FIRST_TRADE_SENT, first_logon, first_order, id, is_first_sent, stamp,
+};
+use text_day::{Day, put_months};
 
 pub const USUAL: Caps = Caps {
     ring: 256,

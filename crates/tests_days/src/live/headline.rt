@@ -3,7 +3,7 @@ ghost use Rattle.std.specs.Prelude.{◌≡◌, ℕ, ◌<◌, ◌≤◌, Contains
 ghost use Rattle.spread_rules_ids.specs.declared.limits.TheConstants.{SESSIONS};
 ghost use Rattle.fix_wire_frames.specs.Frames.{IsFrameRow};
 ghost use Rattle.spread_rules.specs.Journal.{IsLawful, restricted};
-ghost use Rattle.spread_rules.specs.Legs.{bought, sold, paid, received};
+ghost use Rattle.spread_rules.specs.code.Legs.{bought, sold, paid, received};
 ghost use Rattle.spread_rules.specs.Meaning.{filled};
 ghost use Rattle.spread_rules.specs.Quiet.{IsQuiet};
 ghost use Rattle.spread_rules_rulebook.specs.Rulebook.{implied};
@@ -22,13 +22,13 @@ ghost use Rattle.spread_host.specs.Days.{texts_below};
 ghost use Rattle.spread_host.specs.LiveDays.{IsRunDayFault};
 ghost use Rattle.spread_host_faults.specs.declared.fault.HostFault.{HostFault};
 
-use text_day::Day;
-use spread_rules_ids::Id;
 use spread_host::{Caps, Gate, HostFault, run_day};
 use spread_rules::Rulebook;
+use spread_rules_ids::Id;
 use std::alloc::Allocator;
 use std::sync::Wait;
 use std::thread::Threads;
+use text_day::Day;
 
 /// A day in threads.
 pub fn day_of_streams<R: Threads + Wait + Sync, G: Gate, A: Allocator + Copy + Send>(

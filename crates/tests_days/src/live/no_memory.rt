@@ -2,7 +2,6 @@
 use crate::expect::holds;
 use crate::live::days::{Open, USUAL, streams_of};
 use crate::rules::three_months;
-use text_day::Day;
 use gate_link::LinkFault;
 use spread_host::{HostFault, run_day};
 use spread_rules::Rulebook;
@@ -11,6 +10,7 @@ use std::process::Abort;
 use std::sync::Wait;
 use std::thread::Threads;
 use tests_shared::{FIRST_TRADE, Refusing, stamp};
+use text_day::Day;
 
 /// A day of one stream, whose order is the same in each run, in which all memory is the heap's.
 fn day_over<R: Threads + Wait + Sync, A: Allocator + Copy + Send>(

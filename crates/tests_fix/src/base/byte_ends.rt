@@ -2,7 +2,9 @@
 ghost use Rattle.std.specs.Prelude.{◌≡◌, false};
 
 use crate::expect::holds;
-use spread_rules_ends::{Failed, FromReader, Sink, Source, TestSink, TestSource, ToWriter, write_all};
+use spread_rules_ends::{
+    Failed, FromReader, Sink, Source, TestSink, TestSource, ToWriter, write_all,
+};
 use std::io;
 use std::io::{ErrorKind, Read};
 

@@ -1,8 +1,8 @@
 //! What messages mean by the table of kinds alone.
 use super::framed;
 use crate::expect::holds;
-use fix_wire::Message;
 use fix_session_kinds::{Meaning, meaning_of_message, order_texts, ticket_of};
+use fix_wire::Message;
 use spread_rules::{Side, Ticket};
 use tests_shared::id;
 

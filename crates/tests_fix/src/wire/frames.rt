@@ -1,7 +1,7 @@
 //! Frames of streams, cut and garbled.
 use crate::expect::holds;
-use fix_wire_frames::FrameTable;
 use fix_wire::{Framer, Look, Message, Next};
+use fix_wire_frames::FrameTable;
 use std::alloc::Allocator;
 use std::process::Abort;
 use tests_shared::{FIRST_BUY, FIRST_LOGON, FIRST_LOGOUT, FIRST_MESSAGES, FIRST_SELL, FIRST_TRADE};

@@ -1,12 +1,12 @@
 //! The execution reports' own fields, as the worked days have them.
 use crate::expect::holds;
 use fix_wire::Body;
-use spread_rules_ids::Id;
 use spread_report_fields::{
     CancelReport, ExecId, FillReport, MultiLegReportingType, OrdStatus, OrderReport, RejectReport,
     side_code, symbol_of,
 };
 use spread_rules::{Instrument, Rulebook, Side};
+use spread_rules_ids::Id;
 use std::process::Abort;
 use tests_shared::{THREE_MONTHS, id};
 

@@ -4,10 +4,10 @@ ghost use Rattle.spread_rules.specs.declared.order.Order.{Order};
 ghost use Rattle.spread_rules.specs.Amended.{done};
 
 use crate::expect::holds;
-use spread_rules_ids::Id;
-use spread_rules_ids::limits::MAX_ORDER_QTY;
 use spread_books::Book;
 use spread_rules::{NoMemory, Order};
+use spread_rules_ids::Id;
+use spread_rules_ids::limits::MAX_ORDER_QTY;
 use std::process::Abort;
 
 /// Whether that order's place is below this one.

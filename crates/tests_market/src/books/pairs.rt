@@ -1,18 +1,18 @@
 //! The pair of fronts that costs the least: kept in a table, and searched for.
 ghost use Rattle.std.specs.Prelude.{◌≡◌, true, Some, All, slice_get};
 ghost use Rattle.spread_rules.specs.declared.order.Order.{Order};
-ghost use Rattle.spread_rules.specs.Candidates.{HasOrderPrice};
+ghost use Rattle.spread_rules.specs.code.Candidates.{HasOrderPrice};
 ghost use Rattle.spread_books_search.specs.Listed.{IsInMonths};
 
 use super::checked::add;
 use crate::expect::holds;
-use spread_books_search::{MonthPairs, cheapest_pair, front_cost, is_pair_on, spreads_with};
-use spread_rules_ids::limits::MAX_PRICE;
-use spread_books_quotes::{Change, FrontCosts, QuoteTable, is_all_on};
 use spread_books::{Book, ListBook};
 use spread_books_plain::PairCost;
+use spread_books_quotes::{Change, FrontCosts, QuoteTable, is_all_on};
+use spread_books_search::{MonthPairs, cheapest_pair, front_cost, is_pair_on, spreads_with};
 use spread_rules::Side::{Buy, Sell};
 use spread_rules::{Instrument, Order, Rulebook, Side};
+use spread_rules_ids::limits::MAX_PRICE;
 use std::alloc::Global;
 use std::process::Abort;
 use tests_shared::{THREE_MONTHS, id};

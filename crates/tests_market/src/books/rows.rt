@@ -1,10 +1,10 @@
 //! Rows: steps of one book after another, and what the book must answer.
 use super::checked::{add, amend, clear, reduce, remove};
 use crate::expect::holds;
-use spread_rules_ids::Id;
 use spread_books::{Book, IndexBook, ListBook, QuotedBook};
 use spread_books_heap::{FrontBook, HeapBook};
 use spread_rules::{Instrument, Order, Rulebook, Side};
+use spread_rules_ids::Id;
 use std::alloc::Global;
 use std::process::Abort;
 use tests_shared::{THREE_MONTHS, id};

@@ -1,5 +1,5 @@
 //! Candidates and their rank.
-ghost use Rattle.spread_rules.specs.Candidates.{HasOrderPrice};
+ghost use Rattle.spread_rules.specs.code.Candidates.{HasOrderPrice};
 
 use super::{H6, M6, THREE_MONTHS, order};
 use crate::expect::{holds, holds_for};

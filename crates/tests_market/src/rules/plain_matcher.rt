@@ -1,12 +1,12 @@
 //! The plain matcher over the worked rows.
 ghost use Rattle.std.specs.Prelude.{◌≡◌, All, true};
-ghost use Rattle.spread_rules.specs.Candidates.{HasOrderPrice};
+ghost use Rattle.spread_rules.specs.code.Candidates.{HasOrderPrice};
 
 use super::{H6, M6, THREE_MONTHS, U6};
 use crate::expect::{holds, holds_for};
-use spread_rules_ids::Id;
 use spread_rules::Side::{Buy, Sell};
 use spread_rules::{Choice, Instrument, Members, Order, Rulebook, Side, plain_best};
+use spread_rules_ids::Id;
 use std::alloc::Global;
 use std::process::Abort;
 

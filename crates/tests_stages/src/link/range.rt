@@ -1,7 +1,7 @@
 //! Entries whose session, numbers and reason are at either end of their range, and one beyond.
 use crate::expect::holds;
-use spread_rules::{Entry, Event};
 use gate_link_stages::fits_entry;
+use spread_rules::{Entry, Event};
 
 fn fits(session: u8, event: Event) -> bool {
     fits_entry(&Entry { session, event })

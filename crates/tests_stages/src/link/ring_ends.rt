@@ -8,8 +8,8 @@ use gate_link::{
     Feeder, Give, LinkFault, Matcher, Post, Poster, Taken, Writer, Wrote, agree, feed_ring,
     finished, post_ring,
 };
-use spread_rules::{Entry, Event, NoMemory};
 use gate_link_stages::Lent;
+use spread_rules::{Entry, Event, NoMemory};
 use std::alloc::Allocator;
 use std::process::Abort;
 use tests_shared::Refusing;

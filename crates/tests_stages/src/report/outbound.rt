@@ -2,8 +2,8 @@
 use crate::expect::holds;
 use fix_wire::{Field, Value};
 use fix_wire_frames::{msg_types, tags};
-use spread_report_outbound::{CompIds, Mark, OutboundSessions};
 use spread_report_fields::text_field;
+use spread_report_outbound::{CompIds, Mark, OutboundSessions};
 use std::alloc::Global;
 use std::process::Abort;
 use tests_shared::{id, stamp};

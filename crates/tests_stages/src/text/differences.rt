@@ -1,8 +1,8 @@
 //! The first line in which two texts differ.
 use crate::expect::holds;
-use text_day::first_difference;
 use std::alloc::Global;
 use std::process::Abort;
+use text_day::first_difference;
 
 /// Texts, the number of the first line that is another, and how it should be.
 static ROWS: [(&[u8], &[u8], u64, &[u8]); 8] = [

@@ -4,11 +4,11 @@ ghost use Rattle.text_day.specs.DayText.{AreShown};
 
 use crate::expect::holds;
 use crate::rules::three_months;
-use text_fills::{MonthTotals, add_fill, month_totals, no_totals};
-use text_day::{TextFault, text_of_fills, write_fills};
 use spread_rules::{Fill, Instrument, Rulebook, Side, TestSink};
 use std::alloc::Global;
 use std::process::Abort;
+use text_day::{TextFault, text_of_fills, write_fills};
+use text_fills::{MonthTotals, add_fill, month_totals, no_totals};
 
 /// A fill of one lot, as far as its lines show it.
 fn one_lot(at: u64, order: u64, instrument: Instrument, side: Side, prices: (i64, i64, i64)) -> Fill

@@ -5,7 +5,7 @@ use Rattle.spread_rules_ids.specs.declared.limits.TheConstants.{MAX_MONTHS, MAX_
 use Rattle.spread_rules.specs.declared.order.Side.{Side}
 use Rattle.spread_rules.specs.declared.order.Side.TheVariants.{Buy, Sell}
 use Rattle.spread_rules.specs.declared.fill.Fill.{Fill}
-use Rattle.spread_rules.specs.Legs.{Leg, legs_in}
+use Rattle.spread_rules.specs.code.Legs.{Leg, legs_in}
 use Rattle.spread_rules_rulebook.specs.Prices.{IsLegPrice}
 use Rattle.text_fills.specs.declared.totals.MonthTotals.{MonthTotals}
 

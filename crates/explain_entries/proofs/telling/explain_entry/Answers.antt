@@ -1,6 +1,6 @@
 use Rattle.std.proofs.Common.{List, All, subst, sym, ap, ◌∙◌}
 use Rattle.spread_rules.specs.declared.order.Order.{Order}
-use Rattle.spread_rules.specs.Candidates.{HasOrderPrice}
+use Rattle.spread_rules.specs.code.Candidates.{HasOrderPrice}
 use Rattle.explain_entries.specs.EntryExplained.{others_of}
 use Rattle.explain_entries.proofs.Prices.{trades_priced}
 use Rattle.explain_entries.proofs.telling.explain_entry.Goals as goal

@@ -1,6 +1,6 @@
 use Rattle.std.proofs.Common.{Option, subst, sym, ap, ◌∙◌}
 use Rattle.spread_rules.specs.declared.candidate.Candidate.{Candidate}
-use Rattle.spread_rules.specs.Candidates.{counterparties}
+use Rattle.spread_rules.specs.code.Candidates.{counterparties}
 use Rattle.spread_rules_rulebook.specs.Rulebook.{implied}
 use Rattle.explain_turns.specs.Explained.{IsNextBest}
 use Rattle.explain_turns.specs.code.Search.{next_candidate_of}

@@ -1,7 +1,7 @@
 use Rattle.std.proofs.Common.{sym, ◌∙◌}
 use Rattle.spread_rules.specs.declared.candidate.Counterparty.TheVariants.{Implied}
 use Rattle.spread_rules_rulebook.specs.Rulebook.{implied}
-use Rattle.spread_rules.specs.Candidates.{candidate_of, all_on}
+use Rattle.spread_rules.specs.code.Candidates.{candidate_of, all_on}
 use Rattle.explain_turns.proofs.ranks.PassedOver.{none_on, some_no, step_none}
 use Rattle.explain_turns.proofs.next.with_pair.Goals as goal
 

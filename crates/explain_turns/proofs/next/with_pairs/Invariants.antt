@@ -1,6 +1,6 @@
 use Rattle.std.proofs.Common.{◌≡◌, IfSome, fold, map, take}
 use Rattle.spread_rules.specs.declared.candidate.Counterparty.TheVariants.{Implied}
-use Rattle.spread_rules.specs.Candidates.{HasLegPrice}
+use Rattle.spread_rules.specs.code.Candidates.{HasLegPrice}
 use Rattle.spread_rules_rulebook.specs.Rulebook.{implied}
 use Rattle.explain_turns.specs.code.Search.{next_step}
 use Rattle.explain_turns.proofs.next.with_pairs.Given as goal

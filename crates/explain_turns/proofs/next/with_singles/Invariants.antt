@@ -1,6 +1,6 @@
 use Rattle.std.proofs.Common.{◌≡◌, IfSome, map, take}
 use Rattle.spread_rules.specs.declared.candidate.Counterparty.TheVariants.{Direct}
-use Rattle.spread_rules.specs.Candidates.{HasLegPrice}
+use Rattle.spread_rules.specs.code.Candidates.{HasLegPrice}
 use Rattle.spread_rules_rulebook.specs.Rulebook.{implied}
 use Rattle.explain_turns.specs.code.Search.{next_candidate_of}
 use Rattle.explain_turns.proofs.next.with_singles.Given as goal

@@ -1,8 +1,8 @@
 use Rattle.std.proofs.Common.{sym, subst, ◌++◌, ◌∷◌, [], ◌-◌, List, None, All, arith}
 use Rattle.std.proofs.lemmas.List.Elements.{All-push}
 use Rattle.spread_rules.specs.declared.order.Order.{Order}
-use Rattle.spread_rules.specs.Candidates.{HasOrderPrice}
-use Rattle.spread_rules.specs.Clearing.{begin}
+use Rattle.spread_rules.specs.code.Candidates.{HasOrderPrice}
+use Rattle.spread_rules.specs.code.Clearing.{begin}
 use Rattle.explain_turns.specs.declared.turn.ExplainedTurn.{ExplainedTurn}
 use Rattle.explain_turns.specs.Explained.{HaveLegPrices, IsTurn}
 use Rattle.explain_turns.specs.code.Turns.{IsAfter, IsNextTurn}

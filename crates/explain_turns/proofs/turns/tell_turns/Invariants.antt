@@ -1,5 +1,5 @@
 use Rattle.std.proofs.Common.{◌-◌, All, length}
-use Rattle.spread_rules.specs.Candidates.{HasOrderPrice}
+use Rattle.spread_rules.specs.code.Candidates.{HasOrderPrice}
 use Rattle.explain_turns.specs.Explained.{HaveLegPrices}
 use Rattle.explain_turns.specs.code.Turns.{IsAfter}
 use Rattle.explain_turns.proofs.turns.tell_turns.Given as goal

@@ -1,5 +1,5 @@
 use Rattle.std.proofs.Common.{◌++◌, ◌+◌, ◌*◌, ◌≤◌, length, ap, subst, ◌∙◌}
-use Rattle.fix_wire.specs.Layout.{frame_text}
+use Rattle.fix_wire.specs.code.Layout.{frame_text}
 use Rattle.fix_wire.proofs.writing.WrittenMessage.{body_spelled, types_spelled, fits_together, read_back_is}
 use Rattle.fix_wire.proofs.writer.write_body.Goals as goal
 

@@ -1,5 +1,6 @@
 use Rattle.std.proofs.Common.{refl, ℕ, List, Option, Bor, ◌++◌, ◌+◌, ◌*◌, ◌≤◌, take, length, ap, subst, ◌∙◌, arith}
-use Rattle.fix_wire.specs.Layout.{frame_text, message_text}
+use Rattle.fix_wire.specs.Layout.{message_text}
+use Rattle.fix_wire.specs.code.Layout.{frame_text}
 use Rattle.fix_wire.specs.declared.parties.SpelledParties.{SpelledParties}
 use Rattle.fix_wire.specs.declared.writer.Head.{Head}
 use Rattle.fix_wire.specs.declared.writer.SpelledHead.{SpelledHead}

@@ -1,7 +1,7 @@
 use Rattle.std.proofs.Common.{sym, ap, ◌∙◌}
 use Rattle.std.proofs.lemmas.List.{take_rest}
 use Rattle.fix_wire_frames.proofs.texts.HeaderAtTheFront.{header_when}
-use Rattle.fix_wire_frames.specs.Frames.{header_after}
+use Rattle.fix_wire_frames.specs.code.Frames.{header_after}
 use Rattle.fix_wire_frames.proofs.frame.header_of_begun.Goals as goal
 
 pub returns : goal.returns

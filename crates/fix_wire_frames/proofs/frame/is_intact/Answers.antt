@@ -1,7 +1,7 @@
 use Rattle.std.proofs.Common.{ℕ, List, take, sym, ap, subst, ◌∙◌, arith}
 use Rattle.std.specs.Bool.{OnTrue}
 use Rattle.std.proofs.lemmas.List.{take_rest}
-use Rattle.fix_wire_frames.specs.Frames.{is_body}
+use Rattle.fix_wire_frames.specs.code.Frames.{is_body}
 use Rattle.fix_wire_frames.specs.code.Tabled.{IsTable}
 use Rattle.fix_wire_frames.proofs.framing.IntactFrame.{intact_true, intact_false}
 use Rattle.fix_wire_frames.proofs.frame.is_intact.Goals as goal

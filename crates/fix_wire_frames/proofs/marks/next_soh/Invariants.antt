@@ -1,6 +1,6 @@
 use Rattle.std.proofs.Common.{◌≡◌, ◌+◌, ◌-◌, ◌≤◌, length, drop}
 use Rattle.std.specs.List.{position_or_len}
-use Rattle.fix_wire_frames.specs.Texts.{is_soh}
+use Rattle.fix_wire_frames.specs.code.Texts.{is_soh}
 use Rattle.fix_wire_frames.specs.code.Marked.{IsMarked}
 use Rattle.fix_wire_frames.proofs.marks.next_soh.Given as goal
 

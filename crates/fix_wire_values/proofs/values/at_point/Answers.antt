@@ -1,7 +1,7 @@
 use Rattle.std.proofs.Common.{◌+◌, length, sym, arith}
 use Rattle.std.proofs.lemmas.Grind.{common_steps}
 use Rattle.std.proofs.lemmas.List.{take_all, take_rest}
-use Rattle.fix_wire_values.specs.Digits.{is_point}
+use Rattle.fix_wire_values.specs.code.Digits.{is_point}
 use Rattle.fix_wire_values.proofs.FirstPlace.{place_found, place_not_found}
 use Rattle.fix_wire_values.proofs.values.at_point.Goals as goal
 

@@ -2,7 +2,7 @@ use Rattle.std.proofs.Common.{◌≡◌, ◌+◌, ◌<◌, ◌≤◌, ℕ, true,
 use Rattle.std.specs.List.{list_all}
 use Rattle.std.proofs.lemmas.List.{drop_all, take_rest}
 use Rattle.std.proofs.lemmas.Bool.Decides.{nat_tests}
-use Rattle.fix_wire_values.specs.Digits.{is_zero}
+use Rattle.fix_wire_values.specs.code.Digits.{is_zero}
 use Rattle.fix_wire_values.proofs.Hundredths.{hundredths_is, hundredths_at, digits_some, digits_is_some}
 use Rattle.fix_wire_values.proofs.values.read_hundredths.Goals as goal
 use Rattle.fix_wire_values.proofs.values.read_hundredths.Goals.{else-is_empty-via-then-is_empty+else-is_empty-2, else-is_empty-via-else-is_empty, else-part-gt2-via-then-part-gt2+else-not-all_zeros, else-part-gt2-via-else-part-gt2}

@@ -1,5 +1,5 @@
 use Rattle.std.proofs.Common.{◌≡◌, ℕ, List, set, get_or, ap, ◌∙◌}
-use Rattle.fix_wire_frames.specs.Texts.{soh_for_bar}
+use Rattle.fix_wire_frames.specs.code.Texts.{soh_for_bar}
 use Rattle.spread_rules_ids.proofs.MappedInPlace.{map_next, map_rest}
 use Rattle.intake_lines.proofs.lines.put_field_ends.Goals as goal
 

@@ -1,5 +1,5 @@
 use Rattle.std.proofs.Common.{◌≡◌, ◌++◌, map, take, drop}
-use Rattle.fix_wire_frames.specs.Texts.{soh_for_bar}
+use Rattle.fix_wire_frames.specs.code.Texts.{soh_for_bar}
 use Rattle.intake_lines.proofs.lines.put_field_ends.Given as goal
 
 abbrev pub invariant-loop-byte : goal.invariant-loop-byte

@@ -2,7 +2,8 @@ use Rattle.std.proofs.Common.{ℕ, List, Option, IfSome}
 use Rattle.std.proofs.lemmas.Option.{IfSome_then}
 use Rattle.std.proofs.lemmas.Result.{IfOk-weaker, IfErr-weaker}
 use Rattle.fix_wire_frames.specs.Texts.{with_soh}
-use Rattle.intake_lines.specs.Reading.{IsJournalOf, HasParts, IsLinesFault}
+use Rattle.intake_lines.specs.Reading.{IsJournalOf}
+use Rattle.intake_lines.specs.code.Reading.{HasParts, IsLinesFault}
 use Rattle.intake_lines.specs.code.PiecesRead.{HasRead}
 use Rattle.intake_lines.specs.declared.day_reader.DayReader.{DayReader}
 use Rattle.intake_lines.proofs.reading.read_day_lines.Goals as goal

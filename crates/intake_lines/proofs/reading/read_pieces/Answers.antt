@@ -2,7 +2,8 @@ use Rattle.std.proofs.Common.{◌<◌, ◌≤◌, ◌++◌, [], ℕ, List, Optio
 use Rattle.std.proofs.lemmas.List.{length-take-le, length-drop, map-append}
 use Rattle.std.specs.Io.KnownBytes.{Consumes}
 use Rattle.std.proofs.KnownBytes.{Consumes-nil, Consumes-trans}
-use Rattle.fix_wire_frames.specs.Texts.{soh_for_bar, with_soh}
+use Rattle.fix_wire_frames.specs.Texts.{with_soh}
+use Rattle.fix_wire_frames.specs.code.Texts.{soh_for_bar}
 use Rattle.intake_lines.specs.code.PiecesRead.{HasRead}
 use Rattle.intake_lines.proofs.reading.read_pieces.Goals as goal
 

@@ -4,7 +4,8 @@ use Rattle.std.proofs.lemmas.List.{with_items_is}
 use Rattle.std.specs.Vec.{with_items}
 use Rattle.spread_report_outbound.specs.Rows.{IsRow}
 use Rattle.spread_report.specs.Messages.{messages_to}
-use Rattle.spread_report_outbound.specs.Sessions.{bytes_of, session_text}
+use Rattle.spread_report_outbound.specs.Sessions.{bytes_of}
+use Rattle.spread_report_outbound.specs.code.Sessions.{session_text}
 use Rattle.apply_desk.specs.Applied.{applied_entries, outgoing_bytes}
 use Rattle.apply_desk.specs.Sending.{sending_rules, stamp_of}
 use Rattle.apply_desk.proofs.EntryByEntry.{texts_length}

@@ -2,7 +2,7 @@ use Rattle.std.proofs.Common.{ℕ, List, length, inl, Vec}
 use Rattle.spread_rules_rulebook.specs.Rulebook.{Rules}
 use Rattle.live_day.specs.declared.fault.ThreadsFault.{ThreadsFault}
 use Rattle.live_day.specs.declared.fault.ThreadsFault.TheVariants.{Link, Spawn, JournalFull, NoMemory, NumbersSpent}
-use Rattle.live_day.specs.Sending.{sending_rules}
+use Rattle.apply_desk.specs.Sending.{sending_rules}
 use Rattle.live_day.specs.code.Starting.{IsStartFault}
 use Rattle.live_day.specs.Streams.{IsThreadsFault}
 use Rattle.live_day.proofs.sessions.sessions_in.Goals as goal

@@ -1,7 +1,7 @@
 use Rattle.std.proofs.Common.{◌≡◌, ◌∙◌, refl, sym, ap, subst, ◌<◌, ◌≤◌, ◌+◌, ℕ, Bool, true, false, [], List, length, arith, slice_set, ◌++◌, get_or, nat_lt}
 use Rattle.std.proofs.lemmas.Bool.Decides.{nat_tests}
 use Rattle.std.proofs.lemmas.List.{length-set}
-use Rattle.spread_report_outbound.specs.Sessions.{session_text}
+use Rattle.spread_report_outbound.specs.code.Sessions.{session_text}
 use Rattle.gate_link_stages.specs.Posting.{posted}
 use Rattle.live_matching.specs.code.Posting.{NoneEnded, SamePosters, posted_at}
 use Rattle.live_matching.proofs.Posters.{same_set, open_set, open_at, moved_set, empty_set}

@@ -1,5 +1,5 @@
 use Rattle.std.proofs.Common.{◌≡◌, ◌<◌, ◌-◌, ◌++◌, ℕ, [], length}
-use Rattle.spread_report_outbound.specs.Sessions.{session_text}
+use Rattle.spread_report_outbound.specs.code.Sessions.{session_text}
 use Rattle.live_matching.specs.code.Posting.{posted_at, NoneEnded, SamePosters}
 use Rattle.live_matching.proofs.posting.post_each.Given as goal
 

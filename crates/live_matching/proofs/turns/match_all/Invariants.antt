@@ -1,6 +1,6 @@
 use Rattle.std.proofs.Common.{◌≡◌, ◌≤◌, false, length}
 use Rattle.gate_link_stages.specs.Feeding.{taken, take_ended, SameMatcher}
-use Rattle.live_matching.specs.Sending.{sending_rules, stamp_of}
+use Rattle.apply_desk.specs.Sending.{sending_rules, stamp_of}
 use Rattle.live_matching.specs.code.Posting.{CanPost, HasPosted, SamePosters}
 use Rattle.live_matching.proofs.turns.match_all.Given as goal
 

@@ -1,7 +1,8 @@
 use Rattle.std.proofs.Common.{◌≡◌, ℤ, Some, None, ap, sym, ◌∙◌}
 use Rattle.spread_rules.specs.declared.order.Order.{Order}
 use Rattle.spread_rules.specs.declared.candidate.Counterparty.TheVariants.{Implied}
-use Rattle.spread_rules.specs.Candidates.{all_on, price_of}
+use Rattle.spread_rules.specs.Candidates.{price_of}
+use Rattle.spread_rules.specs.code.Candidates.{all_on}
 use Rattle.spread_books_search.proofs.fronts.BeatAnyPair.{fronts_meet}
 use Rattle.spread_books.proofs.pair_quote.pair_quote.Goals as goal
 

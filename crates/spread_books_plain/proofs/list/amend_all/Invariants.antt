@@ -1,5 +1,5 @@
 use Rattle.std.proofs.Common.{◌≡◌, ◌++◌, take, drop}
-use Rattle.spread_rules.specs.Amended.{amended}
+use Rattle.spread_rules.specs.code.Amended.{amended}
 use Rattle.spread_books_plain.proofs.list.amend_all.Given as goal
 
 abbrev pub invariant-loop-order : goal.invariant-loop-order

@@ -5,7 +5,7 @@ use Rattle.spread_rules.specs.declared.order.Side.{Side}
 use Rattle.spread_rules_rulebook.specs.declared.instrument.Instrument.{Instrument}
 use Rattle.spread_rules_rulebook.specs.declared.instrument.Instrument.TheVariants.{Outright}
 use Rattle.spread_rules.specs.declared.candidate.Counterparty.TheVariants.{Direct}
-use Rattle.spread_rules.specs.Candidates.{implied_price, takes_part}
+use Rattle.spread_rules.specs.code.Candidates.{implied_price, takes_part}
 use Rattle.spread_rules.proofs.ranks.PairsSwitched.{priced, part_of}
 use Rattle.spread_rules_rulebook.specs.Rulebook.{implied, month_count}
 use Rattle.spread_books_search.specs.Listed.{IsInMonths}

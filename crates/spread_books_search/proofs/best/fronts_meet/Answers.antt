@@ -1,5 +1,5 @@
 use Rattle.std.proofs.Common.{sym, subst, ◌∙◌}
-use Rattle.spread_rules.specs.Candidates.{all_on}
+use Rattle.spread_rules.specs.code.Candidates.{all_on}
 use Rattle.spread_books_plain.specs.Queues.{IsFrontLevel}
 use Rattle.spread_books_search.proofs.fronts.Levels.{front_of_level, none_without_level, none_meets}
 use Rattle.spread_books_search.proofs.best.fronts_meet.Goals as goal

@@ -2,7 +2,8 @@ use Rattle.std.proofs.Common.{◌≡◌, true, subst, sym, ap, ◌∙◌, Option
 use Rattle.spread_rules.specs.declared.candidate.Candidate.{Candidate}
 use Rattle.spread_rules.specs.declared.candidate.Counterparty.TheVariants.{Implied}
 use Rattle.spread_rules.specs.code.Cases.{better_of}
-use Rattle.spread_rules.specs.Candidates.{IsEligible, is_before, candidate_of, takes_part}
+use Rattle.spread_rules.specs.Candidates.{IsEligible, is_before}
+use Rattle.spread_rules.specs.code.Candidates.{candidate_of, takes_part}
 use Rattle.spread_rules.proofs.ranks.PlainIsLeast.{ranks}
 use Rattle.spread_rules.proofs.ranks.PairsSwitched.{candidate_on}
 use Rattle.spread_books_plain.specs.Queues.{IsFront}

@@ -1,6 +1,6 @@
 use Rattle.std.proofs.Common.{ap, ◌∙◌, subst, List}
 use Rattle.spread_rules.specs.declared.event.Entry.{Entry}
-use Rattle.spread_rules.specs.Meaning.{meaning_of_journal}
+use Rattle.spread_rules.specs.code.Meaning.{meaning_of_journal}
 use Rattle.spread_report_outbound.specs.Rows.{IsRow}
 use Rattle.spread_report.specs.Messages.{messages_to}
 use Rattle.spread_report_outbound.specs.Sessions.{bytes_of}

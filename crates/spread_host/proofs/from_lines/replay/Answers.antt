@@ -5,7 +5,8 @@ use Rattle.std.proofs.lemmas.Option.{IfSome_then}
 use Rattle.std.proofs.lemmas.Result.{err_from_is_err_and}
 use Rattle.spread_rules_ends.specs.Ends.{AppendsPrefix}
 use Rattle.spread_rules.specs.declared.event.Entry.{Entry}
-use Rattle.intake_lines.specs.Reading.{IsJournalOf, HasParts}
+use Rattle.intake_lines.specs.Reading.{IsJournalOf}
+use Rattle.intake_lines.specs.code.Reading.{HasParts}
 use Rattle.spread_host.specs.Days.{IsPartOut}
 use Rattle.spread_host.specs.Headline.{IsJournalOfText}
 use Rattle.spread_host_faults.specs.declared.fault.HostFault.TheVariants as faults

@@ -1,6 +1,6 @@
 use Rattle.std.proofs.Common.{◌∙◌}
 use Rattle.gate_link_sessions.proofs.PartOfASession.{row_past}
-use Rattle.live_sessions.specs.Streams.{whole_stream}
+use Rattle.live_sessions.specs.code.Streams.{whole_stream}
 use Rattle.spread_host.proofs.DayOfParts.{DayHolds, day_holds}
 use Rattle.spread_host.proofs.LawfulJournals.{has_fills}
 use Rattle.spread_host.proofs.SessionsWithoutEntries.{silent}

@@ -3,7 +3,7 @@ use Rattle.fix_wire.specs.declared.writer.Field.{Field}
 use Rattle.fix_wire.specs.declared.writer.Value.{Value}
 use Rattle.spread_report_outbound.specs.code.Addressed.{numbered_message}
 use Rattle.spread_report.specs.code.Reports.{place_field}
-use Rattle.spread_report_fields.specs.Fields.{text_field, number_field}
+use Rattle.spread_report_fields.specs.code.Fields.{text_field, number_field}
 use Rattle.spread_report_outbound.proofs.MoreMessages.{sends_same}
 use Rattle.std.proofs.lemmas.Bool.{ne_eqb}
 use Rattle.spread_report.proofs.admin.send_cancel_reject.Goals.{then-refusal-eq0, else-refusal-eq0}

@@ -1,5 +1,5 @@
 use Rattle.std.proofs.Common.{List, [], ◌∷◌, ℕ, ap}
-use Rattle.spread_report_fields.specs.Fields.{text_field}
+use Rattle.spread_report_fields.specs.code.Fields.{text_field}
 use Rattle.spread_report.specs.EntryMessages.{close_steps}
 use Rattle.spread_report_outbound.specs.code.Addressed.{numbered_message, steps_to}
 use Rattle.spread_report_outbound.proofs.MoreMessages.{sends_same}

@@ -4,7 +4,7 @@ use Rattle.fix_wire_frames.specs.Frames.{frames}
 use Rattle.spread_rules_ids.specs.Ids.{is_id}
 use Rattle.spread_rules_rulebook.specs.Rulebook.{Rules}
 use Rattle.spread_report.specs.Outgoing.{AppliedEntry}
-use Rattle.spread_report_outbound.specs.Steps.{outbound_before_logon}
+use Rattle.spread_report_outbound.specs.code.Steps.{outbound_before_logon}
 use Rattle.spread_report.specs.code.PerSession.{outgoing_starting, messages_starting, spends_from}
 use Rattle.spread_report.specs.Ranges.{AreNames, EntryInRange}
 use Rattle.spread_report_outbound.specs.Rows.{IsRow}

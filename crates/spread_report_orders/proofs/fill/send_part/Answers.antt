@@ -1,7 +1,7 @@
 use Rattle.std.proofs.Common.{◌≡◌, ℕ, ◌==◌, Bool, true, false, if◌then◌else◌, refl}
 use Rattle.std.specs.Int.{w64}
 use Rattle.std.proofs.lemmas.Int.{to_z-of_z}
-use Rattle.spread_report_fields.specs.Codes.{ord_status_code}
+use Rattle.spread_report_fields.specs.code.Codes.{ord_status_code}
 use Rattle.spread_report_fields.specs.declared.codes.OrdStatus.TheVariants.{PartiallyFilled, Filled}
 use Rattle.spread_report_orders.specs.code.Reports.{fill_status}
 use Rattle.spread_report_orders.proofs.fill.send_part.Goals as goal

@@ -1,4 +1,5 @@
-use Rattle.text_messages.specs.Messages.{texts_of, outgoing_lines_from}
+use Rattle.text_messages.specs.Messages.{texts_of}
+use Rattle.text_messages.specs.code.Messages.{outgoing_lines_from}
 use Rattle.text_messages.proofs.BlocksInTurn.{front_of_more, write_stops, none_on_err}
 use Rattle.text_day.specs.code.LineParts.{totals_lines}
 use Rattle.text_day.proofs.PartsInTurn.{then_writes}

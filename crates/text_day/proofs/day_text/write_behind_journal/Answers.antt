@@ -2,12 +2,13 @@ use Rattle.std.proofs.Common.{◌++◌, ◌∙◌, ap, List, ℕ, subst, arith}
 use Rattle.std.proofs.lemmas.List.{length-map}
 use Rattle.std.specs.Io.KnownBytes.{Appends}
 use Rattle.spread_rules_ends.specs.Ends.{AppendsPrefix}
-use Rattle.text_messages.specs.Messages.{texts_of, outgoing_lines_from}
-use Rattle.text_fills.specs.Fills.{fill_lines}
+use Rattle.text_messages.specs.Messages.{texts_of}
+use Rattle.text_messages.specs.code.Messages.{outgoing_lines_from}
+use Rattle.text_fills.specs.code.Fills.{fill_lines}
 use Rattle.text_fills.specs.Totals.{AreTotals}
 use Rattle.spread_rules_rulebook.specs.declared.rulebook.Month.{Month}
 use Rattle.spread_rules_rulebook.specs.Rulebook.{names_of}
-use Rattle.text_day.specs.Months.{month_lines}
+use Rattle.text_day.specs.code.Months.{month_lines}
 use Rattle.text_day.specs.code.LineParts.{totals_lines}
 use Rattle.text_messages.specs.code.Blocks.{Writes}
 use Rattle.text_messages.proofs.BlocksInTurn.{front_of_more, write_stops, none_on_err}

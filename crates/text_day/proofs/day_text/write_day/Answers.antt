@@ -2,7 +2,7 @@ use Rattle.std.proofs.Common.{◌≡◌, Bool, true, List, ℕ, sym, ap, subst, 
 use Rattle.spread_rules.specs.declared.event.Entry.{Entry}
 use Rattle.spread_rules_ends.specs.Ends.{AppendsPrefix}
 use Rattle.spread_journal_lines.specs.JournalText.{journal_text}
-use Rattle.text_day.specs.DayText.{day_text}
+use Rattle.text_day.specs.code.DayText.{day_text}
 use Rattle.text_messages.specs.Messages.{texts_of}
 use Rattle.text_messages.proofs.BlocksInTurn.{of_err}
 use Rattle.text_day.proofs.day_text.write_day.Goals as goal

@@ -5,12 +5,13 @@ use Rattle.std.specs.Io.KnownBytes.{Appends}
 use Rattle.spread_rules_ends.specs.Ends.{AppendsPrefix}
 use Rattle.spread_rules.specs.declared.event.Entry.{Entry}
 use Rattle.spread_journal_lines.specs.JournalText.{journal_text, HasByteIds}
-use Rattle.text_messages.specs.Messages.{texts_of, outgoing_lines_from}
-use Rattle.text_fills.specs.Fills.{fill_lines}
+use Rattle.text_messages.specs.Messages.{texts_of}
+use Rattle.text_messages.specs.code.Messages.{outgoing_lines_from}
+use Rattle.text_fills.specs.code.Fills.{fill_lines}
 use Rattle.text_fills.specs.Totals.{AreTotals}
 use Rattle.spread_rules_rulebook.specs.declared.rulebook.Month.{Month}
 use Rattle.spread_rules_rulebook.specs.Rulebook.{names_of}
-use Rattle.text_day.specs.Months.{month_lines}
+use Rattle.text_day.specs.code.Months.{month_lines}
 use Rattle.text_day.specs.code.LineParts.{totals_lines}
 use Rattle.text_messages.specs.code.Blocks.{Writes}
 use Rattle.text_messages.proofs.BlocksInTurn.{front_after, front_of_more, on_ok_any, write_stops, none_on_err}

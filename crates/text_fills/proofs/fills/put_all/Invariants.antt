@@ -1,7 +1,7 @@
 use Rattle.std.proofs.Common.{◌≡◌, ◌≤◌, ◌++◌, take, vec_capacity, false}
 use Rattle.std.specs.Prelude.{fold}
 use Rattle.text_fills.specs.code.Sums.{with_fill, empty_months}
-use Rattle.text_fills.specs.Fills.{fill_lines}
+use Rattle.text_fills.specs.code.Fills.{fill_lines}
 use Rattle.text_messages.specs.code.Blocks.{IsPut}
 use Rattle.text_fills.proofs.fills.put_all.Given as goal
 

@@ -1,5 +1,5 @@
 use Rattle.std.proofs.Common.{◌≡◌, ◌++◌, take}
-use Rattle.text_fills.specs.Fills.{fill_lines}
+use Rattle.text_fills.specs.code.Fills.{fill_lines}
 use Rattle.text_fills.proofs.fills.put_fills.Given as goal
 
 abbrev pub invariant-loop-fill : goal.invariant-loop-fill

@@ -1,4 +1,4 @@
-use Rattle.text_fills.specs.Fills.{fill_lines}
+use Rattle.text_fills.specs.code.Fills.{fill_lines}
 use Rattle.text_messages.proofs.BlocksInTurn.{put_and_given}
 use Rattle.text_fills.proofs.fills.write_fill_lines.Goals as goal
 

@@ -1,5 +1,6 @@
 use Rattle.std.proofs.Common.{◌≡◌, ◌++◌, ◌∷◌, [], List, map, subst, sym, ◌∙◌, append_assoc}
-use Rattle.text_messages.specs.Messages.{shown_byte, outgoing_line}
+use Rattle.text_messages.specs.Messages.{outgoing_line}
+use Rattle.text_messages.specs.code.Messages.{shown_byte}
 use Rattle.text_messages.specs.code.Blocks.{IsPut}
 use Rattle.text_messages.proofs.BlocksInTurn.{put_none, put_after, put_fails, on_err, on_ok, put_stops}
 use Rattle.text_messages.proofs.LinesInParts.{line_of_three}

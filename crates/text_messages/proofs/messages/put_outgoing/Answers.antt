@@ -1,6 +1,7 @@
 use Rattle.std.proofs.Common.{rules, ◌≡◌, ◌++◌, List, ℕ, map, sym, ap, ◌∙◌, append_assoc}
 use Rattle.std.specs.List.{flat_map}
-use Rattle.text_messages.specs.Messages.{shown_byte, outgoing_line, session_lines}
+use Rattle.text_messages.specs.Messages.{outgoing_line}
+use Rattle.text_messages.specs.code.Messages.{shown_byte, session_lines}
 use Rattle.text_messages.proofs.BlocksInTurn.{put_after, put_fails, put_stops}
 use Rattle.text_messages.proofs.messages.put_outgoing.Goals as goal
 

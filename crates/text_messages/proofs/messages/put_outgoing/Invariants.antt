@@ -1,6 +1,6 @@
 use Rattle.std.proofs.Common.{◌≡◌, ◌≤◌, min, ℕ, List, ◌++◌, length, map, vec_capacity, false}
 use Rattle.fix_wire_frames.specs.Frames.{IsFrameRow}
-use Rattle.text_messages.specs.Messages.{shown_byte, session_lines}
+use Rattle.text_messages.specs.code.Messages.{shown_byte, session_lines}
 use Rattle.text_messages.specs.code.Blocks.{IsPut}
 use Rattle.text_messages.specs.declared.blocks.TheConstants.{BLOCK_BYTES}
 use Rattle.text_messages.proofs.messages.put_outgoing.Given as goal

@@ -1,6 +1,6 @@
 use Rattle.std.proofs.Common.{rules, ◌≡◌, ◌++◌, [], List, ℕ, map, sym, ap, subst, ◌∙◌, append_assoc}
 use Rattle.std.proofs.lemmas.List.{map-append}
-use Rattle.text_messages.specs.Messages.{shown_byte}
+use Rattle.text_messages.specs.code.Messages.{shown_byte}
 use Rattle.text_messages.specs.code.Blocks.{IsPut}
 use Rattle.text_messages.proofs.BlocksInTurn.{put_fails, put_more, put_after, front_of_more, put_stops}
 use Rattle.text_messages.proofs.LinesInParts.{shown_more}

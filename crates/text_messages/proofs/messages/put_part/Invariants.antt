@@ -1,5 +1,5 @@
 use Rattle.std.proofs.Common.{◌≡◌, ◌≤◌, min, ℕ, List, ◌++◌, length, map, vec_capacity, false}
-use Rattle.text_messages.specs.Messages.{shown_byte}
+use Rattle.text_messages.specs.code.Messages.{shown_byte}
 use Rattle.text_messages.specs.code.Blocks.{IsPut}
 use Rattle.text_messages.specs.declared.blocks.TheConstants.{BLOCK_BYTES}
 use Rattle.text_messages.proofs.messages.put_part.Given as goal

@@ -2,7 +2,7 @@ use Rattle.std.proofs.Common.{rules, ◌≡◌, ◌+◌, ◌<◌, ◌++◌, ℕ,
 use Rattle.std.proofs.lemmas.List.{length-map, get_or-map}
 use Rattle.std.proofs.lemmas.List.Elements.{All-get_or}
 use Rattle.fix_wire_frames.specs.Frames.{IsFrameRow}
-use Rattle.text_messages.specs.Messages.{shown_byte, session_lines, outgoing_lines_from}
+use Rattle.text_messages.specs.code.Messages.{shown_byte, session_lines, outgoing_lines_from}
 use Rattle.text_messages.specs.code.Blocks.{IsPut}
 use Rattle.text_messages.proofs.SessionLines.{sessions_next_of, sessions_rest}
 use Rattle.text_messages.proofs.BlocksInTurn.{put_after, put_fails, put_stops}

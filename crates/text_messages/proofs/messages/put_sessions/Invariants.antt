@@ -1,5 +1,5 @@
 use Rattle.std.proofs.Common.{◌≡◌, ◌≤◌, min, ◌++◌, map, take, vec_capacity, false}
-use Rattle.text_messages.specs.Messages.{shown_byte, outgoing_lines_from}
+use Rattle.text_messages.specs.code.Messages.{shown_byte, outgoing_lines_from}
 use Rattle.text_messages.specs.code.Blocks.{IsPut}
 use Rattle.text_messages.specs.declared.blocks.TheConstants.{BLOCK_BYTES}
 use Rattle.text_messages.proofs.messages.put_sessions.Given as goal

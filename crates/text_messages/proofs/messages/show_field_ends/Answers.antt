@@ -1,5 +1,5 @@
 use Rattle.std.proofs.Common.{◌≡◌, ℕ, List, set, get_or, ap, ◌∙◌}
-use Rattle.text_messages.specs.Messages.{shown_byte}
+use Rattle.text_messages.specs.code.Messages.{shown_byte}
 use Rattle.spread_rules_ids.proofs.MappedInPlace.{map_next, map_rest}
 use Rattle.text_messages.proofs.messages.show_field_ends.Goals as goal
 

@@ -1,5 +1,6 @@
 use Rattle.std.proofs.Common.{List, ℕ, map, ap}
-use Rattle.text_messages.specs.Messages.{texts_of, shown_byte, outgoing_lines_from}
+use Rattle.text_messages.specs.Messages.{texts_of}
+use Rattle.text_messages.specs.code.Messages.{shown_byte, outgoing_lines_from}
 use Rattle.text_messages.proofs.BlocksInTurn.{put_and_given}
 use Rattle.text_messages.proofs.messages.write_sessions.Goals as goal
 

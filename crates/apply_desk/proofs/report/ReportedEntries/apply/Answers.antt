@@ -4,10 +4,11 @@ use Rattle.spread_rules_rulebook.specs.Rulebook.{Rules}
 use Rattle.spread_report.specs.Outgoing.{AppliedEntry}
 use Rattle.spread_report.specs.code.PerSession.{applied_at}
 use Rattle.spread_report.specs.Running.{HasSent, RunsOut}
-use Rattle.spread_report_outbound.specs.Sessions.{texts_of}
+use Rattle.spread_report_outbound.specs.code.Sessions.{texts_of}
 use Rattle.spread_report.proofs.entries.OneEntryMore.{sent_more}
 use Rattle.apply_market.specs.Application.{rules_of}
-use Rattle.apply_desk.specs.Applied.{applied_entries, IsApplyFault}
+use Rattle.apply_desk.specs.Applied.{applied_entries}
+use Rattle.apply_desk.specs.code.Applied.{IsApplyFault}
 use Rattle.apply_desk.specs.Sending.{Sending, HasReportedBehind, behind, fault_at, sending_rules}
 use Rattle.apply_desk.proofs.HandedOn.{behind_length, behind_more}
 use Rattle.apply_desk.proofs.EntryByEntry.{CameTo, came, fault_here, texts_length}

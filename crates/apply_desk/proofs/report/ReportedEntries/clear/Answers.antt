@@ -1,6 +1,6 @@
 use Rattle.std.proofs.Common.{◌∙◌, ap, ℕ, List, [], Vec, slice_set}
 use Rattle.std.proofs.lemmas.List.{map-set}
-use Rattle.spread_report_outbound.specs.Sessions.{texts_of}
+use Rattle.spread_report_outbound.specs.code.Sessions.{texts_of}
 use Rattle.apply_desk.specs.Sending.{Sending}
 use Rattle.apply_desk.proofs.report.ReportedEntries.clear.Goals as goal
 

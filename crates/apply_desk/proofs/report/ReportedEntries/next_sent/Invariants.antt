@@ -1,5 +1,5 @@
 use Rattle.std.proofs.Common.{◌≡◌, ◌≤◌, ◌<◌, ◌-◌, ℕ, []}
-use Rattle.spread_report_outbound.specs.Sessions.{session_text}
+use Rattle.spread_report_outbound.specs.code.Sessions.{session_text}
 use Rattle.apply_desk.proofs.report.ReportedEntries.next_sent.Given as goal
 
 abbrev pub invariant-loop-session : goal.invariant-loop-session

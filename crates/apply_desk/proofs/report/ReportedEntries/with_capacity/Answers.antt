@@ -1,5 +1,5 @@
 use Rattle.std.proofs.Common.{[], sym, subst, ◌∙◌}
-use Rattle.spread_report_outbound.specs.Sessions.{OutboundState, sessions_starting, texts_of}
+use Rattle.spread_report_outbound.specs.code.Sessions.{OutboundState, sessions_starting, texts_of}
 use Rattle.spread_report.specs.Running.{HasSent}
 use Rattle.spread_report.proofs.entries.OneEntryMore.{sent_start}
 use Rattle.apply_market.specs.Application.{rules_of}

@@ -1,5 +1,5 @@
 use Rattle.std.proofs.Common.{◌+◌, ◌∙◌, sym, subst, refl}
-use Rattle.spread_rules.specs.Meaning.{meaning_of_journal}
+use Rattle.spread_rules.specs.code.Meaning.{meaning_of_journal}
 use Rattle.apply_market.specs.Application.{Application, HasApplied}
 use Rattle.apply_market.proofs.EntryByEntry.{applied_more}
 use Rattle.apply_market.proofs.apply.MatchedJournal.apply.Goals as goal

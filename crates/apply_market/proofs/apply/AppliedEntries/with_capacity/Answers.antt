@@ -1,5 +1,5 @@
 use Rattle.std.proofs.Common.{rules, [], sym, subst}
-use Rattle.spread_match.specs.State.{MarketView}
+use Rattle.spread_match_state.specs.State.{MarketView}
 use Rattle.apply_market.specs.Application.{HasApplied}
 use Rattle.apply_market.proofs.apply.MatchedJournal.with_capacity.Goals as goal
 

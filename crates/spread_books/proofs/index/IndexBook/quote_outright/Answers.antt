@@ -2,7 +2,7 @@ use Rattle.std.proofs.Common.{◌≡◌, true, ◌∙◌, subst}
 use Rattle.spread_rules.specs.declared.order.Side.{Side}
 use Rattle.spread_rules_rulebook.specs.declared.instrument.Instrument.{Instrument}
 use Rattle.spread_rules_rulebook.specs.declared.instrument.Instrument.TheVariants.{Outright}
-use Rattle.spread_rules.specs.Candidates.{all_on, takes_part}
+use Rattle.spread_rules.specs.code.Candidates.{all_on, takes_part}
 use Rattle.spread_rules_rulebook.specs.Rulebook.{implied}
 use Rattle.spread_rules.specs.Legs.{other_side}
 use Rattle.spread_books_plain.specs.Pairs.{spread_of, spread_side}

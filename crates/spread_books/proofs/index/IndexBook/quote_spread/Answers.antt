@@ -1,7 +1,7 @@
 use Rattle.std.proofs.Common.{◌≡◌, true, sym, ap, ◌∙◌, subst}
 use Rattle.spread_rules.specs.declared.order.Side.{Side}
 use Rattle.spread_rules_rulebook.specs.declared.instrument.Instrument.TheVariants.{Outright, Spread}
-use Rattle.spread_rules.specs.Candidates.{all_on}
+use Rattle.spread_rules.specs.code.Candidates.{all_on}
 use Rattle.spread_rules.specs.Legs.{other_side}
 use Rattle.spread_rules_rulebook.specs.Rulebook.{Rules, implied}
 use Rattle.spread_books_search.specs.BookView.{BookView}

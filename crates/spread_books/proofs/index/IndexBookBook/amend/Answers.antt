@@ -1,7 +1,8 @@
 use Rattle.std.proofs.Common.{List, ◌++◌, ◌∷◌, [], refl, sym, ap, ◌∙◌, subst}
 use Rattle.std.specs.Option.{option_to_list}
 use Rattle.spread_rules.specs.declared.order.Order.{Order}
-use Rattle.spread_rules.specs.Amended.{amended, with_quantity}
+use Rattle.spread_rules.specs.Amended.{with_quantity}
+use Rattle.spread_rules.specs.code.Amended.{amended}
 use Rattle.spread_books_rows.specs.Places.{Ascends}
 use Rattle.spread_books_rows.proofs.places.Ascending.{ascends_changed}
 use Rattle.spread_books_plain.specs.Queues.{CanAmend}

@@ -1,6 +1,6 @@
 use Rattle.std.proofs.Common.{ℕ, List, All, refl, sym, ap, ◌∙◌, subst}
 use Rattle.spread_rules.specs.declared.order.Order.{Order}
-use Rattle.spread_rules.specs.Candidates.{HasOrderPrice}
+use Rattle.spread_rules.specs.code.Candidates.{HasOrderPrice}
 use Rattle.spread_rules.specs.Clearing.{removed}
 use Rattle.spread_books_rows.specs.Places.{HasPlace}
 use Rattle.spread_books_heap.proofs.fronts.TableHoldsFronts.{rests_at, not_nobody}

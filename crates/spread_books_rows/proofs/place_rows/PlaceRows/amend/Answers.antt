@@ -2,7 +2,8 @@ use Rattle.std.proofs.Common.{◌≡◌, ◌≢◌, ◌==◌, ◌<◌, cond, ℕ
 use Rattle.std.specs.List.{find}
 use Rattle.spread_rules.specs.declared.order.Order.{Order}
 use Rattle.spread_books_rows.specs.declared.row.Row.{Row}
-use Rattle.spread_rules.specs.Amended.{amended, with_quantity}
+use Rattle.spread_rules.specs.Amended.{with_quantity}
+use Rattle.spread_rules.specs.code.Amended.{amended}
 use Rattle.spread_books_rows.specs.Places.{Ascends}
 use Rattle.spread_books_rows.specs.code.Rows.{live, Rises}
 use Rattle.spread_books_rows.proofs.places.ChangedAt.{changed}

@@ -6,7 +6,8 @@ use Rattle.spread_rules.specs.declared.order.Order.{Order}
 use Rattle.spread_rules.specs.declared.fill.Fill.{Fill}
 use Rattle.spread_rules.specs.declared.outcome.OrderStatus.{OrderStatus}
 use Rattle.spread_rules.specs.Clearing.{clear, removed, Trading}
-use Rattle.spread_rules.specs.Meaning.{has_id, moved_to}
+use Rattle.spread_rules.specs.Meaning.{has_id}
+use Rattle.spread_rules.specs.code.Meaning.{moved_to}
 use Rattle.spread_rules_rulebook.specs.Rulebook.{month_count, references_of, implied}
 use Rattle.spread_match_state.specs.State.{MarketState}
 use Rattle.spread_match_orders.specs.code.Entering.{entered_status}

@@ -7,9 +7,10 @@ use Rattle.spread_rules.specs.declared.fill.Fill.{Fill}
 use Rattle.spread_rules.specs.declared.event.Ticket.{Ticket}
 use Rattle.spread_rules.specs.declared.event.Event.TheVariants.{New}
 use Rattle.spread_rules.specs.code.Cases.{clearing_means}
-use Rattle.spread_rules.specs.Candidates.{HasOrderPrice}
+use Rattle.spread_rules.specs.code.Candidates.{HasOrderPrice}
 use Rattle.spread_rules.specs.Clearing.{clear, removed, Trading}
-use Rattle.spread_rules.specs.Meaning.{EntryMeaning, has_id, order_of, outcome_of, resting}
+use Rattle.spread_rules.specs.Meaning.{EntryMeaning, has_id, order_of, outcome_of}
+use Rattle.spread_rules.specs.code.Meaning.{resting}
 use Rattle.spread_rules_rulebook.specs.Rulebook.{Rules, month_count, references_of, implied}
 use Rattle.spread_books_search.specs.Listed.{IsNearFirst, IsInMonths}
 use Rattle.spread_match_state.specs.State.{MarketState}

@@ -1,7 +1,7 @@
 use Rattle.std.proofs.Common.{◌≡◌, ℕ, ◌<◌, sym, ap, subst, ◌∙◌}
 use Rattle.spread_rules_ids.specs.declared.limits.TheConstants.{SESSIONS}
 use Rattle.spread_rules.specs.declared.event.Event.{Event}
-use Rattle.spread_report_outbound.specs.Sessions.{OutboundState, outbound_at, texts_of, KeepsBytes}
+use Rattle.spread_report_outbound.specs.code.Sessions.{OutboundState, outbound_at, texts_of, KeepsBytes}
 use Rattle.spread_report_outbound.specs.code.TakingBack.{IsMark}
 use Rattle.spread_report.specs.code.PerSession.{noted_messages, applied_at, outbound_at_entry}
 use Rattle.spread_report.proofs.entries.EntrySent.{ok_refused, err_sent, sent_bytes, sent_outbound, sent_unspent, sent_whole, sent_spent}

@@ -1,5 +1,5 @@
 use Rattle.std.proofs.Common.{◌++◌, ◌∷◌, [], take}
-use Rattle.spread_report_fields.specs.Fields.{text_field}
+use Rattle.spread_report_fields.specs.code.Fields.{text_field}
 use Rattle.spread_report_fields.specs.code.ReportBodies.{order_fields, event_fields, terms_fields, left_fields}
 use Rattle.spread_report_fields.proofs.FieldsInTurn.{more, next}
 use Rattle.spread_report_fields.proofs.report_body.CancelReportBody.put.Goals as goal

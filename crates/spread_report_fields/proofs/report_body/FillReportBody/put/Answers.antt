@@ -1,8 +1,8 @@
 use Rattle.std.proofs.Common.{◌++◌, take}
 use Rattle.std.specs.Int.{w64}
 use Rattle.std.proofs.lemmas.Int.{to_z-of_z}
-use Rattle.spread_report_fields.specs.Codes.{multi_leg_code}
-use Rattle.spread_report_fields.specs.Fields.{number_field}
+use Rattle.spread_report_fields.specs.code.Codes.{multi_leg_code}
+use Rattle.spread_report_fields.specs.code.Fields.{number_field}
 use Rattle.spread_report_fields.specs.code.ReportBodies.{order_fields, event_fields, terms_fields, last_fields, left_fields}
 use Rattle.spread_report_fields.proofs.FieldsInTurn.{more, next}
 use Rattle.spread_report_fields.proofs.report_body.FillReportBody.put.Goals as goal

@@ -4,7 +4,7 @@ use Rattle.std.proofs.lemmas.Result.{err_from_is_err_and}
 use Rattle.spread_report_outbound.specs.code.Sending.{sessions_of}
 use Rattle.spread_report_outbound.proofs.OneMessage.{gap_line, gap_text, gap_none, appended_line, kept_line, sent_off}
 use Rattle.spread_report_outbound.proofs.SessionsOf.{session_of, in_sessions, read_at}
-use Rattle.spread_report_fields.specs.Fields.{number_field, text_field}
+use Rattle.spread_report_fields.specs.code.Fields.{number_field, text_field}
 use Rattle.spread_report_outbound.specs.Steps.{gap_fill, head_of}
 use Rattle.spread_report_outbound.proofs.FrameRows.{written_row}
 use Rattle.spread_report_outbound.proofs.sending.OutboundSessions.fill_gap.Goals as goal

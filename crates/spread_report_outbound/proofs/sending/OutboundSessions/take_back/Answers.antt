@@ -1,6 +1,6 @@
 use Rattle.std.proofs.Common.{◌≡◌, ℕ, sym, ap, ◌∙◌}
 use Rattle.std.proofs.Math.ListN.{set}
-use Rattle.spread_report_outbound.specs.Sessions.{OutboundState, outbound_at}
+use Rattle.spread_report_outbound.specs.code.Sessions.{OutboundState, outbound_at}
 use Rattle.spread_report_outbound.specs.code.Sending.{sessions_of}
 use Rattle.spread_report_outbound.proofs.SessionsOf.{comp_ids_of}
 use Rattle.spread_report_outbound.proofs.TakenBack.{sessions_back, state_back}

@@ -1,6 +1,6 @@
 use Rattle.std.proofs.Common.{All, subst, arith}
 use Rattle.std.proofs.lemmas.List.{take_all}
-use Rattle.spread_rules.specs.Candidates.{HasOrderPrice}
+use Rattle.spread_rules.specs.code.Candidates.{HasOrderPrice}
 use Rattle.tests_market.proofs.Walks.{one_more}
 use Rattle.tests_market.proofs.books.pairs.are_priced.Goals as goal
 

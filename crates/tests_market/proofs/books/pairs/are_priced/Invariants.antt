@@ -1,5 +1,5 @@
 use Rattle.std.proofs.Common.{take, All}
-use Rattle.spread_rules.specs.Candidates.{HasOrderPrice}
+use Rattle.spread_rules.specs.code.Candidates.{HasOrderPrice}
 use Rattle.tests_market.proofs.books.pairs.are_priced.Given as goal
 
 abbrev pub invariant-loop-n : goal.invariant-loop-n

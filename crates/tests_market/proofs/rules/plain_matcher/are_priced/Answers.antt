@@ -1,7 +1,7 @@
 use Rattle.std.proofs.Common.{subst, arith, All}
 use Rattle.std.proofs.lemmas.List.{take_all}
 use Rattle.std.proofs.lemmas.List.Elements.{All-more}
-use Rattle.spread_rules.specs.Candidates.{HasOrderPrice}
+use Rattle.spread_rules.specs.code.Candidates.{HasOrderPrice}
 use Rattle.tests_market.proofs.rules.plain_matcher.are_priced.Goals as goal
 
 pub loop-order-preserved : goal.loop-order-preserved

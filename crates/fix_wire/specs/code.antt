@@ -1,0 +1,2 @@
+-- Words of the code alone: no public promise needs them to be read.
+pub mod Layout

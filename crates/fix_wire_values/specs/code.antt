@@ -1,0 +1,3 @@
+-- Words of the code alone: no public promise needs them to be read.
+pub mod Digits
+pub mod Values
