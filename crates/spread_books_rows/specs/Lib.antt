@@ -1,2 +1,3 @@
+pub mod PlacedRows
 pub mod Places
 pub mod code
