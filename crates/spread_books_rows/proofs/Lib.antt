@@ -1,2 +1,2 @@
 pub mod places
-pub mod PlacedRows
+pub mod RisingRows

@@ -1,3 +1,3 @@
-pub mod PlacedRows
+pub mod RisingRows
 pub mod Places
 pub mod code

@@ -1,6 +1,6 @@
 use Rattle.std.proofs.Common.{rules, Ok, Err}
 use Rattle.std.proofs.lemmas.List.Sorted.{answers_always}
-use Rattle.spread_books_rows.proofs.PlacedRows.{by_place}
+use Rattle.spread_books_rows.proofs.RisingRows.{by_place}
 use Rattle.spread_books_rows.specs.declared.row.Row.{Row}
 use Rattle.spread_books_rows.proofs.place_rows.row_at.Goals as goal
 

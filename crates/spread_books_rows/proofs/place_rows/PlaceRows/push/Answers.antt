@@ -4,7 +4,7 @@ use Rattle.spread_books_rows.specs.declared.row.Row.{Row}
 use Rattle.spread_books_rows.specs.Places.{Ascends}
 use Rattle.spread_books_rows.specs.code.Rows.{live, Rises}
 use Rattle.spread_books_rows.proofs.places.RowsByPlace.{live_within, live_push, ascends_live, longer}
-use Rattle.spread_books_rows.proofs.PlacedRows.{rises_push}
+use Rattle.spread_books_rows.proofs.RisingRows.{rises_push}
 use Rattle.spread_books_rows.proofs.place_rows.PlaceRows.push.Goals as goal
 
 pub overflow_add-self : goal.overflow_add-self

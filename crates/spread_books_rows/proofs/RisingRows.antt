@@ -6,7 +6,7 @@ use Rattle.std.specs.Prelude.{◌≢◌, OnErr, IfOk}
 use Rattle.std.specs.List.Sorted.{IsBinarySearchResult, IsNonDecreasingBy}
 use Rattle.std.specs.Ordering.{nat_cmp, ordering_index}
 use Rattle.std.proofs.lemmas.Cmp.{ranked}
-use Rattle.spread_books_rows.specs.PlacedRows.{RisesBy}
+use Rattle.spread_books_rows.specs.RisingRows.{RisesBy}
 
 nat_lt_is : (a b : ℕ) → cond (nat_lt a b) (a < b) (b ≤ a)
 nat_lt_is a b = by_test (nat_lt a b) refl
