@@ -24,7 +24,8 @@ struct SentEntry<'a> {
     fills: &'a [Fill],
 }
 
-/// The entry of that place is none that the desk takes. Its line follows the journal's first.
+/// The fault of an entry that the desk may not be given. Line numbers count the line `JOURNAL 2`, so its line is one more
+/// than its place.
 fn unfit(place: u64) -> BenchFault {
     BenchFault::Journal(JournalFault::Line(place.saturating_add(1)))
 }

@@ -66,7 +66,7 @@ fn time_messages(
     })
 }
 
-/// The same of a journal applied over an empty book. The market stays until the messages are written, as it does in a
+/// Writes what the sessions of a journal are sent, which is applied over an empty book. The market stays until the messages are written, as it does in a
 /// day: what is freed decides how `malloc` grows the lists of messages.
 fn time_messages_over<B: Book + Drop>(
     rt: &(impl CpuClock + AllocGlobal),

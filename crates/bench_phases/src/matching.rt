@@ -101,7 +101,7 @@ fn match_all<B: Book + Drop, A: Allocator + Copy>(
     match_each(&mut market, journal, &mut fills)
 }
 
-/// The same over the book that the host has.
+/// Matches a journal over the book that the host has, and measures it.
 fn match_indexed<A: Allocator + Copy>(
     alloc: A,
     rulebook: &Rulebook,

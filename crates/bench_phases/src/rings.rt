@@ -15,7 +15,7 @@ const MOST: u32 = 8192;
 #[derive(Clone, Copy)]
 pub enum AtOnce {
     One,
-    /// Those of up to 64 messages, as `live` sends them.
+    /// The events of up to 64 messages at once, as `live` sends them.
     Slice,
 }
 

@@ -49,7 +49,7 @@ const STEPS: [i64; 30] = [
 #[derive(Clone, Copy)]
 pub struct Scale {
     pub entries: u64,
-    /// Those that are drawn, in hundredths.
+    /// The prices that are drawn, in hundredths.
     pub prices: Span,
     /// In hundredths.
     pub tick: i64,
@@ -57,7 +57,7 @@ pub struct Scale {
     pub height: i64,
 }
 
-/// So much of a whole, as so much of another one.
+/// `of × many / whole`: what `of` is of `whole`, in units of which `many` are the whole. A `whole` of 0 counts as 1.
 fn scaled(of: i64, many: i64, whole: i64) -> i64 {
     of.saturating_mul(many) / whole.max(1)
 }

@@ -39,9 +39,9 @@ pub enum Request<'a> {
 /// What is done with a journal text.
 #[derive(Clone, Copy)]
 pub enum Task<'a> {
-    /// It is worked again.
+    /// The journal is worked again.
     Check,
-    /// It is held against the lines of fills and months that somebody claims for it.
+    /// The journal is held against the lines of fills and months that somebody claims for it.
     Audit { claim: &'a str },
     /// The entry of this place is explained.
     Explain { place: u32 },

@@ -16,7 +16,12 @@ others_priced None xs h = h
 others_priced (Some r) xs h = All-filter (λ (o : Order). not (o.place == r.place)) HasOrderPrice xs h
 
 -- by the law on the ranges of what rests
-pub trades_priced : (rules : Rules) (before : List Entry) (named : Option Order) → ((rules : Rules) (journal : List Entry) → IsRules rules → All FitsEntry journal → (n : ℕ) → AreOrdersInRange rules (meaning_of_journal rules (take n journal)).orders) → IsRules rules → All FitsEntry before → All HasOrderPrice (others_of named (standing_at rules before))
+pub trades_priced : (rules : Rules) (before : List Entry) (named : Option Order)
+    → ((rules : Rules) (journal : List Entry) → IsRules rules → All FitsEntry journal → (n : ℕ)
+    → AreOrdersInRange rules (meaning_of_journal rules (take n journal)).orders) → IsRules rules → All FitsEntry before
+    → All HasOrderPrice (others_of named (standing_at rules before))
 trades_priced rules before named law lawful fits =
-    let ranges = subst (λ (es : List Entry). AreOrdersInRange rules (meaning_of_journal rules es).orders) (take_all (length before) before (omega arith)) (law rules before lawful fits (length before)) in
-    others_priced named (standing_at rules before) (All-weaker (IsOrderInRange rules) HasOrderPrice (λ o h. h.price) (standing_at rules before) ranges)
+    let ranges = subst (λ (es : List Entry). AreOrdersInRange rules (meaning_of_journal rules es).orders)
+    (take_all (length before) before (omega arith)) (law rules before lawful fits (length before)) in
+    others_priced named (standing_at rules before) (All-weaker (IsOrderInRange rules) HasOrderPrice (λ o h. h.price)
+    (standing_at rules before) ranges)

@@ -59,7 +59,7 @@ fn next_of(
     }
 }
 
-/// The least of the direct candidates.
+/// The best direct candidate that ranks behind `bound`, if there is one.
 fn with_singles(
     rules: &Rulebook,
     new: &Order,
@@ -149,7 +149,8 @@ fn with_pairs(
     found
 }
 
-/// The same, where an order that may not be the first of two is passed over.
+/// The best candidate of two orders with that first one, or the one given. An order that may not be the first of two is
+/// passed over.
 fn with_pairs_of(
     rules: &Rulebook,
     new: &Order,

@@ -96,7 +96,7 @@ fn remove_all<A: Allocator + Copy>(orders: &mut Vec<Order, A>, place: u64)
     orders.retain(|o| o.place != place);
 }
 
-/// So many lots of an order have traded: it rests no longer where nothing is left of it.
+/// Takes traded lots off a resting order, which rests no longer where nothing is left of it.
 fn reduce_or_remove<A: Allocator + Copy>(orders: &mut Vec<Order, A>, by: u32, order: &Order)
     ensures { orders.new.items ≡ after_fill by orders.old.items order.now }
 {
@@ -107,7 +107,7 @@ fn reduce_or_remove<A: Allocator + Copy>(orders: &mut Vec<Order, A>, by: u32, or
     }
 }
 
-/// The same of each member of a candidate.
+/// Takes the traded lots off each member of a candidate.
 pub fn reduce_members<A: Allocator + Copy>(
     orders: &mut Vec<Order, A>,
     by: u32,

@@ -13,7 +13,7 @@ pub struct ExplainedTurn {
     pub quantity: u32,
     /// The prices of the near and the far leg of the spread that takes part, in hundredths; where none does, the price.
     pub legs: (i64, i64),
-    /// Those that rank next, the best first; none behind the last there is.
+    /// The candidates that rank next, the best first; `None` behind the last there is.
     pub next: [Option<Candidate>; 5],
 }
 

@@ -65,7 +65,7 @@ pub struct Session {
 #[derive(Clone, Copy)]
 pub enum Change {
     Nothing,
-    /// It opens, between the ids of the Logon that it says.
+    /// The session opens, between the CompIDs of the Logon that the verdict says.
     Opens,
     /// This number is due, and whether the missing messages from it on were asked for.
     Due { number: u32, gap_asked: bool },
@@ -93,7 +93,8 @@ impl Session {
         (verdict, after)
     }
 
-    /// The same: it sets the verdict, and tells what the message changes in place of the session after it.
+    /// Judges a message as `judge` does, but into a verdict of the caller's, and tells what the message changes in place of
+    /// the session after it: so no verdict is copied.
     #[inline(always)]
     pub fn judge_into(&self, message: &Message, verdict: &mut Verdict) -> Change
         ensures { judgement_of self.now (verdict.new, result) ≡ judge self.now message.now.frame.now }
@@ -115,7 +116,7 @@ impl Session {
         }
     }
 
-    /// Makes the change that a message with this verdict makes.
+    /// Applies a change that `judge_into` answered together with this verdict.
     #[inline(always)]
     pub fn change(&mut self, verdict: &Verdict, change: Change)
         ensures { self.new ≡ changed self.old verdict.now change }
@@ -352,7 +353,7 @@ fn accepted(message: &Message, number: u32, verdict: &mut Verdict) -> u32
     accepted_other(message, number, verdict)
 }
 
-/// The same of any kind: orders are most of the messages, and are not copied so often.
+/// What an accepted message of any kind means. Orders are most of the messages, and are not copied so often.
 fn accepted_other(message: &Message, number: u32, verdict: &mut Verdict) -> u32
     requires { number ≤ MAX_MSG_SEQ_NUM }
     ensures verdict { verdict.new

@@ -7,7 +7,8 @@ use Rattle.fix_wire_frames.specs.Messages.{kind}
 use Rattle.fix_session_kinds.specs.Table.{meaning_by, meaning_of_message}
 use Rattle.fix_session_kinds.specs.code.ByKind.{known, meaning_of_kind_text}
 
-by_bytes : (text m : List ℕ) (n : ℕ) → cond (eqb (length text) 0) (Err 4) (known (meaning_by (λ type. bytes_eq text (type ∷ [])) m n) m) ≡ meaning_of_kind_text text m n
+by_bytes : (text m : List ℕ) (n : ℕ) → cond (eqb (length text) 0) (Err 4)
+    (known (meaning_by (λ type. bytes_eq text (type ∷ [])) m n) m) ≡ meaning_of_kind_text text m n
 by_bytes [] m n = refl
 by_bytes (k ∷ []) m n = λ i. known (meaning_by (λ type. and-true (eqb k type) i) m n) m
 by_bytes (k ∷ l ∷ ks) m n =

@@ -17,22 +17,27 @@ one_byte : (b : ℕ) (allowed : List ℕ) → one_of allowed (b ∷ []) ≡ cond
 one_byte b [] = refl
 one_byte b (a ∷ more) = by_test (one_byte b more) (eqb a b) refl
   where
-    by_test : one_of more (b ∷ []) ≡ cond (list_any (λ x. eqb x b) more) (Ok b) (Err 5) → (v : Bool) → eqb a b ≡ v → or_out (cond (eqb b a && true) (Some a) (find (λ x. bytes_eq (b ∷ []) (x ∷ [])) more)) ≡ cond (v || list_any (λ x. eqb x b) more) (Ok b) (Err 5)
+    by_test : one_of more (b ∷ []) ≡ cond (list_any (λ x. eqb x b) more) (Ok b) (Err 5) → (v : Bool) → eqb a b ≡ v
+        → or_out (cond (eqb b a && true) (Some a) (find (λ x. bytes_eq (b ∷ []) (x ∷ [])) more)) ≡ cond
+        (v || list_any (λ x. eqb x b) more) (Ok b) (Err 5)
     by_test ih true e =
         let here : eqb b a ≡ true = grind (arith, nat_tests) in
-        ap (λ x. or_out (cond (x && true) (Some a) (find (λ y. bytes_eq (b ∷ []) (y ∷ [])) more))) here ∙ ap Ok (eqb-true a b e)
+        ap (λ x. or_out (cond (x && true) (Some a) (find (λ y. bytes_eq (b ∷ []) (y ∷ [])) more))) here
+        ∙ ap Ok (eqb-true a b e)
     by_test ih false e =
         let other : eqb b a ≡ false = grind (arith, nat_tests) in
         ap (λ x. or_out (cond (x && true) (Some a) (find (λ y. bytes_eq (b ∷ []) (y ∷ [])) more))) other ∙ ih
 
 -- a text of one byte that is allowed
-pub byte_found : (text allowed : List ℕ) → 1 ≤ length text → length text < 2 → list_any (λ a. eqb a (get_or text 0 0)) allowed ≡ true → Ok (get_or text 0 0) ≡ one_of allowed text
+pub byte_found : (text allowed : List ℕ) → 1 ≤ length text → length text < 2
+    → list_any (λ a. eqb a (get_or text 0 0)) allowed ≡ true → Ok (get_or text 0 0) ≡ one_of allowed text
 byte_found [] allowed some few e = absurd (omega arith)
 byte_found (b ∷ []) allowed some few e = sym (one_byte b allowed ∙ ap (λ v. cond v (Ok b) (Err 5)) e)
 byte_found (b ∷ c ∷ cs) allowed some few e = absurd (omega arith)
 
 -- a text of one byte that is not
-pub byte_not_found : (text allowed : List ℕ) → 1 ≤ length text → length text < 2 → list_any (λ a. eqb a (get_or text 0 0)) allowed ≡ false → Err 5 ≡ one_of allowed text
+pub byte_not_found : (text allowed : List ℕ) → 1 ≤ length text → length text < 2
+    → list_any (λ a. eqb a (get_or text 0 0)) allowed ≡ false → Err 5 ≡ one_of allowed text
 byte_not_found [] allowed some few e = absurd (omega arith)
 byte_not_found (b ∷ []) allowed some few e = sym (one_byte b allowed ∙ ap (λ v. cond v (Ok b) (Err 5)) e)
 byte_not_found (b ∷ c ∷ cs) allowed some few e = absurd (omega arith)

@@ -8,6 +8,7 @@ use Rattle.spread_rules.specs.declared.order.Side.TheVariants.{Buy, Sell}
 use Rattle.spread_rules.specs.declared.codes.session_reject_reason.TheConstants as reject
 use Rattle.spread_rules.specs.declared.event.Ticket.{Ticket}
 use Rattle.spread_rules.specs.declared.event.Event.TheVariants as events
+use Rattle.spread_rules.specs.declared.codes.side.TheConstants as side_value
 use Rattle.fix_wire_frames.specs.declared.field_values.TheConstants as field_values
 use Rattle.fix_wire_frames.specs.declared.msg_types.TheConstants as msg_types
 use Rattle.fix_wire_frames.specs.declared.tags.TheConstants as tags
@@ -95,7 +96,7 @@ new_order m = do
   Ok (record {
     id = id;
     symbol = symbol;
-    side = if side == field_values.SIDE_BUY then Buy else Sell;
+    side = if side == side_value.BUY then Buy else Sell;
     quantity = quantity;
     price = price;
     immediate = time_in_force == field_values.IMMEDIATE_OR_CANCEL;

@@ -13,7 +13,7 @@ ghost use Rattle.fix_session_kinds.specs.code.Readers.{bytes_behind, ticket_of, 
 
 use fix_wire_frames::{Message, field_values, msg_types, tags};
 use fix_wire_values::{Unread, read_number, read_price, read_quantity};
-use spread_rules::codes::session_reject_reason;
+use spread_rules::codes::{session_reject_reason, side};
 use spread_rules::{Event, Side, Ticket};
 use spread_rules_ids::Id;
 use spread_rules_ids::limits::FIRST_MSG_SEQ_NUM;
@@ -21,11 +21,11 @@ use spread_rules_ids::limits::FIRST_MSG_SEQ_NUM;
 /// What an accepted message means.
 #[derive(Clone, Copy)]
 pub enum Meaning {
-    /// It is passed over.
+    /// The message is passed over.
     Nothing,
-    /// It says this to the host.
+    /// The message says this to the host.
     Says(Event),
-    /// It is a gap fill, and this number is due after it.
+    /// The message is a gap fill, and this number is due after it.
     GapFill(u32),
 }
 
@@ -122,7 +122,7 @@ fn side_at(message: &Message) -> Result<Side, u8>
     ensures { result ≡ side_at message.now.frame.now }
 {
     match choice_at(message, tags::SIDE, b"12")? {
-        field_values::SIDE_BUY => Ok(Side::Buy),
+        side::BUY => Ok(Side::Buy),
         _ => Ok(Side::Sell),
     }
 }

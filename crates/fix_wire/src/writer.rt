@@ -100,7 +100,8 @@ pub fn write_message<A: Allocator>(
     Ok(())
 }
 
-/// The same of fields that write themselves, into a room of the caller's first: 64 bytes for each field, and 256. A
+/// Appends one message whose body writes its own fields, as `write_message` does one of a list of fields. It is written into
+/// a room of the caller's first, of 64 bytes for each field and 256 more. A
 /// caller that keeps its room from message to message fills no bytes that no message has.
 pub fn write_body<A: Allocator, B: Body>(
     room: &mut [u8],

@@ -264,7 +264,7 @@ fn append(buffer: &mut [u8], start: usize, end: usize, piece: &[u8])
     buffer[end..end + piece.len()].copy_from_slice(piece);
 }
 
-/// The same of the bytes of a buffer from start to end.
+/// Finds the first start of a frame in the bytes of a buffer from `start` to `end`.
 #[inline(always)]
 fn first_start_in(
     buffer: &[u8; BUFFER_BYTES],

@@ -2,6 +2,7 @@
 #![tactic(auto)]
 
 mod framer;
+pub mod laws;
 mod row;
 
 pub use framer::{FramePlace, Framer, Look, Next};

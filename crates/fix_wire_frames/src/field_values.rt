@@ -1,9 +1,5 @@
-//! Values of fields that are one byte, under the names that FIX 4.2 gives them.
-
-/// Side (tag 54).
-pub const SIDE_BUY: u8 = b'1';
-
-pub const SIDE_SELL: u8 = b'2';
+//! Values of fields that are one byte, under the names that FIX 4.2 gives them. Those of Side (tag 54) are
+//! `spread_rules::codes::side`.
 
 /// TimeInForce (tag 59).
 pub const DAY: u8 = b'0';

@@ -1,6 +1,9 @@
 //! Laws over the definitions alone.
 ghost use Rattle.std.specs.Prelude.{◌≡◌, List, ℕ, [], ◌∷◌, Some, None, true, false, codes, take, drop};
 ghost use Rattle.fix_wire_frames.specs.Frames.{frame_at, may_begin, frames};
+ghost use Rattle.fix_wire_frames.specs.declared.field_values.TheConstants as field_value;
+ghost use Rattle.fix_wire_frames.specs.declared.frame.TheConstants.{MAX_LENGTH_DIGITS, MAX_TAG_DIGITS};
+ghost use Rattle.fix_wire_frames.specs.declared.message.TheConstants.{MAX_FRAME_BYTES};
 ghost use Rattle.fix_wire_frames.specs.declared.tags.TheConstants as tag;
 ghost use Rattle.fix_wire_frames.specs.declared.msg_types.TheConstants as msg_type;
 
@@ -73,4 +76,18 @@ pub fn msg_types()
     ensures logon { msg_type.LOGON ∷ [] ≡ codes "A" }
     ensures new_order_single { msg_type.NEW_ORDER_SINGLE ∷ [] ≡ codes "D" }
     ensures order_cancel_request { msg_type.ORDER_CANCEL_REQUEST ∷ [] ≡ codes "F" }
+    ensures order_cancel_replace_request { msg_type.ORDER_CANCEL_REPLACE_REQUEST ∷ [] ≡ codes "G" }
+{}
+
+/// The characters that FIX 4.2 gives the values of TimeInForce (tag 59).
+pub fn field_values()
+    ensures day { field_value.DAY ∷ [] ≡ codes "0" }
+    ensures immediate_or_cancel { field_value.IMMEDIATE_OR_CANCEL ∷ [] ≡ codes "3" }
+{}
+
+/// How long the parts of a frame may be.
+pub fn sizes()
+    ensures length_digits { MAX_LENGTH_DIGITS ≡ 8 }
+    ensures tag_digits { MAX_TAG_DIGITS ≡ 9 }
+    ensures frame_bytes { MAX_FRAME_BYTES ≡ 4124 }
 {}

@@ -18,7 +18,7 @@ pub(crate) struct Marks {
     pub next: usize,
 }
 
-/// Those of no byte yet.
+/// The marks of no byte yet.
 pub(crate) const NO_MARKS: Marks = Marks { bits: 0, next: 0 };
 
 /// The SOHs of a whole block.
@@ -32,7 +32,7 @@ fn marks_at(text: &[u8], at: usize) -> u64
         .to_bitmask()
 }
 
-/// Those of a text that is shorter than a block.
+/// The marks of a text that is shorter than a block.
 #[inline(never)]
 fn marks_of_rest(rest: &[u8]) -> u64
     requires { length rest.now < BLOCK_BYTES }

@@ -165,7 +165,7 @@ pub(crate) fn value_of<'a>(body: &'a [u8], table: Option<&FieldTable>, tag: u32)
     Some(&body[place.start as usize..place.end as usize])
 }
 
-/// The same without a table, field by field.
+/// Looks for a tag field by field, without a table.
 #[tactic(auto, unfolding(crate::specs::Fields::fields_of_body))]
 fn value_in(text: &[u8], tag: u32) -> Option<&[u8]>
     requires { is_some (fields_of_body text.now) ≡ true }

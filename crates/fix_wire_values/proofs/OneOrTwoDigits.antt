@@ -9,9 +9,11 @@ use Rattle.fix_wire_values.proofs.Appended.{step}
 use Rattle.fix_wire_values.proofs.LastTwoDigits.{two_only}
 
 -- what stood before a byte that was put stands there still
-before : (at after d : ℕ) (o r : List ℕ) → at ≤ length o → after ≡ at + 1 → take after r ≡ take at o ++ d ∷ [] → take at r ≡ take at o
+before : (at after d : ℕ) (o r : List ℕ) → at ≤ length o → after ≡ at + 1 → take after r ≡ take at o ++ d ∷ []
+    → take at r ≡ take at o
 before at after d o r h next e =
-    sym (take-take at after r (omega (arith, next))) ∙ ap (λ t. take at t) e ∙ take_at (take at o) (d ∷ []) at (length-take-le at o h)
+    sym (take-take at after r (omega (arith, next))) ∙ ap (λ t. take at t) e
+    ∙ take_at (take at o) (d ∷ []) at (length-take-le at o h)
 
 one_digit : (n : ℕ) → n < 10 → n % 10 ≡ n
 one_digit n h = grind (arith, h)

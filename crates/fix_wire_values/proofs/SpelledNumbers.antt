@@ -9,11 +9,13 @@ use Rattle.std.proofs.Math.Nat.{pow-suc}
 use Rattle.fix_wire_values.specs.Digits.{number_of}
 use Rattle.fix_wire_values.specs.code.Digits.{number_after}
 
-pub number_after_push : (n : ℕ) (ds : List ℕ) (d : ℕ) → number_after n (ds ++ d ∷ []) ≡ 10 * number_after n ds + (d - 48)
+pub number_after_push : (n : ℕ) (ds : List ℕ) (d : ℕ)
+    → number_after n (ds ++ d ∷ []) ≡ 10 * number_after n ds + (d - 48)
 number_after_push n [] d = refl
 number_after_push n (x ∷ ds) d = number_after_push (10 * n + (x - 48)) ds d
 
-pub number_of_more : (xs : List ℕ) (i : ℕ) → i < length xs → number_of (take (i + 1) xs) ≡ 10 * number_of (take i xs) + (get_or xs i 0 - 48)
+pub number_of_more : (xs : List ℕ) (i : ℕ) → i < length xs
+    → number_of (take (i + 1) xs) ≡ 10 * number_of (take i xs) + (get_or xs i 0 - 48)
 number_of_more xs i h = ap number_of (take_more xs i 0 h) ∙ number_after_push 0 (take i xs) (get_or xs i 0)
 
 digit_below : (d : ℕ) → is_ascii_digit d ≡ true → d - 48 ≤ 9
@@ -29,7 +31,8 @@ ten_pos (suc k) = rw (pow-suc 10 k) (omega (arith, ten_pos k))
 none_below : (n p : ℕ) → 0 < p → n < (n + 1) * p
 none_below n p h = grind arith
 
-pub number_after_below : (n : ℕ) (ds : List ℕ) (k : ℕ) → length ds ≤ k → list_all is_ascii_digit ds ≡ true → number_after n ds < (n + 1) * 10 ^ k
+pub number_after_below : (n : ℕ) (ds : List ℕ) (k : ℕ) → length ds ≤ k → list_all is_ascii_digit ds ≡ true
+    → number_after n ds < (n + 1) * 10 ^ k
 number_after_below n [] k l h = none_below n (10 ^ k) (ten_pos k)
 number_after_below n (d ∷ ds) zero l h = absurd (omega arith)
 number_after_below n (d ∷ ds) (suc k) l h =

@@ -2,6 +2,7 @@
 #![tactic(auto)]
 
 mod digits;
+pub mod laws;
 mod values;
 
 pub use digits::{put, put_byte, put_number, put_price};

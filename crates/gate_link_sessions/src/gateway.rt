@@ -53,7 +53,7 @@ pub enum Step {
 /// What a gateway did with several messages at once.
 #[derive(Clone, Copy, PartialEq, Eq)]
 pub enum Burst {
-    /// So many events were pushed as one slice, and their messages passed.
+    /// How many events were pushed as one slice; their messages were passed.
     Sent(u32),
     /// Messages were passed, and none of them has an event.
     Skipped,

@@ -11,6 +11,7 @@ ghost use Rattle.fix_session_judging.specs.Streams.{whole};
 ghost use Rattle.fix_wire_framer.specs.Pieces.{SplitsInto, IsDrained};
 ghost use Rattle.fix_wire_framer.specs.declared.framer.TheConstants.{BUFFER_BYTES};
 ghost use Rattle.gate_link_sessions.specs.Owed.{events_left};
+ghost use Rattle.gate_link_sessions.specs.declared.gateway.TheConstants.{MAX_SLICE};
 
 use fix_session_judging::laws::judged;
 
@@ -40,4 +41,9 @@ pub fn owed()
 pub fn takes_more()
     ensures { (held piece : List ℕ) → IsDrained held → 0 < length piece →
         0 < min (length piece) (BUFFER_BYTES - length held) }
+{}
+
+/// How many messages a session steps on together at most.
+pub fn slice_size()
+    ensures { MAX_SLICE ≡ 64 }
 {}

@@ -62,7 +62,7 @@ pub struct Matcher<A: Allocator> {
 /// What giving did.
 #[derive(Clone, Copy, PartialEq, Eq)]
 pub enum Give {
-    /// So many entries were pushed as one slice.
+    /// How many entries were pushed as one slice.
     Gave(usize),
     /// The ring had no room for them.
     Full,

@@ -5,6 +5,7 @@
 mod fault;
 mod feed;
 mod feed_pair;
+pub mod laws;
 mod post;
 mod post_pair;
 mod range;

@@ -59,7 +59,7 @@ pub struct Writer<A: Allocator> {
 /// What posting did.
 #[derive(Clone, Copy, PartialEq, Eq)]
 pub enum Post {
-    /// So many bytes from the first were pushed.
+    /// How many bytes from the first were pushed.
     Posted(usize),
     /// The ring had no room for them.
     Full,
@@ -70,7 +70,7 @@ pub enum Post {
 /// What taking did.
 #[derive(Clone, Copy, PartialEq, Eq)]
 pub enum Wrote {
-    /// So many bytes were taken into the list.
+    /// How many bytes were taken into the list.
     Bytes(usize),
     /// No item is there yet.
     Empty,

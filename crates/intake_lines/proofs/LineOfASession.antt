@@ -20,7 +20,8 @@ word_is : (s : ℕ) → s < 16 → decimal s ++ 58 ∷ [] ≡ word s
 word_is s h = by_size (cases_lt s 10)
   where
     by_size : (s < 10) ⊎ (10 ≤ s) → decimal s ++ 58 ∷ [] ≡ word s
-    by_size (inl l) = let t : ltb s 10 ≡ true = grind (arith, nat_tests) in rw t (ap (λ w. w ++ 58 ∷ []) (decimal_digit s l))
+    by_size (inl l) = let t : ltb s 10 ≡ true = grind (arith, nat_tests) in
+        rw t (ap (λ w. w ++ 58 ∷ []) (decimal_digit s l))
     by_size (inr l) =
         let t : ltb s 10 ≡ false = grind (arith, nat_tests) in
         let ten : s / 10 ≡ 1 = omega arith in
@@ -33,10 +34,14 @@ word_is s h = by_size (cases_lt s 10)
 abbrev by_words : ℕ → ℕ → List ℕ → List DayLine
 by_words a n line = filter_map (λ s. option_map (day_line s) (stripped (word s) line)) (range_with_len a n)
 
-words_are : (a n : ℕ) (line : List ℕ) → a + n ≤ 16 → filter_map (λ s. option_map (day_line s) (stripped (decimal s ++ 58 ∷ []) line)) (range_with_len a n) ≡ by_words a n line
+words_are : (a n : ℕ) (line : List ℕ) → a + n ≤ 16
+    → filter_map (λ s. option_map (day_line s) (stripped (decimal s ++ 58 ∷ []) line)) (range_with_len a n) ≡ by_words a
+    n line
 words_are a zero line h = refl
 words_are a (suc n) line h =
-    ap (λ (w : List ℕ). cons_option (option_map (day_line a) (stripped w line)) (filter_map (λ s. option_map (day_line s) (stripped (decimal s ++ 58 ∷ []) line)) (range_with_len (a + 1) n))) (word_is a (omega (arith, h)))
+    ap (λ (w : List ℕ). cons_option (option_map (day_line a) (stripped w line))
+    (filter_map (λ s. option_map (day_line s) (stripped (decimal s ++ 58 ∷ []) line)) (range_with_len (a + 1) n)))
+    (word_is a (omega (arith, h)))
     ∙ ap (cons_option (option_map (day_line a) (stripped (word a) line))) (words_are (a + 1) n line (omega (arith, h)))
 
 abbrev IsSame : List ℕ → Type 0
@@ -51,10 +56,12 @@ single None = refl
 single (Some l) = refl
 
 -- a session of one digit
-one_digit : (s b : ℕ) (rest : List ℕ) → option_to_list (cond (eqb b 58) (Some (day_line s rest)) None) ≡ cons_option (option_map (day_line s) (cond (eqb 58 b) (Some rest) None)) []
+one_digit : (s b : ℕ) (rest : List ℕ) → option_to_list (cond (eqb b 58) (Some (day_line s rest)) None) ≡ cons_option
+    (option_map (day_line s) (cond (eqb 58 b) (Some rest) None)) []
 one_digit s b rest = by_test (eqb b 58) (eqb 58 b) same
   where
-    by_test : (v w : Bool) → v ≡ w → option_to_list (cond v (Some (day_line s rest)) None) ≡ cons_option (option_map (day_line s) (cond w (Some rest) None)) []
+    by_test : (v w : Bool) → v ≡ w → option_to_list (cond v (Some (day_line s rest)) None) ≡ cons_option
+        (option_map (day_line s) (cond w (Some rest) None)) []
     by_test true true e = refl
     by_test false false e = refl
     by_test true false e = cc
@@ -91,7 +98,8 @@ behind_one : (b : ℕ) (rest : List ℕ) → IsSame (49 ∷ b ∷ rest)
 behind_one b rest = by_place (cases_lt b 48) (cases_lt 53 b)
   where
     by_colon : (b < 48) ⊎ (53 < b) → (v : Bool) → eqb b 58 ≡ v → IsSame (49 ∷ b ∷ rest)
-    by_colon far true e = let is : b ≡ 58 = grind (arith, nat_tests) in subst (λ x. IsSame (49 ∷ x ∷ rest)) (sym is) refl
+    by_colon far true e = let is : b ≡ 58 = grind (arith, nat_tests) in
+        subst (λ x. IsSame (49 ∷ x ∷ rest)) (sym is) refl
     by_colon far false e = let other : b ≢ 58 = grind (arith, nat_tests) in no_session b rest other far
 
     by_place : (b < 48) ⊎ (48 ≤ b) → (53 < b) ⊎ (b ≤ 53) → IsSame (49 ∷ b ∷ rest)
@@ -149,7 +157,9 @@ leading line s = starts_with nat_eq line (decimal s ++ 58 ∷ [])
 abbrev behind : List ℕ → ℕ → DayLine
 behind line s = day_line s (drop (length (decimal s) + 1) line)
 
-by_leads : (line : List ℕ) (ns : List ℕ) → filter_map (λ s. option_map (day_line s) (stripped (decimal s ++ 58 ∷ []) line)) ns ≡ map (behind line) (filter (leading line) ns)
+by_leads : (line : List ℕ) (ns : List ℕ) → filter_map
+    (λ s. option_map (day_line s) (stripped (decimal s ++ 58 ∷ []) line)) ns ≡ map (behind line)
+    (filter (leading line) ns)
 by_leads line [] = refl
 by_leads line (s ∷ ns) =
     let later = filter_map (λ n. option_map (day_line n) (stripped (decimal n ++ 58 ∷ []) line)) ns in
@@ -157,7 +167,8 @@ by_leads line (s ∷ ns) =
     ∙ by_test (leading line s) later (filter (leading line) ns) (by_leads line ns)
   where
     by_test : (v : Bool) (later : List DayLine) (those : List ℕ) → later ≡ map (behind line) those →
-        cons_option (option_map (day_line s) (cond v (Some (drop (length (decimal s ++ 58 ∷ [])) line)) None)) later ≡ map (behind line) (cond v (s ∷ those) those)
+        cons_option (option_map (day_line s) (cond v (Some (drop (length (decimal s ++ 58 ∷ [])) line)) None)) later ≡
+        map (behind line) (cond v (s ∷ those) those)
     by_test true later those e =
         ap (λ (ls : List DayLine). day_line s (drop (length (decimal s ++ 58 ∷ [])) line) ∷ ls) e
         ∙ ap (λ (k : ℕ). day_line s (drop k line) ∷ map (behind line) those) (length-append (decimal s) (58 ∷ []))

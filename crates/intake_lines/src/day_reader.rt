@@ -89,6 +89,7 @@ impl<A: Allocator + Copy> DayReader<A> {
         ensures number { OnOk result (self.new.number ≤ self.old.number + length text.now) }
     {
         let mut left = text;
+        // The label names the loop for its proof.
         'lines: while self.bad.is_none() {
             let Some((line, after)) = cut_at(left, b'\n') else {
                 self.rest.extend_from_slice(left)?;

@@ -21,6 +21,8 @@ collected es p out was writers others s low =
     let n : s < length texts = omega (arith, low, behind_length (posted_at ps) texts, was.reported.sent.count) in
     let sent = sym (behind_at (posted_at ps) texts s n) ∙ was.reported.sent.bytes s low in
     elim (cases_lt s (length ps)) [
-      | inl here ↦ writers s here ∙ (sym (append-nil (posted_at ps s)) ∙ (ap (λ (t : List ℕ). posted_at ps s ++ t) (sym (was.given s here)) ∙ sent))
-      | inr past ↦ others s past ∙ (ap (λ (t : List ℕ). t ++ session_text texts s) (sym (row_past posted ps s past)) ∙ sent)
+      | inl here ↦ writers s here ∙ (sym (append-nil (posted_at ps s))
+          ∙ (ap (λ (t : List ℕ). posted_at ps s ++ t) (sym (was.given s here)) ∙ sent))
+      | inr past ↦ others s past ∙ (ap (λ (t : List ℕ). t ++ session_text texts s) (sym (row_past posted ps s past))
+          ∙ sent)
     ]

@@ -45,37 +45,47 @@ restricted_prefix : (s : ℕ) (xs ys : List Entry) → IsPrefix xs ys → IsPref
 restricted_prefix s xs ys p = (restricted s p.0, sym (restricted-append s xs p.0) ∙ ap (restricted s) p.1)
 
 -- a beginning of the journal has, of each session, a beginning of what the journal has of it
-pub parts_of_front : {A : Type 0} (streams : List (Vec ℕ A)) (front journal : List Entry) → IsPrefix front journal → IsBeginningOf streams journal → IsBeginningOf streams front
-parts_of_front streams front journal pre parts s = prefix_trans (restricted s front) (restricted s journal) (whole_at streams s) (restricted_prefix s front journal pre) (parts s)
+pub parts_of_front : {A : Type 0} (streams : List (Vec ℕ A)) (front journal : List Entry) → IsPrefix front journal
+    → IsBeginningOf streams journal → IsBeginningOf streams front
+parts_of_front streams front journal pre parts s =
+    prefix_trans (restricted s front) (restricted s journal) (whole_at streams s)
+    (restricted_prefix s front journal pre) (parts s)
 
 -- the matching thread's fault is one of the day
-pub live_fault : {A : Type 0} (rules : Rules) (streams : List (Vec ℕ A)) (ring room : ℕ) (took : List Entry) (f : ApplyFault)
+pub live_fault : {A : Type 0} (rules : Rules) (streams : List (Vec ℕ A)) (ring room : ℕ) (took : List Entry)
+    (f : ApplyFault)
     → IsBeginningOf streams took → IsApplyFault rules took f → IsThreadsFault rules streams ring room (of_apply f)
 live_fault rules streams ring room took (NoMemory place) parts is = inr (took, parts, omega (arith, is))
 live_fault rules streams ring room took (NumbersSpent place) parts is = (took, parts, is)
 
 -- the matching thread's fault is one of how the two ended
-pub fault_named : (q : SequenceEnd) (m : MatchEnd) (place : ℕ) (f : ApplyFault) → m ≡ Fault f → IsFaultOfEnds q m place (of_apply f)
+pub fault_named : (q : SequenceEnd) (m : MatchEnd) (place : ℕ) (f : ApplyFault) → m ≡ Fault f
+    → IsFaultOfEnds q m place (of_apply f)
 fault_named q m place (NoMemory p) is = inr is
 fault_named q m place (NumbersSpent p) is = is
 
 -- a fault of how the two ended is one of the day
 pub fault_of_day : {A : Type 0} (room ring : ℕ) (streams : List (Vec ℕ A)) (q : Sequenced A) (m : Matched A) (place : ℕ)
-    → SequenceEnds q.end room streams q.journal.items q.feeder → MatchEnds m.end (taken m.matcher) m.posted → IsBeginningOf streams (taken m.matcher)
-    → place ≤ length (taken m.matcher) + 1 → (f : ThreadsFault) → IsFaultOfEnds q.end m.end place f → IsThreadsFault (sending_rules m.posted.reported) streams ring room f
+    → SequenceEnds q.end room streams q.journal.items q.feeder → MatchEnds m.end (taken m.matcher) m.posted
+    → IsBeginningOf streams (taken m.matcher)
+    → place ≤ length (taken m.matcher) + 1 → (f : ThreadsFault) → IsFaultOfEnds q.end m.end place f
+    → IsThreadsFault (sending_rules m.posted.reported) streams ring room f
 fault_of_day room ring streams q m place sequenced matched parts within threads.JournalFull is =
     subst (λ (e : SequenceEnd). SequenceEnds e room streams q.journal.items q.feeder) is sequenced
 fault_of_day room ring streams q m place sequenced matched parts within (threads.NoMemory p) (inl same) =
     inr (taken m.matcher, parts, omega (arith, same, within))
 fault_of_day room ring streams q m place sequenced matched parts within (threads.NoMemory p) (inr is) =
-    live_fault (sending_rules m.posted.reported) streams ring room (taken m.matcher) (NoMemory p) parts (subst (λ (e : MatchEnd). MatchEnds e (taken m.matcher) m.posted) is matched)
+    live_fault (sending_rules m.posted.reported) streams ring room (taken m.matcher) (NoMemory p) parts
+    (subst (λ (e : MatchEnd). MatchEnds e (taken m.matcher) m.posted) is matched)
 fault_of_day room ring streams q m place sequenced matched parts within (threads.NumbersSpent p) is =
-    live_fault (sending_rules m.posted.reported) streams ring room (taken m.matcher) (NumbersSpent p) parts (subst (λ (e : MatchEnd). MatchEnds e (taken m.matcher) m.posted) is matched)
+    live_fault (sending_rules m.posted.reported) streams ring room (taken m.matcher) (NumbersSpent p) parts
+    (subst (λ (e : MatchEnd). MatchEnds e (taken m.matcher) m.posted) is matched)
 fault_of_day room ring streams q m place sequenced matched parts within (threads.Link fault) is = absurd is
 fault_of_day room ring streams q m place sequenced matched parts within (threads.Spawn k) is = absurd is
 
 -- two ends that were not looked at yet are of one ring
-pub pair_left : {A : Type 0} (ps₀ ps : List (Poster A)) (ws₀ ws : List (Written A)) (i : ℕ) (p : Poster A) (w : Written A)
+pub pair_left : {A : Type 0} (ps₀ ps : List (Poster A)) (ws₀ ws : List (Written A)) (i : ℕ) (p : Poster A)
+    (w : Written A)
     → AreJoinedPairs ps₀ ws₀ → i < length ws₀ → get_or ps i p ≡ get_or ps₀ i p → get_or ws i w ≡ get_or ws₀ i w
     → ArePostPair (get_or ps i p) (get_or ws i w).writer
 pair_left ps₀ ps ws₀ ws i p w pairs here same_p same_w = rw (same_p, same_w) (pairs.1 i p w here)
@@ -86,8 +96,10 @@ finishes_whole true ended gave wrote is h = h.1
 finishes_whole false ended gave wrote is h = absurd (cc is)
 
 -- one more of the rows is alike
-pub row_written : {X Y Z : Type 0} (f : X → List Z) (g : Y → List Z) (xs : List X) (ys : List Y) (i : ℕ) (x : X) → i < length xs
-    → ((s : ℕ) → s < i → row f xs s ≡ row g ys s) → f x ≡ row g ys i → (s : ℕ) → s < i + 1 → row f (set xs i x) s ≡ row g ys s
+pub row_written : {X Y Z : Type 0} (f : X → List Z) (g : Y → List Z) (xs : List X) (ys : List Y) (i : ℕ) (x : X)
+    → i < length xs
+    → ((s : ℕ) → s < i → row f xs s ≡ row g ys s) → f x ≡ row g ys i → (s : ℕ) → s < i + 1
+    → row f (set xs i x) s ≡ row g ys s
 row_written f g xs ys i x here done now s below =
     elim (cases_eq s i) [
       | inl e ↦ rw e (row_same f xs i x here ∙ now)

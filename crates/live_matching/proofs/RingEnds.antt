@@ -16,12 +16,20 @@ use Rattle.live_matching.specs.declared.step.MatchEnd.TheVariants.{Whole, Stoppe
 pub same_matcher_trans : {A : Type 0} (a b d : Matcher A) → SameMatcher a b → SameMatcher b d → SameMatcher a d
 same_matcher_trans a b d p q = ((q.0.0 ∙ p.0.0, q.0.1 ∙ p.0.1, q.0.2 ∙ p.0.2, q.0.3 ∙ p.0.3), q.1 ∙ p.1)
 
-pub feed_kept : {A : Type 0} (f h : Feeder A) (m n : Matcher A) → SameFeeder f h → SameMatcher m n → AreFeedPair f m → AreFeedPair h n
-feed_kept f h m n sf sm p = (sm.0.0 ∙ (p.0 ∙ sym sf.0.0), sm.0.1 ∙ (p.1 ∙ sym sf.0.1), sm.0.2 ∙ (p.2 ∙ sym sf.0.2), sm.0.3 ∙ (p.3 ∙ sym sf.0.3))
+pub feed_kept : {A : Type 0} (f h : Feeder A) (m n : Matcher A) → SameFeeder f h → SameMatcher m n → AreFeedPair f m
+    → AreFeedPair h n
+feed_kept f h m n sf sm p = (
+  sm.0.0 ∙ (p.0 ∙ sym sf.0.0),
+  sm.0.1 ∙ (p.1 ∙ sym sf.0.1),
+  sm.0.2 ∙ (p.2 ∙ sym sf.0.2),
+  sm.0.3 ∙ (p.3 ∙ sym sf.0.3),
+)
 
 -- the matching side: the entry at hand, by how it ended
-pub step_ends : {A : Type 0} (end : MatchEnd) (es : List Entry) (e : Entry) (a b : PostedEntries A) → sending_rules b.reported ≡ sending_rules a.reported
+pub step_ends : {A : Type 0} (end : MatchEnd) (es : List Entry) (e : Entry) (a b : PostedEntries A)
+    → sending_rules b.reported ≡ sending_rules a.reported
     → StepEnds end e a b → HasPosted es a → MatchEnds end (es ++ e ∷ []) b
 step_ends Whole es e a b rules step was = step es was
 step_ends Stopped es e a b rules step was = tt
-step_ends (Fault f) es e a b rules step was = subst (λ (r : Rules). IsApplyFault r (es ++ e ∷ []) f) (sym rules) (step es was)
+step_ends (Fault f) es e a b rules step was = subst (λ (r : Rules). IsApplyFault r (es ++ e ∷ []) f) (sym rules)
+    (step es was)

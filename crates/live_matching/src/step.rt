@@ -15,7 +15,7 @@ use std::sync::atomic::AtomicBool;
 /// How an entry's application ended, or that of all entries in the matching thread.
 #[derive(Clone, Copy)]
 pub enum MatchEnd {
-    /// It was applied, and what it sends given to the writers; of the thread, every entry was, and the end mark taken.
+    /// The entry was applied, and what it sends given to the writers; of the thread: every entry was, and the end mark taken.
     Whole,
     /// The flag was set, or an entry was none that a session sends.
     Stopped,

@@ -14,8 +14,13 @@ use Rattle.gate_link_sessions.specs.declared.gateway.Gateway.{Gateway}
 use Rattle.gate_link_sessions.proofs.gateways.SentAndOwed.{kept_of_put, sent_is_prefix, sent_is_whole}
 use Rattle.live_sessions.specs.code.Workers.{HasSent, IsUnused, SameEvents, sent_and_pending}
 
-pub sent_of : {A : Type 0} (stream : List ℕ) (a b : Gateway A) (rest : List ℕ) → SameGateway a b → sent_and_pending b rest ≡ whole stream → HasSent stream a b
-sent_of stream a b rest same total = (same, sent_is_prefix b rest (whole stream) total, sent_is_whole b rest (whole stream) total)
+pub sent_of : {A : Type 0} (stream : List ℕ) (a b : Gateway A) (rest : List ℕ) → SameGateway a b
+    → sent_and_pending b rest ≡ whole stream → HasSent stream a b
+sent_of stream a b rest same total = (
+  same,
+  sent_is_prefix b rest (whole stream) total,
+  sent_is_whole b rest (whole stream) total,
+)
 
 -- what a gateway that has done nothing has left to say is all events of its stream
 pub unused_owes : {A : Type 0} (stream : List ℕ) (g : Gateway A) → IsUnused g → sent_and_pending g stream ≡ whole stream
@@ -26,7 +31,8 @@ unused_owes stream g is =
 
 -- bytes that were put are no longer to come
 pub fed : {A : Type 0} (a b : Gateway A) (stream : List ℕ) (put n : ℕ) → events_sent b ≡ events_sent a
-    → ((more : List ℕ) → pending_events b more ≡ pending_events a (take n (take (length stream - put) (drop put stream)) ++ more))
+    → ((more : List ℕ) → pending_events b more ≡ pending_events a
+    (take n (take (length stream - put) (drop put stream)) ++ more))
     → sent_and_pending b (drop (put + n) stream) ≡ sent_and_pending a (drop put stream)
 fed a b stream put n sent owed =
     let rest = drop put stream in
@@ -39,10 +45,23 @@ fed a b stream put n sent owed =
     ∙ ap (λ (t : List ℕ). events_sent a ++ pending_events a t) (take-append-drop n rest)))
 
 pub same_gateway_trans : {A : Type 0} (a b d : Gateway A) → SameGateway a b → SameGateway b d → SameGateway a d
-same_gateway_trans a b d p q = (q.0 ∙ p.0, ((q.1.0.0 ∙ p.1.0.0, q.1.0.1 ∙ p.1.0.1, q.1.0.2 ∙ p.1.0.2, q.1.0.3 ∙ p.1.0.3), q.1.1 ∙ p.1.1))
+same_gateway_trans a b d p q = (
+  q.0 ∙ p.0,
+  (
+    (
+      q.1.0.0 ∙ p.1.0.0,
+      q.1.0.1 ∙ p.1.0.1,
+      q.1.0.2 ∙ p.1.0.2,
+      q.1.0.3
+          ∙ p.1.0.3,
+    ),
+    q.1.1 ∙ p.1.1,
+  ),
+)
 
 -- after a step on what is held, the same of a slice to the end as of what is left
-pub stepped : {A : Type 0} (a b d e : Gateway A) (stream : List ℕ) (put : ℕ) (all : List Event) → SameGateway a b → sent_and_pending b (drop put stream) ≡ all
+pub stepped : {A : Type 0} (a b d e : Gateway A) (stream : List ℕ) (put : ℕ) (all : List Event) → SameGateway a b
+    → sent_and_pending b (drop put stream) ≡ all
     → ((rest : List ℕ) → SameEvents b rest d rest)
     → SameEvents d (take (length stream - put) (drop put stream)) e (take (length stream - put) (drop put stream))
     → SameGateway a e × (sent_and_pending e (drop put stream) ≡ all)

@@ -48,7 +48,7 @@ pub fn run_gateway<R: Wait, G: Gate, A: Allocator>(
     gateway
 }
 
-/// Does so with a gateway that is lent.
+/// `run_gateway` over a borrowed gateway: the owner stays outside of the loop.
 fn send_stream<R: Wait, G: Gate, A: Allocator>(
     rt: &R,
     gate: &G,

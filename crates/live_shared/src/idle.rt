@@ -7,7 +7,7 @@ use std::thread;
 use std::thread::Parker;
 use std::time::Duration;
 
-/// So many looks that find nothing are followed by a yield alone.
+/// How many looks that find nothing are followed by a yield alone.
 const EAGER_LOOKS: u32 = 100;
 
 /// How many microseconds a thread sleeps after each look behind those.
@@ -39,7 +39,7 @@ fn sleep<R: Wait>(rt: &R, micros: u64) {
     Parker::new().park_timeout(rt, Duration::from_micros(micros));
 }
 
-/// So many looks of a writer that find nothing are followed by a yield alone.
+/// How many looks of a writer that find nothing are followed by a yield alone.
 const WRITER_LOOKS: u32 = 8;
 
 /// How many microseconds a writer asks to sleep at least. Linux adds as many as fifty.

@@ -84,7 +84,7 @@ impl<'r, A: Allocator + Copy> QuotedBook<'r, A> {
         self.all_on
     }
 
-    /// As `len`. There is no memory for as many as a `usize` counts.
+    /// The number of resting orders, always below 2^63.
     pub fn count(&self) -> usize
         ensures count { result ≡ length self.now.orders }
         ensures below_2_to_63 { result < 2 ^ 63 }

@@ -79,7 +79,7 @@ fn update_front<A: Allocator + Copy>(fronts: &mut FrontTable<A>, order: &Order)
     }
 }
 
-/// Whether no other order is known to be the front.
+/// Whether the order at this place may be the queue's front: none is remembered, or this one is.
 fn may_be_front(best: Option<BestPrice>, place: u64) -> bool
     ensures { result ≡ may_be_front best place }
 {
@@ -114,7 +114,7 @@ impl<A: Allocator + Copy> FrontBook<A> {
         }
     }
 
-    /// As `len`. There is no memory for as many as a `usize` counts.
+    /// The number of resting orders, always below 2^63.
     pub fn count(&self) -> usize
         ensures count { result ≡ length self.now }
         ensures below_2_to_63 { result < 2 ^ 63 }
@@ -122,7 +122,7 @@ impl<A: Allocator + Copy> FrontBook<A> {
         self.tables.count()
     }
 
-    /// As `remove`, and gives the order. Takes no memory.
+    /// Takes the order of a place out, as `remove` does, and gives it. Takes no memory.
     pub fn remove_order(&mut self, place: u64) -> Option<Order>
         requires { HasPlace self.old place }
         ensures book { self.new ≡ removed place self.old }

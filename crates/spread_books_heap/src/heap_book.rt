@@ -43,7 +43,7 @@ impl<A: Allocator + Copy> HeapBook<A> {
         }
     }
 
-    /// As `len`. There is no memory for as many as a `usize` counts.
+    /// The number of resting orders, always below 2^63.
     pub(crate) fn count(&self) -> usize
         ensures count { result ≡ length self.now }
         ensures below_2_to_63 { result < 2 ^ 63 }
@@ -67,7 +67,7 @@ impl<A: Allocator + Copy> HeapBook<A> {
         self.orders.get(place)
     }
 
-    /// As `reduce`, and tells which order it was. Takes no memory.
+    /// Leaves an order fewer lots, as `reduce` does, and tells which order it was. Takes no memory.
     pub(crate) fn reduce_order(&mut self, place: u64, by: u32) -> Option<Order>
         requires { HasMore self.old place by }
         ensures book { self.new ≡ reduced place by self.old }
@@ -77,7 +77,7 @@ impl<A: Allocator + Copy> HeapBook<A> {
         self.orders.reduce(place, by)
     }
 
-    /// As `remove`, and gives the order. Takes no memory.
+    /// Takes the order of a place out, as `remove` does, and gives it. Takes no memory.
     pub(crate) fn remove_order(&mut self, place: u64) -> Option<Order>
         requires { HasPlace self.old place }
         ensures book { self.new ≡ removed place self.old }

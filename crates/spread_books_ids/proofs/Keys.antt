@@ -22,12 +22,56 @@ exact_id_key a b e =
     let r = both_equal (nat_cmp a.second b.second) _ q.1 in
     let s = both_equal (nat_cmp a.third b.third) _ r.1 in
     let t = both_equal (nat_cmp a.fourth b.fourth) _ s.1 in
-    ap (λ (n : ℕ). record { session = n; first = a.first; second = a.second; third = a.third; fourth = a.fourth; size = a.size }) (exact_unsigned a.session b.session p.0)
-    ∙ (ap (λ (n : ℕ). record { session = b.session; first = n; second = a.second; third = a.third; fourth = a.fourth; size = a.size }) (exact_unsigned a.first b.first q.0)
-    ∙ (ap (λ (n : ℕ). record { session = b.session; first = b.first; second = n; third = a.third; fourth = a.fourth; size = a.size }) (exact_unsigned a.second b.second r.0)
-    ∙ (ap (λ (n : ℕ). record { session = b.session; first = b.first; second = b.second; third = n; fourth = a.fourth; size = a.size }) (exact_unsigned a.third b.third s.0)
-    ∙ (ap (λ (n : ℕ). record { session = b.session; first = b.first; second = b.second; third = b.third; fourth = n; size = a.size }) (exact_unsigned a.fourth b.fourth t.0)
-    ∙ ap (λ (n : ℕ). record { session = b.session; first = b.first; second = b.second; third = b.third; fourth = b.fourth; size = n }) (exact_unsigned a.size b.size t.1)))))
+    ap (λ (n : ℕ). record {
+      session = n;
+      first = a.first;
+      second = a.second;
+      third = a.third;
+      fourth = a.fourth;
+      size =
+          a.size;
+    }) (exact_unsigned a.session b.session p.0)
+    ∙ (ap (λ (n : ℕ). record {
+      session = b.session;
+      first = n;
+      second = a.second;
+      third = a.third;
+      fourth = a.fourth;
+      size = a.size;
+    }) (exact_unsigned a.first b.first q.0)
+    ∙ (ap (λ (n : ℕ). record {
+      session = b.session;
+      first = b.first;
+      second = n;
+      third = a.third;
+      fourth = a.fourth;
+      size = a.size;
+    }) (exact_unsigned a.second b.second r.0)
+    ∙ (ap (λ (n : ℕ). record {
+      session = b.session;
+      first = b.first;
+      second = b.second;
+      third = n;
+      fourth = a.fourth;
+      size = a.size;
+    }) (exact_unsigned a.third b.third s.0)
+    ∙ (ap (λ (n : ℕ). record {
+      session = b.session;
+      first = b.first;
+      second = b.second;
+      third = b.third;
+      fourth = n;
+      size = a.size;
+    }) (exact_unsigned a.fourth b.fourth t.0)
+    ∙ ap (λ (n : ℕ). record {
+      session = b.session;
+      first = b.first;
+      second = b.second;
+      third = b.third;
+      fourth =
+          b.fourth;
+      size = n;
+    }) (exact_unsigned a.size b.size t.1)))))
 
 pub equal_is : (o : Ordering) → is_eq o ≡ true → o ≡ Equal
 equal_is Equal e = refl
@@ -39,10 +83,16 @@ nat_self n = grind (arith, nat_tests)
 
 pub key_self : (k : IdKey) → id_key_cmp k k ≡ Equal
 key_self k =
-    ap (λ (o : Ordering). ordering_then o (ordering_then (nat_cmp k.first k.first) (ordering_then (nat_cmp k.second k.second) (ordering_then (nat_cmp k.third k.third) (ordering_then (nat_cmp k.fourth k.fourth) (nat_cmp k.size k.size)))))) (nat_self k.session)
-    ∙ (ap (λ (o : Ordering). ordering_then o (ordering_then (nat_cmp k.second k.second) (ordering_then (nat_cmp k.third k.third) (ordering_then (nat_cmp k.fourth k.fourth) (nat_cmp k.size k.size))))) (nat_self k.first)
-    ∙ (ap (λ (o : Ordering). ordering_then o (ordering_then (nat_cmp k.third k.third) (ordering_then (nat_cmp k.fourth k.fourth) (nat_cmp k.size k.size)))) (nat_self k.second)
-    ∙ (ap (λ (o : Ordering). ordering_then o (ordering_then (nat_cmp k.fourth k.fourth) (nat_cmp k.size k.size))) (nat_self k.third)
+    ap (λ (o : Ordering). ordering_then o (ordering_then (nat_cmp k.first k.first)
+    (ordering_then (nat_cmp k.second k.second) (ordering_then (nat_cmp k.third k.third)
+    (ordering_then (nat_cmp k.fourth k.fourth) (nat_cmp k.size k.size)))))) (nat_self k.session)
+    ∙ (ap (λ (o : Ordering). ordering_then o (ordering_then (nat_cmp k.second k.second)
+    (ordering_then (nat_cmp k.third k.third) (ordering_then (nat_cmp k.fourth k.fourth) (nat_cmp k.size k.size)))))
+    (nat_self k.first)
+    ∙ (ap (λ (o : Ordering). ordering_then o (ordering_then (nat_cmp k.third k.third)
+    (ordering_then (nat_cmp k.fourth k.fourth) (nat_cmp k.size k.size)))) (nat_self k.second)
+    ∙ (ap (λ (o : Ordering). ordering_then o (ordering_then (nat_cmp k.fourth k.fourth) (nat_cmp k.size k.size)))
+    (nat_self k.third)
     ∙ (ap (λ (o : Ordering). ordering_then o (nat_cmp k.size k.size)) (nat_self k.fourth) ∙ nat_self k.size))))
 
 pub key_is : (a b : IdKey) → is_key a b ≡ true → a ≡ b
@@ -67,7 +117,8 @@ or_none None = refl
 or_none (Some n) = refl
 
 -- a key gets that row where it has none
-kept_or_new : (old new : IdKey → Option ℕ) (key : IdKey) (at : ℕ) → ((q : IdKey) → new q ≡ cond (is_key key q) (option_or (old key) (Some at)) (old q))
+kept_or_new : (old new : IdKey → Option ℕ) (key : IdKey) (at : ℕ)
+    → ((q : IdKey) → new q ≡ cond (is_key key q) (option_or (old key) (Some at)) (old q))
     → (q : IdKey) → new q ≡ option_or (old q) (cond (is_key key q) (Some at) None)
 kept_or_new old new key at put q = by_test (is_key key q) refl
   where
@@ -82,17 +133,21 @@ kept_or_new old new key at put q = by_test (is_key key q) refl
         ∙ ap (λ (b : Bool). option_or (old q) (cond b (Some at) None)) (sym e)))
 
 -- a key that is new
-pub first_new : (old new : IdKey → Option ℕ) (key : IdKey) (at : ℕ) → None ≡ old key → ((q : IdKey) → new q ≡ cond (is_key key q) (Some at) (old q))
+pub first_new : (old new : IdKey → Option ℕ) (key : IdKey) (at : ℕ) → None ≡ old key
+    → ((q : IdKey) → new q ≡ cond (is_key key q) (Some at) (old q))
     → (q : IdKey) → new q ≡ option_or (old q) (cond (is_key key q) (Some at) None)
-first_new old new key at none put = kept_or_new old new key at (λ q. put q ∙ ap (λ (o : Option ℕ). cond (is_key key q) (option_or o (Some at)) (old q)) none)
+first_new old new key at none put = kept_or_new old new key at
+    (λ q. put q ∙ ap (λ (o : Option ℕ). cond (is_key key q) (option_or o (Some at)) (old q)) none)
 
 pub put_twice : (b : Bool) (x y z : Option ℕ) → cond b x (cond b y z) ≡ cond b x z
 put_twice true x y z = refl
 put_twice false x y z = refl
 
 -- a key that had a place, which is put back
-pub first_kept : (old mid new : IdKey → Option ℕ) (key : IdKey) (at earlier : ℕ) → Some earlier ≡ old key → ((q : IdKey) → mid q ≡ cond (is_key key q) (Some at) (old q))
-    → ((q : IdKey) → new q ≡ cond (is_key key q) (Some earlier) (mid q)) → (q : IdKey) → new q ≡ option_or (old q) (cond (is_key key q) (Some at) None)
+pub first_kept : (old mid new : IdKey → Option ℕ) (key : IdKey) (at earlier : ℕ) → Some earlier ≡ old key
+    → ((q : IdKey) → mid q ≡ cond (is_key key q) (Some at) (old q))
+    → ((q : IdKey) → new q ≡ cond (is_key key q) (Some earlier) (mid q)) → (q : IdKey)
+    → new q ≡ option_or (old q) (cond (is_key key q) (Some at) None)
 first_kept old mid new key at earlier some put back = kept_or_new old new key at (λ q.
     back q ∙ (ap (λ (o : Option ℕ). cond (is_key key q) (Some earlier) o) (put q)
     ∙ (put_twice (is_key key q) (Some earlier) (Some at) (old q)

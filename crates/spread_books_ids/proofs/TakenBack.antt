@@ -36,20 +36,26 @@ ended_with (e ∷ es) (suc at) h = ended_with es at h.1
 
 -- ---- a number of a line
 
-line_cleared : (lines : List Line) (line at number : ℕ) (l : Line) → slice_get lines line ≡ Some l → EndsAt l.numbers at → with_number (with_number lines line at number) line at 0 ≡ lines
+line_cleared : (lines : List Line) (line at number : ℕ) (l : Line) → slice_get lines line ≡ Some l → EndsAt l.numbers at
+    → with_number (with_number lines line at number) line at 0 ≡ lines
 line_cleared lines line at number l e ends =
     let put : Line = record { numbers = set l.numbers at number } in
-    let first : with_number lines line at number ≡ set lines line put = ap (λ (o : Option Line). set lines line (record { numbers = set (numbers_of o) at number })) e in
-    let there : slice_get (set lines line put) line ≡ Some put = set_same lines line put (slice_get_within lines line l e) in
+    let first : with_number lines line at number ≡ set lines line put =
+    ap (λ (o : Option Line). set lines line (record { numbers = set (numbers_of o) at number })) e in
+    let there : slice_get (set lines line put) line ≡ Some put =
+    set_same lines line put (slice_get_within lines line l e) in
     ap (λ (ls : List Line). with_number ls line at 0) first
     ∙ (ap (λ (o : Option Line). set (set lines line put) line (record { numbers = set (numbers_of o) at 0 })) there
-    ∙ (ap (λ (es : List ℕ). set (set lines line put) line (record { numbers = es })) (set_twice l.numbers at number 0 ∙ set_again l.numbers at 0 (ended_with l.numbers at ends))
+    ∙ (ap (λ (es : List ℕ). set (set lines line put) line (record { numbers = es }))
+    (set_twice l.numbers at number 0 ∙ set_again l.numbers at 0 (ended_with l.numbers at ends))
     ∙ (set_twice lines line put l ∙ set_again lines line l e)))
 
-pub number_cleared : (lines : List Line) (line at number : ℕ) → EndsAt (numbers_of (slice_get lines line)) at → with_number (with_number lines line at number) line at 0 ≡ lines
+pub number_cleared : (lines : List Line) (line at number : ℕ) → EndsAt (numbers_of (slice_get lines line)) at
+    → with_number (with_number lines line at number) line at 0 ≡ lines
 number_cleared lines line at number ends = by_line (slice_get lines line) refl ends
   where
-    by_line : (o : Option Line) → slice_get lines line ≡ o → EndsAt (numbers_of o) at → with_number (with_number lines line at number) line at 0 ≡ lines
+    by_line : (o : Option Line) → slice_get lines line ≡ o → EndsAt (numbers_of o) at
+        → with_number (with_number lines line at number) line at 0 ≡ lines
     by_line None e h = absurd h
     by_line (Some l) e h = line_cleared lines line at number l e h
 
@@ -60,7 +66,8 @@ no_line lines line at h = sym (set_past lines line _ h)
 -- ---- behind the lines
 
 -- a key that had a place, which is put back
-pub put_back : (old mid new : IdKey → Option ℕ) (key : IdKey) (at earlier : ℕ) → Some earlier ≡ old key → ((q : IdKey) → mid q ≡ cond (is_key key q) (Some at) (old q))
+pub put_back : (old mid new : IdKey → Option ℕ) (key : IdKey) (at earlier : ℕ) → Some earlier ≡ old key
+    → ((q : IdKey) → mid q ≡ cond (is_key key q) (Some at) (old q))
     → ((q : IdKey) → new q ≡ cond (is_key key q) (Some earlier) (mid q)) → (q : IdKey) → new q ≡ old q
 put_back old mid new key at earlier some put back q =
     back q
@@ -72,7 +79,8 @@ put_back old mid new key at earlier some put back q =
     by_test false e = refl
 
 -- a table of the same rows
-pub rows_same : (lines : List Line) (old new : IdKey → Option ℕ) (ks : List IdKey) → ((q : IdKey) → new q ≡ old q) → AreOfRows lines old ks → AreOfRows lines new ks
+pub rows_same : (lines : List Line) (old new : IdKey → Option ℕ) (ks : List IdKey) → ((q : IdKey) → new q ≡ old q)
+    → AreOfRows lines old ks → AreOfRows lines new ks
 rows_same lines old new ks same h = record {
   named = h.named;
   ended = h.ended;
@@ -80,8 +88,12 @@ rows_same lines old new ks same h = record {
   finds = λ k. ap (option_or (named_row ks k (line_for lines k))) (same k) ∙ h.finds k;
 }
 
-pub can_take_back : {E : Type 0} (r : Result Noted E) (lines : List Line) (old new : IdKey → Option ℕ) (key : IdKey) (ks : List IdKey) → AreOfRows lines old ks →
-    IfOk r (λ (noted : Noted). (ls : List Line) → lines_before noted ls ≡ ls) → IfOk r (λ (noted : Noted). (q : IdKey) → rest_before noted key new q ≡ old q) →
+pub can_take_back : {E : Type 0} (r : Result Noted E) (lines : List Line) (old new : IdKey → Option ℕ) (key : IdKey)
+    (ks : List IdKey) → AreOfRows lines old ks →
+    IfOk r (λ (noted : Noted). (ls : List Line) → lines_before noted ls ≡ ls)
+    → IfOk r (λ (noted : Noted). (q : IdKey) → rest_before noted key new q ≡ old q) →
     IfOk r (λ (noted : Noted). AreOfRows (lines_before noted lines) (rest_before noted key new) ks)
-can_take_back (Ok noted) lines old new key ks h same rest = subst (λ (ls : List Line). AreOfRows ls (rest_before noted key new) ks) (sym (same lines)) (rows_same lines old (rest_before noted key new) ks rest h)
+can_take_back (Ok noted) lines old new key ks h same rest =
+    subst (λ (ls : List Line). AreOfRows ls (rest_before noted key new) ks) (sym (same lines))
+    (rows_same lines old (rest_before noted key new) ks rest h)
 can_take_back (Err e) lines old new key ks h same rest = tt

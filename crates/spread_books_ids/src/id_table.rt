@@ -17,7 +17,7 @@ use spread_rules_ids::IdKey;
 use std::alloc::Allocator;
 use std::collections::BTreeMap;
 
-/// So many rows can be named in lines. Where there are more, the others stand in the ordered table, and each look-up
+/// How many rows can be named in lines. Where there are more, the others stand in the ordered table, and each look-up
 /// that finds nothing in its line asks that too.
 pub const ROWS: usize = 1_048_576;
 

@@ -49,7 +49,7 @@ impl<A: Allocator + Copy> Model for FrontCosts<A> {
         AreOrderPrices (costs_of c.spreads.items) × AreOrderPrices (costs_of c.outrights.items) };
 }
 
-/// Which one of cells for each month, who buys before who sells, is that side's of that month.
+/// The index of a side and month in a table with two cells a month, buy first.
 #[inline(always)]
 pub fn side_month_cell(side: Side, month: u8) -> usize
     ensures { result ≡ cell_of side month }
@@ -86,7 +86,7 @@ pub fn sum_of_cells(first: i64, second: i64) -> i64
     first + second
 }
 
-/// So many cells from the first on, or as many as there are.
+/// The cells of so many months from the first on, or as many as there are.
 #[inline(always)]
 fn row(cells: &[i64], first: usize, months: u8) -> &[i64]
     ensures { result.now ≡ take months (drop first cells.now) }

@@ -1,2 +1,3 @@
+pub mod RisingRows
 pub mod Places
 pub mod code

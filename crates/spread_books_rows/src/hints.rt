@@ -61,7 +61,7 @@ impl<A: Allocator + Copy> Hints<A> {
         }
     }
 
-    /// The same of a place that is so many places behind the first one, and behind all guesses.
+    /// Notes the row of a place behind all guesses, `n` places behind the first one.
     #[inline(never)]
     fn note_behind(&mut self, place: u64, n: usize, row: u32) {
         let most = self

@@ -16,8 +16,10 @@ use Rattle.spread_host.proofs.SixteenTexts.{sessions_sent}
 
 pub record IsAnswerSent {A E : Type 0} (rules : Rules) (stamp : List ℕ) (answer : Result (Day A) E) : Type 0 where
   pub lists : IfOk answer (λ day. length day.out.items ≡ SESSIONS)
-  pub outgoing : IfOk answer (λ day. (s : ℕ) → s < SESSIONS → bytes_of day.out.items s ≡ outgoing_bytes rules stamp day.journal.items s)
-  pub whole_frames : IfOk answer (λ day. (s : ℕ) → s < SESSIONS → IsRow (messages_to rules stamp (applied_entries rules day.journal.items) s) (bytes_of day.out.items s))
+  pub outgoing : IfOk answer (λ day. (s : ℕ) → s < SESSIONS
+      → bytes_of day.out.items s ≡ outgoing_bytes rules stamp day.journal.items s)
+  pub whole_frames : IfOk answer (λ day. (s : ℕ) → s < SESSIONS
+      → IsRow (messages_to rules stamp (applied_entries rules day.journal.items) s) (bytes_of day.out.items s))
   pub rows : IfOk answer (λ day. All IsFrameRow (texts_of day.out.items))
 
 pub answer_sent : {A E : Type 0} (rules : Rules) (stamp : List ℕ) (answer : Result (Day A) E)

@@ -17,15 +17,18 @@ use Rattle.spread_host.proofs.SixteenTexts.{all_texts, read_back_of}
 use Rattle.spread_host.proofs.FillsShown.{shown_of}
 use Rattle.spread_host.proofs.LawfulJournals.{JournalHolds, fills_hold}
 
-pub record DayHolds {A : Type 0} (rules : Rules) (stamp : List ℕ) (journal : List Entry) (fills : List Fill) (out : List (Vec ℕ A)) : Type 0 where
+pub record DayHolds {A : Type 0} (rules : Rules) (stamp : List ℕ) (journal : List Entry) (fills : List Fill)
+    (out : List (Vec ℕ A)) : Type 0 where
   pub outgoing : HasOutgoing rules stamp journal out
   pub bought_is_sold : BoughtIsSold fills
   pub paid_is_received : PaidIsReceived fills
   pub quiet : IsAlwaysQuiet rules journal
   pub day : IsDayOf rules stamp journal fills
 
-pub day_holds : {A : Type 0} (rules : Rules) (stamp : List ℕ) (journal : List Entry) (fills : List Fill) (out : List (Vec ℕ A)) → IsRules rules → IsLawful journal
-    → All (IsFillInRange rules) (meaning_of_journal rules journal).fills → fills ≡ (meaning_of_journal rules journal).fills → length out ≡ SESSIONS
+pub day_holds : {A : Type 0} (rules : Rules) (stamp : List ℕ) (journal : List Entry) (fills : List Fill)
+    (out : List (Vec ℕ A)) → IsRules rules → IsLawful journal
+    → All (IsFillInRange rules) (meaning_of_journal rules journal).fills
+    → fills ≡ (meaning_of_journal rules journal).fills → length out ≡ SESSIONS
     → ((s : ℕ) → s < SESSIONS → bytes_of out s ≡ outgoing_bytes rules stamp journal s)
     → ((s : ℕ) → s < SESSIONS → IsRow (messages_to rules stamp (applied_entries rules journal) s) (bytes_of out s))
     → DayHolds rules stamp journal fills out
@@ -40,7 +43,9 @@ day_holds rules stamp journal fills out rule lawful range are lists bytes whole 
         lawful = lawful;
         limits = holds.limits;
         totals = holds.totals;
-        shown = subst (λ (fs : List Fill). AreShown rules fs) (sym are) (shown_of rules (meaning_of_journal rules journal).fills range);
-        whole_frames = λ s low. read_back_of (messages_to rules stamp (applied_entries rules journal) s) (bytes_of out s) (whole s low);
+        shown = subst (λ (fs : List Fill). AreShown rules fs) (sym are)
+            (shown_of rules (meaning_of_journal rules journal).fills range);
+        whole_frames = λ s low. read_back_of (messages_to rules stamp (applied_entries rules journal) s)
+            (bytes_of out s) (whole s low);
       };
     }

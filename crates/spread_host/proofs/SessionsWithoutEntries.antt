@@ -31,16 +31,20 @@ reports_are place [] = tt
 reports_are place (r ∷ rs) = (tt, reports_are place rs)
 
 -- an entry of another session brings this one no CompIDs
-entry_are : (rules : Rules) (s : ℕ) (w : AppliedEntry) → eqb w.entry.session s ≡ false → AllByRecursion IsMessage (entry_steps rules s w)
+entry_are : (rules : Rules) (s : ℕ) (w : AppliedEntry) → eqb w.entry.session s ≡ false
+    → AllByRecursion IsMessage (entry_steps rules s w)
 entry_are rules s w other =
     rw other
-    (reports_are w.place (filter (λ (r : ℕ × ExecutionReport). r.1.to == s) (enumerate_from 1 (entry_reports rules w.place w.entry.session w.entry.event w.outcome w.fills))))
+    (reports_are w.place (filter (λ (r : ℕ × ExecutionReport). r.1.to == s)
+    (enumerate_from 1 (entry_reports rules w.place w.entry.session w.entry.event w.outcome w.fills))))
 
-steps_both : (xs ys : List OutgoingStep) → AllByRecursion IsMessage xs → AllByRecursion IsMessage ys → AllByRecursion IsMessage (xs ++ ys)
+steps_both : (xs ys : List OutgoingStep) → AllByRecursion IsMessage xs → AllByRecursion IsMessage ys
+    → AllByRecursion IsMessage (xs ++ ys)
 steps_both [] ys a b = b
 steps_both (x ∷ xs) ys a b = (a.0, steps_both xs ys a.1 b)
 
-all_are : (rules : Rules) (s : ℕ) (past : JournalState) (place : ℕ) (es : List Entry) → restricted s es ≡ [] → AllByRecursion IsMessage (session_steps rules (applied_entries_from rules past place es) s)
+all_are : (rules : Rules) (s : ℕ) (past : JournalState) (place : ℕ) (es : List Entry) → restricted s es ≡ []
+    → AllByRecursion IsMessage (session_steps rules (applied_entries_from rules past place es) s)
 all_are rules s past place [] none = tt
 all_are rules s past place (e ∷ es) none =
     let m = meaning_of rules past place e in
@@ -54,17 +58,21 @@ all_are rules s past place (e ∷ es) none =
       | inr apart ↦
           let other : eqb e.session s ≡ false = ne_eqb e.session s apart in
           let at : restricted s (e ∷ es) ≡ restricted s es = rw other refl in
-          steps_both (entry_steps rules s w) (session_steps rules later s) (entry_are rules s w other) (all_are rules s (after_entry rules past place e) (place + 1) es (sym at ∙ none))
+          steps_both (entry_steps rules s w) (session_steps rules later s) (entry_are rules s w other)
+          (all_are rules s (after_entry rules past place e) (place + 1) es (sym at ∙ none))
     ]
 
 -- before its Logon a session is sent nothing
-texts_silent : (stamp : List ℕ) (n : ℕ) (cs : List OutgoingStep) → AllByRecursion IsMessage cs → steps_texts stamp (outbound_before_logon n) cs ≡ []
+texts_silent : (stamp : List ℕ) (n : ℕ) (cs : List OutgoingStep) → AllByRecursion IsMessage cs
+    → steps_texts stamp (outbound_before_logon n) cs ≡ []
 texts_silent stamp n [] are = refl
 texts_silent stamp n (logged_on ids ∷ cs) are = absurd are.0
 texts_silent stamp n (numbered kind fields ∷ cs) are = texts_silent stamp n cs are.1
 texts_silent stamp n (gap_fill first last ∷ cs) are = texts_silent stamp n cs are.1
 
-pub silent : (rules : Rules) (stamp : List ℕ) (journal : List Entry) (s : ℕ) → restricted s journal ≡ [] → outgoing_bytes rules stamp journal s ≡ []
+pub silent : (rules : Rules) (stamp : List ℕ) (journal : List Entry) (s : ℕ) → restricted s journal ≡ []
+    → outgoing_bytes rules stamp journal s ≡ []
 silent rules stamp journal s none =
     ap (λ (ws : List AppliedEntry). concat (messages_to rules stamp ws s)) (entries_are rules journal)
-    ∙ ap concat (texts_silent stamp 1 (session_steps rules (applied_entries_from rules no_entries 1 journal) s) (all_are rules s no_entries 1 journal none))
+    ∙ ap concat (texts_silent stamp 1 (session_steps rules (applied_entries_from rules no_entries 1 journal) s)
+    (all_are rules s no_entries 1 journal none))

@@ -8,8 +8,7 @@ ghost use Rattle.spread_match_orders.specs.code.Entering.{entered_status, HaveSt
 
 use spread_books_plain::Book;
 use spread_books_rows::is_own;
-use spread_match_statuses::Statuses;
-use spread_rules::codes::ord_status;
+use spread_match_statuses::{Statuses, WHEN_IT_RESTS_NO_MORE};
 use spread_rules::{Id, NoMemory, Order, OrderStatus};
 use std::alloc::Allocator;
 
@@ -37,8 +36,9 @@ pub fn add_order<B: Book, A: Allocator + Copy>(
         session: order.session,
         id: order.id,
         place,
-        status: ord_status::CANCELED,
+        status: WHEN_IT_RESTS_NO_MORE,
     });
+    // Where no memory was found for its status the order is taken out too, as one that was refused.
     if noted.unwrap_or(true) {
         book.remove(place);
     }

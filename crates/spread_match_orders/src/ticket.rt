@@ -84,7 +84,7 @@ pub fn outcome_with(immediate: bool, left: u32) -> Outcome
     }
 }
 
-/// So much of an order is filled.
+/// How many lots of the order are filled.
 fn filled_of(order: &Order) -> u32
     ensures { result ≡ done order.now }
 {

@@ -29,7 +29,7 @@ use spread_match_orders::{
     add_order, judge, keeps_place, moved_order, new_order, outcome_with, refusal, replace_refusal,
     resting_order, resting_status, trade_newest,
 };
-use spread_match_statuses::Statuses;
+use spread_match_statuses::{Statuses, WHEN_IT_RESTS_NO_MORE};
 use spread_rules::codes::{cxl_rej_reason, ord_rej_reason, ord_status};
 use spread_rules::{
     Entry, Event, Fill, Instrument, NoMemory, Order, OrderStatus, Outcome, Rulebook, Ticket,
@@ -339,7 +339,7 @@ impl<B: Book, A: Allocator + Copy> MarketState<B, A> {
             session: resting.session,
             id: ticket.id,
             place: resting.place,
-            status: ord_status::CANCELED,
+            status: WHEN_IT_RESTS_NO_MORE,
         };
         self.statuses
             .add_amended(&mut self.book, status, ticket.quantity)?;

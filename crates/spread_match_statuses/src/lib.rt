@@ -3,4 +3,4 @@
 
 mod statuses;
 
-pub use statuses::Statuses;
+pub use statuses::{Statuses, WHEN_IT_RESTS_NO_MORE};

@@ -17,6 +17,10 @@ use spread_rules_ids::{Id, IdKey};
 use std::alloc::Allocator;
 use std::marker::Model;
 
+/// The status that an order is entered with: what a late cancel is told of an order that left by a cancel. While the order
+/// rests nobody is told its status from here; a fill that leaves nothing, or a replace, sets another one.
+pub const WHEN_IT_RESTS_NO_MORE: u8 = ord_status::CANCELED;
+
 /// The status of each New and Replace entry so far, in their order.
 #[derive(Drop)]
 pub struct Statuses<A: Allocator + Copy> {
@@ -256,7 +260,7 @@ impl<A: Allocator + Copy> Statuses<A> {
             ≡ map (status_after_replace order.now.session order.now.id) self.old }
     {
         if let Some(at) = self.row_of(order.place, order.session, &order.id) {
-            if self.rows[at].status == ord_status::CANCELED {
+            if self.rows[at].status == WHEN_IT_RESTS_NO_MORE {
                 self.rows[at].status = ord_status::REPLACED;
             }
         }

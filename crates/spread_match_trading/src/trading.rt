@@ -58,7 +58,7 @@ fn append_reserved<A: Allocator + Copy>(fills: &mut Vec<Fill, A>, parts: &[Fill]
     }
 }
 
-/// So many lots of a resting order have traded: it leaves the book where nothing is left of it.
+/// Takes traded lots off a resting order, which leaves the book where nothing is left of it.
 pub fn reduce_or_remove<B: Book>(book: &mut B, by: u32, order: &Order)
     requires stands { Contains (B.orders book.old) order.now }
     requires most { by ≤ order.now.leaves }
@@ -93,7 +93,7 @@ fn put_fills<A: Allocator + Copy>(
     append_reserved(fills, parts.as_slice());
 }
 
-/// The same of each order that took part in one turn.
+/// Takes the traded lots off each order that took part in one turn.
 pub fn reduce_members<B: Book>(book: &mut B, by: u32, candidate: &Candidate)
     requires stands { AllStandIn (B.orders book.old) candidate.now.counterparty }
     requires most { HaveLeft by candidate.now.counterparty }

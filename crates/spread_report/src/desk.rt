@@ -43,7 +43,7 @@ impl Desk {
         }
     }
 
-    /// The same, each session's first message bearing this number. None where it is 0 or above the
+    /// Nobody has logged on, and each session's first message bears this number. None where it is 0 or above the
     /// limit.
     pub fn starting(stamp: Id, next: u32) -> Option<Desk>
         ensures { result ≡ sessions_at stamp next }

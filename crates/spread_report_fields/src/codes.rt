@@ -4,7 +4,7 @@ ghost use Rattle.spread_report_fields.specs.Codes.{side_code};
 ghost use Rattle.spread_report_fields.specs.code.Codes as code;
 
 use spread_rules::Side;
-use spread_rules::codes::ord_status;
+use spread_rules::codes::{ord_status, side};
 
 /// EncryptMethod (tag 98): none.
 pub const ENCRYPT_METHOD_NONE: u64 = 0;
@@ -78,7 +78,7 @@ pub fn side_code(side: Side) -> u64
     ensures { result ≡ side_code side }
 {
     match side {
-        Side::Buy => 1,
-        Side::Sell => 2,
+        Side::Buy => u64::from(side::BUY - b'0'),
+        Side::Sell => u64::from(side::SELL - b'0'),
     }
 }

@@ -40,6 +40,7 @@ macro_rules! pair_field {
 }
 
 mod codes;
+pub mod laws;
 mod report_body;
 mod symbol;
 

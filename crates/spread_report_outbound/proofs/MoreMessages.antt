@@ -16,11 +16,21 @@ use Rattle.spread_report_outbound.specs.Sessions.{bytes_of}
 use Rattle.spread_report_outbound.specs.code.Sessions.{OutboundState, outbound_at}
 use Rattle.spread_report_outbound.specs.code.Sending.{Sends, Sent, OnlyAppended, NumbersRunOut, SendResult}
 
-pub row-append : (stamp : List ℕ) (s : ℕ) (l k : OutboundSession) (xs ys : List AddressedStep) → k ≡ outbound_after s l xs
-    → IsRow (texts_to stamp s l xs) (messages_bytes stamp s l xs) → IsRow (texts_to stamp s k ys) (messages_bytes stamp s k ys) → IsRow (texts_to stamp s l (xs ++ ys)) (messages_bytes stamp s l (xs ++ ys))
+pub row-append : (stamp : List ℕ) (s : ℕ) (l k : OutboundSession) (xs ys : List AddressedStep)
+    → k ≡ outbound_after s l xs
+    → IsRow (texts_to stamp s l xs) (messages_bytes stamp s l xs)
+    → IsRow (texts_to stamp s k ys) (messages_bytes stamp s k ys)
+    → IsRow (texts_to stamp s l (xs ++ ys)) (messages_bytes stamp s l (xs ++ ys))
 row-append stamp s l k xs ys e p q =
-    let after : IsRow (texts_to stamp s (outbound_after s l xs) ys) (messages_bytes stamp s (outbound_after s l xs) ys) = subst (λ (j : OutboundSession). IsRow (texts_to stamp s j ys) (messages_bytes stamp s j ys)) e q in
-    rw (texts_to-append stamp s l xs ys, concat-append (texts_to stamp s l xs) (texts_to stamp s (outbound_after s l xs) ys)) (rows_both (texts_to stamp s l xs) (texts_to stamp s (outbound_after s l xs) ys) (messages_bytes stamp s l xs) (messages_bytes stamp s (outbound_after s l xs) ys) p after)
+    let after : IsRow (texts_to stamp s (outbound_after s l xs) ys) (messages_bytes stamp s (outbound_after s l xs) ys)
+    = subst (λ (j : OutboundSession). IsRow (texts_to stamp s j ys) (messages_bytes stamp s j ys)) e q in
+    rw (
+      texts_to-append stamp s l xs ys,
+      concat-append (texts_to stamp s l xs)
+          (texts_to stamp s (outbound_after s l xs) ys),
+    ) (rows_both (texts_to stamp s l xs)
+    (texts_to stamp s (outbound_after s l xs) ys) (messages_bytes stamp s l xs)
+    (messages_bytes stamp s (outbound_after s l xs) ys) p after)
 
 or_left : (a b : Bool) → a ≡ true → a || b ≡ true
 or_left a b e = rw e refl
@@ -38,7 +48,8 @@ begins_both u v w t e h =
     let n : length u ≤ length w = rw (e, length-append u v) (omega arith) in
     sym (take-take (length u) (length w) t n) ∙ (ap (λ (l : List ℕ). take (length u) l) (h ∙ e) ∙ take-append_seam u v)
 
-module _ {A : Type 0} (stamp : List ℕ) (a b d : List OutboundSession) (x y z : List (Vec ℕ A)) (ms ns : List AddressedStep) where
+module _ {A : Type 0} (stamp : List ℕ) (a b d : List OutboundSession) (x y z : List (Vec ℕ A))
+    (ms ns : List AddressedStep) where
   -- these were sent, and then those
   pub sent_both : Sent stamp a b x y ms → Sent stamp b d y z ns → Sent stamp a d x z (ms ++ ns)
   sent_both p q = record {
@@ -47,15 +58,21 @@ module _ {A : Type 0} (stamp : List ℕ) (a b d : List OutboundSession) (x y z :
     bytes = λ s below.
         q.bytes s below
         ∙ (ap (λ (t : List ℕ). t ++ messages_bytes stamp s (outbound_at b s) ns) (p.bytes s below)
-        ∙ (append_assoc (bytes_of x s) (messages_bytes stamp s (outbound_at a s) ms) (messages_bytes stamp s (outbound_at b s) ns)
+        ∙ (append_assoc (bytes_of x s) (messages_bytes stamp s (outbound_at a s) ms)
+        (messages_bytes stamp s (outbound_at b s) ns)
         ∙ ap (λ (t : List ℕ). bytes_of x s ++ t)
-        (ap (λ (l : OutboundSession). messages_bytes stamp s (outbound_at a s) ms ++ messages_bytes stamp s l ns) (p.outbound s below) ∙ sym (messages_bytes-append stamp s (outbound_at a s) ms ns))));
-    outbound = λ s below. q.outbound s below ∙ (ap (λ (l : OutboundSession). outbound_after s l ns) (p.outbound s below) ∙ sym (outbound_after-append s (outbound_at a s) ms ns));
+        (ap (λ (l : OutboundSession). messages_bytes stamp s (outbound_at a s) ms ++ messages_bytes stamp s l ns)
+        (p.outbound s below) ∙ sym (messages_bytes-append stamp s (outbound_at a s) ms ns))));
+    outbound = λ s below. q.outbound s below ∙ (ap (λ (l : OutboundSession). outbound_after s l ns) (p.outbound s below)
+        ∙ sym (outbound_after-append s (outbound_at a s) ms ns));
     comp_ids = λ s below. q.comp_ids s below ∙ p.comp_ids s below;
     unspent = λ s below.
         spends-append s (outbound_at a s) ms ns
-        ∙ or_none (spends s (outbound_at a s) ms) (spends s (outbound_after s (outbound_at a s) ms) ns) (p.unspent s below) (ap (λ (l : OutboundSession). spends s l ns) (sym (p.outbound s below)) ∙ q.unspent s below);
-    row = λ s below. row-append stamp s (outbound_at a s) (outbound_at b s) ms ns (p.outbound s below) (p.row s below) (q.row s below);
+        ∙ or_none (spends s (outbound_at a s) ms) (spends s (outbound_after s (outbound_at a s) ms) ns)
+        (p.unspent s below) (ap (λ (l : OutboundSession). spends s l ns) (sym (p.outbound s below))
+        ∙ q.unspent s below);
+    row = λ s below. row-append stamp s (outbound_at a s) (outbound_at b s) ms ns (p.outbound s below) (p.row s below)
+        (q.row s below);
   }
 
   -- these were sent, and then not all of those
@@ -64,7 +81,8 @@ module _ {A : Type 0} (stamp : List ℕ) (a b d : List OutboundSession) (x y z :
     sessions = q.sessions ∙ p.sessions;
     lists = q.lists ∙ p.lists;
     comp_ids = λ s below. q.comp_ids s below ∙ p.comp_ids s below;
-    begins = λ s below. begins_both (bytes_of x s) (messages_bytes stamp s (outbound_at a s) ms) (bytes_of y s) (bytes_of z s) (p.bytes s below) (q.begins s below);
+    begins = λ s below. begins_both (bytes_of x s) (messages_bytes stamp s (outbound_at a s) ms) (bytes_of y s)
+        (bytes_of z s) (p.bytes s below) (q.begins s below);
   }
 
   spends_after : Sent stamp a b x y ms → NumbersRunOut b ns → NumbersRunOut a (ms ++ ns)
@@ -73,30 +91,35 @@ module _ {A : Type 0} (stamp : List ℕ) (a b d : List OutboundSession) (x y z :
     below = q.below;
     spent =
         spends-append q.session (outbound_at a q.session) ms ns
-        ∙ or_right (spends q.session (outbound_at a q.session) ms) (spends q.session (outbound_after q.session (outbound_at a q.session) ms) ns)
+        ∙ or_right (spends q.session (outbound_at a q.session) ms)
+        (spends q.session (outbound_after q.session (outbound_at a q.session) ms) ns)
         (ap (λ (l : OutboundSession). spends q.session l ns) (sym (p.outbound q.session q.below)) ∙ q.spent);
   }
 
   -- these were sent, and this became of those
-  pub result_after : {T : Type 0} (r : Result T DeskFault) → Sent stamp a b x y ms → SendResult stamp b d y z ns r → SendResult stamp a d x z (ms ++ ns) r
+  pub result_after : {T : Type 0} (r : Result T DeskFault) → Sent stamp a b x y ms → SendResult stamp b d y z ns r
+      → SendResult stamp a d x z (ms ++ ns) r
   result_after (Ok t) p w = sent_both p w
   result_after (Err NoMemory) p w = appended_after p w
   result_after (Err NumbersSpent) p w = (appended_after p w.0, spends_after p w.1)
 
-module _ {A : Type 0} (stamp : List ℕ) (a b : List OutboundSession) (x y : List (Vec ℕ A)) (ms ns : List AddressedStep) where
-  spends_first : NumbersRunOut a ms → NumbersRunOut a (ms ++ ns)
-  spends_first q = record {
-    session = q.session;
-    below = q.below;
-    spent =
-        spends-append q.session (outbound_at a q.session) ms ns
-        ∙ or_left (spends q.session (outbound_at a q.session) ms) (spends q.session (outbound_after q.session (outbound_at a q.session) ms) ns) q.spent;
-  }
+module _ {A : Type 0} (stamp : List ℕ) (a b : List OutboundSession) (x y : List (Vec ℕ A)) (ms ns : List AddressedStep)
+  where
+    spends_first : NumbersRunOut a ms → NumbersRunOut a (ms ++ ns)
+    spends_first q = record {
+      session = q.session;
+      below = q.below;
+      spent =
+          spends-append q.session (outbound_at a q.session) ms ns
+          ∙ or_left (spends q.session (outbound_at a q.session) ms)
+          (spends q.session (outbound_after q.session (outbound_at a q.session) ms) ns) q.spent;
+    }
 
-  -- where these were not sent, more were not
-  pub result_no_more : (T U : Type 0) (f : DeskFault) → SendResult {T = T} stamp a b x y ms (Err f) → SendResult {T = U} stamp a b x y (ms ++ ns) (Err f)
-  result_no_more T U NoMemory w = w
-  result_no_more T U NumbersSpent w = (w.0, spends_first w.1)
+    -- where these were not sent, more were not
+    pub result_no_more : (T U : Type 0) (f : DeskFault) → SendResult {T = T} stamp a b x y ms (Err f)
+        → SendResult {T = U} stamp a b x y (ms ++ ns) (Err f)
+    result_no_more T U NoMemory w = w
+    result_no_more T U NumbersSpent w = (w.0, spends_first w.1)
 
 -- ---- the same of a desk
 

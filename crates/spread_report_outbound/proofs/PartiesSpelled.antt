@@ -9,11 +9,14 @@ use Rattle.spread_report_outbound.specs.declared.session.CompIds.{CompIds}
 
 -- those of one session
 abbrev pub IsSpelled : List ℕ → List (Option CompIds) → List SpelledParties → ℕ → Type 0
-IsSpelled stamp os ps t = (ids : CompIds) → get_or os t None ≡ Some ids → (p : SpelledParties) → SpellsParties (get_or ps t p) ids.host ids.client stamp
+IsSpelled stamp os ps t = (ids : CompIds) → get_or os t None ≡ Some ids → (p : SpelledParties)
+    → SpellsParties (get_or ps t p) ids.host ids.client stamp
 
 -- one session more
-pub spelled_more : (stamp : List ℕ) (os : List (Option CompIds)) (ps : List SpelledParties) (i : ℕ) (new : SpelledParties) (r : Option CompIds) →
-    i < length os → i < length ps → r ≡ get_or os i r → ((ids : CompIds) → r ≡ Some ids → SpellsParties new ids.host ids.client stamp) →
+pub spelled_more : (stamp : List ℕ) (os : List (Option CompIds)) (ps : List SpelledParties) (i : ℕ)
+    (new : SpelledParties) (r : Option CompIds) →
+    i < length os → i < length ps → r ≡ get_or os i r → ((ids : CompIds) → r ≡ Some ids
+    → SpellsParties new ids.host ids.client stamp) →
     ((t : ℕ) → t < i → IsSpelled stamp os ps t) → (t : ℕ) → t < i + 1 → IsSpelled stamp os (set ps i new) t
 spelled_more stamp os ps i new r in_os in_ps is_r spells done t below ids there p =
     let line : get_or os i None ≡ r = get_or_default os i None r in_os ∙ sym is_r in

@@ -15,17 +15,22 @@ step_of m = m.step
 
 -- ---- steps of any session
 
-pub steps_texts-append : (stamp : List ℕ) (l : OutboundSession) (xs ys : List OutgoingStep) → steps_texts stamp l (xs ++ ys) ≡ steps_texts stamp l xs ++ steps_texts stamp (fold after_step l xs) ys
+pub steps_texts-append : (stamp : List ℕ) (l : OutboundSession) (xs ys : List OutgoingStep)
+    → steps_texts stamp l (xs ++ ys) ≡ steps_texts stamp l xs ++ steps_texts stamp (fold after_step l xs) ys
 steps_texts-append stamp l [] ys = refl
 steps_texts-append stamp l (c ∷ cs) ys =
-    ap (λ (t : List (List ℕ)). step_texts stamp l.comp_ids l.next c ++ t) (steps_texts-append stamp (after_step l c) cs ys)
-    ∙ sym (append_assoc (step_texts stamp l.comp_ids l.next c) (steps_texts stamp (after_step l c) cs) (steps_texts stamp (fold after_step (after_step l c) cs) ys))
+    ap (λ (t : List (List ℕ)). step_texts stamp l.comp_ids l.next c ++ t)
+    (steps_texts-append stamp (after_step l c) cs ys)
+    ∙ sym (append_assoc (step_texts stamp l.comp_ids l.next c) (steps_texts stamp (after_step l c) cs)
+    (steps_texts stamp (fold after_step (after_step l c) cs) ys))
 
-pub pass_limit-append : (l : OutboundSession) (xs ys : List OutgoingStep) → pass_limit l (xs ++ ys) ≡ pass_limit l xs || pass_limit (fold after_step l xs) ys
+pub pass_limit-append : (l : OutboundSession) (xs ys : List OutgoingStep)
+    → pass_limit l (xs ++ ys) ≡ pass_limit l xs || pass_limit (fold after_step l xs) ys
 pass_limit-append l [] ys = refl
 pass_limit-append l (c ∷ cs) ys =
     ap (λ (t : Bool). is_above_limit l c || t) (pass_limit-append (after_step l c) cs ys)
-    ∙ sym (or_assoc (is_above_limit l c) (pass_limit (after_step l c) cs) (pass_limit (fold after_step (after_step l c) cs) ys))
+    ∙ sym (or_assoc (is_above_limit l c) (pass_limit (after_step l c) cs)
+    (pass_limit (fold after_step (after_step l c) cs) ys))
 
 -- ---- the steps of one session
 
@@ -33,21 +38,31 @@ pub steps_of-append : (s : ℕ) (xs ys : List AddressedStep) → steps_of s (xs 
 steps_of-append s [] ys = refl
 steps_of-append s (m ∷ xs) ys =
     let test : AddressedStep → Bool = λ m. m.to == s in
-    elim (m.to == s) as (λ b. map step_of (cond b (m ∷ filter test (xs ++ ys)) (filter test (xs ++ ys))) ≡ map step_of (cond b (m ∷ filter test xs) (filter test xs)) ++ map step_of (filter test ys)) [
+    elim (m.to == s) as (λ b. map step_of (cond b (m ∷ filter test (xs ++ ys)) (filter test (xs ++ ys))) ≡ map step_of
+    (cond b (m ∷ filter test xs) (filter test xs)) ++ map step_of (filter test ys)) [
       | true ↦ ap (λ (l : List OutgoingStep). m.step ∷ l) (steps_of-append s xs ys)
       | false ↦ steps_of-append s xs ys
     ]
 
 -- ---- messages, and more messages after them
 
-pub outbound_after-append : (s : ℕ) (l : OutboundSession) (xs ys : List AddressedStep) → outbound_after s l (xs ++ ys) ≡ outbound_after s (outbound_after s l xs) ys
-outbound_after-append s l xs ys = ap (fold after_step l) (steps_of-append s xs ys) ∙ fold-append after_step l (steps_of s xs) (steps_of s ys)
+pub outbound_after-append : (s : ℕ) (l : OutboundSession) (xs ys : List AddressedStep)
+    → outbound_after s l (xs ++ ys) ≡ outbound_after s (outbound_after s l xs) ys
+outbound_after-append s l xs ys = ap (fold after_step l) (steps_of-append s xs ys)
+    ∙ fold-append after_step l (steps_of s xs) (steps_of s ys)
 
-pub texts_to-append : (stamp : List ℕ) (s : ℕ) (l : OutboundSession) (xs ys : List AddressedStep) → texts_to stamp s l (xs ++ ys) ≡ texts_to stamp s l xs ++ texts_to stamp s (outbound_after s l xs) ys
-texts_to-append stamp s l xs ys = ap (steps_texts stamp l) (steps_of-append s xs ys) ∙ steps_texts-append stamp l (steps_of s xs) (steps_of s ys)
+pub texts_to-append : (stamp : List ℕ) (s : ℕ) (l : OutboundSession) (xs ys : List AddressedStep)
+    → texts_to stamp s l (xs ++ ys) ≡ texts_to stamp s l xs ++ texts_to stamp s (outbound_after s l xs) ys
+texts_to-append stamp s l xs ys = ap (steps_texts stamp l) (steps_of-append s xs ys)
+    ∙ steps_texts-append stamp l (steps_of s xs) (steps_of s ys)
 
-pub messages_bytes-append : (stamp : List ℕ) (s : ℕ) (l : OutboundSession) (xs ys : List AddressedStep) → messages_bytes stamp s l (xs ++ ys) ≡ messages_bytes stamp s l xs ++ messages_bytes stamp s (outbound_after s l xs) ys
-messages_bytes-append stamp s l xs ys = ap concat (texts_to-append stamp s l xs ys) ∙ concat-append (texts_to stamp s l xs) (texts_to stamp s (outbound_after s l xs) ys)
+pub messages_bytes-append : (stamp : List ℕ) (s : ℕ) (l : OutboundSession) (xs ys : List AddressedStep)
+    → messages_bytes stamp s l (xs ++ ys) ≡ messages_bytes stamp s l xs
+    ++ messages_bytes stamp s (outbound_after s l xs) ys
+messages_bytes-append stamp s l xs ys = ap concat (texts_to-append stamp s l xs ys)
+    ∙ concat-append (texts_to stamp s l xs) (texts_to stamp s (outbound_after s l xs) ys)
 
-pub spends-append : (s : ℕ) (l : OutboundSession) (xs ys : List AddressedStep) → spends s l (xs ++ ys) ≡ spends s l xs || spends s (outbound_after s l xs) ys
-spends-append s l xs ys = ap (pass_limit l) (steps_of-append s xs ys) ∙ pass_limit-append l (steps_of s xs) (steps_of s ys)
+pub spends-append : (s : ℕ) (l : OutboundSession) (xs ys : List AddressedStep)
+    → spends s l (xs ++ ys) ≡ spends s l xs || spends s (outbound_after s l xs) ys
+spends-append s l xs ys = ap (pass_limit l) (steps_of-append s xs ys)
+    ∙ pass_limit-append l (steps_of s xs) (steps_of s ys)

@@ -51,7 +51,7 @@ impl OutboundSessions {
         numbered_from(stamp, 1)
     }
 
-    /// The same, each session's first message bearing this number. None where it is 0 or above the limit.
+    /// Nobody has logged on, and each session's first message bears this number. None where it is 0 or above the limit.
     pub fn starting(stamp: Id, next: u32) -> Option<OutboundSessions>
         ensures { result ≡ sessions_at stamp next }
     {
@@ -115,7 +115,7 @@ impl OutboundSessions {
         }
     }
 
-    /// The same of a message of any fields.
+    /// Sends a message of any fields, as `send_body` does.
     pub fn send<A: Allocator + Copy>(
         &mut self,
         lists: &mut [Vec<u8, A>],

@@ -16,14 +16,19 @@ word_is id at = refl
 
 padded_length : (id : List ℕ) → length id ≤ 32 → length (padded id) ≡ 32
 unfolding padded
-padded_length id most = omega (arith, length-append id (replicate (32 - length id) 0), length-replicate {A = ℕ} (32 - length id) 0)
+padded_length id most = omega (
+  arith,
+  length-append id (replicate (32 - length id) 0),
+  length-replicate {A = ℕ} (32 - length id) 0,
+)
 
 zeros_small : (n i : ℕ) → get_or (replicate n 0) i 0 < 256
 zeros_small zero i = omega arith
 zeros_small (suc n) zero = omega arith
 zeros_small (suc n) (suc i) = zeros_small n i
 
-append_small : (a b : List ℕ) → ((i : ℕ) → get_or a i 0 < 256) → ((i : ℕ) → get_or b i 0 < 256) → (i : ℕ) → get_or (a ++ b) i 0 < 256
+append_small : (a b : List ℕ) → ((i : ℕ) → get_or a i 0 < 256) → ((i : ℕ) → get_or b i 0 < 256) → (i : ℕ)
+    → get_or (a ++ b) i 0 < 256
 append_small [] b h k i = k i
 append_small (x ∷ a) b h k zero = h 0
 append_small (x ∷ a) b h k (suc i) = append_small a b (λ j. h (suc j)) k i
@@ -44,21 +49,25 @@ take_small (x ∷ a) (suc n) h zero = h 0
 take_small (x ∷ a) (suc n) h (suc i) = take_small a n (λ j. h (suc j)) i
 
 -- eight bytes come back from their number
-eight : (id : List ℕ) (at : ℕ) → IsIdBytes id → at + 8 ≤ 32 → to_be_bytes w64 (word_of id at) ≡ take 8 (drop at (padded id))
+eight : (id : List ℕ) (at : ℕ) → IsIdBytes id → at + 8 ≤ 32
+    → to_be_bytes w64 (word_of id at) ≡ take 8 (drop at (padded id))
 eight id at b fits = be_bytes_8 (take 8 (drop at (padded id))) (word_of id at)
     (omega (arith, length-take 8 (drop at (padded id)), length-drop at (padded id), padded_length id b.most))
     (take_small (drop at (padded id)) 8 (drop_small (padded id) at (padded_small id b.small)))
     (word_is id at)
 
-same_eight : (a b : List ℕ) (at : ℕ) → IsIdBytes a → IsIdBytes b → at + 8 ≤ 32 → word_of a at ≡ word_of b at → take 8 (drop at (padded a)) ≡ take 8 (drop at (padded b))
+same_eight : (a b : List ℕ) (at : ℕ) → IsIdBytes a → IsIdBytes b → at + 8 ≤ 32 → word_of a at ≡ word_of b at
+    → take 8 (drop at (padded a)) ≡ take 8 (drop at (padded b))
 same_eight a b at p q fits e = sym (eight a at p fits) ∙ ap (to_be_bytes w64) e ∙ eight b at q fits
 
 -- a list of 32 is its four parts
-parts : (xs : List ℕ) → length xs ≡ 32 → xs ≡ take 8 (drop 0 xs) ++ (take 8 (drop 8 xs) ++ (take 8 (drop 16 xs) ++ take 8 (drop 24 xs)))
+parts : (xs : List ℕ) → length xs ≡ 32 → xs ≡ take 8 (drop 0 xs)
+    ++ (take 8 (drop 8 xs) ++ (take 8 (drop 16 xs) ++ take 8 (drop 24 xs)))
 parts xs l =
     let a = sym (take-append-drop 8 xs) in
     let b = sym (take-append-drop 8 (drop 8 xs)) ∙ ap (λ (ys : List ℕ). take 8 (drop 8 xs) ++ ys) (drop-drop 8 8 xs) in
-    let d = sym (take-append-drop 8 (drop 16 xs)) ∙ ap (λ (ys : List ℕ). take 8 (drop 16 xs) ++ ys) (drop-drop 8 16 xs) in
+    let d = sym (take-append-drop 8 (drop 16 xs)) ∙ ap (λ (ys : List ℕ). take 8 (drop 16 xs) ++ ys) (drop-drop 8 16 xs)
+    in
     let e : take 8 (drop 24 xs) ≡ drop 24 xs = take_all 8 (drop 24 xs) (omega (arith, length-drop 24 xs)) in
     cc
 

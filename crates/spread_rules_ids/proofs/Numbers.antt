@@ -17,10 +17,12 @@ use Rattle.std.proofs.lemmas.Slice.Eq.{slice_eq-Decides}
 pub IsUtf8-number : (n : ℕ) (bs : List ℕ) → n < 2 ^ 64 → bs ≡ decimal n → IsUtf8 bs
 IsUtf8-number n bs lt e = subst IsUtf8 (sym e) (IsUtf8-from_ascii (decimal n) (IsAscii-decimal n lt))
 
-pub not_refused : {E : Type 0} (e : E) (n : ℕ) (t bs : List ℕ) → n < 2 ^ 64 → t ≡ bs → bs ≡ decimal n → ParsesUnsigned {E = E} 64 10 t (Err e) → ⊥
+pub not_refused : {E : Type 0} (e : E) (n : ℕ) (t bs : List ℕ) → n < 2 ^ 64 → t ≡ bs → bs ≡ decimal n
+    → ParsesUnsigned {E = E} 64 10 t (Err e) → ⊥
 not_refused {E} e n t bs lt same is h = let was = parse-decimal {E = E} 64 n t (Err e) lt lt (same ∙ is) h in absurd cc
 
-pub parsed_is : {E : Type 0} (r : Result ℕ E) (m n : ℕ) (t bs : List ℕ) → r ≡ Ok m → n < 2 ^ 64 → t ≡ bs → bs ≡ decimal n → ParsesUnsigned 64 10 t r → m ≡ n
+pub parsed_is : {E : Type 0} (r : Result ℕ E) (m n : ℕ) (t bs : List ℕ) → r ≡ Ok m → n < 2 ^ 64 → t ≡ bs
+    → bs ≡ decimal n → ParsesUnsigned 64 10 t r → m ≡ n
 parsed_is r m n t bs was lt same is h = let gives = parse-decimal 64 n t r lt lt (same ∙ is) h in cc
 
 -- what was parsed is printed again, so the comparison can't have failed
@@ -32,12 +34,18 @@ not_unequal p bs r same e f = let t = (slice_eq-Decides Decides-eqb p bs r e).1 
 pub IsUtf8-signed : (z : ℤ) (bs : List ℕ) → mag z < 2 ^ 63 → bs ≡ signed_decimal z → IsUtf8 bs
 IsUtf8-signed z bs lt e = subst IsUtf8 (sym e) (IsUtf8-from_ascii (signed_decimal z) (IsAscii-signed z lt))
 
-pub not_refused_signed : {E : Type 0} (e : E) (z : ℤ) (t bs : List ℕ) → FitsSigned w64 z → t ≡ bs → bs ≡ signed_decimal z → ParsesSigned {E = E} w64 10 t (Err e) → ⊥
-not_refused_signed {E} e z t bs fits same is h = let was = parse-signed_decimal {E = E} w64 z t (Err e) fits fits.sfits (same ∙ is) h in absurd cc
+pub not_refused_signed : {E : Type 0} (e : E) (z : ℤ) (t bs : List ℕ) → FitsSigned w64 z → t ≡ bs
+    → bs ≡ signed_decimal z → ParsesSigned {E = E} w64 10 t (Err e) → ⊥
+not_refused_signed {E} e z t bs fits same is h = let was =
+    parse-signed_decimal {E = E} w64 z t (Err e) fits fits.sfits (same ∙ is) h in absurd cc
 
-pub parsed_signed_is : {E : Type 0} (r : Result ℤ E) (y z : ℤ) (t bs : List ℕ) → r ≡ Ok y → FitsSigned w64 z → t ≡ bs → bs ≡ signed_decimal z → ParsesSigned w64 10 t r → y ≡ z
-parsed_signed_is r y z t bs was fits same is h = let gives = parse-signed_decimal w64 z t r fits fits.sfits (same ∙ is) h in cc
+pub parsed_signed_is : {E : Type 0} (r : Result ℤ E) (y z : ℤ) (t bs : List ℕ) → r ≡ Ok y → FitsSigned w64 z → t ≡ bs
+    → bs ≡ signed_decimal z → ParsesSigned w64 10 t r → y ≡ z
+parsed_signed_is r y z t bs was fits same is h = let gives =
+    parse-signed_decimal w64 z t r fits fits.sfits (same ∙ is) h in cc
 
 -- a text whose begin differs has not that front
-pub not_after : (bytes front rest begin : List ℕ) (r : Bool) → begin ≡ take (length front) bytes → r ≡ pointwise eqb begin front → r ≡ false → bytes ≡ front ++ rest → ⊥
-not_after bytes front rest begin r b e f is = not_unequal begin front r (b ∙ ap (take (length front)) is ∙ take-append_seam front rest) e f
+pub not_after : (bytes front rest begin : List ℕ) (r : Bool) → begin ≡ take (length front) bytes
+    → r ≡ pointwise eqb begin front → r ≡ false → bytes ≡ front ++ rest → ⊥
+not_after bytes front rest begin r b e f is = not_unequal begin front r
+    (b ∙ ap (take (length front)) is ∙ take-append_seam front rest) e f

@@ -1,6 +1,6 @@
 //! Laws over the definitions alone.
-ghost use Rattle.std.specs.Prelude.{◌≡◌, ℕ, List, pos};
-ghost use Rattle.spread_rules_ids.specs.declared.bytes.TheConstants.{SOH};
+ghost use Rattle.std.specs.Prelude.{◌≡◌, ℕ, List, [], ◌∷◌, pos, codes};
+ghost use Rattle.spread_rules_ids.specs.declared.bytes.TheConstants.{SOH, LINE_FEED, SPACE, NUMBER_SIGN, HYPHEN_MINUS, POINT, DIGIT_ZERO, COLON, EQUALS, VERTICAL_BAR};
 ghost use Rattle.spread_rules_ids.specs.declared.limits.TheConstants.{SESSIONS, MAX_MONTHS, MAX_NAME_LENGTH, MAX_TICK, MAX_ID_LENGTH, MAX_NUMBER, FIRST_MSG_SEQ_NUM, MAX_MSG_SEQ_NUM, MIN_BODY_LENGTH, MAX_BODY_LENGTH, MAX_ORDER_QTY, MAX_PRICE, MAX_LEG_PRICE, MAX_JOURNAL_ENTRIES, MAX_RING, MAX_INPUT_BYTES};
 ghost use Rattle.spread_rules_ids.specs.IdKeys.{key_of, IsIdBytes};
 
@@ -29,4 +29,17 @@ pub fn limits()
     ensures max_ring { MAX_RING ≡ 4096 }
     ensures max_input_bytes { MAX_INPUT_BYTES ≡ 16777216 }
     ensures soh { SOH ≡ 1 }
+{}
+
+/// The other bytes that texts are made of, as their characters.
+pub fn bytes()
+    ensures line_feed { LINE_FEED ≡ 10 }
+    ensures space { SPACE ∷ [] ≡ codes " " }
+    ensures number_sign { NUMBER_SIGN ∷ [] ≡ codes "#" }
+    ensures hyphen_minus { HYPHEN_MINUS ∷ [] ≡ codes "-" }
+    ensures point { POINT ∷ [] ≡ codes "." }
+    ensures digit_zero { DIGIT_ZERO ∷ [] ≡ codes "0" }
+    ensures colon { COLON ∷ [] ≡ codes ":" }
+    ensures equals { EQUALS ∷ [] ≡ codes "=" }
+    ensures vertical_bar { VERTICAL_BAR ∷ [] ≡ codes "|" }
 {}

@@ -26,7 +26,7 @@ fn place_of(name: &[u8]) -> usize
 }
 
 impl NameGuesses {
-    /// Those of these months.
+    /// The guesses of these months' names.
     pub fn new(months: &[Month]) -> NameGuesses
         requires { length months.now ≤ MAX_MONTHS }
     {

@@ -152,6 +152,7 @@ impl Rulebook {
             → IsListed self.now (Instrument.Spread m f)
             → symbol_of self.now (Instrument.Spread m f) ≢ symbol.now) }
     {
+        // Read for the proof, which then knows that the tick is an `i64`.
         let _ = &self.tick;
         let (before, behind) = match cut_at(symbol, b'-') {
             Some(cut) => cut,
@@ -180,6 +181,7 @@ impl Rulebook {
             → IsListed self.now i → symbol_of self.now i ≢ symbol.now) }
         ensures value { result ≡ find_symbol self.now symbol.now }
     {
+        // Read for the proof, which then knows that the tick is an `i64`.
         let _ = &self.tick;
         if let Some(month) = self.month_guessed(symbol) {
             return Some(Instrument::Outright(month));

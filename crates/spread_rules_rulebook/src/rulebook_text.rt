@@ -233,6 +233,7 @@ pub fn read_lines(text: &[u8]) -> Result<Draft, RuleFault>
     let mut draft = empty_draft();
     let mut rest = text;
     let mut number = 1u64;
+    // The label names the loop for its proof.
     'lines: loop {
         let (line, others) = match cut_at(rest, b'\n') {
             Some(cut) => cut,

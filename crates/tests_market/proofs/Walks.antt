@@ -8,9 +8,11 @@ use Rattle.spread_rules.specs.declared.order.Order.{Order}
 use Rattle.spread_rules_rulebook.proofs.lists.Membership.{in_head, in_tail}
 use Rattle.spread_books_rows.proofs.places.Ascending.{is_so}
 
-pub one_more : (P : Order → Type 0) (xs : List Order) (n : ℕ) → n < length xs → All P (take n xs) → ((o : Order) → slice_get xs n ≡ Some o → P o) → All P (take (n + 1) xs)
+pub one_more : (P : Order → Type 0) (xs : List Order) (n : ℕ) → n < length xs → All P (take n xs)
+    → ((o : Order) → slice_get xs n ≡ Some o → P o) → All P (take (n + 1) xs)
 one_more P [] n lt h each = absurd (omega arith)
-one_more P (x ∷ xs) n lt h each = All-more P (x ∷ xs) n x lt h (each (get_or (x ∷ xs) n x) (slice_get-get_or (x ∷ xs) n x lt))
+one_more P (x ∷ xs) n lt h each = All-more P (x ∷ xs) n x lt h
+    (each (get_or (x ∷ xs) n x) (slice_get-get_or (x ∷ xs) n x lt))
 
 pub walked : (xs : List Order) (n : ℕ) (o : Order) → slice_get xs n ≡ Some o → Contains xs o
 walked [] n o e = cc
@@ -23,7 +25,9 @@ within (x ∷ xs) zero o e = omega arith
 within (x ∷ xs) (suc n) o e = let w = within xs n o e in omega (arith, w)
 
 -- where no other order has its place, what holds of one holds of each at that place
-pub each_there : (P : Order → Type 0) (xs : List Order) (n place : ℕ) (order : Order) → slice_get xs n ≡ Some order → P order → ((o : Order) (m : ℕ) → slice_get xs m ≡ Some o → o.place ≡ place → m ≡ n) → All (λ o. o.place ≡ place → P o) xs
+pub each_there : (P : Order → Type 0) (xs : List Order) (n place : ℕ) (order : Order) → slice_get xs n ≡ Some order
+    → P order → ((o : Order) (m : ℕ) → slice_get xs m ≡ Some o → o.place ≡ place → m ≡ n)
+    → All (λ o. o.place ≡ place → P o) xs
 each_there P xs n place order at p alone k d lt same =
     let got = slice_get-get_or xs k d lt in
     let here = subst (λ (i : ℕ). slice_get xs i ≡ Some (get_or xs k d)) (alone (get_or xs k d) k got same) got in

@@ -28,16 +28,23 @@ module _ {M : Type 1} {𝓤 : Ura M} (𝓛 : Logic 𝓤) (at_mem : Memory → SP
   abbrev pub at_due : Lft → Share → ℕ × ℕ → Due.Ghost
   at_due κ q c = (((κ, tt), (q, tt), tt, (record { ref_ptr = c; now = tt }, tt), (vptr c.0 c.1 ∷ [], tt)), tt)
 
-module _ {M : Type 1} {𝓤 : Ura M} (𝓛 : Logic 𝓤) (at_mem : Memory → SProp 𝓤) (run : Routine → Fun 𝓤) (κ : Lft) (q : Share) (c : ℕ × ℕ) where
+module _ {M : Type 1} {𝓤 : Ura M} (𝓛 : Logic 𝓤) (at_mem : Memory → SProp 𝓤) (run : Routine → Fun 𝓤) (κ : Lft)
+    (q : Share) (c : ℕ × ℕ) where
   open 𝓛 use {H, A}
 
-  pub Due-goes : ent 𝓤 (sep 𝓤 (sem 𝓛 (hidden_shr Calls κ tt c.0 c.1)) (A.lft κ q)) ((Due 𝓛 at_mem run).pre (at_due 𝓛 at_mem run κ q c))
+  pub Due-goes : ent 𝓤 (sep 𝓤 (sem 𝓛 (hidden_shr Calls κ tt c.0 c.1)) (A.lft κ q))
+      ((Due 𝓛 at_mem run).pre (at_due 𝓛 at_mem run κ q c))
   Due-goes =
-      qed 𝓛 (‵ (hidden_shr Calls κ tt c.0 c.1) ∷ ‵ (flft κ q) ∷ []) ∵ feq_i ! (List Val) (vptr c.0 c.1 ∷ []) (vptr c.0 c.1 ∷ []) refl $ fjoin ! $
-      nothing ! $ move ! (1 ∷ []) $ fjoin ! $ nothing ! $ move ! (2 ∷ []) $ join ! $ join ! $ nothing ! $ move ! (1 ∷ []) $ done !
+      qed 𝓛 (‵ (hidden_shr Calls κ tt c.0 c.1) ∷ ‵ (flft κ q) ∷ []) ∵ feq_i ! (List Val) (vptr c.0 c.1 ∷ [])
+      (vptr c.0 c.1 ∷ []) refl $ fjoin ! $
+      nothing ! $ move ! (1 ∷ []) $ fjoin ! $ nothing ! $ move ! (2 ∷ []) $ join ! $ join ! $ nothing ! $ move !
+      (1 ∷ []) $ done !
 
-  pub Due-gives : (v : Val) → ent 𝓤 ((Due 𝓛 at_mem run).post (at_due 𝓛 at_mem run κ q c) v) (H.⇛ (ex 𝓤 (λ (b : Bool). guard 𝓤 (v ≡ vbool b) (A.lft κ q))))
+  pub Due-gives : (v : Val) → ent 𝓤 ((Due 𝓛 at_mem run).post (at_due 𝓛 at_mem run κ q c) v)
+      (H.⇛ (ex 𝓤 (λ (b : Bool). guard 𝓤 (v ≡ vbool b) (A.lft κ q))))
   Due-gives v =
       qed 𝓛 (types.Kit.raw ((Due 𝓛 at_mem run).post (at_due 𝓛 at_mem run κ q c) v) ∷ []) ∵ updating ! $
-      use1 𝓛 (later (some (λ (b : Bool). ((‵ (flft κ q) ⊛ ‵ ftrue) ⊛ ‵ (bool.own_val b (v ∷ []))) ⊛ some (λ (ws : Unit {0} × Unit {0}). ‵ (fsep ftrue ftrue) ⊛ ‵ ftrue)))) (id⊢ 𝓤 _) $ await ! tt $ pick ! (λ b.
-      split ! $ split ! $ move ! (1 ∷ []) $ feq_l ! (λ e. split ! $ at_once ! $ show ! (λ (b : Bool). guard 𝓤 (v ≡ vbool b) (A.lft κ q)) b $ check ! (ap only e) $ keep ! (0 ∷ []) $ done !))
+      use1 𝓛 (later (some (λ (b : Bool). ((‵ (flft κ q) ⊛ ‵ ftrue) ⊛ ‵ (bool.own_val b (v ∷ []))) ⊛ some
+      (λ (ws : Unit {0} × Unit {0}). ‵ (fsep ftrue ftrue) ⊛ ‵ ftrue)))) (id⊢ 𝓤 _) $ await ! tt $ pick ! (λ b.
+      split ! $ split ! $ move ! (1 ∷ []) $ feq_l ! (λ e. split ! $ at_once ! $ show !
+      (λ (b : Bool). guard 𝓤 (v ≡ vbool b) (A.lft κ q)) b $ check ! (ap only e) $ keep ! (0 ∷ []) $ done !))

@@ -15,18 +15,21 @@ not_ten b h = grind (arith, nat_tests)
 -- a text up to its first line feed, and with it, is its first line
 pub line_ends : (a x : List ℕ) → Lacks 10 a → first_line (a ++ 10 ∷ x) ≡ a ++ 10 ∷ []
 line_ends [] x h = refl
-line_ends (b ∷ bs) x h = let rest = line_ends bs x h.1 in let no : (b == 10) ≡ false = not_ten b h.0 in rw (no, rest) refl
+line_ends (b ∷ bs) x h = let rest = line_ends bs x h.1 in let no : (b == 10) ≡ false = not_ten b h.0 in
+    rw (no, rest) refl
 
 -- and a text without a line feed is one line
 pub line_is_all : (a : List ℕ) → Lacks 10 a → first_line a ≡ a
 line_is_all [] h = refl
-line_is_all (b ∷ bs) h = let rest = line_is_all bs h.1 in let no : (b == 10) ≡ false = not_ten b h.0 in rw (no, rest) refl
+line_is_all (b ∷ bs) h = let rest = line_is_all bs h.1 in let no : (b == 10) ≡ false = not_ten b h.0 in
+    rw (no, rest) refl
 
 pub taken : (a x : List ℕ) → take (suc (length a)) (a ++ 10 ∷ x) ≡ a ++ 10 ∷ []
 taken [] x = refl
 taken (b ∷ bs) x = ap (λ (l : List ℕ). b ∷ l) (taken bs x)
 
-lacking_rest : (bs : List ℕ) (c : Bool) → c ≡ false → Lacks 10 (if c then [] else first_line bs) → Lacks 10 (first_line bs)
+lacking_rest : (bs : List ℕ) (c : Bool) → c ≡ false → Lacks 10 (if c then [] else first_line bs)
+    → Lacks 10 (first_line bs)
 lacking_rest bs true e h = cc
 lacking_rest bs false e h = h
 
@@ -45,7 +48,8 @@ same_line_same xs ys h e =
     line ∙ all_is_line ys lacks
 
 -- texts cut behind other lines have another first line
-pub other_lines : (a b x y xs ys : List ℕ) → xs ≡ a ++ 10 ∷ x → ys ≡ b ++ 10 ∷ y → Lacks 10 a → Lacks 10 b → a ≢ b → first_line xs ≢ first_line ys
+pub other_lines : (a b x y xs ys : List ℕ) → xs ≡ a ++ 10 ∷ x → ys ≡ b ++ 10 ∷ y → Lacks 10 a → Lacks 10 b → a ≢ b
+    → first_line xs ≢ first_line ys
 other_lines a b x y xs ys in_xs in_ys la lb differ same =
     let ended : (a ++ 10 ∷ []) ≡ (b ++ 10 ∷ []) =
     sym (line_ends a x la) ∙ (ap first_line (sym in_xs) ∙ (same ∙ (ap first_line in_ys ∙ line_ends b y lb))) in
@@ -53,7 +57,13 @@ other_lines a b x y xs ys in_xs in_ys la lb differ same =
 
 -- nothing was passed yet
 pub none_passed : (claim right : List ℕ) → HasPassed claim right claim right 1
-none_passed claim right = record { lines = []; whole = All-nil IsWholeLine; in_claim = refl; in_right = refl; number_is = refl }
+none_passed claim right = record {
+  lines = [];
+  whole = All-nil IsWholeLine;
+  in_claim = refl;
+  in_right = refl;
+  number_is = refl;
+}
 
 -- one more line was passed
 pub one_passed : (claim right c r c2 r2 line : List ℕ) (n : ℕ) → HasPassed claim right c r n → IsWholeLine line
@@ -62,10 +72,12 @@ one_passed claim right c r c2 r2 line n h whole in_c in_r =
     let joined : concat (h.lines ++ line ∷ []) ≡ concat h.lines ++ line =
     concat-append h.lines (line ∷ []) ∙ ap (λ (l : List ℕ). concat h.lines ++ l) (append-nil line) in
     let behind : (t t2 : List ℕ) → t ≡ line ++ t2 → concat h.lines ++ t ≡ concat (h.lines ++ line ∷ []) ++ t2 =
-    λ t t2 e. ap (λ (l : List ℕ). concat h.lines ++ l) e ∙ (sym (append_assoc (concat h.lines) line t2) ∙ ap (λ (l : List ℕ). l ++ t2) (sym joined)) in
+    λ t t2 e. ap (λ (l : List ℕ). concat h.lines ++ l) e
+    ∙ (sym (append_assoc (concat h.lines) line t2) ∙ ap (λ (l : List ℕ). l ++ t2) (sym joined)) in
     record {
       lines = h.lines ++ line ∷ [];
-      whole = All-append IsWholeLine h.lines (line ∷ []) h.whole (All-cons IsWholeLine line [] whole (All-nil IsWholeLine));
+      whole = All-append IsWholeLine h.lines (line ∷ []) h.whole
+          (All-cons IsWholeLine line [] whole (All-nil IsWholeLine));
       in_claim = h.in_claim ∙ behind c c2 in_c;
       in_right = h.in_right ∙ behind r r2 in_r;
       number_is = omega (arith, h.number_is, length-append {A = List ℕ});

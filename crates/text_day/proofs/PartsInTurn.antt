@@ -6,9 +6,12 @@ use Rattle.text_messages.specs.code.Blocks.{Writes}
 use Rattle.text_messages.proofs.BlocksInTurn.{front_after}
 
 -- a part that was written, and the next, whatever became of that one
-pub then_writes : {T E : Type 0} (r : Result T E) (a b c : Option (List ℕ)) (has_failed : Bool) (xs ys : List ℕ) → Appends a b xs → Writes r b c has_failed ys → Writes r a c has_failed (xs ++ ys)
-then_writes (Ok u) a b c has_failed xs ys first next = record { all = Appends-trans a b c xs ys first next.all; sound = next.sound; failed = tt; front = tt }
-then_writes (Err e) a b c has_failed xs ys first next = record { all = tt; sound = tt; failed = next.failed; front = front_after a b c xs ys first next.front }
+pub then_writes : {T E : Type 0} (r : Result T E) (a b c : Option (List ℕ)) (has_failed : Bool) (xs ys : List ℕ)
+    → Appends a b xs → Writes r b c has_failed ys → Writes r a c has_failed (xs ++ ys)
+then_writes (Ok u) a b c has_failed xs ys first next =
+    record { all = Appends-trans a b c xs ys first next.all; sound = next.sound; failed = tt; front = tt }
+then_writes (Err e) a b c has_failed xs ys first next =
+    record { all = tt; sound = tt; failed = next.failed; front = front_after a b c xs ys first next.front }
 
 -- two parts behind a first one
 pub behind_first : (a b c : List ℕ) → a ++ (b ++ c) ≡ a ++ b ++ c

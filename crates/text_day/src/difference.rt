@@ -55,6 +55,7 @@ pub fn first_difference<A: Allocator>(
     let mut claim_rest = claim;
     let mut right_rest = right;
     let mut line = 1u64;
+    // The label names the loop for its proof.
     'lines: while let Some((claim_after, right_after)) = past_same_line(claim_rest, right_rest) {
         claim_rest = claim_after;
         right_rest = right_after;

@@ -29,23 +29,30 @@ pub none_on_err : {T E : Type 0} (P : Type 0) (Q : E → Type 0) (r : Result T E
 none_on_err P Q (Ok x) is = absurd is
 none_on_err P Q (Err e) is = tt
 
-pub put_stops : {T E : Type 0} {old new : Option (List ℕ)} {has_failed : Bool} {block text : List ℕ} (Q : E → Type 0) (r : Result T E) → IsErrAnd r Q
+pub put_stops : {T E : Type 0} {old new : Option (List ℕ)} {has_failed : Bool} {block text : List ℕ} (Q : E → Type 0)
+    (r : Result T E) → IsErrAnd r Q
     → has_failed ≡ true → AppendsPrefix old new text → Puts r old new has_failed block text
 put_stops Q (Ok x) is failed front = absurd is
 put_stops Q (Err e) is failed front = record { put = tt; sound = tt; failed = failed; front = front }
 
-pub write_stops : {T E : Type 0} {old new : Option (List ℕ)} {has_failed : Bool} {text : List ℕ} (Q : E → Type 0) (r : Result T E) → IsErrAnd r Q
+pub write_stops : {T E : Type 0} {old new : Option (List ℕ)} {has_failed : Bool} {text : List ℕ} (Q : E → Type 0)
+    (r : Result T E) → IsErrAnd r Q
     → has_failed ≡ true → AppendsPrefix old new text → Writes r old new has_failed text
 write_stops Q (Ok x) is failed front = absurd is
 write_stops Q (Err e) is failed front = record { all = tt; sound = tt; failed = failed; front = front }
 
 -- a text was written, and a front of the next
-pub front_after : (a b c : Option (List ℕ)) (xs ys : List ℕ) → Appends a b xs → AppendsPrefix b c ys → AppendsPrefix a c (xs ++ ys)
+pub front_after : (a b c : Option (List ℕ)) (xs ys : List ℕ) → Appends a b xs → AppendsPrefix b c ys
+    → AppendsPrefix a c (xs ++ ys)
 front_after a b c xs ys first second =
     let e : length (xs ++ ys) ≡ length xs + length ys = length-append xs ys in
     let n = second.0 in
-    let most : n ≤ length ys = second.1 in
-    (length xs + n, omega (arith, e, most), subst (λ (t : List ℕ). Appends a c t) (sym (take-append-add xs ys n)) (Appends-trans a b c xs (take n ys) first second.2))
+    let most : n ≤ length ys = second.1 in (
+      length xs + n,
+      omega (arith, e, most),
+      subst (λ (t : List ℕ). Appends a c t) (sym (take-append-add xs ys n))
+          (Appends-trans a b c xs (take n ys) first second.2),
+    )
 
 -- a front of a text is one of a longer text
 pub front_of_more : (a b : Option (List ℕ)) (xs ys : List ℕ) → AppendsPrefix a b xs → AppendsPrefix a b (xs ++ ys)
@@ -56,15 +63,18 @@ front_of_more a b xs ys front =
     (n, omega (arith, e, most), subst (λ (t : List ℕ). Appends a b t) (sym (take-append-le n xs ys most)) front.2)
 
 -- more stands in the block
-pub put_more : (a b : Option (List ℕ)) (old new text bytes : List ℕ) → IsPut a b old text → new ≡ old ++ bytes → IsPut a b new (text ++ bytes)
+pub put_more : (a b : Option (List ℕ)) (old new text bytes : List ℕ) → IsPut a b old text → new ≡ old ++ bytes
+    → IsPut a b new (text ++ bytes)
 put_more a b old new text bytes put is = record {
   out = put.out;
   written = put.written;
-  all = ap (λ (t : List ℕ). t ++ bytes) put.all ∙ (append_assoc put.out old bytes ∙ ap (λ (p : List ℕ). put.out ++ p) (sym is));
+  all = ap (λ (t : List ℕ). t ++ bytes) put.all ∙ (append_assoc put.out old bytes
+      ∙ ap (λ (p : List ℕ). put.out ++ p) (sym is));
 }
 
 -- one text after another
-pub put_after : (a b c : Option (List ℕ)) (old mid new xs ys : List ℕ) → IsPut a b mid (old ++ xs) → IsPut b c new (mid ++ ys) → IsPut a c new (old ++ (xs ++ ys))
+pub put_after : (a b c : Option (List ℕ)) (old mid new xs ys : List ℕ) → IsPut a b mid (old ++ xs)
+    → IsPut b c new (mid ++ ys) → IsPut a c new (old ++ (xs ++ ys))
 put_after a b c old mid new xs ys first second = record {
   out = first.out ++ second.out;
   written = Appends-trans a b c first.out second.out first.written second.written;
@@ -76,11 +86,14 @@ put_after a b c old mid new xs ys first second = record {
 }
 
 -- where the second fails, a front of both and more is out
-pub put_fails : (a b c : Option (List ℕ)) (old mid xs ys rest all : List ℕ) → IsPut a b mid (old ++ xs) → AppendsPrefix b c (mid ++ ys) → all ≡ xs ++ (ys ++ rest) → AppendsPrefix a c (old ++ all)
+pub put_fails : (a b c : Option (List ℕ)) (old mid xs ys rest all : List ℕ) → IsPut a b mid (old ++ xs)
+    → AppendsPrefix b c (mid ++ ys) → all ≡ xs ++ (ys ++ rest) → AppendsPrefix a c (old ++ all)
 put_fails a b c old mid xs ys rest all first second is =
-    let front = front_of_more a c (first.out ++ (mid ++ ys)) rest (front_after a b c first.out (mid ++ ys) first.written second) in
+    let front = front_of_more a c (first.out ++ (mid ++ ys)) rest
+    (front_after a b c first.out (mid ++ ys) first.written second) in
     let same : (first.out ++ (mid ++ ys)) ++ rest ≡ old ++ all =
-    ap (λ (t : List ℕ). t ++ rest) (sym (append_assoc first.out mid ys) ∙ (ap (λ (t : List ℕ). t ++ ys) (sym first.all) ∙ append_assoc old xs ys))
+    ap (λ (t : List ℕ). t ++ rest) (sym (append_assoc first.out mid ys)
+    ∙ (ap (λ (t : List ℕ). t ++ ys) (sym first.all) ∙ append_assoc old xs ys))
     ∙ (append_assoc old (xs ++ ys) rest ∙ ap (λ (t : List ℕ). old ++ t) (append_assoc xs ys rest ∙ sym is)) in
     subst (λ (t : List ℕ). AppendsPrefix a c t) same front
 
@@ -89,7 +102,8 @@ pub put_none : (a : Option (List ℕ)) (block : List ℕ) → IsPut a a block (b
 put_none a block = record { out = []; written = Appends-nil a; all = append-nil block }
 
 -- what was put behind an empty block, which then was given on
-pub put_and_given : {T E : Type 0} (r : Result T E) (a b c : Option (List ℕ)) (has_failed : Bool) (old block text : List ℕ) → old ≡ [] → IsPut a b block (old ++ text) → Writes r b c has_failed block
+pub put_and_given : {T E : Type 0} (r : Result T E) (a b c : Option (List ℕ)) (has_failed : Bool)
+    (old block text : List ℕ) → old ≡ [] → IsPut a b block (old ++ text) → Writes r b c has_failed block
     → Writes r a c has_failed text
 put_and_given (Ok x) a b c has_failed old block text empty put last =
     let all : text ≡ put.out ++ block = sym (ap (λ (t : List ℕ). t ++ text) empty) ∙ put.all in record {
@@ -103,5 +117,6 @@ put_and_given (Err e) a b c has_failed old block text empty put last =
       all = tt;
       sound = tt;
       failed = last.failed;
-      front = subst (λ (t : List ℕ). AppendsPrefix a c t) (sym all) (front_after a b c put.out block put.written last.front);
+      front = subst (λ (t : List ℕ). AppendsPrefix a c t) (sym all)
+          (front_after a b c put.out block put.written last.front);
     }

@@ -16,13 +16,17 @@ lead_of_two session d is h =
     let ones : (10 + d) % 10 ≡ d = omega arith in
     let digits : decimal (10 + d) ≡ 49 ∷ (48 + d) ∷ [] =
     decimal_step (10 + d) (omega arith) (omega arith) ∙ (ap (λ (t : ℕ). decimal t ++ (48 + (10 + d) % 10) ∷ []) tens
-    ∙ (ap (λ (ds : List ℕ). ds ++ (48 + (10 + d) % 10) ∷ []) (decimal_digit 1 (omega arith)) ∙ ap (λ (u : ℕ). 49 ∷ (48 + u) ∷ []) ones)) in
+    ∙ (ap (λ (ds : List ℕ). ds ++ (48 + (10 + d) % 10) ∷ []) (decimal_digit 1 (omega arith))
+    ∙ ap (λ (u : ℕ). 49 ∷ (48 + u) ∷ []) ones)) in
     sym (ap line_lead is ∙ ap (λ (ds : List ℕ). 79 ∷ 32 ∷ (ds ++ 58 ∷ [])) digits)
 
 -- a line is its lead, the message and its end
-pub line_of_three : (session : ℕ) (message text : List ℕ) → text ≡ line_lead session → outgoing_line session message ≡ text ++ (map shown_byte message ++ 10 ∷ [])
-line_of_three session message text is = append_assoc (line_lead session) (map shown_byte message) (10 ∷ []) ∙ ap (λ (t : List ℕ). t ++ (map shown_byte message ++ 10 ∷ [])) (sym is)
+pub line_of_three : (session : ℕ) (message text : List ℕ) → text ≡ line_lead session
+    → outgoing_line session message ≡ text ++ (map shown_byte message ++ 10 ∷ [])
+line_of_three session message text is = append_assoc (line_lead session) (map shown_byte message) (10 ∷ [])
+    ∙ ap (λ (t : List ℕ). t ++ (map shown_byte message ++ 10 ∷ [])) (sym is)
 
 -- bytes that stand behind those of a block are shown behind them
-pub shown_more : (old new bytes : List ℕ) → new ≡ old ++ bytes → map shown_byte new ≡ map shown_byte old ++ map shown_byte bytes
+pub shown_more : (old new bytes : List ℕ) → new ≡ old ++ bytes → map shown_byte new ≡ map shown_byte old
+    ++ map shown_byte bytes
 shown_more old new bytes is = ap (λ (t : List ℕ). map shown_byte t) is ∙ map-append shown_byte old bytes

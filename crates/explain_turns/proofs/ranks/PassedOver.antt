@@ -33,18 +33,23 @@ first_no : (a : Bool) → (a && true) ≡ false → a ≡ false
 first_no true h = h
 first_no false h = refl
 
-not_first : (side : Side) (traded : Instrument) (aside : Side) (a : Instrument) (bside : Side) (b : Instrument) (s p : ℤ) → may_be_first side traded aside a ≡ false → implied_price side traded aside a bside b s p ≡ None
+not_first : (side : Side) (traded : Instrument) (aside : Side) (a : Instrument) (bside : Side) (b : Instrument)
+    (s p : ℤ) → may_be_first side traded aside a ≡ false → implied_price side traded aside a bside b s p ≡ None
 not_first Buy (Outright m) Buy (Outright i) bside b s p h = refl
 not_first Buy (Outright m) Sell (Outright i) bside b s p h = refl
 not_first Sell (Outright m) Buy (Outright i) bside b s p h = refl
 not_first Sell (Outright m) Sell (Outright i) bside b s p h = refl
 not_first Buy (Outright m) Buy (Spread i j) Buy (Outright k) s p h = refl
-not_first Buy (Outright m) Buy (Spread i j) Sell (Outright k) s p h = no_price (m == j) (k == i) (p -ℤ s) (first_no (m == j) (right_no (m == i && false) (m == j && true) h))
+not_first Buy (Outright m) Buy (Spread i j) Sell (Outright k) s p h =
+    no_price (m == j) (k == i) (p -ℤ s) (first_no (m == j) (right_no (m == i && false) (m == j && true) h))
 not_first Buy (Outright m) Sell (Spread i j) Buy (Outright k) s p h = refl
-not_first Buy (Outright m) Sell (Spread i j) Sell (Outright k) s p h = no_price (m == i) (k == j) (s +ℤ p) (first_no (m == i) (left_no (m == i && true) (m == j && false) h))
-not_first Sell (Outright m) Buy (Spread i j) Buy (Outright k) s p h = no_price (m == i) (k == j) (s +ℤ p) (first_no (m == i) (left_no (m == i && true) (m == j && false) h))
+not_first Buy (Outright m) Sell (Spread i j) Sell (Outright k) s p h =
+    no_price (m == i) (k == j) (s +ℤ p) (first_no (m == i) (left_no (m == i && true) (m == j && false) h))
+not_first Sell (Outright m) Buy (Spread i j) Buy (Outright k) s p h =
+    no_price (m == i) (k == j) (s +ℤ p) (first_no (m == i) (left_no (m == i && true) (m == j && false) h))
 not_first Sell (Outright m) Buy (Spread i j) Sell (Outright k) s p h = refl
-not_first Sell (Outright m) Sell (Spread i j) Buy (Outright k) s p h = no_price (m == j) (k == i) (p -ℤ s) (first_no (m == j) (right_no (m == i && false) (m == j && true) h))
+not_first Sell (Outright m) Sell (Spread i j) Buy (Outright k) s p h =
+    no_price (m == j) (k == i) (p -ℤ s) (first_no (m == j) (right_no (m == i && false) (m == j && true) h))
 not_first Sell (Outright m) Sell (Spread i j) Sell (Outright k) s p h = refl
 not_first Buy (Outright m) Buy (Spread i j) Buy (Spread k l) s p h = refl
 not_first Buy (Outright m) Buy (Spread i j) Sell (Spread k l) s p h = refl
@@ -56,14 +61,16 @@ not_first Sell (Outright m) Sell (Spread i j) Buy (Spread k l) s p h = refl
 not_first Sell (Outright m) Sell (Spread i j) Sell (Spread k l) s p h = refl
 not_first Buy (Spread i j) Buy (Outright k) bside (Outright l) s p h = refl
 not_first Buy (Spread i j) Buy (Outright k) bside (Spread l m) s p h = refl
-not_first Buy (Spread i j) Sell (Outright k) Buy (Outright l) s p h = no_price (k == i) (l == j) (s -ℤ p) (first_no (k == i) h)
+not_first Buy (Spread i j) Sell (Outright k) Buy (Outright l) s p h =
+    no_price (k == i) (l == j) (s -ℤ p) (first_no (k == i) h)
 not_first Buy (Spread i j) Sell (Outright k) Sell (Outright l) s p h = refl
 not_first Buy (Spread i j) Sell (Outright k) Buy (Spread l m) s p h = refl
 not_first Buy (Spread i j) Sell (Outright k) Sell (Spread l m) s p h = refl
 not_first Sell (Spread i j) Sell (Outright k) bside (Outright l) s p h = refl
 not_first Sell (Spread i j) Sell (Outright k) bside (Spread l m) s p h = refl
 not_first Sell (Spread i j) Buy (Outright k) Buy (Outright l) s p h = refl
-not_first Sell (Spread i j) Buy (Outright k) Sell (Outright l) s p h = no_price (k == i) (l == j) (s -ℤ p) (first_no (k == i) h)
+not_first Sell (Spread i j) Buy (Outright k) Sell (Outright l) s p h =
+    no_price (k == i) (l == j) (s -ℤ p) (first_no (k == i) h)
 not_first Sell (Spread i j) Buy (Outright k) Buy (Spread l m) s p h = refl
 not_first Sell (Spread i j) Buy (Outright k) Sell (Spread l m) s p h = refl
 not_first Buy (Spread i j) Buy (Spread k l) bside b s p h = refl
@@ -81,10 +88,15 @@ module _ (on : Pairs) where
   off_none false price h = refl
 
   -- an order that may not be the first of two makes no pair
-  pub no_pair : (n a b : Order) → may_be_first n.side n.instrument a.side a.instrument ≡ false → candidate_of on n (Implied a b) ≡ None
-  no_pair n a b h = ap (candidate_at n (Implied a b)) (price_switched on n a b ∙ off_none (takes_part on n.instrument a.instrument) (implied_price n.side n.instrument a.side a.instrument b.side b.instrument a.price b.price) (not_first n.side n.instrument a.side a.instrument b.side b.instrument a.price b.price h))
+  pub no_pair : (n a b : Order) → may_be_first n.side n.instrument a.side a.instrument ≡ false
+      → candidate_of on n (Implied a b) ≡ None
+  no_pair n a b h = ap (candidate_at n (Implied a b))
+      (price_switched on n a b ∙ off_none (takes_part on n.instrument a.instrument)
+      (implied_price n.side n.instrument a.side a.instrument b.side b.instrument a.price b.price)
+      (not_first n.side n.instrument a.side a.instrument b.side b.instrument a.price b.price h))
 
-  none_at : (n a b : Order) (t : Bool) → takes_part on n.instrument a.instrument ≡ t → candidate_of all_on n (Implied a b) ≡ None → candidate_of on n (Implied a b) ≡ None
+  none_at : (n a b : Order) (t : Bool) → takes_part on n.instrument a.instrument ≡ t
+      → candidate_of all_on n (Implied a b) ≡ None → candidate_of on n (Implied a b) ≡ None
   none_at n a b true t h = candidate_on on n a b t ∙ h
   none_at n a b false t h = candidate_off on n a b t
 
@@ -96,11 +108,15 @@ module _ (on : Pairs) where
   stays n None = refl
   stays n (Some o) = refl
 
-  pub step_none : (n : Order) (bound best : Option Candidate) (p : Counterparty) → candidate_of on n p ≡ None → next_step on n bound best p ≡ best
+  pub step_none : (n : Order) (bound best : Option Candidate) (p : Counterparty) → candidate_of on n p ≡ None
+      → next_step on n bound best p ≡ best
   step_none n bound best p h = ap (λ (r : Option Candidate). better_of n best (only_behind n bound r)) h ∙ stays n best
 
-  pub pairs_none : (n : Order) (bound best : Option Candidate) (a : Order) (xs : List Order) → may_be_first n.side n.instrument a.side a.instrument ≡ false → fold (next_step on n bound) best (map (Implied a) xs) ≡ best
+  pub pairs_none : (n : Order) (bound best : Option Candidate) (a : Order) (xs : List Order)
+      → may_be_first n.side n.instrument a.side a.instrument ≡ false
+      → fold (next_step on n bound) best (map (Implied a) xs) ≡ best
   pairs_none n bound best a [] h = refl
   pairs_none n bound best a (b ∷ xs) h =
-      ap (λ (r : Option Candidate). fold (next_step on n bound) r (map (Implied a) xs)) (step_none n bound best (Implied a b) (no_pair n a b h))
+      ap (λ (r : Option Candidate). fold (next_step on n bound) r (map (Implied a) xs))
+      (step_none n bound best (Implied a b) (no_pair n a b h))
       ∙ pairs_none n bound best a xs h

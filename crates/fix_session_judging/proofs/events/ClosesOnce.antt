@@ -32,7 +32,8 @@ below_honest r false = refl
 above_honest : (r : Running) → IsHonest (step_above r)
 above_honest r = by_asked r.gap_asked
   where
-    by_asked : (asked : Bool) → IsHonest (if asked then (verdict_of None, running r) else (verdict_of (Some (events.Gap r.due)), running (record r { gap_asked = true })))
+    by_asked : (asked : Bool) → IsHonest (if asked then (verdict_of None, running r) else
+        (verdict_of (Some (events.Gap r.due)), running (record r { gap_asked = true })))
     by_asked true = refl
     by_asked false = refl
 
@@ -43,14 +44,16 @@ accepted_honest r (Some e) h = sym h.no_close
 due_honest : (r : Running) (m : Numbered) → IsFair m → IsHonest (step_due r m)
 due_honest r m fair = by_logout (is_logout m)
   where
-    by_logout : (v : Bool) → IsHonest (if v then closes 1 else (verdict_of (event_given m), running (record r { due = (next_due m); gap_asked = false })))
+    by_logout : (v : Bool) → IsHonest (if v then closes 1 else
+        (verdict_of (event_given m), running (record r { due = (next_due m); gap_asked = false })))
     by_logout true = refl
     by_logout false = accepted_honest (record r { due = (next_due m); gap_asked = false }) (event_given m) fair.event
 
 running_honest : (r : Running) (m : Numbered) → IsFair m → IsHonest (step_running r m)
 running_honest r m fair = by_number (is_between m r.client r.host) (nat_lt m.number r.due) (nat_lt r.due m.number)
   where
-    by_number : (same below above : Bool) → IsHonest (if not same then closes 4 else (if below then step_below r (repeats m) else (if above then step_above r else step_due r m)))
+    by_number : (same below above : Bool) → IsHonest (if not same then closes 4 else
+        (if below then step_below r (repeats m) else (if above then step_above r else step_due r m)))
     by_number false below above = refl
     by_number true true above = below_honest r (repeats m)
     by_number true false true = above_honest r
@@ -75,7 +78,8 @@ closed_silent s f = by_state s.state
     by_view None = refl
     by_view (Some m) = refl
 
-    by_state : (t : State) → is_closed (record { state = t }) ≡ true → judge (record { state = t }) f ≡ (verdicts.Nothing, record { state = t })
+    by_state : (t : State) → is_closed (record { state = t }) ≡ true
+        → judge (record { state = t }) f ≡ (verdicts.Nothing, record { state = t })
     by_state states.Before e = absurd (false≢true e)
     by_state (states.Running r) e = absurd (false≢true e)
     by_state states.Closed e = by_view (numbered f)

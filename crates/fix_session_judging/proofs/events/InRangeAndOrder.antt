@@ -38,7 +38,8 @@ abbrev pub May : {A : Type 0} → (A → Type 0) → Option A → Type 0
 May P None = Unit {0}
 May P (Some x) = P x
 
-chained : {A B : Type 0} (P : A → Type 0) (Q : B → Type 0) (o : Option A) (f : A → Option B) → May P o → ((x : A) → P x → May Q (f x)) → May Q (o >>= f)
+chained : {A B : Type 0} (P : A → Type 0) (Q : B → Type 0) (o : Option A) (f : A → Option B) → May P o
+    → ((x : A) → P x → May Q (f x)) → May Q (o >>= f)
 chained P Q None f h g = tt
 chained P Q (Some x) f h g = g x h
 
@@ -66,7 +67,8 @@ any_text None = tt
 any_text (Some t) = tt
 
 id_in_holds : (tag : ℕ) (m : List ℕ) → May (λ id. is_id id ≡ true) (given_id tag m)
-id_in_holds tag m = chained (λ t. Unit {0}) (λ id. is_id id ≡ true) (get tag m) id_of (any_text (get tag m)) (λ t h. id_holds t)
+id_in_holds tag m = chained (λ t. Unit {0}) (λ id. is_id id ≡ true) (get tag m) id_of (any_text (get tag m))
+    (λ t h. id_holds t)
 
 within_holds : (n : ℕ) → May (λ x. x ≤ 999999999) (result_ok (within 999999999 n))
 within_holds n = by_test (nat_le n 999999999) refl
@@ -78,7 +80,8 @@ within_holds n = by_test (nat_le n 999999999) refl
 read_holds : (text : List ℕ) → May (λ x. x ≤ 999999999) (result_ok (number_in text))
 read_holds text = by_test (is_number text)
   where
-    by_test : (v : Bool) → May (λ x. x ≤ 999999999) (result_ok (if v then within 999999999 (number_of text) else Err Format))
+    by_test : (v : Bool) → May (λ x. x ≤ 999999999) (result_ok
+        (if v then within 999999999 (number_of text) else Err Format))
     by_test true = within_holds (number_of text)
     by_test false = tt
 
@@ -89,17 +92,21 @@ parts_hold : (m : List ℕ) (n : ℕ) → May FitsLogon (logon_by_parts m n)
 unfolding logon_by_parts
 parts_hold m n = by_test (is_opening m n)
   where
-    by_test : (v : Bool) → May FitsLogon (if not v then None else (given_id 49 m >>= λ client. given_id 56 m >>= λ host. given_number 108 m >>= λ beat. Some (record { client = client; host = host; beat = beat })))
+    by_test : (v : Bool) → May FitsLogon (if not v then None else
+        (given_id 49 m >>= λ client. given_id 56 m >>= λ host. given_number 108 m >>= λ beat. Some
+        (record { client = client; host = host; beat = beat })))
     by_test false = tt
     by_test true =
         chained (λ id. is_id id ≡ true) FitsLogon (given_id 49 m) _ (id_in_holds 49 m) (λ client is_client.
         chained (λ id. is_id id ≡ true) FitsLogon (given_id 56 m) _ (id_in_holds 56 m) (λ host is_host.
-        chained (λ x. x ≤ 999999999) FitsLogon (given_number 108 m) _ (beat_holds m) (λ beat short. (is_client, is_host, short))))
+        chained (λ x. x ≤ 999999999) FitsLogon (given_number 108 m) _ (beat_holds m)
+        (λ beat short. (is_client, is_host, short))))
 
 logon_holds : (m : List ℕ) (n : ℕ) → May FitsLogon (logon_of m n)
 logon_holds m n = subst (May FitsLogon) (sym (logon_is m n)) (parts_hold m n)
 
-event_holds : (n : ℕ) (r : Result Meaning ℕ) → IsNumber n → Holds (FitsMeaning n) r → May IsGiven (event_of_accepted n r)
+event_holds : (n : ℕ) (r : Result Meaning ℕ) → IsNumber n → Holds (FitsMeaning n) r
+    → May IsGiven (event_of_accepted n r)
 event_holds n (Ok Nothing) num h = tt
 event_holds n (Ok (Says e)) num h = h
 event_holds n (Ok (GapFill next)) num h = tt
@@ -126,9 +133,11 @@ at_least_one_holds n h = by_test (nat_le 1 n) refl
     by_test true e = (grind (arith, nat_tests), h)
     by_test false e = tt
 
-pub number_holds : (o : Option (List ℕ)) → May IsNumber (option_and_then (λ n. then_some (nat_le 1 n) n) (option_and_then (λ text. result_ok (number_in text)) o))
+pub number_holds : (o : Option (List ℕ)) → May IsNumber
+    (option_and_then (λ n. then_some (nat_le 1 n) n) (option_and_then (λ text. result_ok (number_in text)) o))
 number_holds None = tt
-number_holds (Some text) = chained (λ x. x ≤ 999999999) IsNumber (result_ok (number_in text)) _ (read_holds text) at_least_one_holds
+number_holds (Some text) = chained (λ x. x ≤ 999999999) IsNumber (result_ok (number_in text)) _ (read_holds text)
+    at_least_one_holds
 
 pub view_fair : (m : List ℕ) → May IsFair (numbered m)
 view_fair m = by_number (number m) (number_holds (get 34 m))
@@ -150,21 +159,27 @@ IsSound states.Before = Unit {0}
 IsSound (states.Running r) = 1 ≤ r.due
 IsSound states.Closed = Unit {0}
 
-no_more : (reason : ℕ) (es : List Event) → 1 ≤ reason → reason ≤ 5 → es ≡ [] → All FitsEvent (events.Close reason ∷ es) × (is_end es ≡ true)
+no_more : (reason : ℕ) (es : List Event) → 1 ≤ reason → reason ≤ 5 → es ≡ [] → All FitsEvent (events.Close reason ∷ es)
+    × (is_end es ≡ true)
 no_more reason [] low high h = (All-cons FitsEvent (events.Close reason) [] (low, high) (All-nil FitsEvent), refl)
 no_more reason (e ∷ es) low high h = cc
 
 -- a Close ends what is said, before the Logon and after it
-close_first : (reason : ℕ) (es : List Event) → 1 ≤ reason → reason ≤ 5 → es ≡ [] → IsLawfulFrom states.Before (events.Close reason ∷ es)
+close_first : (reason : ℕ) (es : List Event) → 1 ≤ reason → reason ≤ 5 → es ≡ []
+    → IsLawfulFrom states.Before (events.Close reason ∷ es)
 close_first reason es low high h = no_more reason es low high h
 
-close_later : (r : Running) (reason : ℕ) (es : List Event) → 1 ≤ reason → reason ≤ 5 → es ≡ [] → IsLawfulFrom (states.Running r) (events.Close reason ∷ es)
+close_later : (r : Running) (reason : ℕ) (es : List Event) → 1 ≤ reason → reason ≤ 5 → es ≡ []
+    → IsLawfulFrom (states.Running r) (events.Close reason ∷ es)
 close_later r reason es low high h = no_more reason es low high h
 
-running_more : (e : Event) (es : List Event) → is_logon e ≡ false → is_close e ≡ false → is_running es ≡ true → is_running (e ∷ es) ≡ true
-running_more e es l c h = ap (λ v. not v && (if is_close e then is_end es else is_running es)) l ∙ (ap (λ v. if v then is_end es else is_running es) c ∙ h)
+running_more : (e : Event) (es : List Event) → is_logon e ≡ false → is_close e ≡ false → is_running es ≡ true
+    → is_running (e ∷ es) ≡ true
+running_more e es l c h = ap (λ v. not v && (if is_close e then is_end es else is_running es)) l
+    ∙ (ap (λ v. if v then is_end es else is_running es) c ∙ h)
 
-given_more : (r s : Running) (e : Event) (es : List Event) → IsGiven e → IsLawfulFrom (states.Running s) es → IsLawfulFrom (states.Running r) (e ∷ es)
+given_more : (r s : Running) (e : Event) (es : List Event) → IsGiven e → IsLawfulFrom (states.Running s) es
+    → IsLawfulFrom (states.Running r) (e ∷ es)
 given_more r s e es g h = (All-cons FitsEvent e es g.fits h.0, running_more e es g.no_logon g.no_close h.1)
 
 -- what is said from a session on, by what the rest says from each
@@ -174,7 +189,8 @@ IsLawfulRest rest = (t : Session) → IsSound t.state → IsLawfulFrom t.state (
 abbrev says_first : (Session → List Event) → Verdict × Session → List Event
 says_first rest x = cons_option (event_in x.0) (rest x.1)
 
-opens_lawful : (rest : Session → List Event) → IsLawfulRest rest → (next : ℕ) (o : Option Logon) → 1 ≤ next → May FitsLogon o
+opens_lawful : (rest : Session → List Event) → IsLawfulRest rest → (next : ℕ) (o : Option Logon) → 1 ≤ next
+    → May FitsLogon o
     → IsLawfulFrom states.Before (says_first rest (opens next o))
 opens_lawful rest ih next None low h = close_first 3 (rest closed) (omega arith) (omega arith) (ih closed tt)
 opens_lawful rest ih next (Some l) low h =
@@ -182,7 +198,8 @@ opens_lawful rest ih next (Some l) low h =
     let more = ih (running r) low in
     (All-cons FitsEvent (logon_event l) (rest (running r)) h more.0, more.1)
 
-accepted_lawful : (rest : Session → List Event) → IsLawfulRest rest → (r s : Running) → 1 ≤ s.due → (o : Option Event) → May IsGiven o
+accepted_lawful : (rest : Session → List Event) → IsLawfulRest rest → (r s : Running) → 1 ≤ s.due → (o : Option Event)
+    → May IsGiven o
     → IsLawfulFrom (states.Running r) (cons_option (event_in (verdict_of o)) (rest (running s)))
 accepted_lawful rest ih r s low None h = ih (running s) low
 accepted_lawful rest ih r s low (Some e) h = given_more r s e (rest (running s)) h (ih (running s) low)
@@ -196,23 +213,36 @@ above_lawful : (rest : Session → List Event) → IsLawfulRest rest → (r : Ru
     → IsLawfulFrom (states.Running r) (says_first rest (step_above r))
 above_lawful rest ih r low high = by_asked r.gap_asked
   where
-    by_asked : (asked : Bool) → IsLawfulFrom (states.Running r) (says_first rest (if asked then (verdict_of None, running r) else (verdict_of (Some (events.Gap r.due)), running (record r { gap_asked = true }))))
+    by_asked : (asked : Bool) → IsLawfulFrom (states.Running r)
+        (says_first rest (if asked then (verdict_of None, running r) else
+        (verdict_of (Some (events.Gap r.due)), running (record r { gap_asked = true }))))
     by_asked true = ih (running r) low
-    by_asked false = given_more r (record r { gap_asked = true }) (events.Gap r.due) (rest (running (record r { gap_asked = true }))) (record { fits = (low, high); no_logon = refl; no_close = refl }) (ih (running (record r { gap_asked = true })) low)
+    by_asked false = given_more r (record r { gap_asked = true }) (events.Gap r.due)
+        (rest (running (record r { gap_asked = true }))) (record
+        { fits = (low, high); no_logon = refl; no_close = refl }) (ih (running (record r { gap_asked = true })) low)
 
 due_lawful : (rest : Session → List Event) → IsLawfulRest rest → (r : Running) (m : Numbered) → IsFair m
     → IsLawfulFrom (states.Running r) (says_first rest (step_due r m))
 due_lawful rest ih r m fair = by_logout (is_logout m)
   where
-    by_logout : (v : Bool) → IsLawfulFrom (states.Running r) (says_first rest (if v then closes 1 else (verdict_of (event_given m), running (record r { due = (next_due m); gap_asked = false }))))
+    by_logout : (v : Bool) → IsLawfulFrom (states.Running r)
+        (says_first rest (if v then closes 1 else (
+          verdict_of (event_given m),
+          running (record r { due = (next_due m); gap_asked = false }),
+        )))
     by_logout true = close_later r 1 (rest closed) (omega arith) (omega arith) (ih closed tt)
-    by_logout false = accepted_lawful rest ih r (record r { due = (next_due m); gap_asked = false }) fair.next (event_given m) fair.event
+    by_logout false = accepted_lawful rest ih r (record r { due = (next_due m); gap_asked = false }) fair.next
+        (event_given m) fair.event
 
 running_lawful : (rest : Session → List Event) → IsLawfulRest rest → (r : Running) (m : Numbered) → 1 ≤ r.due → IsFair m
     → IsLawfulFrom (states.Running r) (says_first rest (step_running r m))
-running_lawful rest ih r m low fair = by_number (is_between m r.client r.host) (nat_lt m.number r.due) (nat_lt r.due m.number) refl
+running_lawful rest ih r m low fair = by_number (is_between m r.client r.host) (nat_lt m.number r.due)
+    (nat_lt r.due m.number) refl
   where
-    by_number : (same below above : Bool) → nat_lt r.due m.number ≡ above → IsLawfulFrom (states.Running r) (says_first rest (if not same then closes 4 else (if below then step_below r (repeats m) else (if above then step_above r else step_due r m))))
+    by_number : (same below above : Bool) → nat_lt r.due m.number ≡ above
+        → IsLawfulFrom (states.Running r) (says_first rest
+        (if not same then closes 4 else (if below then step_below r (repeats m) else
+        (if above then step_above r else step_due r m))))
     by_number false below above e = close_later r 4 (rest closed) (omega arith) (omega arith) (ih closed tt)
     by_number true true above e = below_lawful rest ih r low (repeats m)
     by_number true false true e =
@@ -226,7 +256,8 @@ step_lawful rest ih states.Before m sound fair = opens_lawful rest ih (next_due 
 step_lawful rest ih (states.Running r) m sound fair = running_lawful rest ih r m sound fair
 step_lawful rest ih states.Closed m sound fair = ih closed tt
 
-judge_lawful : (rest : Session → List Event) → IsLawfulRest rest → (s : Session) (o : Option Numbered) → IsSound s.state → May IsFair o
+judge_lawful : (rest : Session → List Event) → IsLawfulRest rest → (s : Session) (o : Option Numbered) → IsSound s.state
+    → May IsFair o
     → IsLawfulFrom s.state (says_first rest (step_or_stay s o))
 judge_lawful rest ih s None sound fair = ih s sound
 judge_lawful rest ih s (Some m) sound fair = step_lawful rest ih s.state m sound fair
@@ -249,19 +280,25 @@ said_lawful : (fs : List (List ℕ)) → IsLawfulRest (said_until_end fs)
 said_lawful [] = end_lawful
 said_lawful (f ∷ fs) = λ s sound. judge_lawful (said_until_end fs) (said_lawful fs) s (numbered f) sound (view_fair f)
 
-said_is : (fs : List (List ℕ)) (s : Session) → events_said s fs ++ events_at_end (session_after s fs) ≡ said_until_end fs s
+said_is : (fs : List (List ℕ)) (s : Session) → events_said s fs
+    ++ events_at_end (session_after s fs) ≡ said_until_end fs s
 said_is [] s = refl
 said_is (f ∷ fs) s =
-    sym (cons_two (event_in (judge s f).0) (events_said (judge s f).1 fs) (events_at_end (session_after (judge s f).1 fs)))
+    sym (cons_two (event_in (judge s f).0) (events_said (judge s f).1 fs)
+    (events_at_end (session_after (judge s f).1 fs)))
     ∙ ap (cons_option (event_in (judge s f).0)) (said_is fs (judge s f).1)
 
-pub whole_lawful : (fs : List (List ℕ)) → All FitsEvent (events_said new_session fs ++ events_at_end (session_after new_session fs)) × (is_in_order (events_said new_session fs ++ events_at_end (session_after new_session fs)) ≡ true)
+pub whole_lawful : (fs : List (List ℕ)) → All FitsEvent
+    (events_said new_session fs ++ events_at_end (session_after new_session fs))
+    × (is_in_order (events_said new_session fs ++ events_at_end (session_after new_session fs)) ≡ true)
 whole_lawful fs =
     let said = said_lawful fs new_session tt in
-    subst (λ es. All FitsEvent es × (is_in_order es ≡ true)) (sym (said_is fs new_session)) (said.0, order_by_event (said_until_end fs new_session) ∙ said.1)
+    subst (λ es. All FitsEvent es × (is_in_order es ≡ true)) (sym (said_is fs new_session))
+    (said.0, order_by_event (said_until_end fs new_session) ∙ said.1)
 
 -- ---- a beginning of what is in range is in range
 
 pub events_fit : (xs ys : List Event) → All FitsEvent (xs ++ ys) → All FitsEvent xs
 events_fit [] ys h = All-nil FitsEvent
-events_fit (x ∷ xs) ys h = All-cons FitsEvent x xs (All-head FitsEvent x (xs ++ ys) h) (events_fit xs ys (All-tail FitsEvent x (xs ++ ys) h))
+events_fit (x ∷ xs) ys h = All-cons FitsEvent x xs (All-head FitsEvent x (xs ++ ys) h)
+    (events_fit xs ys (All-tail FitsEvent x (xs ++ ys) h))

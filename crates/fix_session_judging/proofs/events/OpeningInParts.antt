@@ -31,43 +31,51 @@ id_same : (o : Option (List ℕ)) → result_ok (value_in o >>= λ text. ok_or (
 id_same None = refl
 id_same (Some []) = refl
 id_same (Some (b ∷ bs)) =
-    ap (λ v. result_ok (cond {A = Result (List ℕ) ℕ} v (Ok (b ∷ bs)) (Err 4) >>= λ text. ok_or (id_of text) 5)) (some_byte b bs)
+    ap (λ v. result_ok (cond {A = Result (List ℕ) ℕ} v (Ok (b ∷ bs)) (Err 4) >>= λ text. ok_or (id_of text) 5))
+    (some_byte b bs)
     ∙ or_none (id_of (b ∷ bs)) 5
 
 or_reason : (r : Result ℕ Unread) → result_ok (result_map_both (λ x. x) reason_of r) ≡ result_ok r
 or_reason (Ok n) = refl
 or_reason (Err e) = refl
 
-number_same : (o : Option (List ℕ)) → result_ok (value_in o >>= λ text. result_map_both (λ x. x) reason_of (number_in text)) ≡ option_and_then (λ text. result_ok (number_in text)) o
+number_same : (o : Option (List ℕ)) → result_ok (value_in o >>= λ text. result_map_both (λ x. x) reason_of
+    (number_in text)) ≡ option_and_then (λ text. result_ok (number_in text)) o
 number_same None = refl
 number_same (Some []) = refl
 number_same (Some (b ∷ bs)) =
-    ap (λ v. result_ok (cond {A = Result (List ℕ) ℕ} v (Ok (b ∷ bs)) (Err 4) >>= λ text. result_map_both (λ x. x) reason_of (number_in text))) (some_byte b bs)
+    ap (λ v. result_ok (cond {A = Result (List ℕ) ℕ} v (Ok (b ∷ bs)) (Err 4) >>= λ text. result_map_both (λ x. x)
+    reason_of (number_in text))) (some_byte b bs)
     ∙ or_reason (number_in (b ∷ bs))
 
 found : (v : Bool) → is_ok {T = ℕ} {E = ℕ} (ok_or (cond {A = Option ℕ} v (Some 48) None) 5) ≡ v
 found true = refl
 found false = refl
 
-choice_same : (o : Option (List ℕ)) → is_ok (value_in o >>= λ text. ok_or (find (λ a. bytes_eq text (a ∷ [])) (48 ∷ [])) 5) ≡ option_eq bytes_eq o (Some (48 ∷ []))
+choice_same : (o : Option (List ℕ)) → is_ok (value_in o >>= λ text. ok_or (find (λ a. bytes_eq text (a ∷ [])) (48 ∷ []))
+    5) ≡ option_eq bytes_eq o (Some (48 ∷ []))
 choice_same None = refl
 choice_same (Some []) = refl
 choice_same (Some (b ∷ bs)) =
-    ap (λ v. is_ok (cond {A = Result (List ℕ) ℕ} v (Ok (b ∷ bs)) (Err 4) >>= λ text. ok_or (find (λ a. bytes_eq text (a ∷ [])) (48 ∷ [])) 5)) (some_byte b bs)
+    ap (λ v. is_ok (cond {A = Result (List ℕ) ℕ} v (Ok (b ∷ bs)) (Err 4) >>= λ text. ok_or
+    (find (λ a. bytes_eq text (a ∷ [])) (48 ∷ [])) 5)) (some_byte b bs)
     ∙ found (bytes_eq (b ∷ bs) (48 ∷ []))
 
 -- ---- one field after another
 
-ok_then : {A B : Type 0} (r : Result A ℕ) (f : A → Result B ℕ) → result_ok (r >>= f) ≡ option_and_then (λ x. result_ok (f x)) (result_ok r)
+ok_then : {A B : Type 0} (r : Result A ℕ) (f : A → Result B ℕ)
+    → result_ok (r >>= f) ≡ option_and_then (λ x. result_ok (f x)) (result_ok r)
 ok_then (Ok x) f = refl
 ok_then (Err e) f = refl
 
-under : {A B : Type 0} (f g : A → Option B) → ((x : A) → f x ≡ g x) → (o : Option A) → option_and_then f o ≡ option_and_then g o
+under : {A B : Type 0} (f g : A → Option B) → ((x : A) → f x ≡ g x) → (o : Option A)
+    → option_and_then f o ≡ option_and_then g o
 under f g e None = refl
 under f g e (Some x) = e x
 
 -- two that have to stand, whatever they hold
-both_stand : {A B C : Type 0} (s : Result A ℕ) (c : Result B ℕ) (r : Result C ℕ) → result_ok (s >>= λ x. c >>= λ y. r) ≡ cond (is_ok s && is_ok c) (result_ok r) None
+both_stand : {A B C : Type 0} (s : Result A ℕ) (c : Result B ℕ) (r : Result C ℕ)
+    → result_ok (s >>= λ x. c >>= λ y. r) ≡ cond (is_ok s && is_ok c) (result_ok r) None
 both_stand (Ok x) (Ok y) r = refl
 both_stand (Ok x) (Err e) r = refl
 both_stand (Err e) c r = refl
@@ -110,7 +118,8 @@ client_is m =
 
 -- ---- the Logon
 
-by_tests : (k s c : Bool) (o : Option Logon) → cond (not k) None (cond (s && c) o None) ≡ cond (not (k && s && c)) None o
+by_tests : (k s c : Bool) (o : Option Logon) → cond (not k) None (cond (s && c) o None) ≡ cond (not (k && s && c)) None
+    o
 by_tests true true true o = refl
 by_tests true true false o = refl
 by_tests true false c o = refl
@@ -120,9 +129,11 @@ pub logon_is : (m : List ℕ) (n : ℕ) → logon_of m n ≡ logon_by_parts m n
 unfolding logon_of logon_by_parts
 logon_is m n =
     let k = bytes_eq (kind m) (65 ∷ []) && eqb n 1 in
-    ap (λ (o : Option Logon). cond (not k) None o) (both_stand (value_at 52 m) (choice_at (48 ∷ []) 98 m) (with_client m))
+    ap (λ (o : Option Logon). cond (not k) None o) (both_stand (value_at 52 m) (choice_at (48 ∷ []) 98 m)
+    (with_client m))
     ∙ (by_tests k (is_ok (value_at 52 m)) (is_ok (choice_at (48 ∷ []) 98 m)) (result_ok (with_client m))
-    ∙ (ap (λ (c : Bool). cond {A = Option Logon} (not (k && is_ok (value_at 52 m) && c)) None (result_ok (with_client m))) (choice_same (get 98 m))
+    ∙ (ap (λ (c : Bool). cond {A = Option Logon} (not (k && is_ok (value_at 52 m) && c)) None
+    (result_ok (with_client m))) (choice_same (get 98 m))
     ∙ ap (λ (o : Option Logon). cond (not (is_opening m n)) None o) (client_is m)))
 
 -- what is read part by part

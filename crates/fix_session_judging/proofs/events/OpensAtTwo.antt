@@ -31,14 +31,17 @@ opening_of m n l e = opening_by_parts m n l (sym (logon_is m n) ∙ e)
 same_bytes : (xs ys : List ℕ) → bytes_eq xs ys ≡ true → xs ≡ ys
 same_bytes xs ys e = (bytes_eq-Decides xs ys).0 e
 
-pub due_two : (m : List ℕ) (n : ℕ) (l : Logon) → logon_of m n ≡ Some l → due_after_accepted n (meaning_of_message m n) ≡ 2
+pub due_two : (m : List ℕ) (n : ℕ) (l : Logon) → logon_of m n ≡ Some l
+    → due_after_accepted n (meaning_of_message m n) ≡ 2
 due_two m n l e =
     let parts = and_parts _ _ (and_parts _ _ (and_parts _ _ (opening_of m n l e)).0).0 in
     let kind_is = same_bytes (kind m) (65 ∷ []) parts.0 in
     let one : n ≡ 1 = grind (arith, nat_tests) in
-    ap (due_after_accepted n) (meaning_is m n) ∙ ap (λ k. due_after_accepted n (meaning_of_kind_text k m n)) kind_is ∙ (let h : n + 1 ≡ 2 = omega (arith, one) in h)
+    ap (due_after_accepted n) (meaning_is m n) ∙ ap (λ k. due_after_accepted n (meaning_of_kind_text k m n)) kind_is
+    ∙ (let h : n + 1 ≡ 2 = omega (arith, one) in h)
 
-pub judge_opens : (s : Session) (m : List ℕ) (n : ℕ) (l : Logon) → s.state ≡ states.Before → number m ≡ Some n → logon_of m n ≡ Some l → judge s m ≡ opens 2 (Some l)
+pub judge_opens : (s : Session) (m : List ℕ) (n : ℕ) (l : Logon) → s.state ≡ states.Before → number m ≡ Some n
+    → logon_of m n ≡ Some l → judge s m ≡ opens 2 (Some l)
 judge_opens s m n l state numbered logon =
     ap (λ o. step_or_stay s (option_map (view_with m) o)) numbered
     ∙ ap (λ t. step_at t (view_with m n)) state

@@ -7,6 +7,7 @@ use Rattle.spread_rules.specs.declared.codes.session_reject_reason.TheConstants 
 use Rattle.spread_rules.specs.declared.event.Ticket.{Ticket}
 use Rattle.spread_rules.specs.declared.order.Side.{Side}
 use Rattle.spread_rules.specs.declared.order.Side.TheVariants.{Buy, Sell}
+use Rattle.spread_rules.specs.declared.codes.side.TheConstants as side_value
 use Rattle.fix_wire_frames.specs.declared.field_values.TheConstants as field_values
 use Rattle.fix_wire_frames.specs.declared.tags.TheConstants as tags
 use Rattle.fix_session_kinds.specs.declared.table.Meaning.{Meaning}
@@ -55,4 +56,4 @@ one_of allowed text =
 abbrev pub side_at : List ℕ → Result Side ℕ
 side_at m =
     choice_at (codes "12") tags.SIDE m >>= λ b.
-    Ok (if b == field_values.SIDE_BUY then Buy else Sell)
+    Ok (if b == side_value.BUY then Buy else Sell)

@@ -16,20 +16,24 @@ use Rattle.fix_wire_frames.proofs.fields.ShortTags.{digit_is_not_equals}
 abbrev pub is_plain : List ℕ → Bool
 is_plain text = list_all (λ b. not (eqb b 1)) text
 
-pub pieces_of : (p rest : List ℕ) → is_plain p ≡ true → field_texts (p ++ 1 ∷ rest) ≡ option_map (with_first p) (field_texts rest)
+pub pieces_of : (p rest : List ℕ) → is_plain p ≡ true
+    → field_texts (p ++ 1 ∷ rest) ≡ option_map (with_first p) (field_texts rest)
 pieces_of [] rest e = refl
 pieces_of (b ∷ p) rest e =
     let parts = and_parts (not (eqb b 1)) (is_plain p) e in
     let apart : eqb b 1 ≡ false = not-true (eqb b 1) parts.0 in
-    ap (λ x. cond x (option_map (with_first []) (field_texts (p ++ 1 ∷ rest))) (option_and_then (prepended b) (field_texts (p ++ 1 ∷ rest)))) apart
+    ap (λ x. cond x (option_map (with_first []) (field_texts (p ++ 1 ∷ rest)))
+    (option_and_then (prepended b) (field_texts (p ++ 1 ∷ rest)))) apart
     ∙ ap (option_and_then (prepended b)) (pieces_of p rest parts.1) ∙ prepended_first b p (field_texts rest)
 
-place_at : (ds rest : List ℕ) → list_all is_ascii_digit ds ≡ true → position_or_len is_equals (ds ++ 61 ∷ rest) ≡ length ds
+place_at : (ds rest : List ℕ) → list_all is_ascii_digit ds ≡ true
+    → position_or_len is_equals (ds ++ 61 ∷ rest) ≡ length ds
 place_at [] rest e = refl
 place_at (d ∷ ds) rest e =
     let parts = and_parts (is_ascii_digit d) (list_all is_ascii_digit ds) e in
     let apart : eqb d 61 ≡ false = digit_is_not_equals d parts.0 in
-    ap (λ x. cond (not x) (1 + position_or_len is_equals (ds ++ 61 ∷ rest)) 0) apart ∙ (let h = place_at ds rest parts.1 in omega (arith, h))
+    ap (λ x. cond (not x) (1 + position_or_len is_equals (ds ++ 61 ∷ rest)) 0) apart
+    ∙ (let h = place_at ds rest parts.1 in omega (arith, h))
 
 -- a field, with the digits of its tag
 pub record Spelled : Type 0 where
@@ -74,7 +78,8 @@ digits_of_tag : (ds : List ℕ) → is_tag ds ≡ true → list_all is_ascii_dig
 digits_of_tag ds e = (and_parts _ _ (and_parts _ _ (and_parts _ _ e).0).0).1
 
 pub field_is : (s : Spelled) → field_of_text (text_of s) ≡ Some (field_in s)
-field_is s = ap (λ k. field_with k (text_of s)) (place_at s.digits s.value (digits_of_tag s.digits s.tag)) ∙ field_with_is s
+field_is s = ap (λ k. field_with k (text_of s)) (place_at s.digits s.value (digits_of_tag s.digits s.tag))
+    ∙ field_with_is s
 
 pieces_all : (ss : List Spelled) → field_texts (flat_map ended ss) ≡ Some (map_texts ss)
 pieces_all [] = refl

@@ -38,20 +38,26 @@ use Rattle.fix_wire_frames.proofs.texts.HeaderAtTheFront.{header_is}
 
 -- ---- the body as one list of fields
 
-pub flat_map_two : (xs ys : List given.Field) → flat_map field_text (xs ++ ys) ≡ flat_map field_text xs ++ flat_map field_text ys
+pub flat_map_two : (xs ys : List given.Field) → flat_map field_text (xs ++ ys) ≡ flat_map field_text xs
+    ++ flat_map field_text ys
 flat_map_two [] ys = refl
-flat_map_two (x ∷ xs) ys = ap (λ t. field_text x ++ t) (flat_map_two xs ys) ∙ sym (append_assoc (field_text x) (flat_map field_text xs) (flat_map field_text ys))
+flat_map_two (x ∷ xs) ys = ap (λ t. field_text x ++ t) (flat_map_two xs ys)
+    ∙ sym (append_assoc (field_text x) (flat_map field_text xs) (flat_map field_text ys))
 
 -- ---- fields one after another
 
-pub fields_more : (before : List ℕ) (fs : List given.Field) (i : ℕ) (f : given.Field) → i < length fs → f ≡ get_or fs i f →
+pub fields_more : (before : List ℕ) (fs : List given.Field) (i : ℕ) (f : given.Field) → i < length fs
+    → f ≡ get_or fs i f →
     (before ++ flat_map field_text (take i fs)) ++ field_text f ≡ before ++ flat_map field_text (take (i + 1) fs)
 fields_more before fs i f l e =
-    flat_map_more field_text before (take i fs) f ∙ ap (λ t. before ++ flat_map field_text t) (sym (take_more fs i f l ∙ ap (λ x. take i fs ++ x ∷ []) (sym e)))
+    flat_map_more field_text before (take i fs) f ∙ ap (λ t. before ++ flat_map field_text t)
+    (sym (take_more fs i f l ∙ ap (λ x. take i fs ++ x ∷ []) (sym e)))
 
 -- what holds of each of the first, and of the next, holds of one more
-pub all_more : (P : given.Field → Type 0) (fs : List given.Field) (i : ℕ) (f : given.Field) → i < length fs → f ≡ get_or fs i f → AllByRecursion P (take i fs) → P f → AllByRecursion P (take (i + 1) fs)
-all_more P fs i f l e all one = subst (AllByRecursion P) (sym (take_more fs i f l ∙ ap (λ x. take i fs ++ x ∷ []) (sym e))) (all_append (take i fs) all)
+pub all_more : (P : given.Field → Type 0) (fs : List given.Field) (i : ℕ) (f : given.Field) → i < length fs
+    → f ≡ get_or fs i f → AllByRecursion P (take i fs) → P f → AllByRecursion P (take (i + 1) fs)
+all_more P fs i f l e all one = subst (AllByRecursion P)
+    (sym (take_more fs i f l ∙ ap (λ x. take i fs ++ x ∷ []) (sym e))) (all_append (take i fs) all)
   where
     all_append : (xs : List given.Field) → AllByRecursion P xs → AllByRecursion P (xs ++ f ∷ [])
     all_append [] h = (one, tt)
@@ -67,11 +73,18 @@ frame_closed body start o o3 o4 begins written e4 =
     ∙ append_assoc o (summed_text body) (checksum_field (sum (summed_text body) % 256))
 
 -- what was spelled is the body of that message
-pub body_spelled : (l : SpelledHead) (h : Head) (fs : List given.Field) → SpellsHead l h → spelled_body l fs ≡ body_text h fs
-body_spelled l h fs same = ap (λ t. t ++ flat_map field_text fs) (head_spelled l h same) ∙ sym (flat_map_two (head_fields h) fs)
+pub body_spelled : (l : SpelledHead) (h : Head) (fs : List given.Field) → SpellsHead l h
+    → spelled_body l fs ≡ body_text h fs
+body_spelled l h fs same = ap (λ t. t ++ flat_map field_text fs) (head_spelled l h same)
+    ∙ sym (flat_map_two (head_fields h) fs)
 
 pub types_spelled : (l : SpelledHead) (h : Head) → SpellsHead l h → l.number < 2 ^ 64 → FitsTypes h
-types_spelled l h same range = (subst (λ n. n < 2 ^ 64) same.number range, same.parties.sender_plain, same.parties.target_plain, same.parties.stamp_plain)
+types_spelled l h same range = (
+  subst (λ n. n < 2 ^ 64) same.number range,
+  same.parties.sender_plain,
+  same.parties.target_plain,
+  same.parties.stamp_plain,
+)
 
 -- ---- decimal numbers
 
@@ -103,7 +116,8 @@ first_index : (ds : List ℕ) → 48 < get_or ds 0 0 → not (eqb (slice_index d
 first_index [] h = absurd (omega (arith, h))
 first_index (d ∷ ds) h = grind (arith, nat_tests)
 
-tag_tests : (ds : List ℕ) → 0 < length ds → length ds ≤ 9 → list_all is_ascii_digit ds ≡ true → not (eqb (slice_index ds 0) 48) ≡ true → is_tag ds ≡ true
+tag_tests : (ds : List ℕ) → 0 < length ds → length ds ≤ 9 → list_all is_ascii_digit ds ≡ true
+    → not (eqb (slice_index ds 0) 48) ≡ true → is_tag ds ≡ true
 tag_tests ds some few digits first =
     let one : leb 1 (length ds) ≡ true = grind (arith, nat_tests) in
     let nine : leb (length ds) 9 ≡ true = grind (arith, nat_tests) in
@@ -112,7 +126,8 @@ tag_tests ds some few digits first =
 decimal_tag : (n : ℕ) → 1 ≤ n → n < 1000000000 → is_tag (decimal n) ≡ true
 decimal_tag n low high =
     let small : n < 2 ^ 64 = omega arith in
-    tag_tests (decimal n) (decimal_nonempty n small) (length-decimal-le 9 n (omega arith) (omega arith) small) (decimal_digits n small) (first_index (decimal n) (first_decimal n (omega arith) small))
+    tag_tests (decimal n) (decimal_nonempty n small) (length-decimal-le 9 n (omega arith) (omega arith) small)
+    (decimal_digits n small) (first_index (decimal n) (first_decimal n (omega arith) small))
 
 -- ---- fields
 
@@ -136,7 +151,8 @@ abbrev spelled_all : (fs : List TagValue) → AllByRecursion Fits fs → List sp
 spelled_all [] h = []
 spelled_all (f ∷ fs) h = spelled_of f h.0 ∷ spelled_all fs h.1
 
-texts_same : (fs : List given.Field) (h : AllByRecursion Fits (map field_of_given fs)) → flat_map spelled.ended (spelled_all (map field_of_given fs) h) ≡ flat_map field_text fs
+texts_same : (fs : List given.Field) (h : AllByRecursion Fits (map field_of_given fs))
+    → flat_map spelled.ended (spelled_all (map field_of_given fs) h) ≡ flat_map field_text fs
 texts_same [] h = refl
 texts_same (f ∷ fs) h = ap (λ t. field_text f ++ t) (texts_same fs h.1)
 
@@ -146,11 +162,13 @@ tag_value tag value = record { tag = tag; value = value }
 fields_same : (fs : List TagValue) (h : AllByRecursion Fits fs) → spelled.map_fields (spelled_all fs h) ≡ fs
 fields_same [] h = refl
 fields_same (f ∷ fs) h =
-    ap (λ n. tag_value n f.value ∷ spelled.map_fields (spelled_all fs h.1)) (decimal_number f.tag (omega (arith, h.0.high)))
+    ap (λ n. tag_value n f.value ∷ spelled.map_fields (spelled_all fs h.1))
+    (decimal_number f.tag (omega (arith, h.0.high)))
     ∙ ap (λ t. f ∷ t) (fields_same fs h.1)
 
 -- a row of written fields is read as these fields
-pub row_written : (fs : List given.Field) → AllByRecursion Fits (map field_of_given fs) → fields_of_body (flat_map field_text fs) ≡ Some (map field_of_given fs)
+pub row_written : (fs : List given.Field) → AllByRecursion Fits (map field_of_given fs)
+    → fields_of_body (flat_map field_text fs) ≡ Some (map field_of_given fs)
 row_written fs h =
     ap fields_of_body (sym (texts_same fs h)) ∙ spelled.row_spelled (spelled_all (map field_of_given fs) h)
     ∙ ap Some (fields_same (map field_of_given fs) h)
@@ -161,7 +179,8 @@ not_one : (x : ℕ) → not (eqb (48 + x) 1) ≡ true
 not_one x = grind (arith, nat_tests)
 
 two_plain : (n : ℕ) → is_plain (two_digits n) ≡ true
-two_plain n = and_from (not (eqb (48 + n / 10 % 10) 1)) (not (eqb (48 + n % 10) 1) && true) (not_one (n / 10 % 10)) (and_from (not (eqb (48 + n % 10) 1)) true (not_one (n % 10)) refl)
+two_plain n = and_from (not (eqb (48 + n / 10 % 10) 1)) (not (eqb (48 + n % 10) 1) && true) (not_one (n / 10 % 10))
+    (and_from (not (eqb (48 + n % 10) 1)) true (not_one (n % 10)) refl)
 
 size_small : (n : ℕ) → n < 2 ^ 64 → n / 100 < 2 ^ 64
 size_small n h = grind arith
@@ -173,15 +192,18 @@ value_plain (Pair a b) h = plain_two (decimal a) (45 ∷ decimal b) (decimal_pla
 value_plain (Price z) h = by_sign (int_lt z (pos 0))
   where
     whole : is_plain (decimal (unsigned_abs z / 100) ++ (46 ∷ two_digits (unsigned_abs z % 100))) ≡ true
-    whole = plain_two (decimal (unsigned_abs z / 100)) (46 ∷ two_digits (unsigned_abs z % 100)) (decimal_plain (unsigned_abs z / 100) (size_small (unsigned_abs z) h)) (two_plain (unsigned_abs z % 100))
+    whole = plain_two (decimal (unsigned_abs z / 100)) (46 ∷ two_digits (unsigned_abs z % 100))
+        (decimal_plain (unsigned_abs z / 100) (size_small (unsigned_abs z) h)) (two_plain (unsigned_abs z % 100))
 
-    by_sign : (s : Bool) → is_plain ((cond s (45 ∷ []) []) ++ (decimal (unsigned_abs z / 100) ++ (46 ∷ two_digits (unsigned_abs z % 100)))) ≡ true
+    by_sign : (s : Bool) → is_plain ((cond s (45 ∷ []) [])
+        ++ (decimal (unsigned_abs z / 100) ++ (46 ∷ two_digits (unsigned_abs z % 100)))) ≡ true
     by_sign true = whole
     by_sign false = whole
 
 -- ---- all fields of a message
 
-all_two : (xs ys : List given.Field) → AllByRecursion FitsField xs → AllByRecursion FitsField ys → AllByRecursion FitsField (xs ++ ys)
+all_two : (xs ys : List given.Field) → AllByRecursion FitsField xs → AllByRecursion FitsField ys
+    → AllByRecursion FitsField (xs ++ ys)
 all_two [] ys h g = g
 all_two (x ∷ xs) ys h g = (h.0, all_two xs ys h.1 g)
 
@@ -204,20 +226,24 @@ head_fit h (kind, (number, sender, target, stamp)) = (
   small_tag 35 (Text (h.kind ∷ [])) (omega arith) (omega arith) (kind_plain h.kind kind),
   (
     small_tag 34 (Number h.number) (omega arith) (omega arith) number,
-    all_two (only_if h.duplicate (field 43 (Text (89 ∷ [])))) _ (only_fit h.duplicate (field 43 (Text (89 ∷ []))) (small_tag 43 (Text (89 ∷ [])) (omega arith) (omega arith) refl)) (
-      small_tag 49 (Text h.sender) (omega arith) (omega arith) sender,
-      (
-        small_tag 52 (Text h.stamp) (omega arith) (omega arith) stamp,
-        (
-          small_tag 56 (Text h.target) (omega arith) (omega arith) target,
-          only_fit h.duplicate (field 122 (Text h.stamp)) (small_tag 122 (Text h.stamp) (omega arith) (omega arith) stamp),
+    all_two (only_if h.duplicate (field 43 (Text (89 ∷ [])))) _
+        (only_fit h.duplicate (field 43 (Text (89 ∷ []))) (small_tag 43 (Text (89 ∷ [])) (omega arith) (omega arith)
+        refl)) (
+          small_tag 49 (Text h.sender) (omega arith) (omega arith) sender,
+          (
+            small_tag 52 (Text h.stamp) (omega arith) (omega arith) stamp,
+            (
+              small_tag 56 (Text h.target) (omega arith) (omega arith) target,
+              only_fit h.duplicate (field 122 (Text h.stamp)) (small_tag 122 (Text h.stamp) (omega arith) (omega arith)
+                  stamp),
+            ),
+          ),
         ),
-      ),
-    ),
   ),
 )
 
-all_fit : (h : Head) (fs : List given.Field) → FitsHead h → AllByRecursion FitsField fs → AllByRecursion Fits (all_fields h fs)
+all_fit : (h : Head) (fs : List given.Field) → FitsHead h → AllByRecursion FitsField fs
+    → AllByRecursion Fits (all_fields h fs)
 all_fit h fs head rest = given_fit (head_fields h ++ fs) (all_two (head_fields h) fs (head_fit h head) rest)
 
 -- ---- the body
@@ -231,7 +257,8 @@ body_rest h fs = flat_map field_text (drop 1 (head_fields h ++ fs))
 body_front : (h : Head) (fs : List given.Field) → body_text h fs ≡ 51 ∷ 53 ∷ 61 ∷ h.kind ∷ 1 ∷ body_rest h fs
 body_front h fs = ap (λ ds. ((ds ++ (61 ∷ h.kind ∷ [])) ++ (1 ∷ [])) ++ body_rest h fs) thirty_five
 
-pub body_row : (h : Head) (fs : List given.Field) → FitsMessage h fs → fields_of_body (body_text h fs) ≡ Some (all_fields h fs)
+pub body_row : (h : Head) (fs : List given.Field) → FitsMessage h fs
+    → fields_of_body (body_text h fs) ≡ Some (all_fields h fs)
 body_row h fs fits = row_written (head_fields h ++ fs) (all_fit h fs fits.0 fits.1)
 
 body_lawful : (h : Head) (fs : List given.Field) → FitsMessage h fs → is_body (body_text h fs) ≡ true
@@ -248,9 +275,11 @@ place_one : (ds rest : List ℕ) → is_plain ds ≡ true → position_or_len is
 place_one [] rest e = refl
 place_one (d ∷ ds) rest e =
     let parts = and_parts (not (eqb d 1)) (is_plain ds) e in
-    ap (λ x. cond x (1 + position_or_len is_soh (ds ++ 1 ∷ rest)) 0) parts.0 ∙ (let h = place_one ds rest parts.1 in omega (arith, h))
+    ap (λ x. cond x (1 + position_or_len is_soh (ds ++ 1 ∷ rest)) 0) parts.0
+    ∙ (let h = place_one ds rest parts.1 in omega (arith, h))
 
-size_tests : (ds : List ℕ) (n : ℕ) → 0 < length ds → length ds ≤ 8 → list_all is_ascii_digit ds ≡ true → number_of ds ≡ n → 5 ≤ n → n ≤ 4096 → is_body_length ds ≡ true
+size_tests : (ds : List ℕ) (n : ℕ) → 0 < length ds → length ds ≤ 8 → list_all is_ascii_digit ds ≡ true
+    → number_of ds ≡ n → 5 ≤ n → n ≤ 4096 → is_body_length ds ≡ true
 size_tests ds n some few digits number low high =
     let one : leb 1 (length ds) ≡ true = grind (arith, nat_tests) in
     let eight : leb (length ds) 8 ≡ true = grind (arith, nat_tests) in
@@ -258,13 +287,17 @@ size_tests ds n some few digits number low high =
     let most : leb (number_of ds) 4096 ≡ true = grind (arith, nat_tests) in
     rw (one, eight, digits, least, most) refl
 
-header_spelled : (ds body : List ℕ) → is_body_length ds ≡ true → is_plain ds ≡ true → header_after (ds ++ 1 ∷ body) ≡ Some (record { body_start = length ds + 13; body_length = number_of ds })
+header_spelled : (ds body : List ℕ) → is_body_length ds ≡ true → is_plain ds ≡ true
+    → header_after (ds ++ 1 ∷ body) ≡ Some (record { body_start = length ds + 13; body_length = number_of ds })
 header_spelled ds body size plain =
     let len = length-append ds (1 ∷ body) in
     let here : ltb (length ds) (length (ds ++ 1 ∷ body)) ≡ true = grind (arith, nat_tests) in
     ap (λ k. header_with k (ds ++ 1 ∷ body)) (place_one ds body plain)
-    ∙ ap (λ t. cond (ltb (length ds) (length (ds ++ 1 ∷ body)) && is_body_length t) (Some (record { body_start = length ds + 13; body_length = number_of t })) None) (take_at ds (1 ∷ body) (length ds) refl)
-    ∙ ap (λ v. cond (v && is_body_length ds) (Some (record { body_start = length ds + 13; body_length = number_of ds })) None) here
+    ∙ ap (λ t. cond (ltb (length ds) (length (ds ++ 1 ∷ body)) && is_body_length t)
+    (Some (record { body_start = length ds + 13; body_length = number_of t })) None)
+    (take_at ds (1 ∷ body) (length ds) refl)
+    ∙ ap (λ v. cond (v && is_body_length ds) (Some (record { body_start = length ds + 13; body_length = number_of ds }))
+    None) here
     ∙ ap (λ v. cond v (Some (record { body_start = length ds + 13; body_length = number_of ds })) None) size
 
 bytes_same : (xs ys : List ℕ) → xs ≡ ys → bytes_eq xs ys ≡ true
@@ -282,9 +315,11 @@ front_len ds body = let h = length-append ds (1 ∷ body) in omega (arith, h)
 abbrev header_of : List ℕ → List ℕ → FrameHeader
 header_of ds body = record { body_start = length ds + 13; body_length = length body }
 
-framed_header : (ds body : List ℕ) → is_body_length ds ≡ true → is_plain ds ≡ true → number_of ds ≡ length body → header (framed ds body) ≡ Some (header_of ds body)
+framed_header : (ds body : List ℕ) → is_body_length ds ≡ true → is_plain ds ≡ true → number_of ds ≡ length body
+    → header (framed ds body) ≡ Some (header_of ds body)
 framed_header ds body size plain number =
-    header_is (framed ds body) ∙ ap header_after (append_assoc ds (1 ∷ body) (checksum_field (sum (front_of ds body) % 256)))
+    header_is (framed ds body) ∙ ap header_after (append_assoc ds (1 ∷ body)
+    (checksum_field (sum (front_of ds body) % 256)))
     ∙ header_spelled ds (body ++ checksum_field (sum (front_of ds body) % 256)) size plain
     ∙ ap (λ n. Some (record { body_start = length ds + 13; body_length = n })) number
 
@@ -292,7 +327,8 @@ abbrev lead : List ℕ → List ℕ
 lead ds = begin_text ++ (ds ++ (1 ∷ []))
 
 framed_split : (ds body t : List ℕ) → (begin_text ++ (ds ++ (1 ∷ body))) ++ t ≡ lead ds ++ (body ++ t)
-framed_split ds body t = ap (λ x. begin_text ++ x) (append_assoc ds (1 ∷ body) t ∙ sym (append_assoc ds (1 ∷ []) (body ++ t)))
+framed_split ds body t = ap (λ x. begin_text ++ x)
+    (append_assoc ds (1 ∷ body) t ∙ sym (append_assoc ds (1 ∷ []) (body ++ t)))
 
 lead_len : (ds : List ℕ) → length (lead ds) ≡ length ds + 13
 lead_len ds = let h = length-append ds (1 ∷ []) in omega (arith, h)
@@ -303,35 +339,44 @@ body_in ds body t =
     ∙ ap (take (length body)) (drop_at (lead ds) (body ++ t) (length ds + 13) (lead_len ds))
     ∙ take_at body t (length body) refl
 
-intact_plain : (front t body : List ℕ) (c : FrameHeader) → length front ≡ c.body_start + c.body_length → t ≡ checksum_field (sum front % 256) → body_at (front ++ t) c ≡ body → is_body body ≡ true → is_intact (front ++ t) c ≡ true
+intact_plain : (front t body : List ℕ) (c : FrameHeader) → length front ≡ c.body_start + c.body_length
+    → t ≡ checksum_field (sum front % 256) → body_at (front ++ t) c ≡ body → is_body body ≡ true
+    → is_intact (front ++ t) c ≡ true
 intact_plain front t body c size tail at lawful =
     let seven : length t ≡ 7 = ap length tail in
     let len = length-append front t in
     let fits : leb (frame_length c) (length (front ++ t)) ≡ true = grind (arith, nat_tests) in
     let before = take_at front t (c.body_start + c.body_length) size in
     let behind_it = drop_at front t (c.body_start + c.body_length) size in
-    let sums : bytes_eq (take 7 (drop (c.body_start + c.body_length) (front ++ t))) (checksum_field (sum (take (c.body_start + c.body_length) (front ++ t)) % 256)) ≡ true =
+    let sums : bytes_eq (take 7 (drop (c.body_start + c.body_length) (front ++ t)))
+    (checksum_field (sum (take (c.body_start + c.body_length) (front ++ t)) % 256)) ≡ true =
     bytes_same _ _ (ap (take 7) (behind_it ∙ tail) ∙ ap (λ x. checksum_field (sum x % 256)) (sym before)) in
-    let sized : is_intact_by_size (front ++ t) c ≡ true = and_from _ _ (and_from _ _ fits (ap is_body at ∙ lawful)) sums in
+    let sized : is_intact_by_size (front ++ t) c ≡ true =
+    and_from _ _ (and_from _ _ fits (ap is_body at ∙ lawful)) sums in
     intact_is (front ++ t) c ∙ sized
 
 framed_kept : (ds body : List ℕ) → is_body body ≡ true → is_intact (framed ds body) (header_of ds body) ≡ true
 framed_kept ds body lawful =
-    intact_plain (front_of ds body) (checksum_field (sum (front_of ds body) % 256)) body (header_of ds body) (front_len ds body) refl (body_in ds body (checksum_field (sum (front_of ds body) % 256))) lawful
+    intact_plain (front_of ds body) (checksum_field (sum (front_of ds body) % 256)) body (header_of ds body)
+    (front_len ds body) refl (body_in ds body (checksum_field (sum (front_of ds body) % 256))) lawful
 
 framed_len : (ds body : List ℕ) → frame_length (header_of ds body) ≡ length (framed ds body)
-framed_len ds body = let h = length-append ds (1 ∷ body) in let g = length-append (ds ++ (1 ∷ body)) (checksum_field (sum (front_of ds body) % 256)) in omega (arith, h, g)
+framed_len ds body = let h = length-append ds (1 ∷ body) in let g =
+    length-append (ds ++ (1 ∷ body)) (checksum_field (sum (front_of ds body) % 256)) in omega (arith, h, g)
 
-framed_frame : (ds body : List ℕ) → is_body_length ds ≡ true → is_plain ds ≡ true → number_of ds ≡ length body → is_body body ≡ true → frame_at (framed ds body) ≡ Some (length (framed ds body))
+framed_frame : (ds body : List ℕ) → is_body_length ds ≡ true → is_plain ds ≡ true → number_of ds ≡ length body
+    → is_body body ≡ true → frame_at (framed ds body) ≡ Some (length (framed ds body))
 framed_frame ds body size plain number lawful =
     ap (option_and_then (intact_length (framed ds body))) (framed_header ds body size plain number)
     ∙ ap (λ v. then_some v (frame_length (header_of ds body))) (framed_kept ds body lawful)
     ∙ ap Some (framed_len ds body)
 
-framed_fields : (ds body : List ℕ) (fs : List TagValue) → is_body_length ds ≡ true → is_plain ds ≡ true → number_of ds ≡ length body → fields_of_body body ≡ Some fs → fields (framed ds body) ≡ fs
+framed_fields : (ds body : List ℕ) (fs : List TagValue) → is_body_length ds ≡ true → is_plain ds ≡ true
+    → number_of ds ≡ length body → fields_of_body body ≡ Some fs → fields (framed ds body) ≡ fs
 unfolding fields
 framed_fields ds body fs size plain number reads =
-    ap (λ o. unwrap_or (option_and_then (λ c. fields_of_body (body_at (framed ds body) c)) o) []) (framed_header ds body size plain number)
+    ap (λ o. unwrap_or (option_and_then (λ c. fields_of_body (body_at (framed ds body) c)) o) [])
+    (framed_header ds body size plain number)
     ∙ ap (λ b. unwrap_or (fields_of_body b) []) (body_in ds body (checksum_field (sum (front_of ds body) % 256)))
     ∙ ap (λ r. unwrap_or r []) reads
 
@@ -343,19 +388,25 @@ len_small h fs fits = let most = fits.2 in omega (arith, most)
 size_of : (n : ℕ) → 5 ≤ n → n ≤ 4096 → is_body_length (decimal n) ≡ true
 size_of n low high =
     let small : n < 2 ^ 64 = omega (arith, high) in
-    size_tests (decimal n) n (decimal_nonempty n small) (length-decimal-le 8 n (omega arith) (omega (arith, high)) small) (decimal_digits n small) (decimal_number n small) low high
+    size_tests (decimal n) n (decimal_nonempty n small)
+    (length-decimal-le 8 n (omega arith) (omega (arith, high)) small) (decimal_digits n small)
+    (decimal_number n small) low high
 
-pub written_frame : (h : Head) (fs : List given.Field) → FitsMessage h fs → frame_at (message_text h fs) ≡ Some (length (message_text h fs))
+pub written_frame : (h : Head) (fs : List given.Field) → FitsMessage h fs
+    → frame_at (message_text h fs) ≡ Some (length (message_text h fs))
 written_frame h fs fits =
     let body = body_text h fs in
     let small = len_small h fs fits in
-    framed_frame (decimal (length body)) body (size_of (length body) (body_long h fs) fits.2) (decimal_plain (length body) small) (decimal_number (length body) small) (body_lawful h fs fits)
+    framed_frame (decimal (length body)) body (size_of (length body) (body_long h fs) fits.2)
+    (decimal_plain (length body) small) (decimal_number (length body) small) (body_lawful h fs fits)
 
-pub written_fields : (h : Head) (fs : List given.Field) → FitsMessage h fs → fields (message_text h fs) ≡ all_fields h fs
+pub written_fields : (h : Head) (fs : List given.Field) → FitsMessage h fs
+    → fields (message_text h fs) ≡ all_fields h fs
 written_fields h fs fits =
     let body = body_text h fs in
     let small = len_small h fs fits in
-    framed_fields (decimal (length body)) body (all_fields h fs) (size_of (length body) (body_long h fs) fits.2) (decimal_plain (length body) small) (decimal_number (length body) small) (body_row h fs fits)
+    framed_fields (decimal (length body)) body (all_fields h fs) (size_of (length body) (body_long h fs) fits.2)
+    (decimal_plain (length body) small) (decimal_number (length body) small) (body_row h fs fits)
 
 pub read_first : (text more : List ℕ) → frame_at text ≡ Some (length text) → frames (text ++ more) ≡ text ∷ frames more
 read_first text more e =

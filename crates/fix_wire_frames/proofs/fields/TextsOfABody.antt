@@ -12,7 +12,8 @@ use Rattle.fix_wire_frames.specs.code.Texts.{is_soh}
 use Rattle.fix_wire_frames.specs.Fields.{TagValue, field_of_text, fields_of_body}
 use Rattle.fix_wire_frames.specs.code.Fields.{field_texts, prepended, with_first, fields_of_texts, fields_by_texts}
 
-pub prepended_first : (b : ℕ) (p : List ℕ) (o : Option (List (List ℕ))) → option_and_then (prepended b) (option_map (with_first p) o) ≡ option_map (with_first (b ∷ p)) o
+pub prepended_first : (b : ℕ) (p : List ℕ) (o : Option (List (List ℕ)))
+    → option_and_then (prepended b) (option_map (with_first p) o) ≡ option_map (with_first (b ∷ p)) o
 prepended_first b p None = refl
 prepended_first b p (Some ps) = refl
 
@@ -31,11 +32,13 @@ first_text : (bs : List ℕ) → HasFirst (slice_split is_soh bs)
 first_text [] = ([], [], refl)
 first_text (b ∷ bs) = by_test (first_text bs) (is_soh b)
   where
-    by_test : HasFirst (slice_split is_soh bs) → (v : Bool) → HasFirst (cond v ([] ∷ slice_split is_soh bs) (onto_first b (slice_split is_soh bs)))
+    by_test : HasFirst (slice_split is_soh bs) → (v : Bool)
+        → HasFirst (cond v ([] ∷ slice_split is_soh bs) (onto_first b (slice_split is_soh bs)))
     by_test (t, us, e) true = ([], slice_split is_soh bs, refl)
     by_test (t, us, e) false = (b ∷ t, us, ap (onto_first b) e)
 
-onto_ended : (b : ℕ) (t : List ℕ) (us : List (List ℕ)) → option_and_then (prepended b) (ended_of (t ∷ us)) ≡ ended_of ((b ∷ t) ∷ us)
+onto_ended : (b : ℕ) (t : List ℕ) (us : List (List ℕ))
+    → option_and_then (prepended b) (ended_of (t ∷ us)) ≡ ended_of ((b ∷ t) ∷ us)
 onto_ended b [] [] = refl
 onto_ended b (x ∷ xs) [] = refl
 onto_ended b t (u ∷ us) = prepended_first b t (ended_of (u ∷ us))
@@ -45,9 +48,11 @@ texts_are [] = refl
 texts_are (b ∷ bs) = by_test (texts_are bs) (first_text bs) (is_soh b)
   where
     by_test : field_texts bs ≡ ended_of (slice_split is_soh bs) → HasFirst (slice_split is_soh bs) → (v : Bool) →
-        cond v (option_map (with_first []) (field_texts bs)) (option_and_then (prepended b) (field_texts bs)) ≡ ended_of (cond v ([] ∷ slice_split is_soh bs) (onto_first b (slice_split is_soh bs)))
+        cond v (option_map (with_first []) (field_texts bs)) (option_and_then (prepended b) (field_texts bs)) ≡ ended_of
+        (cond v ([] ∷ slice_split is_soh bs) (onto_first b (slice_split is_soh bs)))
     by_test ih (t, us, e) true =
-        ap (option_map (with_first [])) ih ∙ ap (λ ts. option_map (with_first []) (ended_of ts)) e ∙ sym (ap (λ ts. ended_of ([] ∷ ts)) e)
+        ap (option_map (with_first [])) ih ∙ ap (λ ts. option_map (with_first []) (ended_of ts)) e
+        ∙ sym (ap (λ ts. ended_of ([] ∷ ts)) e)
     by_test ih (t, us, e) false =
         ap (option_and_then (prepended b)) ih ∙ ap (λ ts. option_and_then (prepended b) (ended_of ts)) e
         ∙ onto_ended b t us ∙ sym (ap (λ ts. ended_of (onto_first b ts)) e)
@@ -62,12 +67,14 @@ ended_later t u us =
     ap (λ n. pointwise bytes_eq ([] ∷ []) (drop n (t ∷ u ∷ us))) next
 
 -- the empty one is no field
-fewer_fields : (t : List ℕ) (us : List (List ℕ)) → is_ended (t ∷ us) ≡ true → length (filter_map field_of_text (t ∷ us)) ≤ length us
+fewer_fields : (t : List ℕ) (us : List (List ℕ)) → is_ended (t ∷ us) ≡ true
+    → length (filter_map field_of_text (t ∷ us)) ≤ length us
 fewer_fields [] [] e = omega arith
 fewer_fields (b ∷ bs) [] e = absurd (false≢true e)
 fewer_fields t (u ∷ us) e = by_field (field_of_text t) (fewer_fields u us (sym (ended_later t u us) ∙ e))
   where
-    by_field : (o : Option TagValue) → length (filter_map field_of_text (u ∷ us)) ≤ length us → length (cons_option o (filter_map field_of_text (u ∷ us))) ≤ suc (length us)
+    by_field : (o : Option TagValue) → length (filter_map field_of_text (u ∷ us)) ≤ length us
+        → length (cons_option o (filter_map field_of_text (u ∷ us))) ≤ suc (length us)
     by_field None ih = omega (arith, ih)
     by_field (Some f) ih = omega (arith, ih)
 
@@ -75,7 +82,8 @@ fewer_fields t (u ∷ us) e = by_field (field_of_text t) (fewer_fields u us (sym
 abbrev is_row : List (List ℕ) → List TagValue → Bool
 is_row ts fs = eqb (length ts) (length fs + 1) && is_ended ts
 
-onto_fields : (f : TagValue) (v : Bool) (fs : List TagValue) → option_map (λ gs. f ∷ gs) (then_some v fs) ≡ then_some v (f ∷ fs)
+onto_fields : (f : TagValue) (v : Bool) (fs : List TagValue)
+    → option_map (λ gs. f ∷ gs) (then_some v fs) ≡ then_some v (f ∷ fs)
 onto_fields f true fs = refl
 onto_fields f false fs = refl
 
@@ -86,7 +94,8 @@ too_few n k l = grind (arith, nat_tests)
 no_row : (t u : List ℕ) (us : List (List ℕ)) → is_row (t ∷ u ∷ us) (filter_map field_of_text (u ∷ us)) ≡ false
 no_row t u us = by_end (is_ended (t ∷ u ∷ us)) refl
   where
-    by_end : (v : Bool) → is_ended (t ∷ u ∷ us) ≡ v → (eqb (length (t ∷ u ∷ us)) (length (filter_map field_of_text (u ∷ us)) + 1) && v) ≡ false
+    by_end : (v : Bool) → is_ended (t ∷ u ∷ us) ≡ v → (eqb (length (t ∷ u ∷ us))
+        (length (filter_map field_of_text (u ∷ us)) + 1) && v) ≡ false
     by_end true e =
         let few = fewer_fields u us (sym (ended_later t u us) ∙ e) in
         ap (λ v. v && true) (too_few (length us) (length (filter_map field_of_text (u ∷ us))) few)
@@ -96,7 +105,9 @@ same_count : (n k : ℕ) → eqb n (k + 1) ≡ eqb (suc n) (suc k + 1)
 same_count n k = grind (arith, nat_tests)
 
 -- the first text of those that end with an empty one
-first_field_of : (t : List ℕ) (o : Option (List (List ℕ))) → option_and_then fields_of_texts (option_map (with_first t) o) ≡ option_and_then (λ f. option_map (λ fs. f ∷ fs) (option_and_then fields_of_texts o)) (field_of_text t)
+first_field_of : (t : List ℕ) (o : Option (List (List ℕ)))
+    → option_and_then fields_of_texts (option_map (with_first t) o) ≡ option_and_then
+    (λ f. option_map (λ fs. f ∷ fs) (option_and_then fields_of_texts o)) (field_of_text t)
 first_field_of t (Some ts) = refl
 first_field_of t None = none (field_of_text t)
   where
@@ -104,7 +115,8 @@ first_field_of t None = none (field_of_text t)
     none None = refl
     none (Some f) = refl
 
-row_of : (t : List ℕ) (us : List (List ℕ)) → option_and_then fields_of_texts (ended_of (t ∷ us)) ≡ then_some (is_row (t ∷ us) (filter_map field_of_text (t ∷ us))) (filter_map field_of_text (t ∷ us))
+row_of : (t : List ℕ) (us : List (List ℕ)) → option_and_then fields_of_texts (ended_of (t ∷ us)) ≡ then_some
+    (is_row (t ∷ us) (filter_map field_of_text (t ∷ us))) (filter_map field_of_text (t ∷ us))
 row_of [] [] = refl
 row_of (b ∷ bs) [] =
     let fs = filter_map field_of_text ((b ∷ bs) ∷ []) in
@@ -115,8 +127,10 @@ row_of t (u ∷ us) =
     ∙ by_field (field_of_text t)
   where
     by_field : (o : Option TagValue) →
-        option_and_then (λ f. option_map (λ fs. f ∷ fs) (then_some (is_row (u ∷ us) (filter_map field_of_text (u ∷ us))) (filter_map field_of_text (u ∷ us)))) o
-        ≡ then_some (is_row (t ∷ u ∷ us) (cons_option o (filter_map field_of_text (u ∷ us)))) (cons_option o (filter_map field_of_text (u ∷ us)))
+        option_and_then (λ f. option_map (λ fs. f ∷ fs) (then_some (is_row (u ∷ us) (filter_map field_of_text (u ∷ us)))
+        (filter_map field_of_text (u ∷ us)))) o
+        ≡ then_some (is_row (t ∷ u ∷ us) (cons_option o (filter_map field_of_text (u ∷ us))))
+        (cons_option o (filter_map field_of_text (u ∷ us)))
     by_field None =
         let fs = filter_map field_of_text (u ∷ us) in
         sym (ap (λ v. then_some v fs) (no_row t u us))

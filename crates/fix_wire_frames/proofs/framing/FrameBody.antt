@@ -7,7 +7,8 @@ use Rattle.fix_wire_frames.specs.code.Frames.{is_body}
 use Rattle.fix_wire_frames.proofs.framing.FrontStays.{frame_parts}
 
 -- it is one
-pub body_lawful : (frame body : List ℕ) → IsFrame frame → option_map (body_at frame) (header frame) ≡ Some body → is_body body ≡ true
+pub body_lawful : (frame body : List ℕ) → IsFrame frame → option_map (body_at frame) (header frame) ≡ Some body
+    → is_body body ≡ true
 body_lawful frame body lawful framed =
     frame_parts frame (length frame) lawful (λ h head intact len fits.
     let same : body_at frame h ≡ body = same_Some _ _ (sym (ap (option_map (body_at frame)) head) ∙ framed) in

@@ -24,15 +24,20 @@ one_more : (a b : ℕ) → leb a b ≡ leb (suc a) (suc b)
 one_more a b = grind (arith, nat_tests)
 
 -- a text begins with another, which is as many of its bytes
-at_front : (c text : List ℕ) → starts_with nat_eq text c ≡ (leb (length c) (length text) && bytes_eq (take (length c) text) c)
+at_front : (c text : List ℕ) → starts_with nat_eq text c ≡
+    (leb (length c) (length text) && bytes_eq (take (length c) text) c)
 at_front [] text = let all : leb 0 (length text) ≡ true = grind (arith, nat_tests) in sym (ap (λ v. v && true) all)
-at_front (p ∷ ps) [] = let none : leb (suc (length ps)) 0 ≡ false = grind (arith, nat_tests) in sym (ap (λ v. v && false) none)
+at_front (p ∷ ps) [] = let none : leb (suc (length ps)) 0 ≡ false = grind (arith, nat_tests) in
+    sym (ap (λ v. v && false) none)
 at_front (p ∷ ps) (b ∷ bs) =
     ap (λ v. eqb p b && v) (at_front ps bs)
-    ∙ same_test (eqb p b) (eqb b p) (leb (length ps) (length bs)) (leb (suc (length ps)) (suc (length bs))) (bytes_eq (take (length ps) bs) ps) (eqb_swap p b) (one_more (length ps) (length bs))
+    ∙ same_test (eqb p b) (eqb b p) (leb (length ps) (length bs)) (leb (suc (length ps)) (suc (length bs)))
+    (bytes_eq (take (length ps) bs) ps) (eqb_swap p b) (one_more (length ps) (length bs))
 
 -- it goes on with another behind its first bytes
-behind_front : (x : ℕ) (xs : List ℕ) (n : ℕ) (text : List ℕ) → starts_with nat_eq text (take n text ++ x ∷ xs) ≡ (leb (n + suc (length xs)) (length text) && bytes_eq (take (suc (length xs)) (drop n text)) (x ∷ xs))
+behind_front : (x : ℕ) (xs : List ℕ) (n : ℕ) (text : List ℕ)
+    → starts_with nat_eq text (take n text ++ x ∷ xs) ≡
+    (leb (n + suc (length xs)) (length text) && bytes_eq (take (suc (length xs)) (drop n text)) (x ∷ xs))
 behind_front x xs zero text =
     let same : suc (length xs) ≡ 0 + suc (length xs) = omega arith in
     at_front (x ∷ xs) text ∙ ap (λ k. leb k (length text) && bytes_eq (take (suc (length xs)) text) (x ∷ xs)) same
@@ -41,7 +46,8 @@ behind_front x xs (suc n) [] =
     sym (ap (λ v. v && bytes_eq (take (suc (length xs)) []) (x ∷ xs)) none)
 behind_front x xs (suc n) (b ∷ bs) =
     let self : eqb b b ≡ true = grind (arith, nat_tests) in
-    let next : leb (n + suc (length xs)) (length bs) ≡ leb (suc n + suc (length xs)) (suc (length bs)) = grind (arith, nat_tests) in
+    let next : leb (n + suc (length xs)) (length bs) ≡ leb (suc n + suc (length xs)) (suc (length bs)) =
+    grind (arith, nat_tests) in
     ap (λ v. v && starts_with nat_eq bs (take n bs ++ x ∷ xs)) self ∙ behind_front x xs n bs
     ∙ ap (λ v. v && bytes_eq (take (suc (length xs)) (drop n bs)) (x ∷ xs)) next
 
@@ -69,13 +75,18 @@ and_of true y true b p q e = e ∙ and_true_right y
 and_of true y false b p q e = cc
 and_of false y z b p q e = cc
 
-pub intact_true : (text : List ℕ) (header : FrameHeader) (n k ck : ℕ) (b : Bool) → frame_length header ≤ length text → n ≡ 7 → k ≡ header.body_length → ck ≡ sum (take (header.body_start + header.body_length) text) % 256 →
-    true ≡ bytes_eq (take n (drop (header.body_start + header.body_length) text)) (checksum_field ck) → b ≡ is_body (take k (drop header.body_start text)) → b ≡ is_intact text header
+pub intact_true : (text : List ℕ) (header : FrameHeader) (n k ck : ℕ) (b : Bool) → frame_length header ≤ length text
+    → n ≡ 7 → k ≡ header.body_length → ck ≡ sum (take (header.body_start + header.body_length) text) % 256 →
+    true ≡ bytes_eq (take n (drop (header.body_start + header.body_length) text)) (checksum_field ck)
+    → b ≡ is_body (take k (drop header.body_start text)) → b ≡ is_intact text header
 intact_true text header n k ck b fits seven size sum_is t e =
     let x : leb (frame_length header) (length text) ≡ true = grind (arith, nat_tests) in
-    let z = ap (λ c. bytes_eq (take n (drop (header.body_start + header.body_length) text)) (checksum_field c)) sum_is in
-    let z2 = ap (λ m. bytes_eq (take m (drop (header.body_start + header.body_length) text)) (checksum_field (sum (take (header.body_start + header.body_length) text) % 256))) seven in
-    let sized : b ≡ is_intact_by_size text header = and_of _ _ _ b x (sym (t ∙ z ∙ z2)) (e ∙ ap (λ m. is_body (take m (drop header.body_start text))) size) in
+    let z = ap (λ c. bytes_eq (take n (drop (header.body_start + header.body_length) text)) (checksum_field c)) sum_is
+    in
+    let z2 = ap (λ m. bytes_eq (take m (drop (header.body_start + header.body_length) text))
+    (checksum_field (sum (take (header.body_start + header.body_length) text) % 256))) seven in
+    let sized : b ≡ is_intact_by_size text header = and_of _ _ _ b x (sym (t ∙ z ∙ z2))
+    (e ∙ ap (λ m. is_body (take m (drop header.body_start text))) size) in
     sized ∙ sym (intact_is text header)
 
 and_last : (x y z : Bool) → z ≡ false → false ≡ (x && y && z)
@@ -84,10 +95,15 @@ and_last true false z e = refl
 and_last false y z e = refl
 
 -- the CheckSum is another
-pub intact_false : (text : List ℕ) (header : FrameHeader) (n ck : ℕ) → n ≡ 7 → ck ≡ sum (take (header.body_start + header.body_length) text) % 256 →
-    false ≡ bytes_eq (take n (drop (header.body_start + header.body_length) text)) (checksum_field ck) → false ≡ is_intact text header
+pub intact_false : (text : List ℕ) (header : FrameHeader) (n ck : ℕ) → n ≡ 7
+    → ck ≡ sum (take (header.body_start + header.body_length) text) % 256 →
+    false ≡ bytes_eq (take n (drop (header.body_start + header.body_length) text)) (checksum_field ck)
+    → false ≡ is_intact text header
 intact_false text header n ck seven sum_is t =
-    let z = ap (λ c. bytes_eq (take n (drop (header.body_start + header.body_length) text)) (checksum_field c)) sum_is in
-    let z2 = ap (λ m. bytes_eq (take m (drop (header.body_start + header.body_length) text)) (checksum_field (sum (take (header.body_start + header.body_length) text) % 256))) seven in
-    let sized : false ≡ is_intact_by_size text header = and_last (leb (frame_length header) (length text)) (is_body (body_at text header)) _ (sym (t ∙ z ∙ z2)) in
+    let z = ap (λ c. bytes_eq (take n (drop (header.body_start + header.body_length) text)) (checksum_field c)) sum_is
+    in
+    let z2 = ap (λ m. bytes_eq (take m (drop (header.body_start + header.body_length) text))
+    (checksum_field (sum (take (header.body_start + header.body_length) text) % 256))) seven in
+    let sized : false ≡ is_intact_by_size text header =
+    and_last (leb (frame_length header) (length text)) (is_body (body_at text header)) _ (sym (t ∙ z ∙ z2)) in
     sized ∙ sym (intact_is text header)

@@ -29,23 +29,27 @@ none_marked xs e = leading_from_mask_l is_soh xs (sym (marks_are xs) ∙ e)
 pub some_marked : (xs : List ℕ) → 0 < marks_of xs → position_or_len is_soh xs < length xs
 some_marked [] l = absurd (omega arith)
 some_marked (x ∷ xs) l =
-    elim (is_soh x) as (λ v. 0 < cond v 1 0 + 2 * marks_of xs → cond (not v) (1 + position_or_len is_soh xs) 0 < suc (length xs)) [
+    elim (is_soh x) as (λ v. 0 < cond v 1 0 + 2 * marks_of xs
+    → cond (not v) (1 + position_or_len is_soh xs) 0 < suc (length xs)) [
       | true ↦ λ _. omega arith
       | false ↦ λ h. (let below = some_marked xs (omega (arith, h)) in omega (arith, below))
     ] l
 
 -- the lowest mark is that of the first SOH
-pub first_marked : (xs : List ℕ) → length xs ≤ 64 → 0 < marks_of xs → count_trailing_zeros 64 (marks_of xs) ≡ position_or_len is_soh xs
+pub first_marked : (xs : List ℕ) → length xs ≤ 64 → 0 < marks_of xs
+    → count_trailing_zeros 64 (marks_of xs) ≡ position_or_len is_soh xs
 first_marked xs few some =
     let e = marks_are xs in
     ap (count_trailing_zeros 64) e ∙ trailing_mask_l is_soh 64 xs few (omega (arith, e, some))
 
 -- the place among the first n is the place in all
-front_found_short : (p : ℕ → Bool) (n : ℕ) (xs : List ℕ) → position_or_len p (take n xs) < length (take n xs) → position_or_len p (take n xs) ≡ position_or_len p xs
+front_found_short : (p : ℕ → Bool) (n : ℕ) (xs : List ℕ) → position_or_len p (take n xs) < length (take n xs)
+    → position_or_len p (take n xs) ≡ position_or_len p xs
 front_found_short p zero xs l = absurd (omega arith)
 front_found_short p (suc n) [] l = absurd (omega arith)
 front_found_short p (suc n) (x ∷ xs) l =
-    elim (p x) as (λ v. cond (not v) (1 + position_or_len p (take n xs)) 0 < suc (length (take n xs)) → cond (not v) (1 + position_or_len p (take n xs)) 0 ≡ cond (not v) (1 + position_or_len p xs) 0) [
+    elim (p x) as (λ v. cond (not v) (1 + position_or_len p (take n xs)) 0 < suc (length (take n xs))
+    → cond (not v) (1 + position_or_len p (take n xs)) 0 ≡ cond (not v) (1 + position_or_len p xs) 0) [
       | true ↦ λ _. refl
       | false ↦ λ h. ap (λ k. 1 + k) (front_found_short p n xs (omega (arith, h)))
     ] l
@@ -66,7 +70,8 @@ zeros_place (suc k) xs = let e = zeros_place k xs in omega (arith, e)
 
 zeros_more : (k n : ℕ) (xs : List ℕ) → zeros k ++ (zeros n ++ xs) ≡ zeros (k + n) ++ xs
 zeros_more zero n xs = let e : n ≡ 0 + n = omega arith in ap (λ m. zeros m ++ xs) e
-zeros_more (suc k) n xs = let e : suc (k + n) ≡ suc k + n = omega arith in ap (λ t. 0 ∷ t) (zeros_more k n xs) ∙ ap (λ m. zeros m ++ xs) e
+zeros_more (suc k) n xs = let e : suc (k + n) ≡ suc k + n = omega arith in ap (λ t. 0 ∷ t) (zeros_more k n xs)
+    ∙ ap (λ m. zeros m ++ xs) e
 
 zeros_length : (k : ℕ) → length (zeros k) ≡ k
 zeros_length k = length-replicate k 0
@@ -100,19 +105,27 @@ cleared_marks (x ∷ xs) l = by_test (λ h. cleared_marks xs h) (is_soh x) refl 
     zero_more : (n : ℕ) → 0 + 2 * n ≡ 2 * n
     zero_more n = omega arith
 
-    by_test : (0 < marks_of xs → bit_and (marks_of xs) (marks_of xs - 1) ≡ marks_of (unmarked xs)) → (v : Bool) → is_soh x ≡ v → 0 < cond v 1 0 + 2 * marks_of xs → bit_and (cond v 1 0 + 2 * marks_of xs) (cond v 1 0 + 2 * marks_of xs - 1) ≡ marks_of (cond v (0 ∷ xs) (x ∷ unmarked xs))
+    by_test : (0 < marks_of xs → bit_and (marks_of xs) (marks_of xs - 1) ≡ marks_of (unmarked xs)) → (v : Bool)
+        → is_soh x ≡ v → 0 < cond v 1 0 + 2 * marks_of xs → bit_and (cond v 1 0 + 2 * marks_of xs)
+        (cond v 1 0 + 2 * marks_of xs - 1) ≡ marks_of (cond v (0 ∷ xs) (x ∷ unmarked xs))
     by_test ih true e h = let odd = and_odd (marks_of xs) in omega (arith, odd)
     by_test ih false e h =
         let some : 0 < marks_of xs = omega (arith, h) in
-        and_even (marks_of xs) some ∙ ap (λ n. 2 * n) (ih some) ∙ sym (ap (λ v. cond v 1 0 + 2 * marks_of (unmarked xs)) e ∙ zero_more (marks_of (unmarked xs)))
+        and_even (marks_of xs) some ∙ ap (λ n. 2 * n) (ih some)
+        ∙ sym (ap (λ v. cond v 1 0 + 2 * marks_of (unmarked xs)) e ∙ zero_more (marks_of (unmarked xs)))
 
 -- what follows the first SOH keeps its marks
-unmarked_is : (xs : List ℕ) → 0 < marks_of xs → marks_of (unmarked xs) ≡ marks_of (zeros (position_or_len is_soh xs + 1) ++ drop (position_or_len is_soh xs + 1) xs)
+unmarked_is : (xs : List ℕ) → 0 < marks_of xs → marks_of (unmarked xs) ≡ marks_of
+    (zeros (position_or_len is_soh xs + 1) ++ drop (position_or_len is_soh xs + 1) xs)
 unmarked_is [] l = absurd (omega arith)
 unmarked_is (x ∷ xs) l = by_test (λ h. unmarked_is xs h) (is_soh x) refl l
   where
-    by_test : (0 < marks_of xs → marks_of (unmarked xs) ≡ marks_of (zeros (position_or_len is_soh xs + 1) ++ drop (position_or_len is_soh xs + 1) xs)) → (v : Bool) → is_soh x ≡ v → 0 < cond v 1 0 + 2 * marks_of xs
-        → marks_of (cond v (0 ∷ xs) (x ∷ unmarked xs)) ≡ marks_of (zeros (cond (not v) (1 + position_or_len is_soh xs) 0 + 1) ++ drop (cond (not v) (1 + position_or_len is_soh xs) 0 + 1) (x ∷ xs))
+    by_test : (0 < marks_of xs → marks_of (unmarked xs) ≡ marks_of
+        (zeros (position_or_len is_soh xs + 1) ++ drop (position_or_len is_soh xs + 1) xs)) → (v : Bool) → is_soh x ≡ v
+        → 0 < cond v 1 0 + 2 * marks_of xs
+        → marks_of (cond v (0 ∷ xs) (x ∷ unmarked xs)) ≡ marks_of
+        (zeros (cond (not v) (1 + position_or_len is_soh xs) 0 + 1)
+        ++ drop (cond (not v) (1 + position_or_len is_soh xs) 0 + 1) (x ∷ xs))
     by_test ih true e h = refl
     by_test ih false e h =
         let q = position_or_len is_soh xs in
@@ -121,18 +134,24 @@ unmarked_is (x ∷ xs) l = by_test (λ h. unmarked_is xs h) (is_soh x) refl l
         ∙ ap (λ n. 0 + 2 * n) (ih (omega (arith, h)))
         ∙ ap (λ n. marks_of (zeros n ++ drop n (x ∷ xs))) more
 
-unmarked_behind : (k : ℕ) (xs : List ℕ) → 0 < marks_of xs → marks_of (unmarked (zeros k ++ xs)) ≡ marks_of (zeros (k + (position_or_len is_soh xs + 1)) ++ drop (position_or_len is_soh xs + 1) xs)
-unmarked_behind k xs l = in_front k ∙ ap marks_of (zeros_more k (position_or_len is_soh xs + 1) (drop (position_or_len is_soh xs + 1) xs))
+unmarked_behind : (k : ℕ) (xs : List ℕ) → 0 < marks_of xs
+    → marks_of (unmarked (zeros k ++ xs)) ≡ marks_of (zeros (k + (position_or_len is_soh xs + 1))
+    ++ drop (position_or_len is_soh xs + 1) xs)
+unmarked_behind k xs l = in_front k ∙ ap marks_of (zeros_more k (position_or_len is_soh xs + 1)
+    (drop (position_or_len is_soh xs + 1) xs))
   where
-    in_front : (k : ℕ) → marks_of (unmarked (zeros k ++ xs)) ≡ marks_of (zeros k ++ (zeros (position_or_len is_soh xs + 1) ++ drop (position_or_len is_soh xs + 1) xs))
+    in_front : (k : ℕ) → marks_of (unmarked (zeros k ++ xs)) ≡ marks_of
+        (zeros k ++ (zeros (position_or_len is_soh xs + 1) ++ drop (position_or_len is_soh xs + 1) xs))
     in_front zero = unmarked_is xs l
     in_front (suc k) = ap (λ n. 0 + 2 * n) (in_front k)
 
 -- ---- the marks of a block from a place on
 
 -- the first mark is that of the first SOH
-pub first_of_marks : (text : List ℕ) (from next bits : ℕ) → from ≤ next → next ≤ from + 64 → bits ≡ marks_of (zeros (from + 64 - next) ++ take (next - from) (drop from text)) → 0 < bits →
-    (next + count_trailing_zeros 64 bits ≡ from + position_or_len is_soh (drop from text) + 64) × (from + position_or_len is_soh (drop from text) + 1 ≤ next)
+pub first_of_marks : (text : List ℕ) (from next bits : ℕ) → from ≤ next → next ≤ from + 64
+    → bits ≡ marks_of (zeros (from + 64 - next) ++ take (next - from) (drop from text)) → 0 < bits →
+    (next + count_trailing_zeros 64 bits ≡ from + position_or_len is_soh (drop from text) + 64)
+    × (from + position_or_len is_soh (drop from text) + 1 ≤ next)
 first_of_marks text from next bits l few e some =
     let xs = drop from text in
     let k = next - from in
@@ -141,7 +160,8 @@ first_of_marks text from next bits l few e some =
     let short = length-take k xs in
     let whole = length-append (zeros z) ys in
     let front = zeros_length z in
-    let count = ap (count_trailing_zeros 64) e ∙ first_marked (zeros z ++ ys) (omega (arith, short, whole, front)) (omega (arith, e, some)) in
+    let count = ap (count_trailing_zeros 64) e ∙ first_marked (zeros z ++ ys) (omega (arith, short, whole, front))
+    (omega (arith, e, some)) in
     let marked = zeros_some z ys (omega (arith, e, some)) in
     let below = some_marked ys marked in
     let here = front_found_short is_soh k xs below in
@@ -149,7 +169,9 @@ first_of_marks text from next bits l few e some =
     (omega (arith, count, here, place), omega (arith, here, below, short))
 
 -- the marks behind it
-pub marked_behind : (text : List ℕ) (from next bits end : ℕ) → from ≤ next → next ≤ from + 64 → bits ≡ marks_of (zeros (from + 64 - next) ++ take (next - from) (drop from text)) → 0 < bits → end ≡ from + position_or_len is_soh (drop from text) → end + 1 ≤ next →
+pub marked_behind : (text : List ℕ) (from next bits end : ℕ) → from ≤ next → next ≤ from + 64
+    → bits ≡ marks_of (zeros (from + 64 - next) ++ take (next - from) (drop from text)) → 0 < bits
+    → end ≡ from + position_or_len is_soh (drop from text) → end + 1 ≤ next →
     bit_and bits (bits - 1) ≡ marks_of (zeros (end + 1 + 64 - next) ++ take (next - (end + 1)) (drop (end + 1) text))
 marked_behind text from next bits end l few e some is within =
     let xs = drop from text in
@@ -160,11 +182,15 @@ marked_behind text from next bits end l few e some is within =
     let marked = zeros_some z ys (omega (arith, e, some)) in
     let below = some_marked ys marked in
     let here = front_found_short is_soh (next - from) xs below in
-    let count : from + 64 - next + (position_or_len is_soh (take (next - from) (drop from text)) + 1) ≡ end + 1 + 64 - next = omega (arith, here, is) in
-    let size : next - from ≡ (position_or_len is_soh (take (next - from) (drop from text)) + 1) + (next - (end + 1)) = omega (arith, here, is, within) in
-    let place : from + (position_or_len is_soh (take (next - from) (drop from text)) + 1) ≡ end + 1 = omega (arith, here, is) in
+    let count : from + 64 - next + (position_or_len is_soh (take (next - from) (drop from text)) + 1) ≡ end + 1 + 64 -
+    next = omega (arith, here, is) in
+    let size : next - from ≡ (position_or_len is_soh (take (next - from) (drop from text)) + 1) + (next - (end + 1)) =
+    omega (arith, here, is, within) in
+    let place : from + (position_or_len is_soh (take (next - from) (drop from text)) + 1) ≡ end + 1 =
+    omega (arith, here, is) in
     let behind : drop (q + 1) ys ≡ take m (drop (end + 1) text) =
-    ap (λ n. drop (q + 1) (take n xs)) size ∙ drop-take (q + 1) m xs ∙ ap (take m) (drop-drop (q + 1) from text ∙ ap (λ n. drop n text) place) in
+    ap (λ n. drop (q + 1) (take n xs)) size ∙ drop-take (q + 1) m xs
+    ∙ ap (take m) (drop-drop (q + 1) from text ∙ ap (λ n. drop n text) place) in
     ap (λ n. bit_and n (n - 1)) e
     ∙ cleared_marks (zeros z ++ ys) (omega (arith, e, some))
     ∙ unmarked_behind z ys marked
@@ -172,7 +198,9 @@ marked_behind text from next bits end l few e some is within =
     ∙ ap (λ t. marks_of (zeros (end + 1 + 64 - next) ++ t)) behind
 
 -- where none is marked up to the next, the first SOH is behind it
-pub none_up_to : (text : List ℕ) (from next : ℕ) → from ≤ next → next ≤ length text → marks_of (take (next - from) (drop from text)) ≡ 0 → next + position_or_len is_soh (drop next text) ≡ from + position_or_len is_soh (drop from text)
+pub none_up_to : (text : List ℕ) (from next : ℕ) → from ≤ next → next ≤ length text
+    → marks_of (take (next - from) (drop from text)) ≡ 0
+    → next + position_or_len is_soh (drop next text) ≡ from + position_or_len is_soh (drop from text)
 none_up_to text from next l fits none =
     let xs = drop from text in
     let k = next - from in
@@ -185,7 +213,8 @@ none_up_to text from next l fits none =
     omega (arith, behind, same, sum)
 
 -- where none is marked up to the end, there is none
-pub none_to_end : (text : List ℕ) (from next : ℕ) → from ≤ length text → length text ≤ next → marks_of (take (next - from) (drop from text)) ≡ 0 → length text ≡ from + position_or_len is_soh (drop from text)
+pub none_to_end : (text : List ℕ) (from next : ℕ) → from ≤ length text → length text ≤ next
+    → marks_of (take (next - from) (drop from text)) ≡ 0 → length text ≡ from + position_or_len is_soh (drop from text)
 none_to_end text from next within l none =
     let len = length-drop from text in
     let all = take_all (next - from) (drop from text) (omega (arith, len)) in
@@ -198,7 +227,8 @@ drop_replicated (suc k) zero = let e : 0 ≡ 0 - suc k = omega arith in ap zeros
 drop_replicated (suc k) (suc n) = let e : n - k ≡ suc n - suc k = omega arith in drop_replicated k n ∙ ap zeros e
 
 -- a block that begins with a text, and holds 0 behind it
-pub block_of_rest : (rest : List ℕ) → length rest < 64 → marks_of (take 64 (rest ++ drop (length rest) (zeros 64))) ≡ marks_of rest
+pub block_of_rest : (rest : List ℕ) → length rest < 64
+    → marks_of (take 64 (rest ++ drop (length rest) (zeros 64))) ≡ marks_of rest
 block_of_rest rest l =
     let long = length-append rest (drop (length rest) (zeros 64)) in
     let behind = length-drop (length rest) (zeros 64) in

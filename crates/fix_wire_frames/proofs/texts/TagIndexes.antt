@@ -41,6 +41,8 @@ not_among tag (t ∷ ts) few l =
 pub tag_index : (tag : ℕ) → get_or TAG_INDEXES (min tag 127) 0 ≡ index_of tag
 tag_index tag =
     elim (eq-zero-or-pos (tag - 127)) [
-      | inl z ↦ let e : min tag 127 ≡ tag = omega (arith, z) in ap (λ t. get_or TAG_INDEXES t 0) e ∙ short_tag tag (omega (arith, z))
-      | inr g ↦ let e : min tag 127 ≡ 127 = omega (arith, g) in ap (λ t. get_or TAG_INDEXES t 0) e ∙ sym (not_among tag tabled_tags tt (omega (arith, g)))
+      | inl z ↦ let e : min tag 127 ≡ tag = omega (arith, z) in ap (λ t. get_or TAG_INDEXES t 0) e
+          ∙ short_tag tag (omega (arith, z))
+      | inr g ↦ let e : min tag 127 ≡ 127 = omega (arith, g) in ap (λ t. get_or TAG_INDEXES t 0) e
+          ∙ sym (not_among tag tabled_tags tt (omega (arith, g)))
     ]

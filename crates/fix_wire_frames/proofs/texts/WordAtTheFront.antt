@@ -8,11 +8,13 @@ use Rattle.fix_wire_frames.specs.Frames.{begin_text}
 use Rattle.fix_wire_frames.specs.code.Frames.{is_length_open}
 use Rattle.fix_wire_frames.specs.code.Scans.{is_header_open}
 
-pub behind_is : (word text : List ℕ) → stripped word text ≡ cond (starts_with nat_eq text word) (Some (drop (length word) text)) None
+pub behind_is : (word text : List ℕ) → stripped word text ≡ cond (starts_with nat_eq text word)
+    (Some (drop (length word) text)) None
 behind_is [] text = refl
 behind_is (p ∷ ps) [] = refl
 behind_is (p ∷ ps) (b ∷ bs) =
-    elim (p == b) as (λ v. cond v (stripped ps bs) None ≡ cond (v && starts_with nat_eq bs ps) (Some (drop (length ps) bs)) None) [
+    elim (p == b) as (λ v. cond v (stripped ps bs) None ≡ cond (v && starts_with nat_eq bs ps)
+    (Some (drop (length ps) bs)) None) [
       | true ↦ behind_is ps bs
       | false ↦ refl
     ]
@@ -32,7 +34,8 @@ and_swap false false z = refl
 pub ltb_suc : (a b : ℕ) → ltb (suc a) (suc b) ≡ ltb a b
 ltb_suc a b = grind (arith, nat_tests)
 
-pub cut_is : (word text : List ℕ) → is_cut_short word text ≡ (ltb (length text) (length word) && starts_with nat_eq word text)
+pub cut_is : (word text : List ℕ) → is_cut_short word text ≡
+    (ltb (length text) (length word) && starts_with nat_eq word text)
 cut_is [] [] = grind (arith, nat_tests)
 cut_is [] (b ∷ bs) = grind (arith, nat_tests)
 cut_is (p ∷ ps) [] = grind (arith, nat_tests)
@@ -45,7 +48,8 @@ or_false : (x : Bool) → (x || false) ≡ x
 or_false true = refl
 or_false false = refl
 
-pub opens_short : (text : List ℕ) (b s : Bool) → b ≡ starts_with nat_eq text begin_text → b ≡ false → length text < 12 → s ≡ starts_with nat_eq begin_text text → s ≡ is_header_open text
+pub opens_short : (text : List ℕ) (b s : Bool) → b ≡ starts_with nat_eq text begin_text → b ≡ false → length text < 12
+    → s ≡ starts_with nat_eq begin_text text → s ≡ is_header_open text
 opens_short text b s e f short t =
     let none = behind_is begin_text text ∙ ap (λ x. cond x (Some (drop 12 text)) None) (sym e ∙ f) in
     let less : ltb (length text) 12 ≡ true = grind (arith, nat_tests) in

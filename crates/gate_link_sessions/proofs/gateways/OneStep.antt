@@ -33,7 +33,8 @@ ended_of_step Closed a b is s = s
 
 -- ---- one look
 
-pub looked : {A : Type 0} (a b : Gateway A) → b.reader ≡ after_skipping a.reader → events_sent b ≡ events_sent a → OnlySkipped a b
+pub looked : {A : Type 0} (a b : Gateway A) → b.reader ≡ after_skipping a.reader → events_sent b ≡ events_sent a
+    → OnlySkipped a b
 looked a b e sent =
     let same = leaves_skipped a.reader b.reader e in
     let state = ap (λ r. r.session) e in
@@ -41,11 +42,13 @@ looked a b e sent =
       sent = sent;
       state = state;
       held = ap (λ r. r.held) e;
-      pending = λ more. ap (λ s. events_left s (bytes_held b) more) state ∙ owed_same (session_state a) (bytes_held a) (bytes_held b) same more;
+      pending = λ more. ap (λ s. events_left s (bytes_held b) more) state
+          ∙ owed_same (session_state a) (bytes_held a) (bytes_held b) same more;
     }
 
 -- the first message was passed
-pub message_passed : {A : Type 0} (a b : Gateway A) (mid : ReaderState) (m : List ℕ) (says : Option Event) → mid ≡ after_skipping a.reader → first_message a.reader ≡ Some m → b.reader ≡ after_passing mid →
+pub message_passed : {A : Type 0} (a b : Gateway A) (mid : ReaderState) (m : List ℕ) (says : Option Event)
+    → mid ≡ after_skipping a.reader → first_message a.reader ≡ Some m → b.reader ≡ after_passing mid →
     event_in (judge (session_state a) m).0 ≡ says → Passes says a b
 message_passed a b mid m says e here went says_so =
     let all : b.reader ≡ after_passing a.reader = went ∙ ap after_passing e ∙ passed_skipped a.reader in
@@ -58,5 +61,7 @@ message_passed a b mid m says e here went says_so =
     }
 
 -- whether a list has a close, one event later
-pub close_later : (xs : List Event) (e : Event) → list_any is_close xs ≡ false → list_any is_close (xs ++ e ∷ []) ≡ is_close e
-close_later xs e none = list_any-append is_close xs (e ∷ []) ∙ (ap (λ b. b || (is_close e || false)) none ∙ or-false (is_close e))
+pub close_later : (xs : List Event) (e : Event) → list_any is_close xs ≡ false
+    → list_any is_close (xs ++ e ∷ []) ≡ is_close e
+close_later xs e none = list_any-append is_close xs (e ∷ [])
+    ∙ (ap (λ b. b || (is_close e || false)) none ∙ or-false (is_close e))

@@ -13,7 +13,8 @@ use Rattle.gate_link_sessions.specs.Bursts.{first_messages, PassesMany}
 use Rattle.gate_link_sessions.specs.declared.gateway.Gateway.{Gateway}
 
 -- the messages are passed
-pub passed_many : {A : Type 0} (a b : Gateway A) (number most : ℕ) (xs : List Entry) (j : Ahead) → IsAhead number most a.reader xs j → b.reader ≡ after_ahead a.reader j → j.messages ≢ 0 → PassesMany most a b
+pub passed_many : {A : Type 0} (a b : Gateway A) (number most : ℕ) (xs : List Entry) (j : Ahead)
+    → IsAhead number most a.reader xs j → b.reader ≡ after_ahead a.reader j → j.messages ≢ 0 → PassesMany most a b
 passed_many a b number most xs j is went some =
     let held = ap (λ (r : ReaderState). r.held) went in
     record {
@@ -29,16 +30,19 @@ events_back number [] = refl
 events_back number (e ∷ es) = ap (λ t. e ∷ t) (events_back number es)
 
 -- how many they are
-pub events_size : (number k : ℕ) (xs : List Entry) (es : List Event) → take k xs ≡ entries_of number es → k ≤ length xs → k ≡ length es
+pub events_size : (number k : ℕ) (xs : List Entry) (es : List Event) → take k xs ≡ entries_of number es → k ≤ length xs
+    → k ≡ length es
 events_size number k xs es is fits =
     sym (length-take-le k xs fits) ∙ (ap length is ∙ length-map es (entry number))
 
 -- there are none
-pub no_events_said : (number k : ℕ) (xs : List Entry) (es : List Event) → take k xs ≡ entries_of number es → k ≤ length xs → k ≡ 0 → es ≡ []
+pub no_events_said : (number k : ℕ) (xs : List Entry) (es : List Event) → take k xs ≡ entries_of number es
+    → k ≤ length xs → k ≡ 0 → es ≡ []
 no_events_said number k xs es is fits none = nil_from_length es (sym (events_size number k xs es is fits) ∙ none)
 
 -- what was sent, and these entries behind it
-pub sent_more : (number k : ℕ) (was now xs : List Entry) (es : List Event) → now ≡ was ++ take k xs → take k xs ≡ entries_of number es → entry_events now ≡ entry_events was ++ es
+pub sent_more : (number k : ℕ) (was now xs : List Entry) (es : List Event) → now ≡ was ++ take k xs
+    → take k xs ≡ entries_of number es → entry_events now ≡ entry_events was ++ es
 sent_more number k was now xs es grown is =
     ap entry_events grown
     ∙ (map-append (λ (e : Entry). e.event) was (take k xs)

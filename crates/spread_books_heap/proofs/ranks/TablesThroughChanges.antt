@@ -25,16 +25,18 @@ use Rattle.spread_books_plain.proofs.places.LastOrder.{ascends_removed, ascends_
 
 pub empty_index : (xs : List Order) (ranks : List (List QueueRank)) → xs ≡ [] → ranks ≡ [] → IsIndex xs ranks
 unfolding IsStrictlySortedBy
-empty_index xs ranks e f = subst (λ (ys : List Order). IsIndex ys ranks) (sym e) (subst (λ (rs : List (List QueueRank)). IsIndex [] rs) (sym f) (record {
-  ordered = tt;
-  ranked = λ o c. absurd (not_in_nil o c);
-  led = λ queue r c. absurd (not_in_nil r c);
-  months = λ o c. absurd (not_in_nil o c);
-}))
+empty_index xs ranks e f = subst (λ (ys : List Order). IsIndex ys ranks) (sym e)
+    (subst (λ (rs : List (List QueueRank)). IsIndex [] rs) (sym f) (record {
+      ordered = tt;
+      ranked = λ o c. absurd (not_in_nil o c);
+      led = λ queue r c. absurd (not_in_nil r c);
+      months = λ o c. absurd (not_in_nil o c);
+    }))
 
 -- ---- the same ranks
 
-pub index_same : (xs : List Order) (old new : List (List QueueRank)) → IsIndex xs old → SameRanks old new → IsIndex xs new
+pub index_same : (xs : List Order) (old new : List (List QueueRank)) → IsIndex xs old → SameRanks old new
+    → IsIndex xs new
 index_same xs old new h same = record {
   ordered = h.ordered;
   ranked = λ o c. subst (λ (rs : List QueueRank). Contains rs (rank_of o)) (sym (same (queue_of o))) (h.ranked o c);
@@ -50,11 +52,15 @@ record KeepsRank (f : Order → Order) : Type 0 where
   instrument : (o : Order) → (f o).instrument ≡ o.instrument
   place : (o : Order) → (f o).place ≡ o.place
 
-module _ (f : Order → Order) (keeps : KeepsRank f) (place : ℕ) (xs : List Order) (ranks : List (List QueueRank)) (h : IsIndex xs ranks) where
-  ranked_still : (o : Order) → Contains xs o → Contains (ranks_at ranks (queue_of (changed_at f place o))) (rank_of (changed_at f place o))
+module _ (f : Order → Order) (keeps : KeepsRank f) (place : ℕ) (xs : List Order) (ranks : List (List QueueRank))
+    (h : IsIndex xs ranks) where
+  ranked_still : (o : Order) → Contains xs o → Contains (ranks_at ranks (queue_of (changed_at f place o)))
+      (rank_of (changed_at f place o))
   ranked_still o c =
-      subst (λ (n : ℕ). Contains (ranks_at ranks n) (rank_of (changed_at f place o))) (sym (key_kept queue_of f keeps.queue place o))
-      (subst (λ (r : QueueRank). Contains (ranks_at ranks (queue_of o)) r) (sym (key_kept rank_of f keeps.rank place o)) (h.ranked o c))
+      subst (λ (n : ℕ). Contains (ranks_at ranks n) (rank_of (changed_at f place o)))
+      (sym (key_kept queue_of f keeps.queue place o))
+      (subst (λ (r : QueueRank). Contains (ranks_at ranks (queue_of o)) r) (sym (key_kept rank_of f keeps.rank place o))
+      (h.ranked o c))
 
   led_still : (queue : ℕ) (r : QueueRank) → Contains (ranks_at ranks queue) r → IsLed (changed f place xs) queue r
   led_still queue r c =
@@ -66,7 +72,8 @@ module _ (f : Order → Order) (keeps : KeepsRank f) (place : ℕ) (xs : List Or
       )
 
   months_still : (o : Order) → Contains xs o → HasMonths (changed_at f place o).instrument
-  months_still o c = subst (λ (i : Instrument). HasMonths i) (sym (key_kept (λ (p : Order). p.instrument) f keeps.instrument place o)) (h.months o c)
+  months_still o c = subst (λ (i : Instrument). HasMonths i)
+      (sym (key_kept (λ (p : Order). p.instrument) f keeps.instrument place o)) (h.months o c)
 
   index_changed : IsIndex (changed f place xs) ranks
   index_changed = record {
@@ -80,13 +87,21 @@ module _ (f : Order → Order) (keeps : KeepsRank f) (place : ℕ) (xs : List Or
         subst (λ (o : Order). HasMonths o.instrument) m.2 (months_still m.0 m.1);
   }
 
-pub index_reduced : (xs : List Order) (ranks : List (List QueueRank)) (place by : ℕ) → IsIndex xs ranks → IsIndex (reduced place by xs) ranks
+pub index_reduced : (xs : List Order) (ranks : List (List QueueRank)) (place by : ℕ) → IsIndex xs ranks
+    → IsIndex (reduced place by xs) ranks
 index_reduced xs ranks place by h =
-    index_changed (less by) (record { queue = λ o. refl; rank = λ o. refl; instrument = λ o. refl; place = λ o. refl }) place xs ranks h
+    index_changed (less by) (record { queue = λ o. refl; rank = λ o. refl; instrument = λ o. refl; place = λ o. refl })
+    place xs ranks h
 
-pub index_amended : (xs : List Order) (ranks : List (List QueueRank)) (place : ℕ) (id : List ℕ) (quantity : ℕ) → IsIndex xs ranks → IsIndex (amended place id quantity xs) ranks
+pub index_amended : (xs : List Order) (ranks : List (List QueueRank)) (place : ℕ) (id : List ℕ) (quantity : ℕ)
+    → IsIndex xs ranks → IsIndex (amended place id quantity xs) ranks
 index_amended xs ranks place id quantity h =
-    index_changed (with_quantity id quantity) (record { queue = λ o. refl; rank = λ o. refl; instrument = λ o. refl; place = λ o. refl }) place xs ranks h
+    index_changed (with_quantity id quantity) (record {
+      queue = λ o. refl;
+      rank = λ o. refl;
+      instrument = λ o. refl;
+      place = λ o. refl;
+    }) place xs ranks h
 
 -- ---- where the ranks of one queue changed
 
@@ -96,17 +111,22 @@ is_queue m n k = grind (arith, nat_tests, k)
 is_another : (m n : ℕ) → (m == n) ≡ false → m ≡ n → ⊥
 is_another m n k e = grind (arith, nat_tests, k, e)
 
-module _ (xs : List Order) (queue : ℕ) (So : List QueueRank → List QueueRank → Type 0) (old new : List (List QueueRank)) (change : ChangesQueue queue So old new) where
-  ranked_still_at : KeepsRanks xs queue (ranks_at old queue) (ranks_at new queue) → (o : Order) → Contains xs o → Contains (ranks_at old (queue_of o)) (rank_of o) → Contains (ranks_at new (queue_of o)) (rank_of o)
+module _ (xs : List Order) (queue : ℕ) (So : List QueueRank → List QueueRank → Type 0) (old new : List (List QueueRank))
+    (change : ChangesQueue queue So old new) where
+  ranked_still_at : KeepsRanks xs queue (ranks_at old queue) (ranks_at new queue) → (o : Order) → Contains xs o
+      → Contains (ranks_at old (queue_of o)) (rank_of o) → Contains (ranks_at new (queue_of o)) (rank_of o)
   ranked_still_at kept o c had =
       elim (is_so (queue_of o == queue)) [
         | inl k ↦
             let e = is_queue (queue_of o) queue k in
-            subst (λ (n : ℕ). Contains (ranks_at new n) (rank_of o)) (sym e) (kept o c e (subst (λ (n : ℕ). Contains (ranks_at old n) (rank_of o)) e had))
-        | inr k ↦ subst (λ (rs : List QueueRank). Contains rs (rank_of o)) (sym (change.others (queue_of o) (is_another (queue_of o) queue k))) had
+            subst (λ (n : ℕ). Contains (ranks_at new n) (rank_of o)) (sym e)
+            (kept o c e (subst (λ (n : ℕ). Contains (ranks_at old n) (rank_of o)) e had))
+        | inr k ↦ subst (λ (rs : List QueueRank). Contains rs (rank_of o))
+            (sym (change.others (queue_of o) (is_another (queue_of o) queue k))) had
       ]
 
-  led_still_at : ((r : QueueRank) → Contains (ranks_at new queue) r → IsLed xs queue r) → ((n : ℕ) (r : QueueRank) → (n ≡ queue → ⊥) → Contains (ranks_at old n) r → IsLed xs n r)
+  led_still_at : ((r : QueueRank) → Contains (ranks_at new queue) r → IsLed xs queue r)
+      → ((n : ℕ) (r : QueueRank) → (n ≡ queue → ⊥) → Contains (ranks_at old n) r → IsLed xs n r)
       → (n : ℕ) (r : QueueRank) → Contains (ranks_at new n) r → IsLed xs n r
   led_still_at own others n r c =
       elim (is_so (n == queue)) [
@@ -119,26 +139,33 @@ module _ (xs : List Order) (queue : ℕ) (So : List QueueRank → List QueueRank
       ]
 
 -- where ranks of one queue went, and none of an order that rests
-pub index_thinned : (xs : List Order) (queue : ℕ) (old new : List (List QueueRank)) → IsIndex xs old → Thins xs queue old new → IsIndex xs new
+pub index_thinned : (xs : List Order) (queue : ℕ) (old new : List (List QueueRank)) → IsIndex xs old
+    → Thins xs queue old new → IsIndex xs new
 index_thinned xs queue old new h thinned = record {
   ordered = h.ordered;
-  ranked = λ o c. ranked_still_at xs queue (HasThinned xs queue) old new thinned thinned.changed.kept o c (h.ranked o c);
-  led = led_still_at xs queue (HasThinned xs queue) old new thinned (λ r c. h.led queue r (thinned.changed.only r c)) (λ n r other c. h.led n r c);
+  ranked = λ o c. ranked_still_at xs queue (HasThinned xs queue) old new thinned thinned.changed.kept o c
+      (h.ranked o c);
+  led = led_still_at xs queue (HasThinned xs queue) old new thinned (λ r c. h.led queue r (thinned.changed.only r c))
+      (λ n r other c. h.led n r c);
   months = h.months;
 }
 
 module _ (xs : List Order) (queue : ℕ) (old new : List (List QueueRank)) (settled : Settles xs queue old new) where
-  ranked_settled : (o : Order) → Contains xs o → Contains (ranks_at old (queue_of o)) (rank_of o) → Contains (ranks_at new (queue_of o)) (rank_of o)
+  ranked_settled : (o : Order) → Contains xs o → Contains (ranks_at old (queue_of o)) (rank_of o)
+      → Contains (ranks_at new (queue_of o)) (rank_of o)
   ranked_settled = ranked_still_at xs queue (HasSettled xs queue) old new settled settled.changed.kept
 
-  led_settled : ((n : ℕ) (r : QueueRank) → (n ≡ queue → ⊥) → Contains (ranks_at old n) r → IsLed xs n r) → (n : ℕ) (r : QueueRank) → Contains (ranks_at new n) r → IsLed xs n r
+  led_settled : ((n : ℕ) (r : QueueRank) → (n ≡ queue → ⊥) → Contains (ranks_at old n) r → IsLed xs n r)
+      → (n : ℕ) (r : QueueRank) → Contains (ranks_at new n) r → IsLed xs n r
   led_settled = led_still_at xs queue (HasSettled xs queue) old new settled settled.changed.led
 
 -- after one order left
-pub index_removed : (xs : List Order) (old new : List (List QueueRank)) (o : Order) → IsIndex xs old → Contains xs o → Settles (removed o.place xs) (queue_of o) old new → IsIndex (removed o.place xs) new
+pub index_removed : (xs : List Order) (old new : List (List QueueRank)) (o : Order) → IsIndex xs old → Contains xs o
+    → Settles (removed o.place xs) (queue_of o) old new → IsIndex (removed o.place xs) new
 index_removed xs old new o h stands settled = record {
   ordered = ascends_removed o.place xs h.ordered;
-  ranked = λ p c. ranked_settled (removed o.place xs) (queue_of o) old new settled p c (h.ranked p (from_removed o.place xs p c).0);
+  ranked = λ p c. ranked_settled (removed o.place xs) (queue_of o) old new settled p c
+      (h.ranked p (from_removed o.place xs p c).0);
   led = led_settled (removed o.place xs) (queue_of o) old new settled (λ n r other c.
       let w = h.led n r c in (
         w.0,
@@ -156,7 +183,8 @@ index_removed xs old new o h stands settled = record {
 }
 
 -- after a rank came for which there was no order in the end
-pub index_restored : (xs : List Order) (queue : ℕ) (rank : QueueRank) (old more new : List (List QueueRank)) → IsIndex xs old → Joins queue rank old more → Settles xs queue more new → IsIndex xs new
+pub index_restored : (xs : List Order) (queue : ℕ) (rank : QueueRank) (old more new : List (List QueueRank))
+    → IsIndex xs old → Joins queue rank old more → Settles xs queue more new → IsIndex xs new
 index_restored xs queue rank old more new h joined settled = record {
   ordered = h.ordered;
   ranked = λ p c. ranked_settled xs queue more new settled p c (joined.kept (queue_of p) (rank_of p) (h.ranked p c));
@@ -167,7 +195,9 @@ index_restored xs queue rank old more new h joined settled = record {
 
 -- ---- one order more
 
-pub index_added : (xs : List Order) (old new : List (List QueueRank)) (o : Order) → IsIndex xs old → All (λ p. p.place < o.place) xs → HasMonths o.instrument → Joins (queue_of o) (rank_of o) old new → IsIndex (xs ++ o ∷ []) new
+pub index_added : (xs : List Order) (old new : List (List QueueRank)) (o : Order) → IsIndex xs old
+    → All (λ p. p.place < o.place) xs → HasMonths o.instrument → Joins (queue_of o) (rank_of o) old new
+    → IsIndex (xs ++ o ∷ []) new
 index_added xs old new o h below months joined = record {
   ordered = ascends_added xs o h.ordered below;
   ranked = λ p c.
@@ -178,10 +208,20 @@ index_added xs old new o h below months joined = record {
   led = λ n r c.
       elim (joined.only n r c) [
         | inl d ↦ let w = h.led n r d in (w.0, Contains-append_left xs (o ∷ []) w.0 w.1, w.2, w.3)
-        | inr d ↦ (o, Contains-push xs o, sym d.0, subst (λ (q : QueueRank). is_lt (rank_cmp q (rank_of o)) ≡ false) (sym d.1) (ap is_lt (tied_itself rank_total (rank_of o))))
+        | inr d ↦ (
+          o,
+          Contains-push xs o,
+          sym d.0,
+          subst (λ (q : QueueRank). is_lt (rank_cmp q (rank_of o)) ≡ false)
+              (sym d.1) (ap is_lt (tied_itself rank_total (rank_of o))),
+        )
       ];
   months = λ p c.
-      elim (Contains-push_cases xs o p c) [ inl d ↦ h.months p d | inr e ↦ subst (λ (q : Order). HasMonths q.instrument) e months ];
+      elim (Contains-push_cases xs o p c) [
+        | inl d ↦ h.months p d
+        | inr e ↦
+            subst (λ (q : Order). HasMonths q.instrument) e months
+      ];
 }
 
 -- ---- what a call that may fail says where it did, and where it did not

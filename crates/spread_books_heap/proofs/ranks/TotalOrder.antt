@@ -20,7 +20,8 @@ use Rattle.spread_rules.specs.Legs.{other_side}
 use Rattle.spread_books_queues.specs.QueueRanks.{queue_number, queue_cost, rank_of, rank_cmp, HasMonths}
 
 pub rank_total : IsTotalOrder rank_cmp
-rank_total = then_total (on_total (λ (r : QueueRank). r.cost) int_cmp_total) (on_total (λ (r : QueueRank). r.place) nat_cmp_total)
+rank_total = then_total (on_total (λ (r : QueueRank). r.cost) int_cmp_total)
+    (on_total (λ (r : QueueRank). r.place) nat_cmp_total)
 
 abbrev rank_with : ℤ → ℕ → QueueRank
 rank_with cost place = record { cost = cost; place = place }
@@ -47,7 +48,8 @@ one_rank x y h k = rank_exact x y (neither (rank_cmp x y) (rank_cmp y x) (rank_t
 -- ---- queues
 
 -- instrument and side come back from their number
-pub queue_is : (a b : Instrument) (s t : Side) → HasMonths a → HasMonths b → queue_number a s ≡ queue_number b t → (a ≡ b) × (s ≡ t)
+pub queue_is : (a b : Instrument) (s t : Side) → HasMonths a → HasMonths b → queue_number a s ≡ queue_number b t
+    → (a ≡ b) × (s ≡ t)
 queue_is (Outright m) (Outright n) Buy Buy x y e = let k : m ≡ n = omega arith in (ap Outright k, refl)
 queue_is (Outright m) (Outright n) Sell Sell x y e = let k : m ≡ n = omega arith in (ap Outright k, refl)
 queue_is (Outright m) (Outright n) Buy Sell x y e = absurd (omega arith)
@@ -60,12 +62,16 @@ queue_is (Spread i j) (Outright n) Buy Buy x y e = absurd (omega arith)
 queue_is (Spread i j) (Outright n) Sell Sell x y e = absurd (omega arith)
 queue_is (Spread i j) (Outright n) Buy Sell x y e = absurd (omega arith)
 queue_is (Spread i j) (Outright n) Sell Buy x y e = absurd (omega arith)
-queue_is (Spread i j) (Spread k l) Buy Buy (x, u) (y, v) e = let p : i ≡ k = omega arith in let q : j ≡ l = omega arith in (cc, refl)
-queue_is (Spread i j) (Spread k l) Sell Sell (x, u) (y, v) e = let p : i ≡ k = omega arith in let q : j ≡ l = omega arith in (cc, refl)
+queue_is (Spread i j) (Spread k l) Buy Buy (x, u) (y, v) e = let p : i ≡ k = omega arith in let q : j ≡ l =
+    omega arith in (cc, refl)
+queue_is (Spread i j) (Spread k l) Sell Sell (x, u) (y, v) e = let p : i ≡ k = omega arith in let q : j ≡ l =
+    omega arith in (cc, refl)
 queue_is (Spread i j) (Spread k l) Buy Sell (x, u) (y, v) e = absurd (omega arith)
 queue_is (Spread i j) (Spread k l) Sell Buy (x, u) (y, v) e = absurd (omega arith)
 
-one_answer : (a b : ℤ) (r t : Ordering) → MatchOrdering r ((neg_ℤ (pos 1) -ℤ a) <ℤ (neg_ℤ (pos 1) -ℤ b)) ((neg_ℤ (pos 1) -ℤ a) ≡ (neg_ℤ (pos 1) -ℤ b)) ((neg_ℤ (pos 1) -ℤ b) <ℤ (neg_ℤ (pos 1) -ℤ a)) → MatchOrdering t (neg_ℤ a <ℤ neg_ℤ b) (neg_ℤ a ≡ neg_ℤ b) (neg_ℤ b <ℤ neg_ℤ a) → r ≡ t
+one_answer : (a b : ℤ) (r t : Ordering) → MatchOrdering r ((neg_ℤ (pos 1) -ℤ a) <ℤ (neg_ℤ (pos 1) -ℤ b))
+    ((neg_ℤ (pos 1) -ℤ a) ≡ (neg_ℤ (pos 1) -ℤ b)) ((neg_ℤ (pos 1) -ℤ b) <ℤ (neg_ℤ (pos 1) -ℤ a))
+    → MatchOrdering t (neg_ℤ a <ℤ neg_ℤ b) (neg_ℤ a ≡ neg_ℤ b) (neg_ℤ b <ℤ neg_ℤ a) → r ≡ t
 one_answer a b Less Less p q = refl
 one_answer a b Less Equal p q = absurd (omega (arith, ints))
 one_answer a b Less Greater p q = absurd (omega (arith, ints))
@@ -77,13 +83,17 @@ one_answer a b Greater Equal p q = absurd (omega (arith, ints))
 one_answer a b Greater Greater p q = refl
 
 -- the cost in the key orders as the price does
-same_order : (side : Side) (a b : ℤ) → int_cmp (queue_cost side a) (queue_cost side b) ≡ int_cmp (cost (other_side side) a) (cost (other_side side) b)
+same_order : (side : Side) (a b : ℤ) → int_cmp (queue_cost side a) (queue_cost side b) ≡ int_cmp
+    (cost (other_side side) a) (cost (other_side side) b)
 same_order Sell a b = refl
 same_order Buy a b =
     let x = neg_ℤ (pos 1) -ℤ a in
     let y = neg_ℤ (pos 1) -ℤ b in
-    one_answer a b (int_cmp x y) (int_cmp (neg_ℤ a) (neg_ℤ b)) (int_ranked x y (int_cmp x y) refl) (int_ranked (neg_ℤ a) (neg_ℤ b) (int_cmp (neg_ℤ a) (neg_ℤ b)) refl)
+    one_answer a b (int_cmp x y) (int_cmp (neg_ℤ a) (neg_ℤ b)) (int_ranked x y (int_cmp x y) refl)
+    (int_ranked (neg_ℤ a) (neg_ℤ b) (int_cmp (neg_ℤ a) (neg_ℤ b)) refl)
 
 -- of one queue the ranks follow one another as the orders do
-pub same_queue_cmp : (side : Side) (a b : Order) → a.side ≡ side → b.side ≡ side → rank_cmp (rank_of a) (rank_of b) ≡ queue_cmp side a b
-same_queue_cmp side a b q s = rw (q, s) (ap (λ (t : Ordering). ordering_then t (nat_cmp a.place b.place)) (same_order side a.price b.price))
+pub same_queue_cmp : (side : Side) (a b : Order) → a.side ≡ side → b.side ≡ side
+    → rank_cmp (rank_of a) (rank_of b) ≡ queue_cmp side a b
+same_queue_cmp side a b q s = rw (q, s) (ap (λ (t : Ordering). ordering_then t (nat_cmp a.place b.place))
+    (same_order side a.price b.price))

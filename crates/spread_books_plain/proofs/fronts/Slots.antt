@@ -6,7 +6,8 @@ get_set_same [] n x y h = cc
 get_set_same (z ∷ xs) zero x y h = cc
 get_set_same (z ∷ xs) (suc n) x y h = get_set_same xs n x y h
 
-pub get_set_other : {X : Type 0} (xs : List X) (n m : ℕ) (x : X) → (n ≡ m → ⊥) → slice_get (slice_set xs n x) m ≡ slice_get xs m
+pub get_set_other : {X : Type 0} (xs : List X) (n m : ℕ) (x : X) → (n ≡ m → ⊥)
+    → slice_get (slice_set xs n x) m ≡ slice_get xs m
 get_set_other [] n m x h = refl
 get_set_other (z ∷ xs) zero zero x h = absurd (h refl)
 get_set_other (z ∷ xs) zero (suc m) x h = refl

@@ -18,7 +18,8 @@ use Rattle.spread_books_rows.proofs.places.Ascending.{all_of, ascends_cons, behi
 
 -- ---- places that rise
 
-pub ascends_added : (xs : List Order) (o : Order) → Ascends xs → All (λ p. p.place < o.place) xs → Ascends (xs ++ o ∷ [])
+pub ascends_added : (xs : List Order) (o : Order) → Ascends xs → All (λ p. p.place < o.place) xs
+    → Ascends (xs ++ o ∷ [])
 ascends_added [] o s h = ascends_cons o [] (λ p c. absurd (not_in_nil p c)) s
 ascends_added (x ∷ xs) o s h =
     ascends_cons x (xs ++ o ∷ []) (λ p c.
@@ -35,7 +36,8 @@ ascends_removed place (x ∷ xs) s =
     let at = λ (b : Bool). Ascends (cond (not b) (x ∷ removed place xs) (removed place xs)) in
     elim (is_so (x.place == place)) [
       | inl k ↦ subst at (sym k) rest
-      | inr k ↦ subst at (sym k) (ascends_cons x (removed place xs) (λ o c. behind_first x xs o s (from_removed place xs o c).0) rest)
+      | inr k ↦ subst at (sym k) (ascends_cons x (removed place xs)
+          (λ o c. behind_first x xs o s (from_removed place xs o c).0) rest)
     ]
 
 below_last : (xs : List Order) (n : Order) → Ascends (xs ++ n ∷ []) → (o : Order) → Contains xs o → o.place < n.place
@@ -49,7 +51,8 @@ below_last (x ∷ xs) n s o c =
 pub all_below : (xs : List Order) (n : Order) → Ascends (xs ++ n ∷ []) → All (λ o. o.place < n.place) xs
 all_below xs n s = all_of (λ (o : Order). o.place < n.place) xs (below_last xs n s)
 
-pub newest_above : (xs : List Order) (newest : Option Order) → Ascends (xs ++ option_to_list newest) → IfSome newest (λ n. All (λ o. o.place < n.place) xs)
+pub newest_above : (xs : List Order) (newest : Option Order) → Ascends (xs ++ option_to_list newest)
+    → IfSome newest (λ n. All (λ o. o.place < n.place) xs)
 newest_above xs None s = tt
 newest_above xs (Some n) s = all_below xs n s
 
@@ -61,10 +64,12 @@ or_none (Some o) = refl
 
 -- ---- the first that passes a test
 
-pub found_behind : (test : Order → Bool) (xs ys : List Order) → find test xs ≡ None → find test (xs ++ ys) ≡ find test ys
+pub found_behind : (test : Order → Bool) (xs ys : List Order) → find test xs ≡ None
+    → find test (xs ++ ys) ≡ find test ys
 found_behind test xs ys none = find-append test xs ys ∙ ap (λ (r : Option Order). option_or r (find test ys)) none
 
-pub found_ahead : (test : Order → Bool) (xs ys : List Order) (o : Order) → find test xs ≡ Some o → find test (xs ++ ys) ≡ Some o
+pub found_ahead : (test : Order → Bool) (xs ys : List Order) (o : Order) → find test xs ≡ Some o
+    → find test (xs ++ ys) ≡ Some o
 found_ahead test xs ys o some = find-append test xs ys ∙ ap (λ (r : Option Order). option_or r (find test ys)) some
 
 first_none : (a b : Option Order) → option_or a b ≡ None → a ≡ None
@@ -78,15 +83,18 @@ none_ahead test xs ys h = first_none (find test xs) (find test ys) (sym (find-ap
 
 module _ (xs ys : List Order) (place : ℕ) (none : find (λ o. o.place == place) ys ≡ None) where
   pub changed_before : (f : Order → Order) → changed f place (xs ++ ys) ≡ changed f place xs ++ ys
-  changed_before f = map-append (changed_at f place) xs ys ∙ ap (λ (zs : List Order). changed f place xs ++ zs) (changed_nobody f ys place (unfound ys place none))
+  changed_before f = map-append (changed_at f place) xs ys
+      ∙ ap (λ (zs : List Order). changed f place xs ++ zs) (changed_nobody f ys place (unfound ys place none))
 
   pub removed_before : removed place (xs ++ ys) ≡ removed place xs ++ ys
-  removed_before = filter-append (λ (o : Order). not (o.place == place)) xs ys ∙ ap (λ (zs : List Order). removed place xs ++ zs) (removed_nobody ys place (unfound ys place none))
+  removed_before = filter-append (λ (o : Order). not (o.place == place)) xs ys
+      ∙ ap (λ (zs : List Order). removed place xs ++ zs) (removed_nobody ys place (unfound ys place none))
 
   pub found_before : find (λ o. o.place == place) (xs ++ ys) ≡ find (λ o. o.place == place) xs
   found_before =
       find-append (λ (o : Order). o.place == place) xs ys
-      ∙ ap (λ (r : Option Order). option_or (find (λ (o : Order). o.place == place) xs) r) none ∙ or_none (find (λ (o : Order). o.place == place) xs)
+      ∙ ap (λ (r : Option Order). option_or (find (λ (o : Order). o.place == place) xs) r) none
+      ∙ or_none (find (λ (o : Order). o.place == place) xs)
 
   stands_before : (o : Order) → Contains (xs ++ ys) o → o.place ≡ place → Contains xs o
   stands_before o c e =
@@ -103,15 +111,20 @@ module _ (xs ys : List Order) (place : ℕ) (none : find (λ o. o.place == place
     order = h.order;
     stands = stands_before h.order h.stands h.at;
     at = h.at;
-    each = all_of (λ (o : Order). o.place ≡ place → by < o.leaves) xs (λ o c. All-contains (λ (p : Order). p.place ≡ place → by < p.leaves) (xs ++ ys) o h.each (Contains-append_left xs ys o c));
+    each = all_of (λ (o : Order). o.place ≡ place → by < o.leaves) xs
+        (λ o c. All-contains (λ (p : Order). p.place ≡ place → by < p.leaves) (xs ++ ys) o h.each
+        (Contains-append_left xs ys o c));
   }
 
-  pub amend_before : (id : List ℕ) (quantity : ℕ) → CanAmend (xs ++ ys) place id quantity → CanAmend xs place id quantity
+  pub amend_before : (id : List ℕ) (quantity : ℕ) → CanAmend (xs ++ ys) place id quantity
+      → CanAmend xs place id quantity
   amend_before id quantity h = record {
     order = h.order;
     stands = stands_before h.order h.stands h.at;
     at = h.at;
-    each = all_of (λ (o : Order). o.place ≡ place → done o < quantity) xs (λ o c. All-contains (λ (p : Order). p.place ≡ place → done p < quantity) (xs ++ ys) o h.each (Contains-append_left xs ys o c));
+    each = all_of (λ (o : Order). o.place ≡ place → done o < quantity) xs
+        (λ o c. All-contains (λ (p : Order). p.place ≡ place → done p < quantity) (xs ++ ys) o h.each
+        (Contains-append_left xs ys o c));
     most = h.most;
     free = none_ahead (is_own h.order.session id) xs ys h.free;
   }
@@ -119,11 +132,13 @@ module _ (xs ys : List Order) (place : ℕ) (none : find (λ o. o.place == place
 -- ---- whose place is that of the one behind
 
 -- the newest is the one that is found among none or one
-pub newest_is : (newest : Option Order) (place : ℕ) (o : Order) → find (λ o. o.place == place) (option_to_list newest) ≡ Some o → (newest ≡ Some o) × (o.place ≡ place)
+pub newest_is : (newest : Option Order) (place : ℕ) (o : Order)
+    → find (λ o. o.place == place) (option_to_list newest) ≡ Some o → (newest ≡ Some o) × (o.place ≡ place)
 newest_is None place o h = cc
 newest_is (Some n) place o h =
     elim (is_so (n.place == place)) [
-      | inl k ↦ let e : n ≡ o = let g = rw k at h in cc in let l : n.place ≡ place = grind (arith, nat_tests) in (ap (λ (p : Order). Some p) e, ap (λ (p : Order). p.place) (sym e) ∙ l)
+      | inl k ↦ let e : n ≡ o = let g = rw k at h in cc in let l : n.place ≡ place = grind (arith, nat_tests) in
+          (ap (λ (p : Order). Some p) e, ap (λ (p : Order). p.place) (sym e) ∙ l)
       | inr k ↦ let g = rw k at h in cc
     ]
 
@@ -151,23 +166,30 @@ module _ (xs : List Order) (o : Order) (up : Ascends (xs ++ o ∷ [])) where
   pub found_last : find (λ p. p.place == o.place) (xs ++ o ∷ []) ≡ Some o
   found_last =
       let here : find (λ (p : Order). p.place == o.place) (o ∷ []) ≡ Some o = rw own in
-      found_behind (λ (p : Order). p.place == o.place) xs (o ∷ []) (find_none (λ (p : Order). p.place == o.place) xs others) ∙ here
+      found_behind (λ (p : Order). p.place == o.place) xs (o ∷ [])
+      (find_none (λ (p : Order). p.place == o.place) xs others) ∙ here
 
-module _ (xs : List Order) (newest : Option Order) (place : ℕ) (o : Order) (here : find (λ p. p.place == place) (option_to_list newest) ≡ Some o) (up : Ascends (xs ++ option_to_list newest)) where
-  whole : xs ++ option_to_list newest ≡ xs ++ o ∷ []
-  whole = ap (λ (r : Option Order). xs ++ option_to_list r) (newest_is newest place o here).0
+module _ (xs : List Order) (newest : Option Order) (place : ℕ) (o : Order)
+    (here : find (λ p. p.place == place) (option_to_list newest) ≡ Some o) (up : Ascends (xs ++ option_to_list newest))
+  where
+    whole : xs ++ option_to_list newest ≡ xs ++ o ∷ []
+    whole = ap (λ (r : Option Order). xs ++ option_to_list r) (newest_is newest place o here).0
 
-  rises : Ascends (xs ++ o ∷ [])
-  rises = subst (λ (zs : List Order). Ascends zs) whole up
+    rises : Ascends (xs ++ o ∷ [])
+    rises = subst (λ (zs : List Order). Ascends zs) whole up
 
-  at : o.place ≡ place
-  at = (newest_is newest place o here).1
+    at : o.place ≡ place
+    at = (newest_is newest place o here).1
 
-  pub changed_newest : (f : Order → Order) → changed f place (xs ++ option_to_list newest) ≡ xs ++ f o ∷ []
-  changed_newest f = ap (λ (zs : List Order). changed f place zs) whole ∙ ap (λ (n : ℕ). changed f n (xs ++ o ∷ [])) (sym at) ∙ changed_last xs o rises f
+    pub changed_newest : (f : Order → Order) → changed f place (xs ++ option_to_list newest) ≡ xs ++ f o ∷ []
+    changed_newest f = ap (λ (zs : List Order). changed f place zs) whole
+        ∙ ap (λ (n : ℕ). changed f n (xs ++ o ∷ [])) (sym at) ∙ changed_last xs o rises f
 
-  pub removed_newest : removed place (xs ++ option_to_list newest) ≡ xs ++ []
-  removed_newest = ap (λ (zs : List Order). removed place zs) whole ∙ ap (λ (n : ℕ). removed n (xs ++ o ∷ [])) (sym at) ∙ removed_last xs o rises
+    pub removed_newest : removed place (xs ++ option_to_list newest) ≡ xs ++ []
+    removed_newest = ap (λ (zs : List Order). removed place zs) whole
+        ∙ ap (λ (n : ℕ). removed n (xs ++ o ∷ [])) (sym at)
+        ∙ removed_last xs o rises
 
-  pub found_newest : find (λ p. p.place == place) (xs ++ option_to_list newest) ≡ Some o
-  found_newest = ap (λ (zs : List Order). find (λ (p : Order). p.place == place) zs) whole ∙ ap (λ (n : ℕ). find (λ (p : Order). p.place == n) (xs ++ o ∷ [])) (sym at) ∙ found_last xs o rises
+    pub found_newest : find (λ p. p.place == place) (xs ++ option_to_list newest) ≡ Some o
+    found_newest = ap (λ (zs : List Order). find (λ (p : Order). p.place == place) zs) whole
+        ∙ ap (λ (n : ℕ). find (λ (p : Order). p.place == n) (xs ++ o ∷ [])) (sym at) ∙ found_last xs o rises

@@ -21,11 +21,16 @@ use Rattle.spread_books_search.proofs.fronts.PairCost.{behind, pair_le}
 use Rattle.spread_books_search.proofs.fronts.MonthPairs.{fresh, front_least}
 use Rattle.spread_books_quotes.proofs.quotes.Costs.{cost_there, no_dearer}
 
-dearer : (held : Option PairCost) (c d : ℤ) (k : ℕ) → c ≤ℤ d → IsSomeAnd held (λ l. IsNoCheaper l c k) → IsSomeAnd held (λ l. IsNoCheaper l d k)
+dearer : (held : Option PairCost) (c d : ℤ) (k : ℕ) → c ≤ℤ d → IsSomeAnd held (λ l. IsNoCheaper l c k)
+    → IsSomeAnd held (λ l. IsNoCheaper l d k)
 dearer None c d k more h = h
 dearer (Some l) c d k more h =
     let low = h.no_less in
-    record { no_less = omega (arith, ints, low, more); no_earlier = λ e. h.no_earlier (omega (arith, ints, low, more, e)) }
+    record {
+      no_less = omega (arith, ints, low, more);
+      no_earlier =
+          λ e. h.no_earlier (omega (arith, ints, low, more, e));
+    }
 
 differs : (k via : ℕ) → (k == via) ≡ false → k ≡ via → ⊥
 differs k via h e = grind (arith, nat_tests, h, e)
@@ -41,7 +46,8 @@ module _ (on : Pairs) where
   -- ---- one column
 
   -- fronts that cost so much, where both keep what they cost
-  kept_fronts : (xs ys : List Order) (side : Side) (m k : ℕ) (c : ℤ) → KeepsColumn xs ys side m k → HasFronts on xs side m k c → HasFronts on ys side m k c
+  kept_fronts : (xs ys : List Order) (side : Side) (m k : ℕ) (c : ℤ) → KeepsColumn xs ys side m k
+      → HasFronts on xs side m k c → HasFronts on ys side m k c
   kept_fronts xs ys side m k c keep f =
       let a = keep.first (Some _) (record { front = f.a; is = f.first; sum = refl }) in
       let b = keep.second (Some _) (record { front = f.b; is = f.second; sum = refl }) in
@@ -51,39 +57,50 @@ module _ (on : Pairs) where
         b = b.front;
         first = a.is;
         second = b.is;
-        sum = f.sum ∙ (ap (λ (v : ℤ). v +ℤ cost (other_side (other_side side)) f.b.price) a.sum ∙ ap (λ (v : ℤ). cost (other_side (spread_side side m k)) a.front.price +ℤ v) b.sum);
+        sum = f.sum ∙ (ap (λ (v : ℤ). v +ℤ cost (other_side (other_side side)) f.b.price) a.sum
+            ∙ ap (λ (v : ℤ). cost (other_side (spread_side side m k)) a.front.price +ℤ v) b.sum);
       }
 
-  module _ (xs ys : List Order) (side : Side) (m k : ℕ) (held : Option PairCost) (keep : KeepsColumn xs ys side m k) where
-    covered_by : (a b : Order) → ((x y : Order) → IsPair on xs side m k x y → IsSomeAnd held (λ l. IsNoCheaper l (cost_of_pair side m k x y) k)) → IsPair on ys side m k a b →
-        (c d : Option ℤ) → CostsOfFront xs (spread_of m k) (spread_side side m k) c → CostsOfFront xs (Outright k) (other_side side) d →
-        IsSomeAnd held (λ l. IsNoCheaper l (cost_of_pair side m k a b) k)
-    covered_by a b covers p None d f g = absurd (keep.first None f a p.first)
-    covered_by a b covers p (Some u) None f g = absurd (keep.second None g b p.second)
-    covered_by a b covers p (Some u) (Some v) f g =
-        let first = no_dearer ys (spread_of m k) (spread_side side m k) u a (keep.first (Some u) f) p.first in
-        let second = no_dearer ys (Outright k) (other_side side) v b (keep.second (Some v) g) p.second in
-        let was = covers f.front g.front (record { on = p.on; first = f.is.0; second = g.is.0 }) in
-        dearer held (cost_of_pair side m k f.front g.front) (cost_of_pair side m k a b) k
-        (pair_le _ _ _ _ _ _ (ap (λ (w : ℤ). w +ℤ cost (other_side (other_side side)) g.front.price) (sym f.sum) ∙ ap (λ (w : ℤ). u +ℤ w) (sym g.sum)) refl first second) was
+  module _ (xs ys : List Order) (side : Side) (m k : ℕ) (held : Option PairCost) (keep : KeepsColumn xs ys side m k)
+    where
+      covered_by : (a b : Order) → ((x y : Order) → IsPair on xs side m k x y
+          → IsSomeAnd held (λ l. IsNoCheaper l (cost_of_pair side m k x y) k)) → IsPair on ys side m k a b →
+          (c d : Option ℤ) → CostsOfFront xs (spread_of m k) (spread_side side m k) c
+          → CostsOfFront xs (Outright k) (other_side side) d →
+          IsSomeAnd held (λ l. IsNoCheaper l (cost_of_pair side m k a b) k)
+      covered_by a b covers p None d f g = absurd (keep.first None f a p.first)
+      covered_by a b covers p (Some u) None f g = absurd (keep.second None g b p.second)
+      covered_by a b covers p (Some u) (Some v) f g =
+          let first = no_dearer ys (spread_of m k) (spread_side side m k) u a (keep.first (Some u) f) p.first in
+          let second = no_dearer ys (Outright k) (other_side side) v b (keep.second (Some v) g) p.second in
+          let was = covers f.front g.front (record { on = p.on; first = f.is.0; second = g.is.0 }) in
+          dearer held (cost_of_pair side m k f.front g.front) (cost_of_pair side m k a b) k
+          (pair_le _ _ _ _ _ _ (ap (λ (w : ℤ). w +ℤ cost (other_side (other_side side)) g.front.price) (sym f.sum)
+          ∙ ap (λ (w : ℤ). u +ℤ w) (sym g.sum)) refl first second) was
 
-    -- each pair of a column that keeps what its fronts cost is covered as it was
-    covered : (a b : Order) → ((x y : Order) → IsPair on xs side m k x y → IsSomeAnd held (λ l. IsNoCheaper l (cost_of_pair side m k x y) k)) → IsPair on ys side m k a b →
-        IsSomeAnd held (λ l. IsNoCheaper l (cost_of_pair side m k a b) k)
-    covered a b covers p =
-        let c = cost_there xs (spread_of m k) (spread_side side m k) in
-        let d = cost_there xs (Outright k) (other_side side) in
-        covered_by a b covers p c.0 d.0 c.1 d.1
+      -- each pair of a column that keeps what its fronts cost is covered as it was
+      covered : (a b : Order) → ((x y : Order) → IsPair on xs side m k x y
+          → IsSomeAnd held (λ l. IsNoCheaper l (cost_of_pair side m k x y) k)) → IsPair on ys side m k a b →
+          IsSomeAnd held (λ l. IsNoCheaper l (cost_of_pair side m k a b) k)
+      covered a b covers p =
+          let c = cost_there xs (spread_of m k) (spread_side side m k) in
+          let d = cost_there xs (Outright k) (other_side side) in
+          covered_by a b covers p c.0 d.0 c.1 d.1
 
   -- ---- all columns
 
-  held_kept : (xs ys : List Order) (side : Side) (m months : ℕ) (held : Option PairCost) → ((k : ℕ) → k < months → KeepsColumn xs ys side m k) →
-      IfSome held (λ l. HasFronts on xs side m l.other_month l.cost) → IfSome held (λ l. l.other_month < months) → IfSome held (λ l. HasFronts on ys side m l.other_month l.cost)
+  held_kept : (xs ys : List Order) (side : Side) (m months : ℕ) (held : Option PairCost)
+      → ((k : ℕ) → k < months → KeepsColumn xs ys side m k) →
+      IfSome held (λ l. HasFronts on xs side m l.other_month l.cost) → IfSome held (λ l. l.other_month < months)
+      → IfSome held (λ l. HasFronts on ys side m l.other_month l.cost)
   held_kept xs ys side m months None keep f below = f
-  held_kept xs ys side m months (Some l) keep f below = kept_fronts xs ys side m l.other_month l.cost (keep l.other_month below) f
+  held_kept xs ys side m months (Some l) keep f below =
+      kept_fronts xs ys side m l.other_month l.cost (keep l.other_month below) f
 
   -- where every column keeps what its fronts cost
-  pub kept_row : (xs ys : List Order) (side : Side) (m months : ℕ) (held : Option PairCost) → ((k : ℕ) → k < months → KeepsColumn xs ys side m k) → IsCheapest on xs side m months held → IsCheapest on ys side m months held
+  pub kept_row : (xs ys : List Order) (side : Side) (m months : ℕ) (held : Option PairCost)
+      → ((k : ℕ) → k < months → KeepsColumn xs ys side m k) → IsCheapest on xs side m months held
+      → IsCheapest on ys side m months held
   kept_row xs ys side m months held keep h = record {
     fronts = held_kept xs ys side m months held keep h.fronts h.below;
     small = h.small;
@@ -91,11 +108,18 @@ module _ (on : Pairs) where
     covers = λ k a b lt p. covered xs ys side m k held (keep k lt) a b (λ x y q. h.covers k x y lt q) p;
   }
 
-  still_rests : (xs ys : List Order) (i : Instrument) (s : Side) (o : Order) → AreAmong xs ys → Rests xs i s o → Rests ys i s o
-  still_rests xs ys i s o among r = record { stands = among o r.stands; instrument_is = r.instrument_is; side_is = r.side_is }
+  still_rests : (xs ys : List Order) (i : Instrument) (s : Side) (o : Order) → AreAmong xs ys → Rests xs i s o
+      → Rests ys i s o
+  still_rests xs ys i s o among r = record {
+    stands = among o r.stands;
+    instrument_is = r.instrument_is;
+    side_is =
+        r.side_is;
+  }
 
   -- where orders of one month left, and what cost the least is of another one
-  pub left_row : (xs ys : List Order) (side : Side) (m months via : ℕ) (held : Option PairCost) → AreAmong ys xs → KeepsOthers xs ys side m via → IfSome held (λ l. (l.other_month == via) ≡ false) →
+  pub left_row : (xs ys : List Order) (side : Side) (m months via : ℕ) (held : Option PairCost) → AreAmong ys xs
+      → KeepsOthers xs ys side m via → IfSome held (λ l. (l.other_month == via) ≡ false) →
       IsCheapest on xs side m months held → IsCheapest on ys side m months held
   left_row xs ys side m months via held fewer keep other h = record {
     fronts = fronts held other h.fronts;
@@ -108,12 +132,16 @@ module _ (on : Pairs) where
     });
   }
     where
-      fronts : (l : Option PairCost) → IfSome l (λ c. (c.other_month == via) ≡ false) → IfSome l (λ c. HasFronts on xs side m c.other_month c.cost) → IfSome l (λ c. HasFronts on ys side m c.other_month c.cost)
+      fronts : (l : Option PairCost) → IfSome l (λ c. (c.other_month == via) ≡ false)
+          → IfSome l (λ c. HasFronts on xs side m c.other_month c.cost)
+          → IfSome l (λ c. HasFronts on ys side m c.other_month c.cost)
       fronts None e f = f
-      fronts (Some l) e f = kept_fronts xs ys side m l.other_month l.cost (keep l.other_month (differs l.other_month via e)) f
+      fronts (Some l) e f = kept_fronts xs ys side m l.other_month l.cost
+          (keep l.other_month (differs l.other_month via e)) f
 
   -- fronts that still rest are a pair
-  still_pair : (xs ys : List Order) (side : Side) (m k : ℕ) (c : ℤ) → AreAmong xs ys → (f : HasFronts on xs side m k c) → IsPair on ys side m k f.a f.b
+  still_pair : (xs ys : List Order) (side : Side) (m k : ℕ) (c : ℤ) → AreAmong xs ys → (f : HasFronts on xs side m k c)
+      → IsPair on ys side m k f.a f.b
   still_pair xs ys side m k c among f = record {
     on = f.on;
     first = still_rests xs ys (spread_of m k) (spread_side side m k) f.a among f.first.0;
@@ -130,7 +158,9 @@ module _ (on : Pairs) where
   sooner_by held (Some cost) via = sooner_of cost via held
 
   -- not so where orders came
-  no_search : (xs ys : List Order) (side : Side) (m via : ℕ) (held : PairCost) (c : Option ℤ) → AreAmong xs ys → HasFronts on xs side m held.other_month held.cost → CostsOfFronts on ys side m via c → must_search held c via ≡ false
+  no_search : (xs ys : List Order) (side : Side) (m via : ℕ) (held : PairCost) (c : Option ℤ) → AreAmong xs ys
+      → HasFronts on xs side m held.other_month held.cost → CostsOfFronts on ys side m via c
+      → must_search held c via ≡ false
   no_search xs ys side m via held None among f g = elim (is_so (held.other_month == via)) [
     | inl e ↦
         let h = subst (λ (j : ℕ). HasFronts on xs side m j held.cost) (same held.other_month via e) f in
@@ -140,15 +170,18 @@ module _ (on : Pairs) where
   no_search xs ys side m via held (Some c) among f g = elim (is_so (held.other_month == via)) [
     | inl e ↦
         let h = subst (λ (j : ℕ). HasFronts on xs side m j held.cost) (same held.other_month via e) f in
-        let low : c ≤ℤ held.cost = subst (λ (v : ℤ). c ≤ℤ v) (sym h.sum) (front_least on ys side m via c h.a h.b g (still_pair xs ys side m via held.cost among h)) in
+        let low : c ≤ℤ held.cost = subst (λ (v : ℤ). c ≤ℤ v) (sym h.sum)
+        (front_least on ys side m via c h.a h.b g (still_pair xs ys side m via held.cost among h)) in
         let no_less : int_lt held.cost c ≡ false = grind (arith, ints, low) in
         rw (e, no_less) refl
     | inr e ↦ rw e refl
   ]
 
-  module _ (xs ys : List Order) (side : Side) (m months via : ℕ) (keep : KeepsOthers xs ys side m via) (lt : via < months) where
+  module _ (xs ys : List Order) (side : Side) (m months via : ℕ) (keep : KeepsOthers xs ys side m via)
+      (lt : via < months) where
     -- where no two orders met it
-    pub first_pair : (c : Option ℤ) → IsCheapest on xs side m months None → CostsOfFronts on ys side m via c → IfSome c IsLegPrice → IsCheapest on ys side m months (cheaper_of None c via)
+    pub first_pair : (c : Option ℤ) → IsCheapest on xs side m months None → CostsOfFronts on ys side m via c
+        → IfSome c IsLegPrice → IsCheapest on ys side m months (cheaper_of None c via)
     first_pair None h f small = record {
       fronts = tt;
       small = tt;
@@ -164,23 +197,29 @@ module _ (on : Pairs) where
       below = lt;
       covers = λ k a b below p. elim (is_so (k == via)) [
         | inl e ↦ fresh on ys side m via c k a b f (same k via e) p
-        | inr e ↦ absurd (covered xs ys side m k None (keep k (differs k via e)) a b (λ x y q. h.covers k x y below q) p)
+        | inr e ↦ absurd (covered xs ys side m k None (keep k (differs k via e)) a b (λ x y q. h.covers k x y below q)
+            p)
       ];
     }
 
-    sooner_is : (x y : ℤ) (k l : ℕ) → is_lt (ordering_then (int_cmp x y) (nat_cmp k l)) ≡ true → (x ≤ℤ y) × (x ≡ y → k < l)
+    sooner_is : (x y : ℤ) (k l : ℕ) → is_lt (ordering_then (int_cmp x y) (nat_cmp k l)) ≡ true → (x ≤ℤ y)
+        × (x ≡ y → k < l)
     sooner_is x y k l h = (grind (arith, ints, nat_tests), λ e. grind (arith, ints, nat_tests))
 
     -- the held one is of the month that changed, and does not cost more
-    held_stays : (held : PairCost) (c : ℤ) → must_search held (Some c) via ≡ false → held.cost ≤ℤ c → HasFronts on ys side m via c → held.other_month ≡ via → HasFronts on ys side m held.other_month held.cost
+    held_stays : (held : PairCost) (c : ℤ) → must_search held (Some c) via ≡ false → held.cost ≤ℤ c
+        → HasFronts on ys side m via c → held.other_month ≡ via → HasFronts on ys side m held.other_month held.cost
     held_stays held c search no_less f at =
         let here : (held.other_month == via) ≡ true = grind (arith, nat_tests, at) in
         let over : c ≤ℤ held.cost = let s = rw here at search in grind (arith, ints, s) in
         let is : c ≡ held.cost = omega (arith, ints, over, no_less) in
         subst (λ (k : ℕ). HasFronts on ys side m k held.cost) (sym at) (subst (HasFronts on ys side m via) is f)
 
-    after : (held : PairCost) (c : ℤ) (b : Bool) → is_lt (ordering_then (int_cmp c held.cost) (nat_cmp via held.other_month)) ≡ b → must_search held (Some c) via ≡ false →
-        IsCheapest on xs side m months (Some held) → HasFronts on ys side m via c → IsLegPrice c → IsCheapest on ys side m months (Some (cond b (record { cost = c; other_month = via }) held))
+    after : (held : PairCost) (c : ℤ) (b : Bool) → is_lt
+        (ordering_then (int_cmp c held.cost) (nat_cmp via held.other_month)) ≡ b
+        → must_search held (Some c) via ≡ false →
+        IsCheapest on xs side m months (Some held) → HasFronts on ys side m via c → IsLegPrice c
+        → IsCheapest on ys side m months (Some (cond b (record { cost = c; other_month = via }) held))
     after held c true sooner search h f small = record {
       fronts = f;
       small = small;
@@ -188,7 +227,8 @@ module _ (on : Pairs) where
       covers = λ k a b below p. elim (is_so (k == via)) [
         | inl e ↦ fresh on ys side m via c k a b f (same k via e) p
         | inr e ↦
-            let q = covered xs ys side m k (Some held) (keep k (differs k via e)) a b (λ x y r. h.covers k x y below r) p in
+            let q = covered xs ys side m k (Some held) (keep k (differs k via e)) a b (λ x y r. h.covers k x y below r)
+            p in
             let low = q.no_less in
             let s = sooner_is c held.cost via held.other_month sooner in
             let first = s.0 in
@@ -208,7 +248,8 @@ module _ (on : Pairs) where
         record {
           fronts = elim (is_so (held.other_month == via)) [
             | inl e ↦ held_stays held c search first f (same held.other_month via e)
-            | inr e ↦ kept_fronts xs ys side m held.other_month held.cost (keep held.other_month (differs held.other_month via e)) h.fronts
+            | inr e ↦ kept_fronts xs ys side m held.other_month held.cost
+                (keep held.other_month (differs held.other_month via e)) h.fronts
           ];
           small = h.small;
           below = h.below;
@@ -224,15 +265,18 @@ module _ (on : Pairs) where
                       let at = same k via e in
                       omega (arith, x, at);
                 }
-            | inr e ↦ covered xs ys side m k (Some held) (keep k (differs k via e)) a b (λ x y r. h.covers k x y below r) p
+            | inr e ↦ covered xs ys side m k (Some held) (keep k (differs k via e)) a b
+                (λ x y r. h.covers k x y below r) p
           ];
         }
 
     -- where what cost the least is known to cost no more
-    known_pair_next : (held : PairCost) (c : Option ℤ) → must_search held c via ≡ false → IsCheapest on xs side m months (Some held) → CostsOfFronts on ys side m via c → IfSome c IsLegPrice →
+    known_pair_next : (held : PairCost) (c : Option ℤ) → must_search held c via ≡ false
+        → IsCheapest on xs side m months (Some held) → CostsOfFronts on ys side m via c → IfSome c IsLegPrice →
         IsCheapest on ys side m months (Some (sooner_by held c via))
     known_pair_next held None search h f small = record {
-      fronts = kept_fronts xs ys side m held.other_month held.cost (keep held.other_month (differs held.other_month via search)) h.fronts;
+      fronts = kept_fronts xs ys side m held.other_month held.cost
+          (keep held.other_month (differs held.other_month via search)) h.fronts;
       small = h.small;
       below = h.below;
       covers = λ k a b below p. elim (is_so (k == via)) [
@@ -240,9 +284,12 @@ module _ (on : Pairs) where
         | inr e ↦ covered xs ys side m k (Some held) (keep k (differs k via e)) a b (λ x y r. h.covers k x y below r) p
       ];
     }
-    known_pair_next held (Some c) search h f small = after held c (is_lt (ordering_then (int_cmp c held.cost) (nat_cmp via held.other_month))) refl search h f small
+    known_pair_next held (Some c) search h f small = after held c
+        (is_lt (ordering_then (int_cmp c held.cost) (nat_cmp via held.other_month))) refl search h f small
 
     -- where orders came
-    pub next_pair : (held : PairCost) (c : Option ℤ) → AreAmong xs ys → IsCheapest on xs side m months (Some held) → CostsOfFronts on ys side m via c → IfSome c IsLegPrice →
+    pub next_pair : (held : PairCost) (c : Option ℤ) → AreAmong xs ys → IsCheapest on xs side m months (Some held)
+        → CostsOfFronts on ys side m via c → IfSome c IsLegPrice →
         IsCheapest on ys side m months (Some (sooner_by held c via))
-    next_pair held c among h f small = known_pair_next held c (no_search xs ys side m via held c among h.fronts f) h f small
+    next_pair held c among h f small = known_pair_next held c (no_search xs ys side m via held c among h.fronts f) h f
+        small

@@ -14,12 +14,14 @@ pub outright_column : (j : ℕ) (s t : Side) (m k : ℕ) → IsInColumn (Outrigh
 outright_column j s t m k (inl e) = absurd (no_outright j m k (nat_lt m k) e.0)
 outright_column j s t m k (inr e) = (e.1, let i = e.0 in cc)
 
-pub spread_at : (near far m k : ℕ) (s t : Side) (b : Bool) → Spread near far ≡ cond b (Spread m k) (Spread k m) → s ≡ cond b (other_side t) t →
+pub spread_at : (near far m k : ℕ) (s t : Side) (b : Bool) → Spread near far ≡ cond b (Spread m k) (Spread k m)
+    → s ≡ cond b (other_side t) t →
     ((s ≡ other_side t) × (m ≡ near) × (k ≡ far)) ⊎ ((s ≡ t) × (m ≡ far) × (k ≡ near))
 spread_at near far m k s t true e f = inl (f, cc, cc)
 spread_at near far m k s t false e f = inr (f, cc, cc)
 
-pub spread_column : (near far : ℕ) (s t : Side) (m k : ℕ) → IsInColumn (Spread near far) s t m k → ((s ≡ other_side t) × (m ≡ near) × (k ≡ far)) ⊎ ((s ≡ t) × (m ≡ far) × (k ≡ near))
+pub spread_column : (near far : ℕ) (s t : Side) (m k : ℕ) → IsInColumn (Spread near far) s t m k
+    → ((s ≡ other_side t) × (m ≡ near) × (k ≡ far)) ⊎ ((s ≡ t) × (m ≡ far) × (k ≡ near))
 spread_column near far s t m k (inl e) = spread_at near far m k s t (nat_lt m k) e.0 e.1
 spread_column near far s t m k (inr e) = let i = e.0 in cc
 

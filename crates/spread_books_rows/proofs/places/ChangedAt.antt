@@ -13,9 +13,11 @@ changed f place xs = map (changed_at f place) xs
 abbrev pub less : ℕ → Order → Order
 less by o = record o { leaves = o.leaves - by }
 
-pub changed_nobody : (f : Order → Order) (xs : List Order) (place : ℕ) → ((o : Order) → Contains xs o → (o.place == place) ≡ false) → changed f place xs ≡ xs
+pub changed_nobody : (f : Order → Order) (xs : List Order) (place : ℕ)
+    → ((o : Order) → Contains xs o → (o.place == place) ≡ false) → changed f place xs ≡ xs
 changed_nobody f [] place h = refl
-changed_nobody f (x ∷ xs) place h = rw (h x (in_head x xs)) (ap (λ (ys : List Order). x ∷ ys) (changed_nobody f xs place (λ o c. h o (in_tail x xs o c))))
+changed_nobody f (x ∷ xs) place h = rw (h x (in_head x xs))
+    (ap (λ (ys : List Order). x ∷ ys) (changed_nobody f xs place (λ o c. h o (in_tail x xs o c))))
 
 -- what the change keeps of an order it keeps of all
 module _ {K : Type 0} (key : Order → K) (f : Order → Order) (keeps : (o : Order) → key (f o) ≡ key o) where

@@ -1,7 +1,7 @@
 -- Rows of orders in order of place, some of which left.
 -- Words of the code alone.
 use Rattle.std.specs.Prelude.{cond, List, [], ◌∷◌}
-use Rattle.spread_books_rows.specs.PlacedRows.{RisesBy}
+use Rattle.spread_books_rows.specs.RisingRows.{RisesBy}
 use Rattle.spread_rules.specs.declared.order.Order.{Order}
 use Rattle.spread_books_rows.specs.declared.row.Row.{Row}
 

@@ -33,11 +33,15 @@ opposite_sides Buy = refl
 opposite_sides Sell = refl
 
 -- an order that stands opposite makes a candidate where its price is within the limit
-pub direct_within : (n o : Order) → o.instrument ≡ n.instrument → o.side ≡ other_side n.side → candidate_of all_on n (Direct o) ≡ cond (is_within_limit n.side n.price o.price) (Some (record { price = o.price; counterparty = Direct o })) None
+pub direct_within : (n o : Order) → o.instrument ≡ n.instrument → o.side ≡ other_side n.side
+    → candidate_of all_on n (Direct o) ≡ cond (is_within_limit n.side n.price o.price)
+    (Some (record { price = o.price; counterparty = Direct o })) None
 direct_within n o same opposite =
-    let meets : price_of all_on n (Direct o) ≡ Some o.price = ap (λ (i : Instrument). price_if (same_instrument n.instrument i && are_opposite n.side o.side) o.price) same
+    let meets : price_of all_on n (Direct o) ≡ Some o.price =
+    ap (λ (i : Instrument). price_if (same_instrument n.instrument i && are_opposite n.side o.side) o.price) same
     ∙ ap (λ (s : Side). price_if (same_instrument n.instrument n.instrument && are_opposite n.side s) o.price) opposite
-    ∙ ap (λ (b : Bool). price_if (b && are_opposite n.side (other_side n.side)) o.price) (same_instrument_itself n.instrument)
+    ∙ ap (λ (b : Bool). price_if (b && are_opposite n.side (other_side n.side)) o.price)
+    (same_instrument_itself n.instrument)
     ∙ ap (λ (b : Bool). price_if b o.price) (opposite_sides n.side) in
     ap (candidate_at n (Direct o)) meets
 
@@ -53,45 +57,60 @@ direct_made : (front : Order) (b : Bool) → IfSome (made front b) IsDirect
 direct_made front true = (front, refl)
 direct_made front false = tt
 
-best_made : (n front : Order) (xs : List Order) (b : Bool) → IsLegPrice front.price → IsFront xs n.instrument (other_side n.side) (Some front) → b ≡ is_within_limit n.side n.price front.price → IsBestDirect n xs (made front b)
+best_made : (n front : Order) (xs : List Order) (b : Bool) → IsLegPrice front.price
+    → IsFront xs n.instrument (other_side n.side) (Some front) → b ≡ is_within_limit n.side n.price front.price
+    → IsBestDirect n xs (made front b)
 best_made n front xs b leg first within =
-    let value : candidate_of all_on n (Direct front) ≡ made front b = direct_within n front first.0.instrument_is first.0.side_is ∙ ap (made front) (sym within) in
+    let value : candidate_of all_on n (Direct front) ≡ made front b =
+    direct_within n front first.0.instrument_is first.0.side_is ∙ ap (made front) (sym within) in
     record {
       fair = λ on. subst (IsFair on n xs) value (candidate_fair on n xs (Direct front) first.0.stands);
       small = small_made front b leg;
       direct = direct_made front b;
-      covers = λ on. subst (CoversOne on n xs n.instrument (other_side n.side)) value (front_beats on n xs n.instrument front first);
+      covers = λ on. subst (CoversOne on n xs n.instrument (other_side n.side)) value
+          (front_beats on n xs n.instrument front first);
     }
 
 -- it is the best direct candidate: the front stands opposite, and its price is compared as the code reads it
-pub front_made : (n front : Order) (xs : List Order) (side : Side) (b : Bool) → side ≡ other_side n.side → IsFront xs n.instrument side (Some front) → All HasOrderPrice xs → b ≡ is_within_limit n.side n.price (to_z w64 (of_z w64 front.price)) →
-    IsBestDirect n xs (cond b (Some (record { price = to_z w64 (of_z w64 front.price); counterparty = Direct front })) None)
+pub front_made : (n front : Order) (xs : List Order) (side : Side) (b : Bool) → side ≡ other_side n.side
+    → IsFront xs n.instrument side (Some front) → All HasOrderPrice xs
+    → b ≡ is_within_limit n.side n.price (to_z w64 (of_z w64 front.price)) →
+    IsBestDirect n xs (cond b (Some (record { price = to_z w64 (of_z w64 front.price); counterparty = Direct front }))
+    None)
 front_made n front xs side b opposite first small within =
     let here = subst (λ (s : Side). IsFront xs n.instrument s (Some front)) opposite first in
     let price = All-contains HasOrderPrice xs front small here.0.stands in
     let leg : IsLegPrice front.price = record { low = grind (arith, price.low); high = grind (arith, price.high) } in
     let is = leg_is front.price leg in
-    subst (λ (at : ℤ). IsBestDirect n xs (cond b (Some (record { price = at; counterparty = Direct front })) None)) (sym is)
+    subst (λ (at : ℤ). IsBestDirect n xs (cond b (Some (record { price = at; counterparty = Direct front })) None))
+    (sym is)
     (best_made n front xs b leg here (within ∙ ap (is_within_limit n.side n.price) is))
 
 -- a pair that costs no less than one order does not rank before it
-behind_direct : (n o a b : Order) (price at : ℤ) (p : Counterparty) → p ≡ Direct o → cost n.side at ≤ℤ cost n.side price →
+behind_direct : (n o a b : Order) (price at : ℤ) (p : Counterparty) → p ≡ Direct o
+    → cost n.side at ≤ℤ cost n.side price →
     is_lt (rank_cmp (rank_at (cost n.side price) (Implied a b)) (rank_at (cost n.side at) p)) ≡ false
 behind_direct n o a b price at p is low =
-    subst (λ (q : Counterparty). is_lt (rank_cmp (rank_at (cost n.side price) (Implied a b)) (rank_at (cost n.side at) q)) ≡ false) (sym is)
-    (after_cost (cost n.side price) (cost n.side at) (int_cmp (cost n.side price) (cost n.side at)) _ refl low (λ e. refl))
+    subst (λ (q : Counterparty). is_lt (rank_cmp (rank_at (cost n.side price) (Implied a b))
+    (rank_at (cost n.side at) q)) ≡ false) (sym is)
+    (after_cost (cost n.side price) (cost n.side at) (int_cmp (cost n.side price) (cost n.side at)) _ refl low
+    (λ e. refl))
 
-module _ (on : Pairs) (n : Order) (xs : List Order) (m months : ℕ) (l : PairCost) (is : n.instrument ≡ Outright m) (near : All IsNearFirst xs) (cheapest : IsCheapest on xs n.side m months (Some l)) where
-  direct_beats : (d : Candidate) → IsDirect d → int_lt l.cost (cost n.side d.price) ≡ false → CoversBelow on n xs months (Some d)
+module _ (on : Pairs) (n : Order) (xs : List Order) (m months : ℕ) (l : PairCost) (is : n.instrument ≡ Outright m)
+    (near : All IsNearFirst xs) (cheapest : IsCheapest on xs n.side m months (Some l)) where
+  direct_beats : (d : Candidate) → IsDirect d → int_lt l.cost (cost n.side d.price) ≡ false
+      → CoversBelow on n xs months (Some d)
   direct_beats d direct no_less = λ a b price e lt.
       let k = month_of b.instrument in
       let pair = eligible_pair on n m k xs a b price is near e refl in
       let low = (cheapest.covers k a b lt pair).no_less in
       let over : cost n.side d.price ≤ℤ l.cost = grind (arith, ints, no_less) in
-      let under : cost n.side d.price ≤ℤ cost n.side price = rw (price_costs on n m k xs a b price pair e.meets) (omega (arith, ints, over, low)) in
+      let under : cost n.side d.price ≤ℤ cost n.side price =
+      rw (price_costs on n m k xs a b price pair e.meets) (omega (arith, ints, over, low)) in
       behind_direct n direct.0 a b price d.price d.counterparty direct.1 under
 
   -- where the cheapest pair is not better, no pair ranks first
-  pub not_better : (best : Option Candidate) → IfSome best IsDirect → is_better n best (cost n.side l.cost) ≡ false → CoversBelow on n xs months best
+  pub not_better : (best : Option Candidate) → IfSome best IsDirect → is_better n best (cost n.side l.cost) ≡ false
+      → CoversBelow on n xs months best
   not_better None direct h = too_dear on n xs m months l None is near cheapest h
   not_better (Some d) direct h = direct_beats d direct (rw (cost_twice n.side l.cost) at h)

@@ -34,10 +34,17 @@ module _ (on : Pairs) where
   opposite_is Sell Sell h = cc
 
   -- an eligible single is of the other_side queue
-  pub single_rests : (n : Order) (xs : List Order) (o : Order) (price : ℤ) → IsEligible on n xs (record { price = price; counterparty = Direct o }) → Rests xs n.instrument (other_side n.side) o
+  pub single_rests : (n : Order) (xs : List Order) (o : Order) (price : ℤ)
+      → IsEligible on n xs (record { price = price; counterparty = Direct o })
+      → Rests xs n.instrument (other_side n.side) o
   single_rests n xs o price e =
       let t = so_true _ _ _ e.meets in
-      record { stands = e.stands; instrument_is = sym (same_instrument_is _ _ (and_parts _ _ t).0); side_is = opposite_is _ _ (and_parts _ _ t).1 }
+      record {
+        stands = e.stands;
+        instrument_is = sym (same_instrument_is _ _ (and_parts _ _ t).0);
+        side_is =
+            opposite_is _ _ (and_parts _ _ t).1;
+      }
 
   -- the pairs of a spread
   pub record IsSpreadPair (i j : ℕ) (s sa : Side) (A : Instrument) (sb : Side) (B : Instrument) : Type 0 where
@@ -46,23 +53,30 @@ module _ (on : Pairs) where
     pub and : B ≡ Outright j
     pub and_on : sb ≡ s
 
-  pub spread_pair : (i j : ℕ) (s sa : Side) (A : Instrument) (sb : Side) (B : Instrument) (x y p : ℤ) → implied_price s (Spread i j) sa A sb B x y ≡ Some p → IsSpreadPair i j s sa A sb B
-  spread_pair i j Buy Sell (Outright k) Buy (Outright l) x y p h = let t = so_true _ _ _ h in record { of = grind (arith, nat_tests); sided = refl; and = grind (arith, nat_tests); and_on = refl }
-  spread_pair i j Sell Buy (Outright k) Sell (Outright l) x y p h = let t = so_true _ _ _ h in record { of = grind (arith, nat_tests); sided = refl; and = grind (arith, nat_tests); and_on = refl }
+  pub spread_pair : (i j : ℕ) (s sa : Side) (A : Instrument) (sb : Side) (B : Instrument) (x y p : ℤ)
+      → implied_price s (Spread i j) sa A sb B x y ≡ Some p → IsSpreadPair i j s sa A sb B
+  spread_pair i j Buy Sell (Outright k) Buy (Outright l) x y p h = let t = so_true _ _ _ h in
+      record { of = grind (arith, nat_tests); sided = refl; and = grind (arith, nat_tests); and_on = refl }
+  spread_pair i j Sell Buy (Outright k) Sell (Outright l) x y p h = let t = so_true _ _ _ h in
+      record { of = grind (arith, nat_tests); sided = refl; and = grind (arith, nat_tests); and_on = refl }
   spread_pair _ _ _ _ (Outright u) _ (Outright k) x y p h = cc
   spread_pair _ _ _ _ (Outright u) _ (Spread k l) x y p h = cc
   spread_pair _ _ _ _ (Spread u v) _ (Outright k) x y p h = cc
   spread_pair _ _ _ _ (Spread u v) _ (Spread k l) x y p h = cc
 
   -- what beats each eligible candidate is the least
-  best_at : (n : Order) (xs : List Order) (r : Option Candidate) → IsFair on n xs r → ((q : Candidate) → IsEligible on n xs q → Beats n r q) → IsBest on n xs r
+  best_at : (n : Order) (xs : List Order) (r : Option Candidate) → IsFair on n xs r
+      → ((q : Candidate) → IsEligible on n xs q → Beats n r q) → IsBest on n xs r
   best_at n xs None f h = h
   best_at n xs (Some o) f h = record { eligible = f; least = h }
 
   pub best_from : (n : Order) (xs : List Order) (r : Option Candidate) → IsFair on n xs r →
-      CoversOne on n xs n.instrument (other_side n.side) r → ((a b : Order) (price : ℤ) → IsEligible on n xs (record { price = price; counterparty = Implied a b }) → Beats n r (record { price = price; counterparty = Implied a b })) → IsBest on n xs r
+      CoversOne on n xs n.instrument (other_side n.side) r
+      → ((a b : Order) (price : ℤ) → IsEligible on n xs (record { price = price; counterparty = Implied a b })
+      → Beats n r (record { price = price; counterparty = Implied a b })) → IsBest on n xs r
   best_from n xs r f one two = best_at n xs r f (λ q e. each q.counterparty q.price e) where
-    each : (p : Counterparty) (price : ℤ) → IsEligible on n xs (record { price = price; counterparty = p }) → Beats n r (record { price = price; counterparty = p })
+    each : (p : Counterparty) (price : ℤ) → IsEligible on n xs (record { price = price; counterparty = p })
+        → Beats n r (record { price = price; counterparty = p })
     each (Direct o) price e = one o price (single_rests n xs o price e) e
     each (Implied a b) price e = two a b price e
 

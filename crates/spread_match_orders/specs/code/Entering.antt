@@ -9,7 +9,8 @@ use Rattle.spread_rules.specs.Clearing.{clear, removed, reduced, Trading}
 use Rattle.spread_rules.specs.Meaning.{has_id}
 use Rattle.spread_rules_rulebook.specs.Rulebook.{implied, Rules, references_of}
 
--- the first status of an order that is not refused
+-- The first status of an order that is not refused: what a late cancel is told of it once a cancel has ended it. While it
+-- rests nobody is told its status from here.
 abbrev pub entered_status : Order → OrderStatus
 entered_status o = record {
   session = o.session;

@@ -7,10 +7,12 @@ use Rattle.spread_rules.specs.declared.outcome.Outcome.TheVariants.{Refused}
 use Rattle.spread_rules.specs.Meaning.{EntryMeaning, untraded}
 use Rattle.spread_match_state.specs.code.StateAfter.{refused_if_used}
 
-pub id_is_new : (earlier : Option OrderStatus) (xs : List Order) (e : EntryMeaning) → is_some earlier ≡ false → refused_if_used earlier xs e ≡ e
+pub id_is_new : (earlier : Option OrderStatus) (xs : List Order) (e : EntryMeaning) → is_some earlier ≡ false
+    → refused_if_used earlier xs e ≡ e
 id_is_new None xs e none = refl
 id_is_new (Some s) xs e none = cc
 
-pub id_was_used : (earlier : Option OrderStatus) (xs : List Order) (e : EntryMeaning) → is_some earlier ≡ true → untraded (Refused 6) xs ≡ refused_if_used earlier xs e
+pub id_was_used : (earlier : Option OrderStatus) (xs : List Order) (e : EntryMeaning) → is_some earlier ≡ true
+    → untraded (Refused 6) xs ≡ refused_if_used earlier xs e
 id_was_used None xs e used = cc
 id_was_used (Some s) xs e used = refl

@@ -17,7 +17,8 @@ pub record MayRest (months : ℕ) (n : Order) : Type 0 where
   pub listed : IsNearFirst n
   pub within : IsInMonths months n.instrument
 
-pub removed_tradable : (months place : ℕ) (xs : List Order) → IsTradable months xs → IsTradable months (removed place xs)
+pub removed_tradable : (months place : ℕ) (xs : List Order) → IsTradable months xs
+    → IsTradable months (removed place xs)
 removed_tradable months place xs t =
     let p = λ (o : Order). not (o.place == place) in
     record {
@@ -28,7 +29,8 @@ removed_tradable months place xs t =
       left = All-filter p (λ (o : Order). 0 < o.leaves) xs t.left;
     }
 
-pub moved_rests : (months place : ℕ) (xs : List Order) (t : Ticket) (r : Order) → IsTradable months xs → Contains xs r → IsOrderPrice t.price → MayRest months (moved_to place t r)
+pub moved_rests : (months place : ℕ) (xs : List Order) (t : Ticket) (r : Order) → IsTradable months xs → Contains xs r
+    → IsOrderPrice t.price → MayRest months (moved_to place t r)
 moved_rests months place xs t r s stands k = record {
   small = record { low = k.low; high = k.high };
   listed = let w = All-contains IsNearFirst xs r s.listed stands in record { near_before_far = w.near_before_far };

@@ -8,8 +8,10 @@ use Rattle.spread_rules_rulebook.proofs.rulebook_texts.SymbolsNameOne.{from_inst
 use Rattle.spread_books_search.specs.Listed.{IsInMonths, IsNearBeforeFar}
 use Rattle.spread_match_orders.proofs.entries.FoundStands.{find_stands}
 
-pub listed_found : (rules : Rules) (symbol : List ℕ) (i : Instrument) → find_symbol rules symbol ≡ Some i → IsListed rules i
-listed_found rules symbol i e = from_instruments rules i (find_stands (λ (x : Instrument). bytes_eq (symbol_of rules x) symbol) (instruments_of rules) i e)
+pub listed_found : (rules : Rules) (symbol : List ℕ) (i : Instrument) → find_symbol rules symbol ≡ Some i
+    → IsListed rules i
+listed_found rules symbol i e = from_instruments rules i
+    (find_stands (λ (x : Instrument). bytes_eq (symbol_of rules x) symbol) (instruments_of rules) i e)
 
 pub near_of : (rules : Rules) (i : Instrument) → IsListed rules i → IsNearBeforeFar i
 near_of rules (Outright m) l = tt

@@ -40,135 +40,208 @@ own_place place left false true = refl
 own_place place left false false = refl
 
 -- the state after it was traded
-pub matched_state : (m : MarketState) (place session : ℕ) (t : Ticket) (i : Instrument) (orders : List Order) (statuses : List OrderStatus) (d : Trading) → orders ≡ resting t.immediate d →
-    statuses ≡ statuses_after d.fills (m.statuses ++ entered_status (order_of place session t i) ∷ []) → record { orders = orders; statuses = statuses; last = place } ≡ state_with m place session (New t) (clearing_means t.immediate d)
+pub matched_state : (m : MarketState) (place session : ℕ) (t : Ticket) (i : Instrument) (orders : List Order)
+    (statuses : List OrderStatus) (d : Trading) → orders ≡ resting t.immediate d →
+    statuses ≡ statuses_after d.fills (m.statuses ++ entered_status (order_of place session t i) ∷ [])
+    → record { orders = orders; statuses = statuses; last = place } ≡ state_with m place session (New t)
+    (clearing_means t.immediate d)
 matched_state m place session t i orders statuses d e f =
     let outcome = outcome_of t.immediate d.new.leaves in
-    let last = λ (p k : ℕ). statuses_after d.fills (m.statuses ++ record { session = session; id = t.id; place = p; status = k } ∷ []) in
+    let last = λ (p k : ℕ). statuses_after d.fills (m.statuses
+    ++ record { session = session; id = t.id; place = p; status = k } ∷ []) in
     let first : last place 4 ≡ last (place_left place outcome) (cond (is_refused outcome) 8 4) =
-    ap (λ (p : ℕ). last p 4) (sym (own_place place d.new.leaves (d.new.leaves == 0) t.immediate)) ∙ ap (last (place_left place outcome)) (first_is_four t.immediate d.new.leaves) in
+    ap (λ (p : ℕ). last p 4) (sym (own_place place d.new.leaves (d.new.leaves == 0) t.immediate))
+    ∙ ap (last (place_left place outcome)) (first_is_four t.immediate d.new.leaves) in
     ap (λ (xs : List Order). record { orders = xs; statuses = statuses; last = place }) e
     ∙ ap (λ (ss : List OrderStatus). record { orders = resting t.immediate d; statuses = ss; last = place }) (f ∙ first)
 
 -- ---- a replace that loses its place
 
-pub removed_push : (gone : ℕ) (xs : List Order) (n : Order) → gone < n.place → removed gone (xs ++ n ∷ []) ≡ removed gone xs ++ n ∷ []
+pub removed_push : (gone : ℕ) (xs : List Order) (n : Order) → gone < n.place
+    → removed gone (xs ++ n ∷ []) ≡ removed gone xs ++ n ∷ []
 removed_push gone xs n h =
     let other : (n.place == gone) ≡ false = grind (arith, nat_tests, h) in
-    filter-append (λ (o : Order). not (o.place == gone)) xs (n ∷ []) ∙ ap (λ (b : Bool). removed gone xs ++ cond (not b) (n ∷ []) []) other
+    filter-append (λ (o : Order). not (o.place == gone)) xs (n ∷ [])
+    ∙ ap (λ (b : Bool). removed gone xs ++ cond (not b) (n ∷ []) []) other
 
-moved_ends : (xs book : List Order) (last place : ℕ) (r n : Order) → All (λ o. o.place ≤ last) xs → last < place → Contains xs r → n.place ≡ place → book ≡ removed r.place (xs ++ n ∷ []) → book ≡ removed r.place xs ++ n ∷ []
+moved_ends : (xs book : List Order) (last place : ℕ) (r n : Order) → All (λ o. o.place ≤ last) xs → last < place
+    → Contains xs r → n.place ≡ place → book ≡ removed r.place (xs ++ n ∷ []) → book ≡ removed r.place xs ++ n ∷ []
 moved_ends xs book last place r n below later stands at e =
     let here = All-contains (λ (o : Order). o.place ≤ last) xs r below stands in
     e ∙ removed_push r.place xs n (omega (arith, here, later, at))
 
-moved_below : (xs : List Order) (last place : ℕ) (r n : Order) → All (λ o. o.place ≤ last) xs → last < place → n.place ≡ place → All (λ o. o.place < n.place) (removed r.place xs)
+moved_below : (xs : List Order) (last place : ℕ) (r n : Order) → All (λ o. o.place ≤ last) xs → last < place
+    → n.place ≡ place → All (λ o. o.place < n.place) (removed r.place xs)
 moved_below xs last place r n below later at =
-    All-filter (λ (o : Order). not (o.place == r.place)) (λ (o : Order). o.place < n.place) xs (below_new xs last n.place below (omega (arith, later, at)))
+    All-filter (λ (o : Order). not (o.place == r.place)) (λ (o : Order). o.place < n.place) xs
+    (below_new xs last n.place below (omega (arith, later, at)))
 
-pub moved_newest : (xs book : List Order) (last place : ℕ) (r n : Order) → All (λ o. o.place ≤ last) xs → last < place → Contains xs r → n.place ≡ place → book ≡ removed r.place (xs ++ n ∷ []) → IsNewest n book
+pub moved_newest : (xs book : List Order) (last place : ℕ) (r n : Order) → All (λ o. o.place ≤ last) xs → last < place
+    → Contains xs r → n.place ≡ place → book ≡ removed r.place (xs ++ n ∷ []) → IsNewest n book
 moved_newest xs book last place r n below later stands at e =
-    record { rest = removed r.place xs; ends = moved_ends xs book last place r n below later stands at e; below = moved_below xs last place r n below later at }
+    record {
+      rest = removed r.place xs;
+      ends = moved_ends xs book last place r n below later stands at e;
+      below =
+          moved_below xs last place r n below later at;
+    }
 
-pub moved_tradable : (months : ℕ) (xs book : List Order) (last place : ℕ) (t : Ticket) (r n : Order) → IsTradable months xs → All (λ o. o.place ≤ last) xs → last < place → Contains xs r → IsOrderPrice t.price → done r < t.quantity →
+pub moved_tradable : (months : ℕ) (xs book : List Order) (last place : ℕ) (t : Ticket) (r n : Order)
+    → IsTradable months xs → All (λ o. o.place ≤ last) xs → last < place → Contains xs r → IsOrderPrice t.price
+    → done r < t.quantity →
     n ≡ moved_to place t r → book ≡ removed r.place (xs ++ n ∷ []) → IsTradable months book
 moved_tradable months xs book last place t r n tradable below later stands price more same e =
     let m = moved_to place t r in
     let here = All-contains (λ (o : Order). o.place ≤ last) xs r below stands in
     let rests = moved_rests months place xs t r tradable stands price in
-    subst (IsTradable months) (sym (e ∙ (ap (λ (o : Order). removed r.place (xs ++ o ∷ [])) same ∙ removed_push r.place xs m (omega (arith, here, later)))))
+    subst (IsTradable months) (sym (e ∙ (ap (λ (o : Order). removed r.place (xs ++ o ∷ [])) same
+    ∙ removed_push r.place xs m (omega (arith, here, later)))))
     (tradable_more months (removed r.place xs) m (removed_tradable months r.place xs tradable)
-    (All-filter (λ (o : Order). not (o.place == r.place)) (λ (o : Order). o.place < place) xs (below_new xs last place below later))
+    (All-filter (λ (o : Order). not (o.place == r.place)) (λ (o : Order). o.place < place) xs
+    (below_new xs last place below later))
     rests.small rests.listed rests.within (omega (arith, more)))
 
 -- the orders that it is traded with
-pub moved_rest : (xs book : List Order) (last place : ℕ) (r n : Order) → All (λ o. o.place ≤ last) xs → last < place → Contains xs r → n.place ≡ place → book ≡ removed r.place (xs ++ n ∷ []) → removed n.place book ≡ removed r.place xs
+pub moved_rest : (xs book : List Order) (last place : ℕ) (r n : Order) → All (λ o. o.place ≤ last) xs → last < place
+    → Contains xs r → n.place ≡ place → book ≡ removed r.place (xs ++ n ∷ [])
+    → removed n.place book ≡ removed r.place xs
 moved_rest xs book last place r n below later stands at e =
-    ap (removed n.place) (moved_ends xs book last place r n below later stands at e) ∙ removed_newest n (removed r.place xs) (moved_below xs last place r n below later at)
+    ap (removed n.place) (moved_ends xs book last place r n below later stands at e)
+    ∙ removed_newest n (removed r.place xs) (moved_below xs last place r n below later at)
 
 fewer_left : (gone : ℕ) (xs : List Order) → length (removed gone xs) ≤ length xs
 fewer_left gone [] = omega arith
 fewer_left gone (x ∷ xs) = by_test (not (x.place == gone)) (fewer_left gone xs)
   where
-    by_test : (b : Bool) → length (removed gone xs) ≤ length xs → length (cond b (x ∷ removed gone xs) (removed gone xs)) ≤ length (x ∷ xs)
+    by_test : (b : Bool) → length (removed gone xs) ≤ length xs
+        → length (cond b (x ∷ removed gone xs) (removed gone xs)) ≤ length (x ∷ xs)
     by_test true h = omega (arith, h)
     by_test false h = omega (arith, h)
 
-pub room_moved : (xs rest : List Order) (gone len cap got n q leaves : ℕ) → rest ≡ removed gone xs → len + 3 * got ≤ cap → got ≡ min n q → n ≡ length xs → leaves ≤ q → len + 3 * min leaves (length rest) ≤ cap
+pub room_moved : (xs rest : List Order) (gone len cap got n q leaves : ℕ) → rest ≡ removed gone xs → len + 3 * got ≤ cap
+    → got ≡ min n q → n ≡ length xs → leaves ≤ q → len + 3 * min leaves (length rest) ≤ cap
 room_moved xs rest gone len cap got n q leaves e h g f l =
-    let a : length rest ≤ n = (let b = fewer_left gone xs in let c : length rest ≡ length (removed gone xs) = ap (λ (ys : List Order). length ys) e in omega (arith, b, c, f)) in
+    let a : length rest ≤ n = (let b = fewer_left gone xs in let c : length rest ≡ length (removed gone xs) =
+    ap (λ (ys : List Order). length ys) e in omega (arith, b, c, f)) in
     omega (arith, h, g, l, a)
 
 -- the state after it was traded
-pub moved_state : (rules : Rules) (m : MarketState) (place : ℕ) (t : Ticket) (r n : Order) (orders : List Order) (statuses : List OrderStatus) (d : Trading) → n ≡ moved_to place t r →
-    d ≡ clear (implied rules) (references_of rules) (moved_to place t r) (removed r.place m.orders) → orders ≡ resting false d →
-    statuses ≡ statuses_after d.fills (map (status_after_replace r.session r.id) (m.statuses ++ entered_status n ∷ [])) →
-    record { orders = orders; statuses = statuses; last = place } ≡ state_with m place r.session (Replace r.id t) (moved_in rules m place t r)
+pub moved_state : (rules : Rules) (m : MarketState) (place : ℕ) (t : Ticket) (r n : Order) (orders : List Order)
+    (statuses : List OrderStatus) (d : Trading) → n ≡ moved_to place t r →
+    d ≡ clear (implied rules) (references_of rules) (moved_to place t r) (removed r.place m.orders)
+    → orders ≡ resting false d →
+    statuses ≡ statuses_after d.fills (map (status_after_replace r.session r.id) (m.statuses ++ entered_status n ∷ []))
+    →
+    record { orders = orders; statuses = statuses; last = place } ≡ state_with m place r.session (Replace r.id t)
+    (moved_in rules m place t r)
 moved_state rules m place t r n orders statuses d same e f g =
     ap (λ (xs : List Order). record { orders = xs; statuses = statuses; last = place }) f
     ∙ (ap (λ (ss : List OrderStatus). record { orders = resting false d; statuses = ss; last = place }) g
-    ∙ (ap (λ (o : Order). record { orders = resting false d; statuses = statuses_after d.fills (map (status_after_replace r.session r.id) (m.statuses ++ entered_status o ∷ [])); last = place }) same
-    ∙ ap (λ (x : Trading). record { orders = resting false x; statuses = statuses_after x.fills (map (status_after_replace r.session r.id) (m.statuses ++ entered_status (moved_to place t r) ∷ [])); last = place }) e))
+    ∙ (ap (λ (o : Order). record {
+      orders = resting false d;
+      statuses =
+          statuses_after d.fills (map (status_after_replace r.session r.id) (m.statuses ++ entered_status o ∷ []));
+      last =
+          place;
+    }) same
+    ∙ ap (λ (x : Trading). record {
+      orders = resting false x;
+      statuses =
+          statuses_after x.fills (map (status_after_replace r.session r.id)
+          (m.statuses ++ entered_status (moved_to place t r) ∷ []));
+      last = place;
+    }) e))
 
 -- ---- a replace that keeps its place
 
-pub may_amend : (xs : List Order) (ss : List OrderStatus) (r : Order) (id : List ℕ) (quantity : ℕ) → PlacesDiffer xs → HaveStatuses ss xs → Contains xs r → find (has_id r.session id) ss ≡ None → done r < quantity → quantity ≤ 999999 →
+pub may_amend : (xs : List Order) (ss : List OrderStatus) (r : Order) (id : List ℕ) (quantity : ℕ) → PlacesDiffer xs
+    → HaveStatuses ss xs → Contains xs r → find (has_id r.session id) ss ≡ None → done r < quantity
+    → quantity ≤ 999999 →
     CanAmend xs r.place id quantity
 may_amend xs ss r id quantity differ known stands unused more most = record {
   order = r;
   stands = stands;
   at = refl;
-  each = λ k d lt e. subst (λ (o : Order). done o < quantity) (differ r (get_or xs k d) stands (Contains-get_or xs k d lt) (sym e)) more;
+  each = λ k d lt e. subst (λ (o : Order). done o < quantity)
+      (differ r (get_or xs k d) stands (Contains-get_or xs k d lt) (sym e)) more;
   most = most;
   free = unused_rests xs ss r.session id known unused;
 }
 
 -- ---- which it is
 
-pub refused_is : (rules : Rules) (xs : List Order) (place : ℕ) (t : Ticket) (instrument : Result Instrument ℕ) (r : Order) (reason : ℕ) → Some reason ≡ replace_refusal t r instrument → replace_refused reason r xs ≡ replace_of_resting rules xs place t instrument r
+pub refused_is : (rules : Rules) (xs : List Order) (place : ℕ) (t : Ticket) (instrument : Result Instrument ℕ)
+    (r : Order) (reason : ℕ) → Some reason ≡ replace_refusal t r instrument
+    → replace_refused reason r xs ≡ replace_of_resting rules xs place t instrument r
 refused_is rules xs place t instrument r reason e = by_tests (may_replace t r instrument) (nat_le t.quantity (done r)) e
   where
     by_tests : (a b : Bool) → ◌≡◌ {A = Option ℕ} (Some reason) (cond (not a) (Some 2) (cond b (Some 0) None)) →
-        replace_refused reason r xs ≡ cond (not a) (replace_refused 2 r xs) (cond b (replace_refused 0 r xs) (cond (keeps_place t r) (keeping_means xs t r) (moving_means (moved_to place t r) (clear (implied rules) (references_of rules) (moved_to place t r) (removed r.place xs)))))
+        replace_refused reason r xs ≡ cond (not a) (replace_refused 2 r xs)
+        (cond b (replace_refused 0 r xs) (cond (keeps_place t r) (keeping_means xs t r)
+        (moving_means (moved_to place t r) (clear (implied rules) (references_of rules) (moved_to place t r)
+        (removed r.place xs)))))
     by_tests false b e = ap (λ (k : ℕ). replace_refused k r xs) (let k : reason ≡ 2 = cc in k)
     by_tests true true e = ap (λ (k : ℕ). replace_refused k r xs) (let k : reason ≡ 0 = cc in k)
     by_tests true false e = cc
 
-pub taken_up : (rules : Rules) (xs : List Order) (place : ℕ) (t : Ticket) (instrument : Result Instrument ℕ) (r : Order) → None ≡ replace_refusal t r instrument →
-    cond (keeps_place t r) (keeping_means xs t r) (moving_means (moved_to place t r) (clear (implied rules) (references_of rules) (moved_to place t r) (removed r.place xs))) ≡ replace_of_resting rules xs place t instrument r
+pub taken_up : (rules : Rules) (xs : List Order) (place : ℕ) (t : Ticket) (instrument : Result Instrument ℕ) (r : Order)
+    → None ≡ replace_refusal t r instrument →
+    cond (keeps_place t r) (keeping_means xs t r) (moving_means (moved_to place t r)
+    (clear (implied rules) (references_of rules) (moved_to place t r) (removed r.place xs))) ≡ replace_of_resting
+    rules xs place t instrument r
 taken_up rules xs place t instrument r e = by_tests (may_replace t r instrument) (nat_le t.quantity (done r)) e
   where
     by_tests : (a b : Bool) → ◌≡◌ {A = Option ℕ} None (cond (not a) (Some 2) (cond b (Some 0) None)) →
-        cond (keeps_place t r) (keeping_means xs t r) (moving_means (moved_to place t r) (clear (implied rules) (references_of rules) (moved_to place t r) (removed r.place xs)))
-        ≡ cond (not a) (replace_refused 2 r xs) (cond b (replace_refused 0 r xs) (cond (keeps_place t r) (keeping_means xs t r) (moving_means (moved_to place t r) (clear (implied rules) (references_of rules) (moved_to place t r) (removed r.place xs)))))
+        cond (keeps_place t r) (keeping_means xs t r) (moving_means (moved_to place t r)
+        (clear (implied rules) (references_of rules) (moved_to place t r) (removed r.place xs)))
+        ≡ cond (not a) (replace_refused 2 r xs) (cond b (replace_refused 0 r xs)
+        (cond (keeps_place t r) (keeping_means xs t r) (moving_means (moved_to place t r)
+        (clear (implied rules) (references_of rules) (moved_to place t r) (removed r.place xs)))))
     by_tests false b e = cc
     by_tests true true e = cc
     by_tests true false e = refl
 
-pub kept_is : (rules : Rules) (xs : List Order) (place : ℕ) (t : Ticket) (instrument : Result Instrument ℕ) (r : Order) → None ≡ replace_refusal t r instrument → true ≡ keeps_place t r → keeping_means xs t r ≡ replace_of_resting rules xs place t instrument r
+pub kept_is : (rules : Rules) (xs : List Order) (place : ℕ) (t : Ticket) (instrument : Result Instrument ℕ) (r : Order)
+    → None ≡ replace_refusal t r instrument → true ≡ keeps_place t r
+    → keeping_means xs t r ≡ replace_of_resting rules xs place t instrument r
 kept_is rules xs place t instrument r e k =
-    ap (λ (b : Bool). cond b (keeping_means xs t r) (moving_means (moved_to place t r) (clear (implied rules) (references_of rules) (moved_to place t r) (removed r.place xs)))) k ∙ taken_up rules xs place t instrument r e
+    ap (λ (b : Bool). cond b (keeping_means xs t r) (moving_means (moved_to place t r)
+    (clear (implied rules) (references_of rules) (moved_to place t r) (removed r.place xs)))) k
+    ∙ taken_up rules xs place t instrument r e
 
-pub moved_is : (rules : Rules) (xs : List Order) (place : ℕ) (t : Ticket) (instrument : Result Instrument ℕ) (r : Order) → None ≡ replace_refusal t r instrument → false ≡ keeps_place t r →
-    moving_means (moved_to place t r) (clear (implied rules) (references_of rules) (moved_to place t r) (removed r.place xs)) ≡ replace_of_resting rules xs place t instrument r
+pub moved_is : (rules : Rules) (xs : List Order) (place : ℕ) (t : Ticket) (instrument : Result Instrument ℕ) (r : Order)
+    → None ≡ replace_refusal t r instrument → false ≡ keeps_place t r →
+    moving_means (moved_to place t r) (clear (implied rules) (references_of rules) (moved_to place t r)
+    (removed r.place xs)) ≡ replace_of_resting rules xs place t instrument r
 moved_is rules xs place t instrument r e k =
-    ap (λ (b : Bool). cond b (keeping_means xs t r) (moving_means (moved_to place t r) (clear (implied rules) (references_of rules) (moved_to place t r) (removed r.place xs)))) k ∙ taken_up rules xs place t instrument r e
+    ap (λ (b : Bool). cond b (keeping_means xs t r) (moving_means (moved_to place t r)
+    (clear (implied rules) (references_of rules) (moved_to place t r) (removed r.place xs)))) k
+    ∙ taken_up rules xs place t instrument r e
 
 -- ---- what the event means
 
-pub replaced_means : (rules : Rules) (m : MarketState) (place session : ℕ) (original : List ℕ) (t : Ticket) (r : Order) → find (is_own session original) m.orders ≡ Some r → replaced_in rules m place t r ≡ meaning_in rules m place session (Replace original t)
+pub replaced_means : (rules : Rules) (m : MarketState) (place session : ℕ) (original : List ℕ) (t : Ticket) (r : Order)
+    → find (is_own session original) m.orders ≡ Some r
+    → replaced_in rules m place t r ≡ meaning_in rules m place session (Replace original t)
 replaced_means rules m place session original t r e =
-    ap (λ (n : ℕ). replace_of_resting rules m.orders place t (instrument_or_refusal_of rules m.statuses n t) r) (own_is m.orders session original r e).session_is
-    ∙ ap (λ (o : Option Order). replace_means rules m.orders place t (instrument_or_refusal_of rules m.statuses session t) (find (has_id session original) m.statuses) o) (sym e)
+    ap (λ (n : ℕ). replace_of_resting rules m.orders place t (instrument_or_refusal_of rules m.statuses n t) r)
+    (own_is m.orders session original r e).session_is
+    ∙ ap (λ (o : Option Order). replace_means rules m.orders place t
+    (instrument_or_refusal_of rules m.statuses session t) (find (has_id session original) m.statuses) o) (sym e)
 
-pub replaced_state : (rules : Rules) (m : MarketState) (place session : ℕ) (original : List ℕ) (t : Ticket) (r : Order) → find (is_own session original) m.orders ≡ Some r →
-    state_with m place r.session (Replace r.id t) (replaced_in rules m place t r) ≡ state_after rules m place session (Replace original t)
+pub replaced_state : (rules : Rules) (m : MarketState) (place session : ℕ) (original : List ℕ) (t : Ticket) (r : Order)
+    → find (is_own session original) m.orders ≡ Some r →
+    state_with m place r.session (Replace r.id t) (replaced_in rules m place t r) ≡ state_after rules m place session
+    (Replace original t)
 replaced_state rules m place session original t r e =
     let own = own_is m.orders session original r e in
     ap (state_with m place r.session (Replace r.id t)) (replaced_means rules m place session original t r e)
-    ∙ (ap (λ (n : ℕ). state_with m place n (Replace r.id t) (meaning_in rules m place session (Replace original t))) own.session_is
-    ∙ ap (λ (i : List ℕ). state_with m place session (Replace i t) (meaning_in rules m place session (Replace original t))) own.id_is)
+    ∙ (ap (λ (n : ℕ). state_with m place n (Replace r.id t) (meaning_in rules m place session (Replace original t)))
+    own.session_is
+    ∙ ap (λ (i : List ℕ). state_with m place session (Replace i t)
+    (meaning_in rules m place session (Replace original t))) own.id_is)
 
-pub if_ok : {E : Type 0} (r : Result Outcome E) (a b : Outcome) → a ≡ b → IfOk r (λ (o : Outcome). o ≡ a) → IfOk r (λ (o : Outcome). o ≡ b)
+pub if_ok : {E : Type 0} (r : Result Outcome E) (a b : Outcome) → a ≡ b → IfOk r (λ (o : Outcome). o ≡ a)
+    → IfOk r (λ (o : Outcome). o ≡ b)
 if_ok (Ok x) a b e h = h ∙ e
 if_ok (Err x) a b e h = tt

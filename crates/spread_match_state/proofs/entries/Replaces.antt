@@ -40,7 +40,8 @@ pub record IsOwn (session : ℕ) (id : List ℕ) (o : Order) : Type 0 where
   pub session_is : o.session ≡ session
   pub id_is : o.id ≡ id
 
-pub own_is : (xs : List Order) (session : ℕ) (id : List ℕ) (o : Order) → find (is_own session id) xs ≡ Some o → IsOwn session id o
+pub own_is : (xs : List Order) (session : ℕ) (id : List ℕ) (o : Order) → find (is_own session id) xs ≡ Some o
+    → IsOwn session id o
 own_is xs session id o e =
     let k = and_parts (o.session == session) (bytes_eq o.id id) (find_holds (is_own session id) xs o e) in
     record { session_is = same_number o.session session k.0; id_is = (bytes_eq-Decides o.id id).0 k.1 }
@@ -67,7 +68,8 @@ same_side Sell Buy e = cc
 more_than : (a b : ℕ) → nat_le a b ≡ false → b < a
 more_than a b e = grind (arith, nat_tests, e)
 
-can_replace : (t : Ticket) (r : Order) (instrument : Result Instrument ℕ) → may_replace t r instrument ≡ true → nat_le t.quantity (done r) ≡ false → CanReplace t r instrument
+can_replace : (t : Ticket) (r : Order) (instrument : Result Instrument ℕ) → may_replace t r instrument ≡ true
+    → nat_le t.quantity (done r) ≡ false → CanReplace t r instrument
 can_replace t r (Err reason) e m = cc
 can_replace t r (Ok i) e m =
     let a = and_parts (same_instrument i r.instrument && is_side t.side r.side) (not t.immediate) e in
@@ -85,21 +87,26 @@ can_keep t r e =
     let p = a.0 in let q = a.1 in
     record { price = grind (arith, ints, p); most = grind (arith, nat_tests, q) }
 
-pub by_replace : (P : EntryMeaning → Type 0) (rules : Rules) (xs : List Order) (place : ℕ) (t : Ticket) (instrument : Result Instrument ℕ) (r : Order) →
+pub by_replace : (P : EntryMeaning → Type 0) (rules : Rules) (xs : List Order) (place : ℕ) (t : Ticket)
+    (instrument : Result Instrument ℕ) (r : Order) →
     ((reason : ℕ) → P (replace_refused reason r xs)) →
     (CanReplace t r instrument → CanKeepPlace t r → P (keeping_means xs t r)) →
-    (CanReplace t r instrument → P (moving_means (moved_to place t r) (clear (implied rules) (references_of rules) (moved_to place t r) (removed r.place xs)))) →
+    (CanReplace t r instrument → P (moving_means (moved_to place t r)
+    (clear (implied rules) (references_of rules) (moved_to place t r) (removed r.place xs)))) →
     P (replace_of_resting rules xs place t instrument r)
-by_replace P rules xs place t instrument r refused kept moved = by_tests (may_replace t r instrument) refl (nat_le t.quantity (done r)) refl (keeps_place t r) refl
+by_replace P rules xs place t instrument r refused kept moved =
+    by_tests (may_replace t r instrument) refl (nat_le t.quantity (done r)) refl (keeps_place t r) refl
   where
     means : Bool → Bool → Bool → EntryMeaning
     means a b c =
         cond (not a) (replace_refused 2 r xs)
         (cond b (replace_refused 0 r xs)
         (cond c (keeping_means xs t r)
-        (moving_means (moved_to place t r) (clear (implied rules) (references_of rules) (moved_to place t r) (removed r.place xs)))))
+        (moving_means (moved_to place t r) (clear (implied rules) (references_of rules) (moved_to place t r)
+        (removed r.place xs)))))
 
-    by_tests : (a : Bool) → may_replace t r instrument ≡ a → (b : Bool) → nat_le t.quantity (done r) ≡ b → (c : Bool) → keeps_place t r ≡ c → P (means a b c)
+    by_tests : (a : Bool) → may_replace t r instrument ≡ a → (b : Bool) → nat_le t.quantity (done r) ≡ b → (c : Bool)
+        → keeps_place t r ≡ c → P (means a b c)
     by_tests false e b f c g = refused 2
     by_tests true e true f c g = refused 0
     by_tests true e false f true g = kept (can_replace t r instrument e f) (can_keep t r g)
@@ -111,13 +118,17 @@ none_refused (Some s) = refl
 
 -- ---- what is not refused has an id that was not used
 
-new_unused : (rules : Rules) (xs : List Order) (place session : ℕ) (t : Ticket) (named : Option Instrument) (earlier : Option OrderStatus) →
-    is_refused (new_means rules xs place session t (refusal_or_instrument rules t earlier named)).outcome ≡ false → earlier ≡ None
+new_unused : (rules : Rules) (xs : List Order) (place session : ℕ) (t : Ticket) (named : Option Instrument)
+    (earlier : Option OrderStatus) →
+    is_refused (new_means rules xs place session t (refusal_or_instrument rules t earlier named)).outcome ≡ false
+    → earlier ≡ None
 new_unused rules xs place session t named None a = refl
 new_unused rules xs place session t named (Some s) a = cc
 
-replace_unused : (rules : Rules) (xs : List Order) (place : ℕ) (t : Ticket) (named : Option Instrument) (earlier other : Option OrderStatus) (found : Option Order) →
-    is_refused (replace_means rules xs place t (refusal_or_instrument rules t earlier named) other found).outcome ≡ false → earlier ≡ None
+replace_unused : (rules : Rules) (xs : List Order) (place : ℕ) (t : Ticket) (named : Option Instrument)
+    (earlier other : Option OrderStatus) (found : Option Order) →
+    is_refused (replace_means rules xs place t (refusal_or_instrument rules t earlier named) other found).outcome ≡
+    false → earlier ≡ None
 replace_unused rules xs place t named None other found a = refl
 replace_unused rules xs place t named (Some s) None None a = cc
 replace_unused rules xs place t named (Some s) (Some u) None a = cc
@@ -126,14 +137,19 @@ replace_unused rules xs place t named (Some s) other (Some r) a = cc
 some_ticket : (t u : Ticket) → ◌≡◌ {A = Option Ticket} (Some u) (Some t) → u ≡ t
 some_ticket t u e = cc
 
-pub accepted_unused : (rules : Rules) (past : JournalState) (place session : ℕ) (event : Event) (t : Ticket) → ticket_of event ≡ Some t →
-    is_refused (meaning_of rules past place (record { session = session; event = event })).outcome ≡ false → find (has_id session t.id) (statuses_of past) ≡ None
+pub accepted_unused : (rules : Rules) (past : JournalState) (place session : ℕ) (event : Event) (t : Ticket)
+    → ticket_of event ≡ Some t →
+    is_refused (meaning_of rules past place (record { session = session; event = event })).outcome ≡ false
+    → find (has_id session t.id) (statuses_of past) ≡ None
 accepted_unused rules past place session (New u) t e a =
     ap (λ (x : Ticket). find (has_id session x.id) (statuses_of past)) (sym (some_ticket t u e))
-    ∙ new_unused rules past.orders place session u (find_symbol rules u.symbol) (find (has_id session u.id) (statuses_of past)) a
+    ∙ new_unused rules past.orders place session u (find_symbol rules u.symbol)
+    (find (has_id session u.id) (statuses_of past)) a
 accepted_unused rules past place session (Replace original u) t e a =
     ap (λ (x : Ticket). find (has_id session x.id) (statuses_of past)) (sym (some_ticket t u e))
-    ∙ replace_unused rules past.orders place u (find_symbol rules u.symbol) (find (has_id session u.id) (statuses_of past)) (find (has_id session original) (statuses_of past)) (find (is_own session original) past.orders) a
+    ∙ replace_unused rules past.orders place u (find_symbol rules u.symbol)
+    (find (has_id session u.id) (statuses_of past)) (find (has_id session original) (statuses_of past))
+    (find (is_own session original) past.orders) a
 accepted_unused rules past place session (Cancel id original) t e a = cc
 accepted_unused rules past place session (Logon client host beat) t e a = cc
 accepted_unused rules past place session (TestReply text) t e a = cc
@@ -150,25 +166,44 @@ pub record IsAfterAmend (xs : List Order) (place : ℕ) (id : List ℕ) (quantit
   pub stands : Contains xs was
   pub is : ((was.place ≡ place) × (with_quantity id quantity was ≡ o)) ⊎ ((was.place ≢ place) × (was ≡ o))
 
-pub from_amended : (xs : List Order) (place : ℕ) (id : List ℕ) (quantity : ℕ) (o : Order) → Contains (amended place id quantity xs) o → IsAfterAmend xs place id quantity o
+pub from_amended : (xs : List Order) (place : ℕ) (id : List ℕ) (quantity : ℕ) (o : Order)
+    → Contains (amended place id quantity xs) o → IsAfterAmend xs place id quantity o
 from_amended xs place id quantity o c =
     let r = from_map (amended_at place id quantity) xs o c in
     by_test r.0 r.1 r.2 (r.0.place == place) refl
   where
-    by_test : (w : Order) → Contains xs w → amended_at place id quantity w ≡ o → (b : Bool) → (w.place == place) ≡ b → IsAfterAmend xs place id quantity o
+    by_test : (w : Order) → Contains xs w → amended_at place id quantity w ≡ o → (b : Bool) → (w.place == place) ≡ b
+        → IsAfterAmend xs place id quantity o
     by_test w stands e true f =
-        record { was = w; stands = stands; is = inl (same_number w.place place f, sym (ap (λ (b : Bool). cond b (with_quantity id quantity w) w) f) ∙ e) }
+        record {
+          was = w;
+          stands = stands;
+          is = inl (
+            same_number w.place place f,
+            sym (ap (λ (b : Bool). cond b (with_quantity id quantity w) w) f) ∙ e,
+          );
+        }
     by_test w stands e false f =
-        record { was = w; stands = stands; is = inr ((λ k. let g : (w.place == place) ≡ true = grind (arith, nat_tests, k) in cc), sym (ap (λ (b : Bool). cond b (with_quantity id quantity w) w) f) ∙ e) }
+        record {
+          was = w;
+          stands = stands;
+          is = inr (
+            (λ k. let g : (w.place == place) ≡ true =
+                grind (arith, nat_tests, k) in cc),
+            sym (ap (λ (b : Bool). cond b (with_quantity id quantity w) w) f) ∙ e,
+          );
+        }
 
-pub amended_place : (xs : List Order) (place : ℕ) (id : List ℕ) (quantity : ℕ) (o : Order) (a : IsAfterAmend xs place id quantity o) → a.was.place ≡ o.place
+pub amended_place : (xs : List Order) (place : ℕ) (id : List ℕ) (quantity : ℕ) (o : Order)
+    (a : IsAfterAmend xs place id quantity o) → a.was.place ≡ o.place
 amended_place xs place id quantity o a = elim a.is [
   | inl k ↦ ap (λ (w : Order). w.place) k.1
   | inr k ↦ ap (λ (w : Order). w.place) k.1
 ]
 
 -- what holds of each, whatever its id and quantity
-pub all_amended : (P : Order → Type 0) (xs : List Order) (place : ℕ) (id : List ℕ) (quantity : ℕ) → ((o : Order) → P o → P (with_quantity id quantity o)) → All P xs → All P (amended place id quantity xs)
+pub all_amended : (P : Order → Type 0) (xs : List Order) (place : ℕ) (id : List ℕ) (quantity : ℕ)
+    → ((o : Order) → P o → P (with_quantity id quantity o)) → All P xs → All P (amended place id quantity xs)
 all_amended P xs place id quantity keep h = λ k d lt.
     let o = get_or (amended place id quantity xs) k d in
     let a = from_amended xs place id quantity o (Contains-get_or (amended place id quantity xs) k d lt) in
@@ -178,10 +213,12 @@ all_amended P xs place id quantity keep h = λ k d lt.
     ]
 
 -- the order of that place is amended to more than is filled
-pub amended_tradable : (months : ℕ) (xs : List Order) (r : Order) (id : List ℕ) (quantity : ℕ) → IsTradable months xs → Contains xs r → done r < quantity → IsTradable months (amended r.place id quantity xs)
+pub amended_tradable : (months : ℕ) (xs : List Order) (r : Order) (id : List ℕ) (quantity : ℕ) → IsTradable months xs
+    → Contains xs r → done r < quantity → IsTradable months (amended r.place id quantity xs)
 amended_tradable months xs r id quantity t stands more = record {
   small = all_amended HasOrderPrice xs r.place id quantity (λ o h. record { low = h.low; high = h.high }) t.small;
-  listed = all_amended IsNearFirst xs r.place id quantity (λ o h. record { near_before_far = h.near_before_far }) t.listed;
+  listed = all_amended IsNearFirst xs r.place id quantity (λ o h. record { near_before_far = h.near_before_far })
+      t.listed;
   within = all_amended (λ (o : Order). IsInMonths months o.instrument) xs r.place id quantity (λ o h. h) t.within;
   places = λ a b ca cb e.
       let wa = from_amended xs r.place id quantity a ca in
@@ -196,13 +233,16 @@ amended_tradable months xs r id quantity t stands more = record {
       elim a.is [
         | inl e ↦
             let own : a.was ≡ r = t.places a.was r a.stands stands e.0 in
-            let some : 0 < quantity - done a.was = (let m : done a.was < quantity = subst (λ (w : Order). done w < quantity) (sym own) more in omega (arith, m)) in
+            let some : 0 < quantity - done a.was = (let m : done a.was < quantity =
+            subst (λ (w : Order). done w < quantity) (sym own) more in omega (arith, m)) in
             subst (λ (w : Order). 0 < w.leaves) e.1 some
-        | inr e ↦ subst (λ (w : Order). 0 < w.leaves) e.1 (All-contains (λ (w : Order). 0 < w.leaves) xs a.was t.left a.stands)
+        | inr e ↦ subst (λ (w : Order). 0 < w.leaves) e.1 (All-contains (λ (w : Order). 0 < w.leaves) xs a.was t.left
+            a.stands)
       ];
 }
   where
-    both : (a b : Order) (wa : IsAfterAmend xs r.place id quantity a) (wb : IsAfterAmend xs r.place id quantity b) → wa.was ≡ wb.was → a ≡ b
+    both : (a b : Order) (wa : IsAfterAmend xs r.place id quantity a) (wb : IsAfterAmend xs r.place id quantity b)
+        → wa.was ≡ wb.was → a ≡ b
     both a b wa wb same = elim wa.is [
       | inl e ↦ elim wb.is [
         | inl f ↦ sym e.1 ∙ (ap (with_quantity id quantity) same ∙ f.1)

@@ -19,13 +19,15 @@ use Rattle.spread_rules.proofs.clearings.BoughtIsSold.{so_true}
 use Rattle.spread_rules.proofs.ranks.PairsSwitched.{priced}
 use Rattle.spread_match_trading.proofs.turns.StaysAfterAFill.{other_place}
 
-not_first : (s : Side) (I : Instrument) (sb : Side) (B : Instrument) (x y p : ℤ) → implied_price s I s I sb B x y ≡ Some p → ⊥
+not_first : (s : Side) (I : Instrument) (sb : Side) (B : Instrument) (x y p : ℤ)
+    → implied_price s I s I sb B x y ≡ Some p → ⊥
 not_first Buy (Outright m) sb B x y p h = cc
 not_first Buy (Spread i j) sb B x y p h = cc
 not_first Sell (Outright m) sb B x y p h = cc
 not_first Sell (Spread i j) sb B x y p h = cc
 
-not_second : (s : Side) (I : Instrument) (sa : Side) (A : Instrument) (x y p : ℤ) → implied_price s I sa A s I x y ≡ Some p → ⊥
+not_second : (s : Side) (I : Instrument) (sa : Side) (A : Instrument) (x y p : ℤ)
+    → implied_price s I sa A s I x y ≡ Some p → ⊥
 not_second Buy (Outright m) Buy (Outright u) x y p h = cc
 not_second Buy (Outright m) Buy (Spread u v) x y p h = cc
 not_second Buy (Outright m) Sell (Outright u) x y p h = cc
@@ -44,7 +46,8 @@ not_second Sell (Spread i j) Sell (Outright u) x y p h = cc
 not_second Sell (Spread i j) Sell (Spread u v) x y p h = cc
 
 -- the two of a pair are of two queues
-not_both : (s : Side) (I : Instrument) (sa : Side) (A : Instrument) (x y p : ℤ) → implied_price s I sa A sa A x y ≡ Some p → ⊥
+not_both : (s : Side) (I : Instrument) (sa : Side) (A : Instrument) (x y p : ℤ)
+    → implied_price s I sa A sa A x y ≡ Some p → ⊥
 not_both Buy (Outright m) Buy (Outright u) x y p h = cc
 not_both Buy (Outright m) Buy (Spread u v) x y p h = cc
 not_both Buy (Outright m) Sell (Outright u) x y p h = cc
@@ -82,13 +85,16 @@ map_push f [] y = refl
 map_push f (x ∷ xs) y = ap (λ (ys : List Order). f x ∷ ys) (map_push f xs y)
 
 pub fill_own : (q : ℕ) (xs : List Order) (m own : Order) (b : Bool) → own.place ≢ m.place →
-    cond b (removed m.place (xs ++ own ∷ [])) (reduced m.place q (xs ++ own ∷ [])) ≡ cond b (removed m.place xs) (reduced m.place q xs) ++ own ∷ []
+    cond b (removed m.place (xs ++ own ∷ [])) (reduced m.place q (xs ++ own ∷ [])) ≡ cond b (removed m.place xs)
+    (reduced m.place q xs) ++ own ∷ []
 fill_own q xs m own true h =
     let e = other_place m.place own.place h in
-    filter-append (λ (o : Order). not (o.place == m.place)) xs (own ∷ []) ∙ ap (λ (t : Bool). removed m.place xs ++ cond (not t) (own ∷ []) []) e
+    filter-append (λ (o : Order). not (o.place == m.place)) xs (own ∷ [])
+    ∙ ap (λ (t : Bool). removed m.place xs ++ cond (not t) (own ∷ []) []) e
 fill_own q xs m own false h =
     let e = other_place m.place own.place h in
-    map_push (with_less_left m.place q) xs own ∙ ap (λ (t : Bool). reduced m.place q xs ++ cond t (record own { leaves = own.leaves - q }) own ∷ []) e
+    map_push (with_less_left m.place q) xs own ∙ ap (λ (t : Bool). reduced m.place q xs
+    ++ cond t (record own { leaves = own.leaves - q }) own ∷ []) e
 
 module _ (on : Pairs) where
   -- own is in no candidate
@@ -103,20 +109,26 @@ module _ (on : Pairs) where
       let s : a.side ≡ n.side = sym (ap (λ (w : Order). w.side) e) ∙ l.side in
       let i : a.instrument ≡ n.instrument = sym (ap (λ (w : Order). w.instrument) e) ∙ l.instrument in
       not_first n.side n.instrument b.side b.instrument a.price b.price p
-      (subst (λ (x : Side). implied_price n.side n.instrument x n.instrument b.side b.instrument a.price b.price ≡ Some p) s
-      (subst (λ (x : Instrument). implied_price n.side n.instrument a.side x b.side b.instrument a.price b.price ≡ Some p) i (priced on n a b p h)))
+      (subst (λ (x : Side). implied_price n.side n.instrument x n.instrument b.side b.instrument a.price b.price ≡ Some
+      p) s
+      (subst (λ (x : Instrument). implied_price n.side n.instrument a.side x b.side b.instrument a.price b.price ≡ Some
+      p) i (priced on n a b p h)))
 
   pub own_second : (n own a b : Order) (p : ℤ) → IsLike n own → own ≡ b → price_of on n (Implied a b) ≡ Some p → ⊥
   own_second n own a b p l e h =
       let s : b.side ≡ n.side = sym (ap (λ (w : Order). w.side) e) ∙ l.side in
       let i : b.instrument ≡ n.instrument = sym (ap (λ (w : Order). w.instrument) e) ∙ l.instrument in
       not_second n.side n.instrument a.side a.instrument a.price b.price p
-      (subst (λ (x : Side). implied_price n.side n.instrument a.side a.instrument x n.instrument a.price b.price ≡ Some p) s
-      (subst (λ (x : Instrument). implied_price n.side n.instrument a.side a.instrument b.side x a.price b.price ≡ Some p) i (priced on n a b p h)))
+      (subst (λ (x : Side). implied_price n.side n.instrument a.side a.instrument x n.instrument a.price b.price ≡ Some
+      p) s
+      (subst (λ (x : Instrument). implied_price n.side n.instrument a.side a.instrument b.side x a.price b.price ≡ Some
+      p) i (priced on n a b p h)))
 
   -- whoever is a candidate is one of the others
-  among_others : (n own : Order) (xs : List Order) (p : Counterparty) (price : ℤ) → IsLike n own → price_of on n p ≡ Some price → AllStandIn (xs ++ own ∷ []) p → AllStandIn xs p
-  among_others n own xs (Direct o) price l h c = elim (Contains-push_cases xs own o c) [ inl d ↦ d | inr e ↦ absurd (own_single n own o price l e h) ]
+  among_others : (n own : Order) (xs : List Order) (p : Counterparty) (price : ℤ) → IsLike n own
+      → price_of on n p ≡ Some price → AllStandIn (xs ++ own ∷ []) p → AllStandIn xs p
+  among_others n own xs (Direct o) price l h c = elim (Contains-push_cases xs own o c)
+      [ inl d ↦ d | inr e ↦ absurd (own_single n own o price l e h) ]
   among_others n own xs (Implied a b) price l h c = (
     elim (Contains-push_cases xs own a c.0) [ inl d ↦ d | inr e ↦ absurd (own_first n own a b price l e h) ],
     elim (Contains-push_cases xs own b c.1) [ inl d ↦ d | inr e ↦ absurd (own_second n own a b price l e h) ],
@@ -125,17 +137,30 @@ module _ (on : Pairs) where
   wider : (n own : Order) (xs : List Order) (q : Candidate) → IsEligible on n xs q → IsEligible on n (xs ++ own ∷ []) q
   wider n own xs q e = record { stands = with_own own xs q.counterparty e.stands; meets = e.meets; within = e.within }
 
-  narrower : (n own : Order) (xs : List Order) (q : Candidate) → IsLike n own → IsEligible on n (xs ++ own ∷ []) q → IsEligible on n xs q
-  narrower n own xs q l e = record { stands = among_others n own xs q.counterparty q.price l e.meets e.stands; meets = e.meets; within = e.within }
+  narrower : (n own : Order) (xs : List Order) (q : Candidate) → IsLike n own → IsEligible on n (xs ++ own ∷ []) q
+      → IsEligible on n xs q
+  narrower n own xs q l e = record {
+    stands = among_others n own xs q.counterparty q.price l e.meets e.stands;
+    meets =
+        e.meets;
+    within = e.within;
+  }
 
   -- the search over the book finds what a search without the new order finds
-  pub best_of_others : (n own : Order) (xs : List Order) (r : Option Candidate) → IsLike n own → IsBest on n (xs ++ own ∷ []) r → IsBest on n xs r
+  pub best_of_others : (n own : Order) (xs : List Order) (r : Option Candidate) → IsLike n own
+      → IsBest on n (xs ++ own ∷ []) r → IsBest on n xs r
   best_of_others n own xs None l h = λ q e. h q (wider n own xs q e)
-  best_of_others n own xs (Some o) l h = record { eligible = narrower n own xs o l h.eligible; least = λ q e. h.least q (wider n own xs q e) }
+  best_of_others n own xs (Some o) l h = record {
+    eligible = narrower n own xs o l h.eligible;
+    least =
+        λ q e. h.least q (wider n own xs q e);
+  }
 
-  pub are_apart : (n : Order) (xs : List Order) (p : Counterparty) (price : ℤ) → PlacesDiffer xs → AllStandIn xs p → price_of on n p ≡ Some price → AreApart p
+  pub are_apart : (n : Order) (xs : List Order) (p : Counterparty) (price : ℤ) → PlacesDiffer xs → AllStandIn xs p
+      → price_of on n p ≡ Some price → AreApart p
   are_apart n xs (Direct o) price d c h = tt
   are_apart n xs (Implied a b) price d c h = λ e.
       let same = d a b c.0 c.1 e in
       not_both n.side n.instrument a.side a.instrument a.price b.price price
-      (subst (λ (o : Order). implied_price n.side n.instrument a.side a.instrument o.side o.instrument a.price b.price ≡ Some price) (sym same) (priced on n a b price h))
+      (subst (λ (o : Order). implied_price n.side n.instrument a.side a.instrument o.side o.instrument a.price b.price ≡
+      Some price) (sym same) (priced on n a b price h))

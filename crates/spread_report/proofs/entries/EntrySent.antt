@@ -37,7 +37,9 @@ err_sent P (Err fault) sent = absurd (false≢true (sym sent))
 
 -- ---- what a Logon opens, and what is sent then
 
-entry_split : (rules : Rules) (place session : ℕ) (v : Event) (outcome : Outcome) (fills : List Fill) → event_messages rules place session v outcome fills ≡ opening session v ++ noted_messages rules place session v outcome fills
+entry_split : (rules : Rules) (place session : ℕ) (v : Event) (outcome : Outcome) (fills : List Fill)
+    → event_messages rules place session v outcome fills ≡ opening session v
+    ++ noted_messages rules place session v outcome fills
 entry_split rules place session (Logon client host beat) outcome fills = refl
 entry_split rules place session (New t) outcome fills = refl
 entry_split rules place session (Cancel id original) outcome fills = refl
@@ -52,7 +54,8 @@ either : (b : Bool) → (b ≡ true) ⊎ (b ≡ false)
 either true = inl refl
 either false = inr refl
 
-none_sent : (stamp : List ℕ) (o : Option CompIds) (next : ℕ) (ids : CompIds) → step_texts stamp o next (logged_on ids) ≡ []
+none_sent : (stamp : List ℕ) (o : Option CompIds) (next : ℕ) (ids : CompIds)
+    → step_texts stamp o next (logged_on ids) ≡ []
 none_sent stamp None next ids = refl
 none_sent stamp (Some old) next ids = refl
 
@@ -64,7 +67,11 @@ record Opened (stamp : List ℕ) (s : ℕ) (l : OutboundSession) (session : ℕ)
 
 opened : (stamp : List ℕ) (s : ℕ) (l : OutboundSession) (session : ℕ) (v : Event) → Opened stamp s l session v
 opened stamp s l session (Logon client host beat) = elim (either (session == s)) [
-  | inl e ↦ record { texts = rw (e, none_sent stamp l.comp_ids l.next (record { client = client; host = host })) refl; after = rw e refl; spent = rw e refl }
+  | inl e ↦ record {
+    texts = rw (e, none_sent stamp l.comp_ids l.next (record { client = client; host = host })) refl;
+    after = rw e refl;
+    spent = rw e refl;
+  }
   | inr e ↦ record { texts = rw e refl; after = rw e refl; spent = rw e refl }
 ]
 opened stamp s l session (New t) = record { texts = refl; after = refl; spent = refl }
@@ -117,34 +124,43 @@ module _ (stamp : List ℕ) (rules : Rules) (s : ℕ) (l : OutboundSession) (w :
       ∙ ap (λ (o : OutboundSession). spends s o noted) known.after
 
 -- the sessions `a` before the entry, `k` with the CompIDs that it brings, and `b` after it
-module _ {A T : Type 0} (stamp : List ℕ) (rules : Rules) (a k b : List OutboundSession) (x y : List (Vec ℕ A)) (w : AppliedEntry)
-    (is_noted : (s : ℕ) → s < 16 → outbound_at k s ≡ outbound_at_entry s (outbound_at a s) w.entry.session w.entry.event) where
+module _ {A T : Type 0} (stamp : List ℕ) (rules : Rules) (a k b : List OutboundSession) (x y : List (Vec ℕ A))
+    (w : AppliedEntry)
+    (is_noted : (s : ℕ) → s < 16 → outbound_at k s ≡ outbound_at_entry s (outbound_at a s) w.entry.session
+    w.entry.event) where
   pub sent_bytes : (r : Result T DeskFault) → SendResult stamp k b x y (noted_of rules w) r
       → OnOk r ((s : ℕ) → s < 16 → bytes_of y s ≡ bytes_of x s ++ entry_bytes stamp rules s (outbound_at a s) w)
   sent_bytes (Ok t) sent = λ s below.
       sent.bytes s below
-      ∙ ap (λ (t : List ℕ). bytes_of x s ++ t) (ap (λ (o : OutboundSession). messages_bytes stamp s o (noted_of rules w)) (is_noted s below) ∙ sym (entry_bytes_is stamp rules s (outbound_at a s) w))
+      ∙ ap (λ (t : List ℕ). bytes_of x s ++ t) (ap (λ (o : OutboundSession). messages_bytes stamp s o
+      (noted_of rules w)) (is_noted s below) ∙ sym (entry_bytes_is stamp rules s (outbound_at a s) w))
   sent_bytes (Err fault) sent = tt
 
   pub sent_outbound : (r : Result T DeskFault) → SendResult stamp k b x y (noted_of rules w) r
       → OnOk r ((s : ℕ) → s < 16 → outbound_at b s ≡ entry_outbound rules s (outbound_at a s) w)
   sent_outbound (Ok t) sent = λ s below.
-      sent.outbound s below ∙ (ap (λ (o : OutboundSession). outbound_after s o (noted_of rules w)) (is_noted s below) ∙ sym (entry_outbound_is stamp rules s (outbound_at a s) w))
+      sent.outbound s below ∙ (ap (λ (o : OutboundSession). outbound_after s o (noted_of rules w)) (is_noted s below)
+      ∙ sym (entry_outbound_is stamp rules s (outbound_at a s) w))
   sent_outbound (Err fault) sent = tt
 
   pub sent_unspent : (r : Result T DeskFault) → SendResult stamp k b x y (noted_of rules w) r
       → OnOk r ((s : ℕ) → s < 16 → entry_spends rules s (outbound_at a s) w ≡ false)
   sent_unspent (Ok t) sent = λ s below.
-      entry_spends_is stamp rules s (outbound_at a s) w ∙ (ap (λ (o : OutboundSession). spends s o (noted_of rules w)) (sym (is_noted s below)) ∙ sent.unspent s below)
+      entry_spends_is stamp rules s (outbound_at a s) w ∙
+      (ap (λ (o : OutboundSession). spends s o (noted_of rules w)) (sym (is_noted s below)) ∙ sent.unspent s below)
   sent_unspent (Err fault) sent = tt
 
   pub sent_whole : (r : Result T DeskFault) → SendResult stamp k b x y (noted_of rules w) r
-      → OnOk r ((s : ℕ) → s < 16 → IsRow (entry_texts stamp rules s (outbound_at a s) w) (entry_bytes stamp rules s (outbound_at a s) w))
+      → OnOk r ((s : ℕ) → s < 16 → IsRow (entry_texts stamp rules s (outbound_at a s) w)
+      (entry_bytes stamp rules s (outbound_at a s) w))
   sent_whole (Ok t) sent = λ s below.
-      subst (λ (ts : List (List ℕ)). IsRow ts (concat ts)) (ap (λ (o : OutboundSession). texts_to stamp s o (noted_of rules w)) (is_noted s below) ∙ sym (entry_texts_is stamp rules s (outbound_at a s) w)) (sent.row s below)
+      subst (λ (ts : List (List ℕ)). IsRow ts (concat ts))
+      (ap (λ (o : OutboundSession). texts_to stamp s o (noted_of rules w)) (is_noted s below)
+      ∙ sym (entry_texts_is stamp rules s (outbound_at a s) w)) (sent.row s below)
   sent_whole (Err fault) sent = tt
 
-  pub sent_spent : (r : Result T DeskFault) → SendResult stamp k b x y (noted_of rules w) r → IsErrOf r NumbersSpent → RunsOut rules a w
+  pub sent_spent : (r : Result T DeskFault) → SendResult stamp k b x y (noted_of rules w) r → IsErrOf r NumbersSpent
+      → RunsOut rules a w
   sent_spent (Ok t) sent is = absurd (let both : Ok t ≡ Err NumbersSpent = is in cc)
   sent_spent (Err NoMemory) sent is = absurd (let both : Err NoMemory ≡ Err NumbersSpent = is in cc)
   sent_spent (Err NumbersSpent) sent is =
@@ -153,5 +169,6 @@ module _ {A T : Type 0} (stamp : List ℕ) (rules : Rules) (a k b : List Outboun
         below = out.below;
         spent =
             entry_spends_is stamp rules out.session (outbound_at a out.session) w
-            ∙ (ap (λ (o : OutboundSession). spends out.session o (noted_of rules w)) (sym (is_noted out.session out.below)) ∙ out.spent);
+            ∙ (ap (λ (o : OutboundSession). spends out.session o (noted_of rules w))
+            (sym (is_noted out.session out.below)) ∙ out.spent);
       }

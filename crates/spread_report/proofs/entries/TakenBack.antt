@@ -14,7 +14,8 @@ use Rattle.spread_report_outbound.specs.code.Sending.{OnlyAppended, SendResult}
 use Rattle.spread_report_outbound.specs.code.TakingBack.{SentSince}
 use Rattle.spread_report.specs.code.PerSession.{outbound_at_entry}
 
-entry_other : (s : ℕ) (l : OutboundSession) (session : ℕ) (v : Event) → session ≢ s → outbound_at_entry s l session v ≡ l
+entry_other : (s : ℕ) (l : OutboundSession) (session : ℕ) (v : Event) → session ≢ s
+    → outbound_at_entry s l session v ≡ l
 entry_other s l session (Logon client host beat) apart = rw (ne_eqb session s apart) refl
 entry_other s l session (New t) apart = refl
 entry_other s l session (Cancel id original) apart = refl
@@ -26,19 +27,24 @@ entry_other s l session (Reject n reason) apart = refl
 entry_other s l session (Close reason) apart = refl
 
 -- the CompIDs that the entry brings are noted, and to lists something is appended
-pub sent_since : {A : Type 0} (before noted now : OutboundState) (x y : List (Vec ℕ A)) (session : ℕ) (v : Event) → noted.stamp ≡ before.stamp → now.stamp ≡ noted.stamp
-    → ((s : ℕ) → s < 16 → outbound_at noted.sessions s ≡ outbound_at_entry s (outbound_at before.sessions s) session v) → OnlyAppended noted.sessions now.sessions x y
+pub sent_since : {A : Type 0} (before noted now : OutboundState) (x y : List (Vec ℕ A)) (session : ℕ) (v : Event)
+    → noted.stamp ≡ before.stamp → now.stamp ≡ noted.stamp
+    → ((s : ℕ) → s < 16 → outbound_at noted.sessions s ≡ outbound_at_entry s (outbound_at before.sessions s) session v)
+    → OnlyAppended noted.sessions now.sessions x y
     → SentSince session before now (texts_of x) (texts_of y)
 sent_since before noted now x y session v p q is_noted grown = record {
   stamp = q ∙ p;
   comp_ids = λ s below apart.
       grown.comp_ids s below
-      ∙ ap (λ (l : OutboundSession). l.comp_ids) (is_noted s below ∙ entry_other s (outbound_at before.sessions s) session v (λ e. apart (sym e)));
+      ∙ ap (λ (l : OutboundSession). l.comp_ids) (is_noted s below
+      ∙ entry_other s (outbound_at before.sessions s) session v (λ e. apart (sym e)));
   begins = grown.begins;
 }
 
 -- what holds after a refusal, holds where there was one
-pub after_refusal : {A T : Type 0} (P : Type 0) (stamp : List ℕ) (a b : List OutboundSession) (x y : List (Vec ℕ A)) (ms : List AddressedStep) (r : Result T DeskFault) → SendResult stamp a b x y ms r → (OnlyAppended a b x y → P) → OnErr r P
+pub after_refusal : {A T : Type 0} (P : Type 0) (stamp : List ℕ) (a b : List OutboundSession) (x y : List (Vec ℕ A))
+    (ms : List AddressedStep) (r : Result T DeskFault) → SendResult stamp a b x y ms r → (OnlyAppended a b x y → P)
+    → OnErr r P
 after_refusal P stamp a b x y ms (Ok t) w f = tt
 after_refusal P stamp a b x y ms (Err NoMemory) w f = f w
 after_refusal P stamp a b x y ms (Err NumbersSpent) w f = f w.0

@@ -43,7 +43,8 @@ pub id_plain : (t : List ℕ) → is_id t ≡ true → is_plain t ≡ true
 id_plain t e = (and_parts (nat_le 1 (length t) && nat_le (length t) 32) (is_plain t) e).1
 
 pub id_short : (t : List ℕ) → is_id t ≡ true → length t ≤ 32
-id_short t e = leb-true (length t) 32 (and_parts (nat_le 1 (length t)) (nat_le (length t) 32) (and_parts (nat_le 1 (length t) && nat_le (length t) 32) (is_plain t) e).0).1
+id_short t e = leb-true (length t) 32 (and_parts (nat_le 1 (length t)) (nat_le (length t) 32)
+    (and_parts (nat_le 1 (length t) && nat_le (length t) 32) (is_plain t) e).0).1
 
 -- ---- contents
 
@@ -68,7 +69,8 @@ price_fits tag z low high h = record { fits = (low, high, h); short = tt }
 pair_fits : (tag a b : ℕ) → 1 ≤ tag → tag < 1000000000 → a < 2 ^ 64 → b < 2 ^ 64 → FitsReport (pair_field tag a b)
 pair_fits tag a b low high h k = record { fits = (low, high, (h, k)); short = tt }
 
-pub all_append : (ms ns : List AddressedStep) → AllByRecursion FitsAddressed ms → AllByRecursion FitsAddressed ns → AllByRecursion FitsAddressed (ms ++ ns)
+pub all_append : (ms ns : List AddressedStep) → AllByRecursion FitsAddressed ms → AllByRecursion FitsAddressed ns
+    → AllByRecursion FitsAddressed (ms ++ ns)
 all_append [] ns a b = b
 all_append (m ∷ ms) ns a b = (a.0, all_append ms ns a.1 b)
 
@@ -114,7 +116,8 @@ option_length : (o : Option Field) → length (option_to_list o) ≤ 1
 option_length None = omega arith
 option_length (Some f) = omega arith
 
-fields_both : (fs gs : List Field) → AllByRecursion FitsReport fs → AllByRecursion FitsReport gs → AllByRecursion FitsReport (fs ++ gs)
+fields_both : (fs gs : List Field) → AllByRecursion FitsReport fs → AllByRecursion FitsReport gs
+    → AllByRecursion FitsReport (fs ++ gs)
 fields_both [] gs a b = b
 fields_both (f ∷ fs) gs a b = (a.0, fields_both fs gs a.1 b)
 
@@ -153,33 +156,46 @@ side_small Sell = omega arith
 
 module _ (place index : ℕ) (r : ExecutionReport) where
   abbrev id_part : List Field
-  id_part = number_field 37 r.order_id ∷ text_field 11 r.cl_ord_id ∷ option_to_list (option_map (text_field 41) r.orig_cl_ord_id)
+  id_part = number_field 37 r.order_id ∷ text_field 11 r.cl_ord_id ∷ option_to_list
+      (option_map (text_field 41) r.orig_cl_ord_id)
 
   abbrev status_part : List Field
-  status_part = pair_field 17 place index ∷ number_field 20 0 ∷ number_field 150 r.ord_status ∷ number_field 39 r.ord_status ∷ option_to_list (option_map (number_field 103) r.ord_rej_reason)
+  status_part = pair_field 17 place index ∷ number_field 20 0 ∷ number_field 150 r.ord_status ∷ number_field 39
+      r.ord_status ∷ option_to_list (option_map (number_field 103) r.ord_rej_reason)
 
   abbrev order_part : List Field
-  order_part = text_field 55 r.symbol ∷ number_field 54 (side_code r.side) ∷ number_field 38 r.order_qty ∷ option_to_list (shares_of r.traded)
+  order_part = text_field 55 r.symbol ∷ number_field 54 (side_code r.side) ∷ number_field 38 r.order_qty ∷
+      option_to_list (shares_of r.traded)
 
   abbrev px_part : List Field
   px_part = option_to_list (px_of r.traded)
 
   abbrev left_part : List Field
-  left_part = number_field 151 r.leaves_qty ∷ number_field 14 r.cum_qty ∷ number_field 6 0 ∷ option_to_list (legs_of r.traded)
+  left_part = number_field 151 r.leaves_qty ∷ number_field 14 r.cum_qty ∷ number_field 6 0 ∷ option_to_list
+      (legs_of r.traded)
 
   abbrev all_parts : List Field
   all_parts = id_part ++ status_part ++ order_part ++ px_part ++ left_part
 
   report_fit : place < 2 ^ 64 → index < 2 ^ 64 → ReportFits r → AllByRecursion FitsReport all_parts
   report_fit p i h =
-      let id_fits : AllByRecursion FitsReport id_part = (number_fits 37 r.order_id (omega arith) (omega arith) h.order, (text_fits 11 r.cl_ord_id (omega arith) (omega arith) h.id, option_fits (option_map (text_field 41) r.orig_cl_ord_id) (original_fits r.orig_cl_ord_id h.original))) in
+      let id_fits : AllByRecursion FitsReport id_part = (
+        number_fits 37 r.order_id (omega arith) (omega arith) h.order,
+        (
+          text_fits 11 r.cl_ord_id (omega arith) (omega arith) h.id,
+          option_fits (option_map (text_field 41) r.orig_cl_ord_id) (original_fits r.orig_cl_ord_id h.original),
+        ),
+      ) in
       let status_fits : AllByRecursion FitsReport status_part = (
         pair_fits 17 place index (omega arith) (omega arith) p i,
         (
           number_fits 20 0 (omega arith) (omega arith) (omega arith),
           (
             number_fits 150 r.ord_status (omega arith) (omega arith) h.status,
-            (number_fits 39 r.ord_status (omega arith) (omega arith) h.status, option_fits (option_map (number_field 103) r.ord_rej_reason) (reason_fits r.ord_rej_reason h.reason)),
+            (
+              number_fits 39 r.ord_status (omega arith) (omega arith) h.status,
+              option_fits (option_map (number_field 103) r.ord_rej_reason) (reason_fits r.ord_rej_reason h.reason),
+            ),
           ),
         ),
       ) in
@@ -187,15 +203,26 @@ module _ (place index : ℕ) (r : ExecutionReport) where
         text_fits 55 r.symbol (omega arith) (omega arith) h.symbol,
         (
           number_fits 54 (side_code r.side) (omega arith) (omega arith) (side_small r.side),
-          (number_fits 38 r.order_qty (omega arith) (omega arith) h.quantity, option_fits (shares_of r.traded) (shares_fit r.traded h.traded)),
+          (
+            number_fits 38 r.order_qty (omega arith) (omega arith) h.quantity,
+            option_fits (shares_of r.traded) (shares_fit r.traded h.traded),
+          ),
         ),
       ) in
       let left_fits : AllByRecursion FitsReport left_part = (
         number_fits 151 r.leaves_qty (omega arith) (omega arith) h.leaves,
-        (number_fits 14 r.cum_qty (omega arith) (omega arith) h.filled, (number_fits 6 0 (omega arith) (omega arith) (omega arith), option_fits (legs_of r.traded) (legs_fit r.traded h.traded))),
+        (
+          number_fits 14 r.cum_qty (omega arith) (omega arith) h.filled,
+          (
+            number_fits 6 0 (omega arith) (omega arith) (omega arith),
+            option_fits (legs_of r.traded) (legs_fit r.traded h.traded),
+          ),
+        ),
       ) in
       fields_both (id_part ++ status_part ++ order_part ++ px_part) left_part
-      (fields_both (id_part ++ status_part ++ order_part) px_part (fields_both (id_part ++ status_part) order_part (fields_both id_part status_part id_fits status_fits) order_fits) (option_fits (px_of r.traded) (px_fits r.traded h.traded)))
+      (fields_both (id_part ++ status_part ++ order_part) px_part
+      (fields_both (id_part ++ status_part) order_part (fields_both id_part status_part id_fits status_fits)
+      order_fits) (option_fits (px_of r.traded) (px_fits r.traded h.traded)))
       left_fits
 
   report_length : length all_parts ≤ 18
@@ -208,18 +235,24 @@ module _ (place index : ℕ) (r : ExecutionReport) where
       let one = length-append id_part status_part in
       let two = length-append (id_part ++ status_part) order_part in
       let three = length-append (id_part ++ status_part ++ order_part) px_part in
-      let all : length all_parts ≡ length (id_part ++ status_part ++ order_part ++ px_part) + length left_part = length-append (id_part ++ status_part ++ order_part ++ px_part) left_part in
+      let all : length all_parts ≡ length (id_part ++ status_part ++ order_part ++ px_part) + length left_part =
+      length-append (id_part ++ status_part ++ order_part ++ px_part) left_part in
       omega (arith, a, b, d, e, f, one, two, three, all)
 
   report_in_range : place < 2 ^ 64 → index < 2 ^ 64 → ReportFits r → FitsAddressed (report place index r)
   report_in_range p i h = (omega arith, report_fit p i h, report_length)
 
 -- reports in order
-reports_in_range : (place i : ℕ) (rs : List ExecutionReport) → place < 2 ^ 64 → i + length rs < 2 ^ 64 → AllByRecursion ReportFits rs → AllByRecursion FitsAddressed (reports_from place i rs)
+reports_in_range : (place i : ℕ) (rs : List ExecutionReport) → place < 2 ^ 64 → i + length rs < 2 ^ 64
+    → AllByRecursion ReportFits rs → AllByRecursion FitsAddressed (reports_from place i rs)
 reports_in_range place i [] p few fit = tt
-reports_in_range place i (r ∷ rs) p few fit = (report_in_range place i r p (omega (arith, few)) fit.0, reports_in_range place (i + 1) rs p (omega (arith, few)) fit.1)
+reports_in_range place i (r ∷ rs) p few fit = (
+  report_in_range place i r p (omega (arith, few)) fit.0,
+  reports_in_range place (i + 1) rs p (omega (arith, few)) fit.1,
+)
 
-more_reports : (rs qs : List ExecutionReport) → AllByRecursion ReportFits rs → AllByRecursion ReportFits qs → AllByRecursion ReportFits (rs ++ qs)
+more_reports : (rs qs : List ExecutionReport) → AllByRecursion ReportFits rs → AllByRecursion ReportFits qs
+    → AllByRecursion ReportFits (rs ++ qs)
 more_reports [] qs a b = b
 more_reports (r ∷ rs) qs a b = (a.0, more_reports rs qs a.1 b)
 
@@ -230,8 +263,10 @@ module _ (rules : Rules) (names : AreNames rules) where
   symbol_fits (Outright m) h = names.ids m h
   symbol_fits (Spread i j) h =
       let near : i < month_count rules = omega (arith, h.0, h.1) in
-      joined_id (get_or (names_of rules) i []) (get_or (names_of rules) j []) (omega (arith, names.short i near, names.short j h.1))
-      (id_plain (get_or (names_of rules) i []) (names.ids i near)) (id_plain (get_or (names_of rules) j []) (names.ids j h.1))
+      joined_id (get_or (names_of rules) i []) (get_or (names_of rules) j [])
+      (omega (arith, names.short i near, names.short j h.1))
+      (id_plain (get_or (names_of rules) i []) (names.ids i near))
+      (id_plain (get_or (names_of rules) j []) (names.ids j h.1))
 
   near_listed : (i j : ℕ) → IsListed rules (Spread i j) → IsListed rules (Outright i)
   near_listed i j h = omega (arith, h.0, h.1)
@@ -242,7 +277,8 @@ module _ (rules : Rules) (names : AreNames rules) where
   status_small true = omega arith
   status_small false = omega arith
 
-  fill_fits : (multi_leg : ℕ) (f : Fill) → multi_leg < 2 ^ 64 → FillInRange rules f → ReportFits (fill_report rules multi_leg f)
+  fill_fits : (multi_leg : ℕ) (f : Fill) → multi_leg < 2 ^ 64 → FillInRange rules f
+      → ReportFits (fill_report rules multi_leg f)
   fill_fits multi_leg f small h = record {
     order = h.order;
     id = h.id;
@@ -257,7 +293,8 @@ module _ (rules : Rules) (names : AreNames rules) where
   }
 
   -- a leg of a fill in range
-  leg_in_range : (f : Fill) (i : Instrument) (side : Side) (price : ℤ) → FillInRange rules f → IsListed rules i → unsigned_abs price < 2 ^ 64
+  leg_in_range : (f : Fill) (i : Instrument) (side : Side) (price : ℤ) → FillInRange rules f → IsListed rules i
+      → unsigned_abs price < 2 ^ 64
       → FillInRange rules (record f { instrument = i; side = side; price = price })
   leg_in_range f i side price h listed small = record {
     listed = listed;
@@ -271,19 +308,27 @@ module _ (rules : Rules) (names : AreNames rules) where
     far = h.far;
   }
 
-  reports_fit : (k : Instrument) (f : Fill) → IsListed rules k → FillInRange rules f → AllByRecursion ReportFits (fill_reports rules f k)
+  reports_fit : (k : Instrument) (f : Fill) → IsListed rules k → FillInRange rules f
+      → AllByRecursion ReportFits (fill_reports rules f k)
   reports_fit (Outright m) f listed h = (fill_fits 1 f (omega arith) h, tt)
   reports_fit (Spread a b) f listed h = (
     fill_fits 3 f (omega arith) h,
     (
-      fill_fits 2 (record f { instrument = Outright a; price = f.near }) (omega arith) (leg_in_range f (Outright a) f.side f.near h (near_listed a b listed) h.near),
-      (fill_fits 2 (record f { instrument = Outright b; side = other_side f.side; price = f.far }) (omega arith) (leg_in_range f (Outright b) (other_side f.side) f.far h listed.1 h.far), tt),
+      fill_fits 2 (record f { instrument = Outright a; price = f.near }) (omega arith)
+          (leg_in_range f (Outright a) f.side f.near h (near_listed a b listed) h.near),
+      (
+        fill_fits 2 (record f { instrument = Outright b; side = other_side f.side; price = f.far }) (omega arith)
+            (leg_in_range f (Outright b) (other_side f.side) f.far h listed.1 h.far),
+        tt,
+      ),
     ),
   )
 
-  fills_fit : (fs : List Fill) → AllByRecursion (FillInRange rules) fs → AllByRecursion ReportFits (fills_reports rules fs)
+  fills_fit : (fs : List Fill) → AllByRecursion (FillInRange rules) fs
+      → AllByRecursion ReportFits (fills_reports rules fs)
   fills_fit [] h = tt
-  fills_fit (f ∷ fs) h = more_reports (fill_reports rules f f.instrument) (fills_reports rules fs) (reports_fit f.instrument f h.0.listed h.0) (fills_fit fs h.1)
+  fills_fit (f ∷ fs) h = more_reports (fill_reports rules f f.instrument) (fills_reports rules fs)
+      (reports_fit f.instrument f h.0.listed h.0) (fills_fit fs h.1)
 
   count_small : (k : Instrument) → report_count k ≤ 3
   count_small (Outright m) = omega arith
@@ -312,7 +357,8 @@ module _ (rules : Rules) (names : AreNames rules) where
     filled = omega arith;
   }
 
-  rejected_fits : (session place : ℕ) (t : Ticket) (reason : ℕ) → place < 2 ^ 64 → FitsTicket t → reason < 2 ^ 64 → ReportFits (rejected_report session place t reason)
+  rejected_fits : (session place : ℕ) (t : Ticket) (reason : ℕ) → place < 2 ^ 64 → FitsTicket t → reason < 2 ^ 64
+      → ReportFits (rejected_report session place t reason)
   rejected_fits session place t reason p h n = record {
     order = p;
     id = h.id;
@@ -326,7 +372,8 @@ module _ (rules : Rules) (names : AreNames rules) where
     filled = omega arith;
   }
 
-  ended_fits : (session place : ℕ) (t : Ticket) (left : ℕ) → place < 2 ^ 64 → FitsTicket t → ReportFits (ended_report session place t left)
+  ended_fits : (session place : ℕ) (t : Ticket) (left : ℕ) → place < 2 ^ 64 → FitsTicket t
+      → ReportFits (ended_report session place t left)
   ended_fits session place t left p h = record {
     order = p;
     id = h.id;
@@ -340,7 +387,8 @@ module _ (rules : Rules) (names : AreNames rules) where
     filled = omega (arith, h.quantity);
   }
 
-  cancelled_fits : (session : ℕ) (id original : List ℕ) (o : Order) → is_id id ≡ true → is_id original ≡ true → IsListed rules o.instrument → o.place < 2 ^ 64 → o.quantity < 2 ^ 64
+  cancelled_fits : (session : ℕ) (id original : List ℕ) (o : Order) → is_id id ≡ true → is_id original ≡ true
+      → IsListed rules o.instrument → o.place < 2 ^ 64 → o.quantity < 2 ^ 64
       → ReportFits (cancelled_report (symbol_of rules o.instrument) session id original o)
   cancelled_fits session id original o e d listed op oq = record {
     order = op;
@@ -355,7 +403,8 @@ module _ (rules : Rules) (names : AreNames rules) where
     filled = omega (arith, oq);
   }
 
-  replaced_fits : (session : ℕ) (id original : List ℕ) (o : Order) → is_id id ≡ true → is_id original ≡ true → IsListed rules o.instrument → o.place < 2 ^ 64 → o.quantity < 2 ^ 64 → o.leaves < 2 ^ 64
+  replaced_fits : (session : ℕ) (id original : List ℕ) (o : Order) → is_id id ≡ true → is_id original ≡ true
+      → IsListed rules o.instrument → o.place < 2 ^ 64 → o.quantity < 2 ^ 64 → o.leaves < 2 ^ 64
       → ReportFits (replaced_report (symbol_of rules o.instrument) session id original o)
   replaced_fits session id original o e d listed op oq ol = record {
     order = op;
@@ -381,30 +430,40 @@ module _ (rules : Rules) (names : AreNames rules) where
   one_few : (fs : List Fill) (r : ExecutionReport) → ReportFits r → AreFew fs (r ∷ [])
   one_few fs r h = record { all = (h, tt); few = omega arith }
 
-  with_fills : (fs : List Fill) (r : ExecutionReport) → ReportFits r → AllByRecursion (FillInRange rules) fs → AreFew fs (r ∷ fills_reports rules fs)
+  with_fills : (fs : List Fill) (r : ExecutionReport) → ReportFits r → AllByRecursion (FillInRange rules) fs
+      → AreFew fs (r ∷ fills_reports rules fs)
   with_fills fs r h fits = record { all = (h, fills_fit fs fits); few = omega (arith, fills_few fs) }
 
-  with_end : (fs : List Fill) (r q : ExecutionReport) → ReportFits r → ReportFits q → AllByRecursion (FillInRange rules) fs → AreFew fs (r ∷ (fills_reports rules fs ++ q ∷ []))
+  with_end : (fs : List Fill) (r q : ExecutionReport) → ReportFits r → ReportFits q
+      → AllByRecursion (FillInRange rules) fs → AreFew fs (r ∷ (fills_reports rules fs ++ q ∷ []))
   with_end fs r q h k fits = record {
     all = (h, more_reports (fills_reports rules fs) (q ∷ []) (fills_fit fs fits) (k, tt));
     few = omega (arith, fills_few fs, length-append (fills_reports rules fs) (q ∷ []));
   }
 
-  news_fit : (place session : ℕ) (t : Ticket) (outcome : Outcome) (fs : List Fill) → place < 2 ^ 64 → FitsTicket t → OutcomeInRange rules outcome → AllByRecursion (FillInRange rules) fs
+  news_fit : (place session : ℕ) (t : Ticket) (outcome : Outcome) (fs : List Fill) → place < 2 ^ 64 → FitsTicket t
+      → OutcomeInRange rules outcome → AllByRecursion (FillInRange rules) fs
       → AreFew fs (entry_reports rules place session (New t) outcome fs)
-  news_fit place session t (Refused reason) fs p h o fits = one_few fs (rejected_report session place t reason) (rejected_fits session place t reason p h o)
-  news_fit place session t Rested fs p h o fits = with_fills fs (new_report session place t) (new_fits session place t p h) fits
-  news_fit place session t Filled fs p h o fits = with_fills fs (new_report session place t) (new_fits session place t p h) fits
+  news_fit place session t (Refused reason) fs p h o fits =
+      one_few fs (rejected_report session place t reason) (rejected_fits session place t reason p h o)
+  news_fit place session t Rested fs p h o fits = with_fills fs (new_report session place t)
+      (new_fits session place t p h) fits
+  news_fit place session t Filled fs p h o fits = with_fills fs (new_report session place t)
+      (new_fits session place t p h) fits
   news_fit place session t (Ended left) fs p h o fits =
-      with_end fs (new_report session place t) (ended_report session place t left) (new_fits session place t p h) (ended_fits session place t left p h) fits
+      with_end fs (new_report session place t) (ended_report session place t left) (new_fits session place t p h)
+      (ended_fits session place t left p h) fits
   news_fit place session t (Cancelled x) fs p h o fits = none_few fs
   news_fit place session t (Replaced x) fs p h o fits = none_few fs
   news_fit place session t (CancelRefused reason of status) fs p h o fits = none_few fs
   news_fit place session t Session fs p h o fits = none_few fs
 
-  cancels_fit : (place session : ℕ) (id original : List ℕ) (outcome : Outcome) (fs : List Fill) → is_id id ≡ true → is_id original ≡ true → OutcomeInRange rules outcome
+  cancels_fit : (place session : ℕ) (id original : List ℕ) (outcome : Outcome) (fs : List Fill) → is_id id ≡ true
+      → is_id original ≡ true → OutcomeInRange rules outcome
       → AreFew fs (entry_reports rules place session (Cancel id original) outcome fs)
-  cancels_fit place session id original (Cancelled x) fs e d o = one_few fs (cancelled_report (symbol_of rules x.instrument) session id original x) (cancelled_fits session id original x e d o.0 o.1 o.2)
+  cancels_fit place session id original (Cancelled x) fs e d o =
+      one_few fs (cancelled_report (symbol_of rules x.instrument) session id original x)
+      (cancelled_fits session id original x e d o.0 o.1 o.2)
   cancels_fit place session id original (CancelRefused reason of status) fs e d o = none_few fs
   cancels_fit place session id original (Replaced x) fs e d o = none_few fs
   cancels_fit place session id original Rested fs e d o = none_few fs
@@ -413,10 +472,12 @@ module _ (rules : Rules) (names : AreNames rules) where
   cancels_fit place session id original (Refused reason) fs e d o = none_few fs
   cancels_fit place session id original Session fs e d o = none_few fs
 
-  replaces_fit : (place session : ℕ) (original : List ℕ) (t : Ticket) (outcome : Outcome) (fs : List Fill) → is_id original ≡ true → FitsTicket t → OutcomeInRange rules outcome → AllByRecursion (FillInRange rules) fs
+  replaces_fit : (place session : ℕ) (original : List ℕ) (t : Ticket) (outcome : Outcome) (fs : List Fill)
+      → is_id original ≡ true → FitsTicket t → OutcomeInRange rules outcome → AllByRecursion (FillInRange rules) fs
       → AreFew fs (entry_reports rules place session (Replace original t) outcome fs)
   replaces_fit place session original t (Replaced x) fs d h o fits =
-      with_fills fs (replaced_report (symbol_of rules x.instrument) session t.id original x) (replaced_fits session t.id original x h.id d o.0 o.1 o.2 o.3) fits
+      with_fills fs (replaced_report (symbol_of rules x.instrument) session t.id original x)
+      (replaced_fits session t.id original x h.id d o.0 o.1 o.2 o.3) fits
   replaces_fit place session original t (CancelRefused reason of status) fs d h o fits = none_few fs
   replaces_fit place session original t Rested fs d h o fits = none_few fs
   replaces_fit place session original t Filled fs d h o fits = none_few fs
@@ -425,11 +486,14 @@ module _ (rules : Rules) (names : AreNames rules) where
   replaces_fit place session original t (Refused reason) fs d h o fits = none_few fs
   replaces_fit place session original t Session fs d h o fits = none_few fs
 
-  entry_reports_fit : (place session : ℕ) (v : Event) (outcome : Outcome) (fs : List Fill) → place < 2 ^ 64 → FitsEvent v → OutcomeInRange rules outcome → AllByRecursion (FillInRange rules) fs
+  entry_reports_fit : (place session : ℕ) (v : Event) (outcome : Outcome) (fs : List Fill) → place < 2 ^ 64
+      → FitsEvent v → OutcomeInRange rules outcome → AllByRecursion (FillInRange rules) fs
       → AreFew fs (entry_reports rules place session v outcome fs)
   entry_reports_fit place session (New t) outcome fs p h o fits = news_fit place session t outcome fs p h o fits
-  entry_reports_fit place session (Cancel id original) outcome fs p h o fits = cancels_fit place session id original outcome fs h.0 h.1 o
-  entry_reports_fit place session (Replace original t) outcome fs p h o fits = replaces_fit place session original t outcome fs h.0 h.1 o fits
+  entry_reports_fit place session (Cancel id original) outcome fs p h o fits =
+      cancels_fit place session id original outcome fs h.0 h.1 o
+  entry_reports_fit place session (Replace original t) outcome fs p h o fits =
+      replaces_fit place session original t outcome fs h.0 h.1 o fits
   entry_reports_fit place session (Logon client host beat) outcome fs p h o fits = none_few fs
   entry_reports_fit place session (TestReply answer) outcome fs p h o fits = none_few fs
   entry_reports_fit place session (Gap first) outcome fs p h o fits = none_few fs
@@ -440,16 +504,44 @@ module _ (rules : Rules) (names : AreNames rules) where
   -- ---- other steps
 
   place_fits : (of : ℕ) → of < 2 ^ 64 → FitsReport (place_field of)
-  place_fits of h = elim (of == 0) as (λ b. FitsReport (field 37 (if b then Text (codes "NONE") else Number of))) [ true ↦ text_fits 37 (codes "NONE") (omega arith) (omega arith) refl | false ↦ number_fits 37 of (omega arith) (omega arith) h ]
+  place_fits of h = elim (of == 0) as (λ b. FitsReport (field 37 (if b then Text (codes "NONE") else Number of))) [
+    | true ↦ text_fits 37 (codes "NONE") (omega arith) (omega arith) refl
+    | false ↦
+        number_fits 37 of (omega arith) (omega arith) h
+  ]
 
-  cancel_reject_fits : (request : ℕ) (id original : List ℕ) (reason of status : ℕ) → request < 2 ^ 64 → is_id id ≡ true → is_id original ≡ true → reason < 2 ^ 64 → of < 2 ^ 64 → status < 2 ^ 64
+  cancel_reject_fits : (request : ℕ) (id original : List ℕ) (reason of status : ℕ) → request < 2 ^ 64 → is_id id ≡ true
+      → is_id original ≡ true → reason < 2 ^ 64 → of < 2 ^ 64 → status < 2 ^ 64
       → AllByRecursion FitsStep (order_cancel_reject request id original reason of status ∷ [])
-  cancel_reject_fits request id original reason of status q e d r n s =
-      ((omega arith, (place_fits of n, (text_fits 11 id (omega arith) (omega arith) e, (text_fits 41 original (omega arith) (omega arith) d, (number_fits 39 status (omega arith) (omega arith) s, (number_fits 434 request (omega arith) (omega arith) q, (number_fits 102 reason (omega arith) (omega arith) r, tt)))))), omega arith), tt)
+  cancel_reject_fits request id original reason of status q e d r n s = (
+    (
+      omega arith,
+      (
+        place_fits of n,
+        (
+          text_fits 11 id (omega arith) (omega arith) e,
+          (
+            text_fits 41 original (omega arith) (omega arith) d,
+            (
+              number_fits 39 status (omega arith) (omega arith) s,
+              (
+                number_fits 434 request (omega arith) (omega arith) q,
+                (number_fits 102 reason (omega arith) (omega arith) r, tt),
+              ),
+            ),
+          ),
+        ),
+      ),
+      omega arith,
+    ),
+    tt,
+  )
 
-  cancel_steps_fit : (id original : List ℕ) (outcome : Outcome) → is_id id ≡ true → is_id original ≡ true → OutcomeInRange rules outcome
+  cancel_steps_fit : (id original : List ℕ) (outcome : Outcome) → is_id id ≡ true → is_id original ≡ true
+      → OutcomeInRange rules outcome
       → AllByRecursion FitsStep (event_steps (Cancel id original) outcome)
-  cancel_steps_fit id original (CancelRefused reason of status) e d o = cancel_reject_fits 1 id original reason of status (omega arith) e d o.0 o.1 o.2
+  cancel_steps_fit id original (CancelRefused reason of status) e d o =
+      cancel_reject_fits 1 id original reason of status (omega arith) e d o.0 o.1 o.2
   cancel_steps_fit id original (Cancelled x) e d o = tt
   cancel_steps_fit id original (Replaced x) e d o = tt
   cancel_steps_fit id original Rested e d o = tt
@@ -458,9 +550,11 @@ module _ (rules : Rules) (names : AreNames rules) where
   cancel_steps_fit id original (Refused reason) e d o = tt
   cancel_steps_fit id original Session e d o = tt
 
-  replace_steps_fit : (original : List ℕ) (t : Ticket) (outcome : Outcome) → is_id original ≡ true → FitsTicket t → OutcomeInRange rules outcome
+  replace_steps_fit : (original : List ℕ) (t : Ticket) (outcome : Outcome) → is_id original ≡ true → FitsTicket t
+      → OutcomeInRange rules outcome
       → AllByRecursion FitsStep (event_steps (Replace original t) outcome)
-  replace_steps_fit original t (CancelRefused reason of status) d h o = cancel_reject_fits 2 t.id original reason of status (omega arith) h.id d o.0 o.1 o.2
+  replace_steps_fit original t (CancelRefused reason of status) d h o =
+      cancel_reject_fits 2 t.id original reason of status (omega arith) h.id d o.0 o.1 o.2
   replace_steps_fit original t (Replaced x) d h o = tt
   replace_steps_fit original t (Cancelled x) d h o = tt
   replace_steps_fit original t Rested d h o = tt
@@ -471,39 +565,100 @@ module _ (rules : Rules) (names : AreNames rules) where
 
   close_fits : (reason : ℕ) → AllByRecursion FitsStep (close_steps reason)
   close_fits reason =
-      elim (reason == 1) as (λ a. AllByRecursion FitsStep (if a then numbered 53 [] ∷ [] else if reason == 2 then numbered 53 (text_field 58 (codes "MsgSeqNum too low") ∷ []) ∷ [] else if reason == 4 then numbered 53 (text_field 58 (codes "CompID") ∷ []) ∷ [] else [])) [
+      elim (reason == 1) as (λ a. AllByRecursion FitsStep
+      (if a then numbered 53 [] ∷ [] else if reason == 2 then numbered 53
+      (text_field 58 (codes "MsgSeqNum too low") ∷ []) ∷ [] else if reason == 4 then numbered 53
+      (text_field 58 (codes "CompID") ∷ []) ∷ [] else [])) [
         | true ↦ ((omega arith, tt, omega arith), tt)
-        | false ↦ elim (reason == 2) as (λ b. AllByRecursion FitsStep (if b then numbered 53 (text_field 58 (codes "MsgSeqNum too low") ∷ []) ∷ [] else if reason == 4 then numbered 53 (text_field 58 (codes "CompID") ∷ []) ∷ [] else [])) [
-          | true ↦ ((omega arith, (text_fits 58 (codes "MsgSeqNum too low") (omega arith) (omega arith) refl, tt), omega arith), tt)
-          | false ↦ elim (reason == 4) as (λ d. AllByRecursion FitsStep (if d then numbered 53 (text_field 58 (codes "CompID") ∷ []) ∷ [] else [])) [
-            | true ↦ ((omega arith, (text_fits 58 (codes "CompID") (omega arith) (omega arith) refl, tt), omega arith), tt)
-            | false ↦ tt
-          ]
-        ]
+        | false ↦ elim (reason == 2) as (λ b. AllByRecursion FitsStep
+            (if b then numbered 53 (text_field 58 (codes "MsgSeqNum too low") ∷ []) ∷ [] else if reason == 4 then
+            numbered 53 (text_field 58 (codes "CompID") ∷ []) ∷ [] else [])) [
+              | true ↦ (
+                (
+                  omega arith,
+                  (text_fits 58 (codes "MsgSeqNum too low") (omega arith) (omega arith) refl, tt),
+                  omega arith,
+                ),
+                tt,
+              )
+              | false ↦ elim (reason == 4) as (λ d. AllByRecursion FitsStep
+                  (if d then numbered 53 (text_field 58 (codes "CompID") ∷ []) ∷ [] else [])) [
+                    | true ↦ (
+                      (omega arith, (text_fits 58 (codes "CompID") (omega arith) (omega arith) refl, tt), omega arith),
+                      tt,
+                    )
+                    | false ↦ tt
+                  ]
+            ]
       ]
 
   small_reason : (r : ℕ) → is_reject_reason r ≡ true → r < 2 ^ 64
   small_reason r e = grind (arith, nat_tests)
 
-  steps_fit : (v : Event) (outcome : Outcome) → FitsEvent v → OutcomeInRange rules outcome → AllByRecursion FitsStep (event_steps v outcome)
-  steps_fit (Logon client host beat) outcome h o = ((h.0, h.1), ((omega arith, (number_fits 98 0 (omega arith) (omega arith) (omega arith), (number_fits 108 beat (omega arith) (omega arith) (omega (arith, h.2)), tt)), omega arith), tt))
+  steps_fit : (v : Event) (outcome : Outcome) → FitsEvent v → OutcomeInRange rules outcome
+      → AllByRecursion FitsStep (event_steps v outcome)
+  steps_fit (Logon client host beat) outcome h o = (
+    (h.0, h.1),
+    (
+      (
+        omega arith,
+        (
+          number_fits 98 0 (omega arith) (omega arith) (omega arith),
+          (number_fits 108 beat (omega arith) (omega arith) (omega (arith, h.2)), tt),
+        ),
+        omega arith,
+      ),
+      tt,
+    ),
+  )
   steps_fit (New t) outcome h o = tt
   steps_fit (Cancel id original) outcome h o = cancel_steps_fit id original outcome h.0 h.1 o
   steps_fit (Replace original t) outcome h o = replace_steps_fit original t outcome h.0 h.1 o
-  steps_fit (TestReply answer) outcome h o = ((omega arith, (text_fits 112 answer (omega arith) (omega arith) h, tt), omega arith), tt)
-  steps_fit (Gap first) outcome h o = ((omega arith, (number_fits 7 first (omega arith) (omega arith) (omega (arith, h.1)), (number_fits 16 0 (omega arith) (omega arith) (omega arith), tt)), omega arith), tt)
+  steps_fit (TestReply answer) outcome h o = (
+    (
+      omega arith,
+      (text_fits 112 answer (omega arith) (omega arith) h, tt),
+      omega arith,
+    ),
+    tt,
+  )
+  steps_fit (Gap first) outcome h o = (
+    (
+      omega arith,
+      (
+        number_fits 7 first (omega arith) (omega arith) (omega (arith, h.1)),
+        (number_fits 16 0 (omega arith) (omega arith) (omega arith), tt),
+      ),
+      omega arith,
+    ),
+    tt,
+  )
   steps_fit (Resend first last) outcome h o = (tt, tt)
-  steps_fit (Reject n reason) outcome h o = ((omega arith, (number_fits 45 n (omega arith) (omega arith) (omega (arith, h.0.1)), (number_fits 373 reason (omega arith) (omega arith) (small_reason reason h.1), tt)), omega arith), tt)
+  steps_fit (Reject n reason) outcome h o = (
+    (
+      omega arith,
+      (
+        number_fits 45 n (omega arith) (omega arith) (omega (arith, h.0.1)),
+        (number_fits 373 reason (omega arith) (omega arith) (small_reason reason h.1), tt),
+      ),
+      omega arith,
+    ),
+    tt,
+  )
   steps_fit (Close reason) outcome h o = close_fits reason
 
-  addressed_fit : (session : ℕ) (cs : List OutgoingStep) → AllByRecursion FitsStep cs → AllByRecursion FitsAddressed (steps_to session cs)
+  addressed_fit : (session : ℕ) (cs : List OutgoingStep) → AllByRecursion FitsStep cs
+      → AllByRecursion FitsAddressed (steps_to session cs)
   addressed_fit session [] fit = tt
   addressed_fit session (c ∷ cs) fit = (fit.0, addressed_fit session cs fit.1)
 
   pub entry_fits : (w : AppliedEntry) → EntryInRange rules w → AllByRecursion FitsAddressed (entry_messages rules w)
   entry_fits w h =
       let e = w.entry in
-      let few : AreFew w.fills (entry_reports rules w.place e.session e.event w.outcome w.fills) = entry_reports_fit w.place e.session e.event w.outcome w.fills h.place h.event h.outcome h.fills in
-      all_append (steps_to e.session (event_steps e.event w.outcome)) (reports_from w.place 1 (entry_reports rules w.place e.session e.event w.outcome w.fills))
+      let few : AreFew w.fills (entry_reports rules w.place e.session e.event w.outcome w.fills) =
+      entry_reports_fit w.place e.session e.event w.outcome w.fills h.place h.event h.outcome h.fills in
+      all_append (steps_to e.session (event_steps e.event w.outcome))
+      (reports_from w.place 1 (entry_reports rules w.place e.session e.event w.outcome w.fills))
       (addressed_fit e.session (event_steps e.event w.outcome) (steps_fit e.event w.outcome h.event h.outcome))
-      (reports_in_range w.place 1 (entry_reports rules w.place e.session e.event w.outcome w.fills) h.place (omega (arith, few.few, h.few)) few.all)
+      (reports_in_range w.place 1 (entry_reports rules w.place e.session e.event w.outcome w.fills) h.place
+      (omega (arith, few.few, h.few)) few.all)

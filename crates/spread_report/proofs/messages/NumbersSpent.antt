@@ -20,7 +20,8 @@ counted out = record out { next = out.next + 1 }
 step_grows : (c : OutgoingStep) (out : OutboundSession) → out.next ≤ (after_step out c).next
 step_grows (logged_on ids) out = omega arith
 step_grows (gap_fill first last) out = omega arith
-step_grows (numbered kind fields) out = elim (is_some out.comp_ids) as (λ b. out.next ≤ (if b then counted out else out).next) [ true ↦ omega arith | false ↦ omega arith ]
+step_grows (numbered kind fields) out = elim (is_some out.comp_ids) as
+    (λ b. out.next ≤ (if b then counted out else out).next) [ true ↦ omega arith | false ↦ omega arith ]
 
 grows : (cs : List OutgoingStep) (out : OutboundSession) → out.next ≤ (fold after_step out cs).next
 grows [] out = omega arith
@@ -36,14 +37,17 @@ abbrev IsLimit : List OutgoingStep → OutboundSession → Type 0
 IsLimit cs out = nat_lt 1000000000 (fold after_step out cs).next ≡ pass_limit out cs
 
 -- a message that uses a number, and more steps
-with_number : (cs : List OutgoingStep) (out : OutboundSession) → (out.next + 1 ≤ 1000000000 → IsLimit cs (counted out)) → (out.next < 1000000000) ⊎ (1000000000 ≤ out.next)
-    → nat_lt 1000000000 (fold after_step (counted out) cs).next ≡ nat_lt 999999999 out.next || pass_limit (counted out) cs
+with_number : (cs : List OutgoingStep) (out : OutboundSession) → (out.next + 1 ≤ 1000000000 → IsLimit cs (counted out))
+    → (out.next < 1000000000) ⊎ (1000000000 ≤ out.next)
+    → nat_lt 1000000000 (fold after_step (counted out) cs).next ≡ nat_lt 999999999 out.next || pass_limit (counted out)
+    cs
 with_number cs out later (inl low) =
     let here : nat_lt 999999999 out.next ≡ false = not_above out.next 999999999 (omega (arith, low)) in
     rw here (later (omega (arith, low)))
 with_number cs out later (inr high) =
     let here : nat_lt 999999999 out.next ≡ true = above out.next 999999999 (omega (arith, high)) in
-    let after : nat_lt 1000000000 (fold after_step (counted out) cs).next ≡ true = above (fold after_step (counted out) cs).next 1000000000 (omega (arith, high, grows cs (counted out))) in
+    let after : nat_lt 1000000000 (fold after_step (counted out) cs).next ≡ true =
+    above (fold after_step (counted out) cs).next 1000000000 (omega (arith, high, grows cs (counted out))) in
     rw (here, after) refl
 
 limit_is : (cs : List OutgoingStep) (out : OutboundSession) → out.next ≤ 1000000000 → IsLimit cs out
@@ -51,10 +55,12 @@ limit_is [] out h = not_above out.next 1000000000 h
 limit_is (logged_on ids ∷ cs) out h = limit_is cs (record out { comp_ids = Some ids }) h
 limit_is (gap_fill first last ∷ cs) out h = limit_is cs out h
 limit_is (numbered kind fields ∷ cs) out h =
-    elim (is_some out.comp_ids) as (λ b. nat_lt 1000000000 (fold after_step (if b then counted out else out) cs).next ≡ (b && nat_lt 999999999 out.next) || pass_limit (if b then counted out else out) cs) [
+    elim (is_some out.comp_ids) as (λ b. nat_lt 1000000000 (fold after_step (if b then counted out else out) cs).next ≡
+    (b && nat_lt 999999999 out.next) || pass_limit (if b then counted out else out) cs) [
       | true ↦ with_number cs out (limit_is cs (counted out)) (cases_lt out.next 1000000000)
       | false ↦ limit_is cs out h
     ]
 
-pub spent_numbers : (rules : Rules) (applied : List AppliedEntry) (s : ℕ) → spends_numbers rules applied s ≡ spends_from rules s (outbound_before_logon 1) applied
+pub spent_numbers : (rules : Rules) (applied : List AppliedEntry) (s : ℕ)
+    → spends_numbers rules applied s ≡ spends_from rules s (outbound_before_logon 1) applied
 spent_numbers rules applied s = limit_is (session_steps rules applied s) (outbound_before_logon 1) (omega arith)

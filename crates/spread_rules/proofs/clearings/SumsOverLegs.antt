@@ -19,15 +19,18 @@ use Rattle.spread_rules.specs.code.Legs.{Leg, bought, sold, paid, received, legs
 abbrev to_leg : Fill → Leg
 to_leg l = record { month = month_of l.instrument; side = l.side; quantity = l.quantity; price = l.price }
 
-one_fill : (i : Instrument) (f : Fill) → f.instrument ≡ i → map to_leg (legs_of i f) ≡ legs_by i f.side f.quantity f.price f.near f.far
-one_fill (Outright m) f e = ap (λ (i : Instrument). legs_by (Outright (month_of i)) f.side f.quantity f.price f.near f.far) e
+one_fill : (i : Instrument) (f : Fill) → f.instrument ≡ i
+    → map to_leg (legs_of i f) ≡ legs_by i f.side f.quantity f.price f.near f.far
+one_fill (Outright m) f e = ap (λ (i : Instrument). legs_by (Outright (month_of i)) f.side f.quantity f.price f.near
+    f.far) e
 one_fill (Spread i j) f e = refl
 
 all_fills : (fills : List Fill) → map to_leg (flat_map (λ f. legs_of f.instrument f) fills) ≡ legs fills
 all_fills [] = refl
 all_fills (f ∷ fs) =
     map-append to_leg (legs_of f.instrument f) (flat_map (λ g. legs_of g.instrument g) fs)
-    ∙ (ap (λ (ls : List Leg). ls ++ map to_leg (flat_map (λ g. legs_of g.instrument g) fs)) (one_fill f.instrument f refl)
+    ∙ (ap (λ (ls : List Leg). ls ++ map to_leg (flat_map (λ g. legs_of g.instrument g) fs))
+    (one_fill f.instrument f refl)
     ∙ ap (λ (ls : List Leg). legs_in f ++ ls) (all_fills fs))
 
 abbrev is_on : Side → ℕ → Fill → Bool
@@ -35,12 +38,16 @@ is_on side month l = is_side side l.side && month_of l.instrument == month
 
 -- ---- lots
 
-lots_by : (side : Side) (month : ℕ) (ls : List Fill) → sum_by (λ l. l.quantity) (filter (is_on side month) ls) ≡ quantities side month (map to_leg ls)
+lots_by : (side : Side) (month : ℕ) (ls : List Fill)
+    → sum_by (λ l. l.quantity) (filter (is_on side month) ls) ≡ quantities side month (map to_leg ls)
 lots_by side month [] = refl
 lots_by side month (l ∷ ls) = by (is_on side month l) (lots_by side month ls)
   where
-    by : (b : Bool) → sum_by (λ l. l.quantity) (filter (is_on side month) ls) ≡ quantities side month (map to_leg ls) → sum_by (λ l. l.quantity) (cond b (l ∷ filter (is_on side month) ls) (filter (is_on side month) ls)) ≡ (if b then l.quantity else 0) + quantities side month (map to_leg ls)
-    by true rest = sum_by-cons (λ (l : Fill). l.quantity) l (filter (is_on side month) ls) ∙ ap (λ (n : ℕ). l.quantity + n) rest
+    by : (b : Bool) → sum_by (λ l. l.quantity) (filter (is_on side month) ls) ≡ quantities side month (map to_leg ls)
+        → sum_by (λ l. l.quantity) (cond b (l ∷ filter (is_on side month) ls) (filter (is_on side month) ls)) ≡
+        (if b then l.quantity else 0) + quantities side month (map to_leg ls)
+    by true rest = sum_by-cons (λ (l : Fill). l.quantity) l (filter (is_on side month) ls)
+        ∙ ap (λ (n : ℕ). l.quantity + n) rest
     by false rest = omega (arith, rest)
 
 -- ---- money
@@ -55,11 +62,14 @@ from_any (l ∷ ls) z =
     let there = from_any ls (pos 0 +ℤ (pos l.quantity *ℤ l.price)) in
     omega (arith, ints, here, there)
 
-money_by : (side : Side) (month : ℕ) (ls : List Fill) → money_of (filter (is_on side month) ls) ≡ money_of_legs side month (map to_leg ls)
+money_by : (side : Side) (month : ℕ) (ls : List Fill)
+    → money_of (filter (is_on side month) ls) ≡ money_of_legs side month (map to_leg ls)
 money_by side month [] = refl
 money_by side month (l ∷ ls) = by (is_on side month l) (money_by side month ls)
   where
-    by : (b : Bool) → money_of (filter (is_on side month) ls) ≡ money_of_legs side month (map to_leg ls) → money_of (cond b (l ∷ filter (is_on side month) ls) (filter (is_on side month) ls)) ≡ (if b then pos l.quantity *ℤ l.price else pos 0) +ℤ money_of_legs side month (map to_leg ls)
+    by : (b : Bool) → money_of (filter (is_on side month) ls) ≡ money_of_legs side month (map to_leg ls)
+        → money_of (cond b (l ∷ filter (is_on side month) ls) (filter (is_on side month) ls)) ≡
+        (if b then pos l.quantity *ℤ l.price else pos 0) +ℤ money_of_legs side month (map to_leg ls)
     by true rest =
         let first = from_any (filter (is_on side month) ls) (pos 0 +ℤ (pos l.quantity *ℤ l.price)) in
         omega (arith, ints, first, rest)

@@ -3,7 +3,8 @@ use Rattle.std.proofs.Common.{◌≡◌, ◌<◌, ℕ, List, ◌++◌, ◌+◌, 
 use Rattle.spread_rules.specs.declared.order.Order.{Order}
 use Rattle.spread_rules_ids.proofs.MappedInPlace.{map_next, map_rest}
 
-module _ (f : Order → Order) (was now : List Order) (i : ℕ) (d : Order) (lt : i < length was) (so_far : now ≡ map f (take i was) ++ drop i was) where
+module _ (f : Order → Order) (was now : List Order) (i : ℕ) (d : Order) (lt : i < length was)
+    (so_far : now ≡ map f (take i was) ++ drop i was) where
   pub still : get_or now i d ≡ get_or was i d
   still = ap (λ (xs : List Order). get_or xs i d) so_far ∙ map_rest f was i d lt
 

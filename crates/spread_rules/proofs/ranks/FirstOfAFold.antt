@@ -9,7 +9,8 @@ module _ {P O : Type 0} (before : O → O → Bool) (order : IsStrictWeakOrder b
   -- best is the first of what those who were seen give
   abbrev pub IsFirst : List P → Option O → Type 0
   IsFirst seen None = (p : P) → Contains seen p → f p ≡ None
-  IsFirst seen (Some o) = ((p : P) × Contains seen p × (f p ≡ Some o)) × ((p : P) (q : O) → Contains seen p → f p ≡ Some q → before q o ≡ false)
+  IsFirst seen (Some o) = ((p : P) × Contains seen p × (f p ≡ Some o))
+      × ((p : P) (q : O) → Contains seen p → f p ≡ Some q → before q o ≡ false)
 
   not_before_itself : (o : O) (b : Bool) → before o o ≡ b → before o o ≡ false
   not_before_itself o true e = order.one_way o o e
@@ -22,7 +23,8 @@ module _ {P O : Type 0} (before : O → O → Bool) (order : IsStrictWeakOrder b
   never : (p w : P) (r : O) → f p ≡ None → p ≡ w → f w ≡ Some r → ⊥
   never p w r e d g = let h : f p ≡ f w = ap f d in cc
 
-  kept : (seen : List P) (p : P) (o q : O) (b : Bool) → before q o ≡ b → f p ≡ Some q → IsFirst seen (Some o) → IsFirst (seen ++ p ∷ []) (cond b (Some q) (Some o))
+  kept : (seen : List P) (p : P) (o q : O) (b : Bool) → before q o ≡ b → f p ≡ Some q → IsFirst seen (Some o)
+      → IsFirst (seen ++ p ∷ []) (cond b (Some q) (Some o))
   kept seen p o q true b e h = (
     (p, Contains-push seen p, e),
     λ w r c g. elim (Contains-push_cases seen p w c) [
@@ -38,8 +40,10 @@ module _ {P O : Type 0} (before : O → O → Bool) (order : IsStrictWeakOrder b
     ],
   )
 
-  step_first : (seen : List P) (p : P) (best r : Option O) → f p ≡ r → IsFirst seen best → IsFirst (seen ++ p ∷ []) (better_by before best r)
-  step_first seen p None None e h = λ w c. elim (Contains-push_cases seen p w c) [ inl d ↦ h w d | inr d ↦ subst (λ (v : P). f v ≡ None) d e ]
+  step_first : (seen : List P) (p : P) (best r : Option O) → f p ≡ r → IsFirst seen best
+      → IsFirst (seen ++ p ∷ []) (better_by before best r)
+  step_first seen p None None e h = λ w c. elim (Contains-push_cases seen p w c)
+      [ inl d ↦ h w d | inr d ↦ subst (λ (v : P). f v ≡ None) d e ]
   step_first seen p (Some o) None e h = (
     (h.0.0, Contains-append_left seen (p ∷ []) h.0.0 h.0.1, h.0.2),
     λ w r c g. elim (Contains-push_cases seen p w c) [ inl d ↦ h.1 w r d g | inr d ↦ absurd (never p w r e d g) ],
@@ -53,10 +57,12 @@ module _ {P O : Type 0} (before : O → O → Bool) (order : IsStrictWeakOrder b
   )
   step_first seen p (Some o) (Some q) e h = kept seen p o q (before q o) refl e h
 
-  from_seen : (seen ps : List P) (best : Option O) → IsFirst seen best → IsFirst (seen ++ ps) (fold (λ b p. better_by before b (f p)) best ps)
+  from_seen : (seen ps : List P) (best : Option O) → IsFirst seen best
+      → IsFirst (seen ++ ps) (fold (λ b p. better_by before b (f p)) best ps)
   from_seen seen [] best h = subst (λ (xs : List P). IsFirst xs best) (sym (append-nil seen)) h
   from_seen seen (p ∷ ps) best h =
-      subst (λ (xs : List P). IsFirst xs (fold (λ b p. better_by before b (f p)) (better_by before best (f p)) ps)) (append_assoc seen (p ∷ []) ps)
+      subst (λ (xs : List P). IsFirst xs (fold (λ b p. better_by before b (f p)) (better_by before best (f p)) ps))
+      (append_assoc seen (p ∷ []) ps)
       (from_seen (seen ++ p ∷ []) ps (better_by before best (f p)) (step_first seen p best (f p) refl h))
 
   -- the fold gives the first

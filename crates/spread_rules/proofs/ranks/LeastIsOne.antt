@@ -70,8 +70,10 @@ module _ (on : Pairs) where
   cost_same Buy p q h = h
   cost_same Sell p q h = omega (arith, ints)
 
-  same_counterparty : (xs : List Order) (side : Side) (x y : ℤ) (p q : Counterparty) → PlacesDiffer xs → AllStandIn xs p → AllStandIn xs q → SameRank (rank_at (cost side x) p) (rank_at (cost side y) q) → (x ≡ y) × (p ≡ q)
-  same_counterparty xs side x y (Direct a) (Direct b) d ca cb r = (cost_same side x y r.cost, ap (λ (o : Order). Direct o) (d a b ca cb r.first))
+  same_counterparty : (xs : List Order) (side : Side) (x y : ℤ) (p q : Counterparty) → PlacesDiffer xs → AllStandIn xs p
+      → AllStandIn xs q → SameRank (rank_at (cost side x) p) (rank_at (cost side y) q) → (x ≡ y) × (p ≡ q)
+  same_counterparty xs side x y (Direct a) (Direct b) d ca cb r =
+      (cost_same side x y r.cost, ap (λ (o : Order). Direct o) (d a b ca cb r.first))
   same_counterparty xs side x y (Direct a) (Implied b c) d ca cb r = let no : false ≡ true = r.implied in cc
   same_counterparty xs side x y (Implied a b) (Direct c) d ca cb r = let no : true ≡ false = r.implied in cc
   same_counterparty xs side x y (Implied a b) (Implied c e) d ca cb r =
@@ -80,7 +82,8 @@ module _ (on : Pairs) where
       (cost_same side x y r.cost, ap (λ (o : Order). Implied o b) f ∙ ap (λ (o : Order). Implied c o) g)
 
   -- no two eligible candidates share a rank
-  pub one_of_a_rank : (n : Order) (xs : List Order) (p q : Candidate) → PlacesDiffer xs → IsEligible on n xs p → IsEligible on n xs q → rank_of n p ≡ rank_of n q → p ≡ q
+  pub one_of_a_rank : (n : Order) (xs : List Order) (p q : Candidate) → PlacesDiffer xs → IsEligible on n xs p
+      → IsEligible on n xs q → rank_of n p ≡ rank_of n q → p ≡ q
   one_of_a_rank n xs p q d a b e =
       let r : SameRank (rank_of n p) (rank_of n q) = record {
         cost = ap (λ (r : Rank). r.cost) e;
@@ -89,20 +92,28 @@ module _ (on : Pairs) where
         second = ap (λ (r : Rank). r.second) e;
       } in
       let s = same_counterparty xs n.side p.price q.price p.counterparty q.counterparty d a.stands b.stands r in
-      ap (λ (x : ℤ). record { price = x; counterparty = p.counterparty }) s.0 ∙ ap (λ (x : Counterparty). record { price = q.price; counterparty = x }) s.1
+      ap (λ (x : ℤ). record { price = x; counterparty = p.counterparty }) s.0
+      ∙ ap (λ (x : Counterparty). record { price = q.price; counterparty = x }) s.1
 
-  pub one_least : (n : Order) (xs : List Order) (o q : Candidate) → PlacesDiffer xs → IsLeast on n xs o → IsLeast on n xs q → o ≡ q
+  pub one_least : (n : Order) (xs : List Order) (o q : Candidate) → PlacesDiffer xs → IsLeast on n xs o
+      → IsLeast on n xs q → o ≡ q
   one_least n xs o q d l k =
-      let e = alike (rank_cmp (rank_of n o) (rank_of n q)) (rank_cmp (rank_of n q) (rank_of n o)) (k.least o l.eligible) (l.least q k.eligible) ((rank_total on).antisymm (rank_of n o) (rank_of n q)) in
-      let s = same_counterparty xs n.side o.price q.price o.counterparty q.counterparty d l.eligible.stands k.eligible.stands (same_rank (rank_of n o) (rank_of n q) e) in
-      ap (λ (p : ℤ). record { price = p; counterparty = o.counterparty }) s.0 ∙ ap (λ (p : Counterparty). record { price = q.price; counterparty = p }) s.1
+      let e = alike (rank_cmp (rank_of n o) (rank_of n q)) (rank_cmp (rank_of n q) (rank_of n o)) (k.least o l.eligible)
+      (l.least q k.eligible) ((rank_total on).antisymm (rank_of n o) (rank_of n q)) in
+      let s = same_counterparty xs n.side o.price q.price o.counterparty q.counterparty d l.eligible.stands
+      k.eligible.stands (same_rank (rank_of n o) (rank_of n q) e) in
+      ap (λ (p : ℤ). record { price = p; counterparty = o.counterparty }) s.0
+      ∙ ap (λ (p : Counterparty). record { price = q.price; counterparty = p }) s.1
 
-  best_same : (n : Order) (xs : List Order) (r s : Option Candidate) → PlacesDiffer xs → IsBest on n xs r → IsBest on n xs s → r ≡ s
+  best_same : (n : Order) (xs : List Order) (r s : Option Candidate) → PlacesDiffer xs → IsBest on n xs r
+      → IsBest on n xs s → r ≡ s
   best_same n xs None None d h k = refl
   best_same n xs None (Some q) d h k = absurd (h q k.eligible)
   best_same n xs (Some o) None d h k = absurd (k o h.eligible)
   best_same n xs (Some o) (Some q) d h k = ap (λ (x : Candidate). Some x) (one_least n xs o q d h k)
 
   -- whoever finds the least finds what the definition says
-  pub best_is_first : (n : Order) (xs : List Order) (r : Option Candidate) → PlacesDiffer xs → MatchOption r ((q : Candidate) → IsEligible on n xs q → ⊥) (IsLeast on n xs) → r ≡ least_candidate on n (counterparties xs)
+  pub best_is_first : (n : Order) (xs : List Order) (r : Option Candidate) → PlacesDiffer xs
+      → MatchOption r ((q : Candidate) → IsEligible on n xs q → ⊥) (IsLeast on n xs)
+      → r ≡ least_candidate on n (counterparties xs)
   best_is_first n xs r d h = best_same n xs r (least_candidate on n (counterparties xs)) d h (first_is_least on n xs)

@@ -14,11 +14,14 @@ use Rattle.spread_rules.specs.declared.candidate.Candidate.{Candidate}
 
 -- ---- the price of three, where the pair of months takes part
 
-two_rows : (t a b c d e f g h : Bool) (p q : ℤ) → (if t && a && b && c && d then Some p else if t && e && f && g && h then Some q else None) ≡ offered_if t (if a && b && c && d then Some p else if e && f && g && h then Some q else None)
+two_rows : (t a b c d e f g h : Bool) (p q : ℤ) → (if t && a && b && c && d then Some p else if t && e && f && g && h
+    then Some q else None) ≡ offered_if t (if a && b && c && d then Some p else if e && f && g && h then Some q else
+    None)
 two_rows true a b c d e f g h p q = refl
 two_rows false a b c d e f g h p q = refl
 
-one_row : (t a b c d : Bool) (p : ℤ) → (if t && a && b && c && d then Some p else None) ≡ offered_if t (if a && b && c && d then Some p else None)
+one_row : (t a b c d : Bool) (p : ℤ) → (if t && a && b && c && d then Some p else None) ≡ offered_if t
+    (if a && b && c && d then Some p else None)
 one_row true a b c d p = refl
 one_row false a b c d p = refl
 
@@ -26,16 +29,21 @@ no_row : (t : Bool) → ◌≡◌ {A = Option ℤ} None (offered_if t None)
 no_row true = refl
 no_row false = refl
 
-three_switched : (on : Pairs) (s : Side) (I : Instrument) (sa : Side) (A : Instrument) (sb : Side) (B : Instrument) (x y : ℤ) → price_of_three on s I sa A sb B x y ≡ offered_if (takes_part on I A) (implied_price s I sa A sb B x y)
+three_switched : (on : Pairs) (s : Side) (I : Instrument) (sa : Side) (A : Instrument) (sb : Side) (B : Instrument)
+    (x y : ℤ) → price_of_three on s I sa A sb B x y ≡ offered_if (takes_part on I A) (implied_price s I sa A sb B x y)
 three_switched on s (Outright m) sa (Outright k) sb B x y = refl
 three_switched on s (Outright m) sa (Spread i j) sb (Outright k) x y =
-    two_rows (on i j) (not (is_side s sa)) (not (is_side s sb)) (m == i) (k == j) (is_side s sa) (not (is_side s sb)) (m == j) (k == i) (x +ℤ y) (y -ℤ x)
+    two_rows (on i j) (not (is_side s sa)) (not (is_side s sb)) (m == i) (k == j) (is_side s sa) (not (is_side s sb))
+    (m == j) (k == i) (x +ℤ y) (y -ℤ x)
 three_switched on s (Outright m) sa (Spread i j) sb (Spread k l) x y = no_row (on i j)
-three_switched on s (Spread i j) sa (Outright k) sb (Outright l) x y = one_row (on i j) (not (is_side s sa)) (is_side s sb) (k == i) (l == j) (x -ℤ y)
+three_switched on s (Spread i j) sa (Outright k) sb (Outright l) x y =
+    one_row (on i j) (not (is_side s sa)) (is_side s sb) (k == i) (l == j) (x -ℤ y)
 three_switched on s (Spread i j) sa (Outright k) sb (Spread l m) x y = no_row (on i j)
 three_switched on s (Spread i j) sa (Spread k l) sb B x y = no_row (on i j)
 
-pub price_switched : (on : Pairs) (n a b : Order) → price_of on n (Implied a b) ≡ offered_if (takes_part on n.instrument a.instrument) (implied_price n.side n.instrument a.side a.instrument b.side b.instrument a.price b.price)
+pub price_switched : (on : Pairs) (n a b : Order) → price_of on n (Implied a b) ≡ offered_if
+    (takes_part on n.instrument a.instrument) (implied_price n.side n.instrument a.side a.instrument b.side b.instrument
+    a.price b.price)
 price_switched on n a b = three_switched on n.side n.instrument a.side a.instrument b.side b.instrument a.price b.price
 
 -- what is offered has its price, and takes part
@@ -57,19 +65,28 @@ on_again false r q h k = cc
 
 module _ (on : Pairs) (n a b : Order) (p : ℤ) where
   -- two orders that meet the new one do so where all pairs take part too
-  pub priced : price_of on n (Implied a b) ≡ Some p → implied_price n.side n.instrument a.side a.instrument b.side b.instrument a.price b.price ≡ Some p
-  priced h = offered_at (takes_part on n.instrument a.instrument) (implied_price n.side n.instrument a.side a.instrument b.side b.instrument a.price b.price) p (sym (price_switched on n a b) ∙ h)
+  pub priced : price_of on n (Implied a b) ≡ Some p → implied_price n.side n.instrument a.side a.instrument b.side
+      b.instrument a.price b.price ≡ Some p
+  priced h = offered_at (takes_part on n.instrument a.instrument)
+      (implied_price n.side n.instrument a.side a.instrument b.side b.instrument a.price b.price) p
+      (sym (price_switched on n a b) ∙ h)
 
   -- their pair of months takes part
   pub part_of : price_of on n (Implied a b) ≡ Some p → takes_part on n.instrument a.instrument ≡ true
-  part_of h = was_on (takes_part on n.instrument a.instrument) (implied_price n.side n.instrument a.side a.instrument b.side b.instrument a.price b.price) p (sym (price_switched on n a b) ∙ h)
+  part_of h = was_on (takes_part on n.instrument a.instrument)
+      (implied_price n.side n.instrument a.side a.instrument b.side b.instrument a.price b.price) p
+      (sym (price_switched on n a b) ∙ h)
 
   -- and whoever does both meets it
-  pub priced_again : takes_part on n.instrument a.instrument ≡ true → implied_price n.side n.instrument a.side a.instrument b.side b.instrument a.price b.price ≡ Some p → price_of on n (Implied a b) ≡ Some p
-  priced_again t h = price_switched on n a b ∙ on_again (takes_part on n.instrument a.instrument) (implied_price n.side n.instrument a.side a.instrument b.side b.instrument a.price b.price) p t h
+  pub priced_again : takes_part on n.instrument a.instrument ≡ true
+      → implied_price n.side n.instrument a.side a.instrument b.side b.instrument a.price b.price ≡ Some p
+      → price_of on n (Implied a b) ≡ Some p
+  priced_again t h = price_switched on n a b ∙ on_again (takes_part on n.instrument a.instrument)
+      (implied_price n.side n.instrument a.side a.instrument b.side b.instrument a.price b.price) p t h
 
 -- a pair that takes part meets the order at the price at which it does where all do
-pub price_on : (on : Pairs) (n a b : Order) → takes_part on n.instrument a.instrument ≡ true → price_of on n (Implied a b) ≡ price_of all_on n (Implied a b)
+pub price_on : (on : Pairs) (n a b : Order) → takes_part on n.instrument a.instrument ≡ true
+    → price_of on n (Implied a b) ≡ price_of all_on n (Implied a b)
 price_on on n a b is =
     let price : Option ℤ = implied_price n.side n.instrument a.side a.instrument b.side b.instrument a.price b.price in
     price_switched on n a b ∙ ap (λ t. offered_if t price) is
@@ -79,18 +96,22 @@ offered_off None = refl
 offered_off (Some price) = refl
 
 -- one that does not meets none
-pub price_off : (on : Pairs) (n a b : Order) → takes_part on n.instrument a.instrument ≡ false → price_of on n (Implied a b) ≡ None
+pub price_off : (on : Pairs) (n a b : Order) → takes_part on n.instrument a.instrument ≡ false
+    → price_of on n (Implied a b) ≡ None
 price_off on n a b is =
     let price : Option ℤ = implied_price n.side n.instrument a.side a.instrument b.side b.instrument a.price b.price in
     price_switched on n a b ∙ (ap (λ t. offered_if t price) is ∙ offered_off price)
 
-pub candidate_on : (on : Pairs) (n a b : Order) → takes_part on n.instrument a.instrument ≡ true → candidate_of on n (Implied a b) ≡ candidate_of all_on n (Implied a b)
+pub candidate_on : (on : Pairs) (n a b : Order) → takes_part on n.instrument a.instrument ≡ true
+    → candidate_of on n (Implied a b) ≡ candidate_of all_on n (Implied a b)
 candidate_on on n a b is = ap (candidate_at n (Implied a b)) (price_on on n a b is)
 
-pub candidate_off : (on : Pairs) (n a b : Order) → takes_part on n.instrument a.instrument ≡ false → candidate_of on n (Implied a b) ≡ None
+pub candidate_off : (on : Pairs) (n a b : Order) → takes_part on n.instrument a.instrument ≡ false
+    → candidate_of on n (Implied a b) ≡ None
 candidate_off on n a b is = ap (candidate_at n (Implied a b)) (price_off on n a b is)
 
 -- singles ask no pair
-pub singles_same : (on : Pairs) (n : Order) (best : Option Candidate) (xs : List Order) → fold (step all_on n) best (map Direct xs) ≡ fold (step on n) best (map Direct xs)
+pub singles_same : (on : Pairs) (n : Order) (best : Option Candidate) (xs : List Order)
+    → fold (step all_on n) best (map Direct xs) ≡ fold (step on n) best (map Direct xs)
 singles_same on n best [] = refl
 singles_same on n best (x ∷ xs) = singles_same on n (step on n best (Direct x)) xs

@@ -34,13 +34,22 @@ module _ (on : Pairs) where
     pub meets : price_of on n p ≡ Some q.price
     pub within : is_within_limit n.side n.price q.price ≡ true
 
-  candidate_when : (n : Order) (p : Counterparty) (q : Candidate) (price : ℤ) (b : Bool) → is_within_limit n.side n.price price ≡ b → price_of on n p ≡ Some price → cond b (Some (record { price = price; counterparty = p })) None ≡ Some q → IsOwn n p q
+  candidate_when : (n : Order) (p : Counterparty) (q : Candidate) (price : ℤ) (b : Bool)
+      → is_within_limit n.side n.price price ≡ b → price_of on n p ≡ Some price
+      → cond b (Some (record { price = price; counterparty = p })) None ≡ Some q → IsOwn n p q
   candidate_when n p q price true b h e =
       let same : record { price = price; counterparty = p } ≡ q = cc in
-      record { own = sym (ap (λ (o : Candidate). o.counterparty) same); meets = h ∙ ap (λ (o : Candidate). Some o.price) same; within = subst (λ (o : Candidate). is_within_limit n.side n.price o.price ≡ true) same b }
+      record {
+        own = sym (ap (λ (o : Candidate). o.counterparty) same);
+        meets = h
+            ∙ ap (λ (o : Candidate). Some o.price) same;
+        within =
+            subst (λ (o : Candidate). is_within_limit n.side n.price o.price ≡ true) same b;
+      }
   candidate_when n p q price false b h e = cc
 
-  candidate_cases : (n : Order) (p : Counterparty) (q : Candidate) (r : Option ℤ) → price_of on n p ≡ r → candidate_at n p r ≡ Some q → IsOwn n p q
+  candidate_cases : (n : Order) (p : Counterparty) (q : Candidate) (r : Option ℤ) → price_of on n p ≡ r
+      → candidate_at n p r ≡ Some q → IsOwn n p q
   candidate_cases n p q None h e = cc
   candidate_cases n p q (Some price) h e = candidate_when n p q price (is_within_limit n.side n.price price) refl h e
 
@@ -48,14 +57,18 @@ module _ (on : Pairs) where
   candidate_is n p q e = candidate_cases n p q (price_of on n p) refl e
 
   -- an eligible candidate is what its counterparty candidates
-  pub eligible_candidate : (n : Order) (xs : List Order) (q : Candidate) → IsEligible on n xs q → candidate_of on n q.counterparty ≡ Some q
+  pub eligible_candidate : (n : Order) (xs : List Order) (q : Candidate) → IsEligible on n xs q
+      → candidate_of on n q.counterparty ≡ Some q
   eligible_candidate n xs q h = rw h.meets (rw h.within refl)
 
   -- ---- the list of counterparties has all of the list's
 
   pub listed : (xs : List Order) (p : Counterparty) → AllStandIn xs p → Contains (counterparties xs) p
-  listed xs (Direct o) c = Contains-append_left (map Direct xs) (flat_map (λ a. map (Implied a) xs) xs) (Direct o) (in_map (λ (x : Order). Direct x) xs o c)
-  listed xs (Implied a b) c = Contains-append_right (map Direct xs) (flat_map (λ a. map (Implied a) xs) xs) (Implied a b) (in_flat_map (λ (x : Order). map (Implied x) xs) xs a (Implied a b) c.0 (in_map (λ (x : Order). Implied a x) xs b c.1))
+  listed xs (Direct o) c = Contains-append_left (map Direct xs) (flat_map (λ a. map (Implied a) xs) xs) (Direct o)
+      (in_map (λ (x : Order). Direct x) xs o c)
+  listed xs (Implied a b) c = Contains-append_right (map Direct xs) (flat_map (λ a. map (Implied a) xs) xs)
+      (Implied a b) (in_flat_map (λ (x : Order). map (Implied x) xs) xs a (Implied a b) c.0
+      (in_map (λ (x : Order). Implied a x) xs b c.1))
 
   pub of_list : (xs : List Order) (p : Counterparty) → Contains (counterparties xs) p → AllStandIn xs p
   of_list xs p c =
@@ -69,8 +82,12 @@ module _ (on : Pairs) where
 
   -- ---- the theorem
 
-  first_is : (n : Order) (xs : List Order) (r : Option Candidate) → IsFirst (is_before n) (ranks n) (candidate_of on n) (counterparties xs) r → MatchOption r ((q : Candidate) → IsEligible on n xs q → ⊥) (IsLeast on n xs)
-  first_is n xs None h = λ q e. let none : candidate_of on n q.counterparty ≡ None = h q.counterparty (listed xs q.counterparty e.stands) in let some : candidate_of on n q.counterparty ≡ Some q = eligible_candidate n xs q e in cc
+  first_is : (n : Order) (xs : List Order) (r : Option Candidate)
+      → IsFirst (is_before n) (ranks n) (candidate_of on n) (counterparties xs) r
+      → MatchOption r ((q : Candidate) → IsEligible on n xs q → ⊥) (IsLeast on n xs)
+  first_is n xs None h = λ q e. let none : candidate_of on n q.counterparty ≡ None =
+      h q.counterparty (listed xs q.counterparty e.stands) in let some : candidate_of on n q.counterparty ≡ Some q =
+      eligible_candidate n xs q e in cc
   first_is n xs (Some o) h =
       let own : IsOwn n h.0.0 o = candidate_is n h.0.0 o h.0.2 in
       record {
@@ -83,5 +100,8 @@ module _ (on : Pairs) where
       }
 
   -- the fold gives the least eligible candidate, and none only where there is none
-  pub first_is_least : (n : Order) (xs : List Order) → MatchOption (least_candidate on n (counterparties xs)) ((q : Candidate) → IsEligible on n xs q → ⊥) (IsLeast on n xs)
-  first_is_least n xs = first_is n xs (least_candidate on n (counterparties xs)) (fold_first (is_before n) (ranks n) (candidate_of on n) (counterparties xs))
+  pub first_is_least : (n : Order) (xs : List Order)
+      → MatchOption (least_candidate on n (counterparties xs)) ((q : Candidate) → IsEligible on n xs q → ⊥)
+      (IsLeast on n xs)
+  first_is_least n xs = first_is n xs (least_candidate on n (counterparties xs))
+      (fold_first (is_before n) (ranks n) (candidate_of on n) (counterparties xs))

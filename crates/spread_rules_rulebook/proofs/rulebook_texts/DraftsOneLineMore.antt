@@ -22,19 +22,22 @@ use Rattle.spread_rules_rulebook.proofs.rulebook_texts.MonthLinesReadOnce.{tick_
 
 -- ---- names
 
-pub is_named : (ms : List Month) (k : ℕ) (name : List ℕ) → k < length ms → get_or (names_in ms) k [] ≡ name → Contains (names_in ms) name
+pub is_named : (ms : List Month) (k : ℕ) (name : List ℕ) → k < length ms → get_or (names_in ms) k [] ≡ name
+    → Contains (names_in ms) name
 is_named ms k name lt e =
     let long = length-map ms (λ (m : Month). m.name) in
     let below : k < length (names_in ms) = omega (arith, long, lt) in
     (k, below, get_or_default (names_in ms) k name [] below ∙ e)
 
-pub not_named : (ms : List Month) (name : List ℕ) → ((k : ℕ) → k < length ms → get_or (names_in ms) k [] ≢ name) → Contains (names_in ms) name → ⊥
+pub not_named : (ms : List Month) (name : List ℕ) → ((k : ℕ) → k < length ms → get_or (names_in ms) k [] ≢ name)
+    → Contains (names_in ms) name → ⊥
 not_named ms name other h =
     let long = length-map ms (λ (m : Month). m.name) in
     let lt = h.1 in
     other h.0 (omega (arith, long, lt)) (sym (get_or_default (names_in ms) h.0 name [] h.1) ∙ h.2)
 
-pub names_push : (names : List (List ℕ)) (x : List ℕ) → HasDistinctNames names → (Contains names x → ⊥) → HasDistinctNames (names ++ x ∷ [])
+pub names_push : (names : List (List ℕ)) (x : List ℕ) → HasDistinctNames names → (Contains names x → ⊥)
+    → HasDistinctNames (names ++ x ∷ [])
 names_push names x distinct new i j below_i below_j e =
     let long = length_push names x in
     by (eqb i (length names)) (eqb j (length names)) refl refl
@@ -69,42 +72,66 @@ names_push names x distinct new i j below_i below_j e =
 pub count_is : (d : Draft) → IsDraft d → length (take d.list.count d.list.slots) ≡ d.list.count
 count_is d k = let slots = k.slots in let within = k.within in length-take-le d.list.count d.list.slots (omega arith)
 
-pub gives_month : (n : ℕ) (d : Draft) (line : List ℕ) (t : ℤ) (m : Month) → IsDraft d → d.tick ≡ Some t → line ≡ month_line m → IsMonth t m → d.list.count < 24 → (IsNamed (so_far d) m.name → ⊥)
-    → LineGives n (so_far d) line (Ok (record { tick = d.tick; months = take (d.list.count + 1) (set d.list.slots d.list.count m); switches = d.switches.rows }))
+pub gives_month : (n : ℕ) (d : Draft) (line : List ℕ) (t : ℤ) (m : Month) → IsDraft d → d.tick ≡ Some t
+    → line ≡ month_line m → IsMonth t m → d.list.count < 24 → (IsNamed (so_far d) m.name → ⊥)
+    → LineGives n (so_far d) line (Ok (record {
+      tick = d.tick;
+      months =
+          take (d.list.count + 1) (set d.list.slots d.list.count m);
+      switches = d.switches.rows;
+    }))
 gives_month n d line t m k is e f few new =
     let slots = k.slots in
     let count = count_is d k in
     let lt : d.list.count < length d.list.slots = omega arith in
     let grown = take_more_set d.list.slots d.list.count m lt in
     let room : length (so_far d).months < 24 = omega arith in
-    subst (λ (ms : List Month). let b : SoFar = record { tick = d.tick; months = ms; switches = d.switches.rows } in LineGives n (so_far d) line (Ok b)) (sym grown) (month t m is e f room new)
+    subst (λ (ms : List Month). let b : SoFar = record { tick = d.tick; months = ms; switches = d.switches.rows } in
+    LineGives n (so_far d) line (Ok b)) (sym grown) (month t m is e f room new)
 
-pub kept_month : (d : Draft) (t : ℤ) (m : Month) → IsDraft d → d.tick ≡ Some t → IsMonth t m → d.list.count < 24 → (IsNamed (so_far d) m.name → ⊥) → IsDraft (record { tick = d.tick; list = record { count = d.list.count + 1; slots = set d.list.slots d.list.count m }; switches = d.switches })
+pub kept_month : (d : Draft) (t : ℤ) (m : Month) → IsDraft d → d.tick ≡ Some t → IsMonth t m → d.list.count < 24
+    → (IsNamed (so_far d) m.name → ⊥) → IsDraft (record {
+      tick = d.tick;
+      list = record { count = d.list.count + 1; slots = set d.list.slots d.list.count m };
+      switches =
+          d.switches;
+    })
 kept_month d t m k is f few new =
     let slots = k.slots in
     let lt : d.list.count < length d.list.slots = omega arith in
     let grown = take_more_set d.list.slots d.list.count m lt in
-    let names : map (λ (x : Month). x.name) (take (d.list.count + 1) (set d.list.slots d.list.count m)) ≡ map (λ (x : Month). x.name) (take d.list.count d.list.slots) ++ m.name ∷ [] = ap (map (λ (x : Month). x.name)) grown ∙ map_push (λ (x : Month). x.name) (take d.list.count d.list.slots) m in
+    let names : map (λ (x : Month). x.name) (take (d.list.count + 1) (set d.list.slots d.list.count m)) ≡ map
+    (λ (x : Month). x.name) (take d.list.count d.list.slots) ++ m.name ∷ [] = ap (map (λ (x : Month). x.name)) grown
+    ∙ map_push (λ (x : Month). x.name) (take d.list.count d.list.slots) m in
     record {
       slots = length-set d.list.slots d.list.count m ∙ slots;
       switches = k.switches;
       within = omega arith;
       tick = λ u e.
           let same : t ≡ u = cc in
-          let held_before = k.tick u e in
-          (held_before.0, subst (All (IsMonth u)) (sym grown) (All-push (IsMonth u) (take d.list.count d.list.slots) m held_before.1 (subst (λ v. IsMonth v m) same f)));
+          let held_before = k.tick u e in (
+            held_before.0,
+            subst (All (IsMonth u)) (sym grown)
+                (All-push (IsMonth u) (take d.list.count d.list.slots) m held_before.1
+                (subst (λ v. IsMonth v m) same f)),
+          );
       empty = λ e. absurd cc;
-      names = subst HasDistinctNames (sym names) (names_push (map (λ (x : Month). x.name) (take d.list.count d.list.slots)) m.name k.names new);
+      names = subst HasDistinctNames (sym names) (names_push
+          (map (λ (x : Month). x.name) (take d.list.count d.list.slots)) m.name k.names new);
     }
 
-pub kept_tick : (d : Draft) (t : ℤ) → IsDraft d → d.tick ≡ None → IsTick t → IsDraft (record { tick = Some t; list = d.list; switches = d.switches })
+pub kept_tick : (d : Draft) (t : ℤ) → IsDraft d → d.tick ≡ None → IsTick t
+    → IsDraft (record { tick = Some t; list = d.list; switches = d.switches })
 kept_tick d t k unset f =
     let zero = k.empty unset in
     record {
       slots = k.slots;
       switches = k.switches;
       within = k.within;
-      tick = λ u e. let same : t ≡ u = cc in (subst IsTick same f, subst (λ n. All (IsMonth u) (take n d.list.slots)) (sym zero) (λ i x lt. absurd (omega arith)));
+      tick = λ u e. let same : t ≡ u = cc in (
+        subst IsTick same f,
+        subst (λ n. All (IsMonth u) (take n d.list.slots)) (sym zero) (λ i x lt. absurd (omega arith)),
+      );
       empty = λ e. absurd cc;
       names = k.names;
     }
@@ -117,11 +144,21 @@ same_tick t f = to_z-of_z w64 t (tick_fits t f)
 pub fits_month : (t : ℤ) (m : Month) → IsTick t → IsMonth (to_z w64 (of_z w64 t)) m → IsMonth t m
 fits_month t m f h = subst (λ u. IsMonth u m) (same_tick t f) h
 
-pub no_month_fits : (t : ℤ) (line : List ℕ) → IsTick t → ((m : Month) → IsMonth (to_z w64 (of_z w64 t)) m → line ≢ month_line m) → (m : Month) → IsMonth t m → line ≢ month_line m
+pub no_month_fits : (t : ℤ) (line : List ℕ) → IsTick t
+    → ((m : Month) → IsMonth (to_z w64 (of_z w64 t)) m → line ≢ month_line m) → (m : Month) → IsMonth t m
+    → line ≢ month_line m
 no_month_fits t line f other m h = other m (subst (λ u. IsMonth u m) (sym (same_tick t f)) h)
 
-pub gives_tick : (n : ℕ) (d : Draft) (line : List ℕ) (t : ℤ) → d.tick ≡ None → line ≡ tick_line t → IsTick t → LineGives n (so_far d) line (Ok (record { tick = Some (to_z w64 (of_z w64 t)); months = take d.list.count d.list.slots; switches = d.switches.rows }))
-gives_tick n d line t unset is f = subst (λ (u : ℤ). let b : SoFar = record { tick = Some u; months = take d.list.count d.list.slots; switches = d.switches.rows } in LineGives n (so_far d) line (Ok b)) (sym (same_tick t f)) (tick t unset is f)
+pub gives_tick : (n : ℕ) (d : Draft) (line : List ℕ) (t : ℤ) → d.tick ≡ None → line ≡ tick_line t → IsTick t
+    → LineGives n (so_far d) line (Ok (record {
+      tick = Some (to_z w64 (of_z w64 t));
+      months =
+          take d.list.count d.list.slots;
+      switches = d.switches.rows;
+    }))
+gives_tick n d line t unset is f = subst (λ (u : ℤ). let b : SoFar =
+    record { tick = Some u; months = take d.list.count d.list.slots; switches = d.switches.rows } in
+    LineGives n (so_far d) line (Ok b)) (sym (same_tick t f)) (tick t unset is f)
 
 -- ---- the end
 
@@ -131,12 +168,23 @@ not_empty d k filled e = let count = count_is d k in let zero = ap length e in a
 pub ends_without : (d : Draft) → IsDraft d → d.list.count ≡ 0 → EndGives (so_far d) (Err NoMonth)
 ends_without d k zero = none (ap (λ n. take n d.list.slots) zero)
 
-pub ends_with : (d : Draft) (t : ℤ) → IsDraft d → d.tick ≡ Some t → d.list.count ≢ 0 → EndGives (so_far d) (Ok (record { tick = to_z w64 (of_z w64 t); months = take d.list.count d.list.slots; switches = d.switches.rows }))
+pub ends_with : (d : Draft) (t : ℤ) → IsDraft d → d.tick ≡ Some t → d.list.count ≢ 0
+    → EndGives (so_far d) (Ok (record {
+      tick = to_z w64 (of_z w64 t);
+      months = take d.list.count d.list.slots;
+      switches = d.switches.rows;
+    }))
 ends_with d t k is some_month =
     let e = same_tick t (k.tick t is).0 in
-    subst (λ (u : ℤ). let r : Rules = record { tick = u; months = take d.list.count d.list.slots; switches = d.switches.rows } in EndGives (so_far d) (Ok r)) (sym e) (some t is (not_empty d k some_month))
+    subst (λ (u : ℤ). let r : Rules = record {
+      tick = u;
+      months = take d.list.count d.list.slots;
+      switches =
+          d.switches.rows;
+    } in EndGives (so_far d) (Ok r)) (sym e) (some t is (not_empty d k some_month))
 
-finished : (d : Draft) (t : ℤ) → IsDraft d → d.tick ≡ Some t → d.list.count ≢ 0 → IsRules (record { tick = t; months = take d.list.count d.list.slots; switches = d.switches.rows })
+finished : (d : Draft) (t : ℤ) → IsDraft d → d.tick ≡ Some t → d.list.count ≢ 0
+    → IsRules (record { tick = t; months = take d.list.count d.list.slots; switches = d.switches.rows })
 finished d t k is some_month =
     let count = count_is d k in
     let within = k.within in
@@ -150,11 +198,17 @@ finished d t k is some_month =
       names = λ i j a b e. k.names i j (omega arith) (omega arith) e;
     }
 
-pub kept_rulebook : (d : Draft) (t : ℤ) (guesses : NameGuesses) → IsDraft d → d.tick ≡ Some t → d.list.count ≢ 0 → IsRulebook (record { tick = to_z w64 (of_z w64 t); list = d.list; switches = d.switches; guesses = guesses })
+pub kept_rulebook : (d : Draft) (t : ℤ) (guesses : NameGuesses) → IsDraft d → d.tick ≡ Some t → d.list.count ≢ 0
+    → IsRulebook (record { tick = to_z w64 (of_z w64 t); list = d.list; switches = d.switches; guesses = guesses })
 kept_rulebook d t guesses k is some_month =
     let e = same_tick t (k.tick t is).0 in
     record {
       slots = k.slots;
       within = k.within;
-      rules = subst (λ (u : ℤ). let r : Rules = record { tick = u; months = take d.list.count d.list.slots; switches = d.switches.rows } in IsRules r) (sym e) (finished d t k is some_month);
+      rules = subst (λ (u : ℤ). let r : Rules = record {
+        tick = u;
+        months = take d.list.count d.list.slots;
+        switches =
+            d.switches.rows;
+      } in IsRules r) (sym e) (finished d t k is some_month);
     }

@@ -11,7 +11,8 @@ pub Lacks-name : (c : ℕ) → is_name_byte c ≡ false → (name : List ℕ) �
 Lacks-name c other [] t = tt
 Lacks-name c other (b ∷ bs) t = by (is_name_byte b) (Lacks-name c other bs) refl t
   where
-    by : (r : Bool) → (list_all is_name_byte bs ≡ true → Lacks c bs) → is_name_byte b ≡ r → (r && list_all is_name_byte bs) ≡ true → Lacks c (b ∷ bs)
+    by : (r : Bool) → (list_all is_name_byte bs ≡ true → Lacks c bs) → is_name_byte b ≡ r
+        → (r && list_all is_name_byte bs) ≡ true → Lacks c (b ∷ bs)
     by true rest e h = ((λ (same : b ≡ c). absurd (true≢false (sym e ∙ ap is_name_byte same ∙ other))), rest h)
     by false rest e h = absurd (false≢true h)
 
@@ -19,7 +20,8 @@ plain_of_Lacks : (bs : List ℕ) → Lacks 1 bs → is_plain bs ≡ true
 plain_of_Lacks [] h = refl
 plain_of_Lacks (b ∷ bs) h = by (eqb b 1) refl (plain_of_Lacks bs h.1)
   where
-    by : (r : Bool) → eqb b 1 ≡ r → list_all (λ x. not (eqb x 1)) bs ≡ true → (not r && list_all (λ x. not (eqb x 1)) bs) ≡ true
+    by : (r : Bool) → eqb b 1 ≡ r → list_all (λ x. not (eqb x 1)) bs ≡ true
+        → (not r && list_all (λ x. not (eqb x 1)) bs) ≡ true
     by true e rest = absurd (h.0 (eqb-true b 1 e))
     by false e rest = rest
 
@@ -34,7 +36,8 @@ name_is_id name n =
 id_none : (name : List ℕ) → length name ≤ 15 → list_all is_name_byte name ≡ true → id_of name ≡ None → IsName name → ⊥
 id_none name most letters e n = let s = name_is_id name n in absurd cc
 
-id_some : (name id : List ℕ) → length name ≤ 15 → list_all is_name_byte name ≡ true → Some id ≡ id_of name → (id ≡ name) × IsName name
+id_some : (name id : List ℕ) → length name ≤ 15 → list_all is_name_byte name ≡ true → Some id ≡ id_of name → (id ≡ name)
+    × IsName name
 id_some [] id most letters e = absurd cc
 id_some (b ∷ bs) id most letters e =
     let n : IsName (b ∷ bs) = record { some = omega arith; most = most; letters = letters } in
@@ -42,10 +45,12 @@ id_some (b ∷ bs) id most letters e =
     let same : id ≡ b ∷ bs = cc in
     (same, n)
 
-pub name_found : (name : List ℕ) → length name ≤ 15 → list_all is_name_byte name ≡ true → (r : Option (List ℕ)) → r ≡ id_of name → IfSome r (λ id. (id ≡ name) × IsName name)
+pub name_found : (name : List ℕ) → length name ≤ 15 → list_all is_name_byte name ≡ true → (r : Option (List ℕ))
+    → r ≡ id_of name → IfSome r (λ id. (id ≡ name) × IsName name)
 name_found name most letters None e = tt
 name_found name most letters (Some id) e = id_some name id most letters e
 
-pub name_none : (name : List ℕ) → length name ≤ 15 → list_all is_name_byte name ≡ true → (r : Option (List ℕ)) → r ≡ id_of name → IfNone r (IsName name → ⊥)
+pub name_none : (name : List ℕ) → length name ≤ 15 → list_all is_name_byte name ≡ true → (r : Option (List ℕ))
+    → r ≡ id_of name → IfNone r (IsName name → ⊥)
 name_none name most letters None e = id_none name most letters (sym e)
 name_none name most letters (Some id) e = tt

@@ -7,14 +7,17 @@ use Rattle.spread_rules_rulebook.specs.Prices.{IsOrderPrice}
 use Rattle.spread_rules_rulebook.specs.Rulebook.{Rules, references_of, IsRules, IsMonth}
 
 pub small_references : (rules : Rules) → IsRules rules → All IsOrderPrice (references_of rules)
-small_references rules r = All-map IsOrderPrice (λ (m : Month). m.reference) rules.months (All-weaker (IsMonth rules.tick) (λ (m : Month). IsOrderPrice m.reference) (λ m k. k.reference.price) rules.months r.months)
+small_references rules r = All-map IsOrderPrice (λ (m : Month). m.reference) rules.months
+    (All-weaker (IsMonth rules.tick) (λ (m : Month). IsOrderPrice m.reference) (λ m k. k.reference.price) rules.months
+    r.months)
 
 pub small_at : (references : List ℤ) (i : ℕ) → All IsOrderPrice references → IsOrderPrice (get_or references i (pos 0))
 small_at [] i h = record { low = omega (arith, ints); high = omega (arith, ints) }
 small_at (x ∷ xs) zero h = h 0 x (omega arith)
 small_at (x ∷ xs) (suc i) h = small_at xs i (All-tail IsOrderPrice x xs h)
 
-pub small_reference : (rules : Rules) (month : ℕ) → IsRules rules → IsOrderPrice (get_or (references_of rules) month (pos 0))
+pub small_reference : (rules : Rules) (month : ℕ) → IsRules rules
+    → IsOrderPrice (get_or (references_of rules) month (pos 0))
 small_reference rules month r = small_at (references_of rules) month (small_references rules r)
 
 pub order_is : (z : ℤ) → IsOrderPrice z → to_z w64 (of_z w64 z) ≡ z

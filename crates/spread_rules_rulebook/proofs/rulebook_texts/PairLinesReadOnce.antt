@@ -23,21 +23,28 @@ no_spaces ms h k lt =
     let long = length-map ms (λ (m : Month). m.name) in
     let below : k < length ms = omega (arith, long, lt) in
     let d : Month = record { name = []; reference = pos 0 } in
-    subst (Lacks 32) (sym (get_or-map (λ (m : Month). m.name) ms k d [] below)) (Lacks-name 32 refl (get_or ms k d).name (h k d below).letters)
+    subst (Lacks 32) (sym (get_or-map (λ (m : Month). m.name) ms k d [] below))
+    (Lacks-name 32 refl (get_or ms k d).name (h k d below).letters)
 
 -- behind the front stand both names and the switch, with a space between
-pub fields_are : (names : List (List ℕ)) (i j : ℕ) (on : Bool) (line fields : List ℕ) → line ≡ codes "pair " ++ fields → IsPairLine names i j on line
+pub fields_are : (names : List (List ℕ)) (i j : ℕ) (on : Bool) (line fields : List ℕ) → line ≡ codes "pair " ++ fields
+    → IsPairLine names i j on line
     → fields ≡ get_or names i [] ++ 32 ∷ (get_or names j [] ++ 32 ∷ switch_text on)
-fields_are names i j on line fields is p = append_cancel_left (codes "pair ") fields (get_or names i [] ++ 32 ∷ (get_or names j [] ++ 32 ∷ switch_text on)) (sym is ∙ p.text)
+fields_are names i j on line fields is p = append_cancel_left (codes "pair ") fields
+    (get_or names i [] ++ 32 ∷ (get_or names j [] ++ 32 ∷ switch_text on)) (sym is ∙ p.text)
 
-pub near_is : (names : List (List ℕ)) (i j : ℕ) (on : Bool) (line fields near others : List ℕ) → HaveNoSpace names → line ≡ codes "pair " ++ fields → fields ≡ near ++ 32 ∷ others → Lacks 32 near → IsPairLine names i j on line
+pub near_is : (names : List (List ℕ)) (i j : ℕ) (on : Bool) (line fields near others : List ℕ) → HaveNoSpace names
+    → line ≡ codes "pair " ++ fields → fields ≡ near ++ 32 ∷ others → Lacks 32 near → IsPairLine names i j on line
     → (near ≡ get_or names i []) × (others ≡ get_or names j [] ++ 32 ∷ switch_text on)
 near_is names i j on line fields near others spaces is cut lacks p =
     let order = p.order in
     let named = p.named in
-    cut_once 32 near (get_or names i []) others (get_or names j [] ++ 32 ∷ switch_text on) (sym cut ∙ fields_are names i j on line fields is p) lacks (spaces i (omega arith))
+    cut_once 32 near (get_or names i []) others (get_or names j [] ++ 32 ∷ switch_text on)
+    (sym cut ∙ fields_are names i j on line fields is p) lacks (spaces i (omega arith))
 
-pub far_is : (names : List (List ℕ)) (i j : ℕ) (on : Bool) (line fields near others far switch : List ℕ) → HaveNoSpace names → line ≡ codes "pair " ++ fields → fields ≡ near ++ 32 ∷ others → Lacks 32 near → others ≡ far ++ 32 ∷ switch → Lacks 32 far → IsPairLine names i j on line
+pub far_is : (names : List (List ℕ)) (i j : ℕ) (on : Bool) (line fields near others far switch : List ℕ)
+    → HaveNoSpace names → line ≡ codes "pair " ++ fields → fields ≡ near ++ 32 ∷ others → Lacks 32 near → others ≡ far
+    ++ 32 ∷ switch → Lacks 32 far → IsPairLine names i j on line
     → (far ≡ get_or names j []) × (switch ≡ switch_text on)
 far_is names i j on line fields near others far switch spaces is cut lacks cut_far lacks_far p =
     let parts = near_is names i j on line fields near others spaces is cut lacks p in
@@ -45,15 +52,20 @@ far_is names i j on line fields near others far switch spaces is cut lacks cut_f
 
 -- ---- lines that are none
 
-pub no_field : (names : List (List ℕ)) (i j : ℕ) (on : Bool) (line fields : List ℕ) → line ≡ codes "pair " ++ fields → Lacks 32 fields → IsPairLine names i j on line → ⊥
-no_field names i j on line fields is lacks p = not_lacking 32 (get_or names i []) (get_or names j [] ++ 32 ∷ switch_text on) (subst (Lacks 32) (fields_are names i j on line fields is p) lacks)
+pub no_field : (names : List (List ℕ)) (i j : ℕ) (on : Bool) (line fields : List ℕ) → line ≡ codes "pair " ++ fields
+    → Lacks 32 fields → IsPairLine names i j on line → ⊥
+no_field names i j on line fields is lacks p = not_lacking 32 (get_or names i [])
+    (get_or names j [] ++ 32 ∷ switch_text on) (subst (Lacks 32) (fields_are names i j on line fields is p) lacks)
 
-pub no_switch : (names : List (List ℕ)) (i j : ℕ) (on : Bool) (line fields near others : List ℕ) → HaveNoSpace names → line ≡ codes "pair " ++ fields → fields ≡ near ++ 32 ∷ others → Lacks 32 near → Lacks 32 others → IsPairLine names i j on line → ⊥
+pub no_switch : (names : List (List ℕ)) (i j : ℕ) (on : Bool) (line fields near others : List ℕ) → HaveNoSpace names
+    → line ≡ codes "pair " ++ fields → fields ≡ near ++ 32 ∷ others → Lacks 32 near → Lacks 32 others
+    → IsPairLine names i j on line → ⊥
 no_switch names i j on line fields near others spaces is cut lacks none p =
     let parts = near_is names i j on line fields near others spaces is cut lacks p in
     not_lacking 32 (get_or names j []) (switch_text on) (subst (Lacks 32) parts.1 none)
 
-pub number_is : (names : List (List ℕ)) (i k : ℕ) (name : List ℕ) → HasDistinctNames names → i < length names → k < length names → get_or names k [] ≡ name → name ≡ get_or names i [] → k ≡ i
+pub number_is : (names : List (List ℕ)) (i k : ℕ) (name : List ℕ) → HasDistinctNames names → i < length names
+    → k < length names → get_or names k [] ≡ name → name ≡ get_or names i [] → k ≡ i
 number_is names i k name distinct li lk a b = distinct k i lk li (a ∙ b)
 
 -- ---- one line, one pair
@@ -64,7 +76,9 @@ switch_once false false e = refl
 switch_once true false e = let h : ◌≡◌ {A = ℕ} 110 102 = ap (λ l. get_or l 1 0) e in absurd (omega arith)
 switch_once false true e = let h : ◌≡◌ {A = ℕ} 102 110 = ap (λ l. get_or l 1 0) e in absurd (omega arith)
 
-pub pair_once : (names : List (List ℕ)) (i j k l : ℕ) (on other : Bool) (line : List ℕ) → HaveNoSpace names → HasDistinctNames names → IsPairLine names i j on line → IsPairLine names k l other line → (i ≡ k) × (j ≡ l) × (on ≡ other)
+pub pair_once : (names : List (List ℕ)) (i j k l : ℕ) (on other : Bool) (line : List ℕ) → HaveNoSpace names
+    → HasDistinctNames names → IsPairLine names i j on line → IsPairLine names k l other line → (i ≡ k) × (j ≡ l)
+    × (on ≡ other)
 pair_once names i j k l on other line spaces distinct p q =
     let order = p.order in
     let named = p.named in
@@ -73,6 +87,11 @@ pair_once names i j k l on other line spaces distinct p q =
     let near = get_or names i [] in
     let far = get_or names j [] in
     let others = far ++ 32 ∷ switch_text on in
-    let first = near_is names k l other line (near ++ 32 ∷ others) near others spaces p.text refl (spaces i (omega arith)) q in
-    let second = far_is names k l other line (near ++ 32 ∷ others) near others far (switch_text on) spaces p.text refl (spaces i (omega arith)) refl (spaces j named) q in
-    (distinct i k (omega arith) (omega arith) first.0, distinct j l named named2 second.0, switch_once on other second.1)
+    let first = near_is names k l other line (near ++ 32 ∷ others) near others spaces p.text refl
+    (spaces i (omega arith)) q in
+    let second = far_is names k l other line (near ++ 32 ∷ others) near others far (switch_text on) spaces p.text refl
+    (spaces i (omega arith)) refl (spaces j named) q in (
+      distinct i k (omega arith) (omega arith) first.0,
+      distinct j l named named2 second.0,
+      switch_once on other second.1,
+    )

@@ -24,8 +24,12 @@ pub find_found : {X : Type 0} (p : X → Bool) (xs : List X) (x : X) → find p 
 find_found p [] x e = absurd cc
 find_found {X} p (y ∷ ys) x e = by (p y) (λ h. find_found p ys x h) refl e
   where
-    by : (b : Bool) → (find p ys ≡ Some x → Contains ys x × (p x ≡ true)) → p y ≡ b → cond b (Some y) (find p ys) ≡ Some x → Contains (y ∷ ys) x × (p x ≡ true)
-    by true rest t h = let same : y ≡ x = cc in (subst (Contains (y ∷ ys)) same (in_head y ys), subst (λ z. p z ≡ true) same t)
+    by : (b : Bool) → (find p ys ≡ Some x → Contains ys x × (p x ≡ true)) → p y ≡ b
+        → cond b (Some y) (find p ys) ≡ Some x → Contains (y ∷ ys) x × (p x ≡ true)
+    by true rest t h = let same : y ≡ x = cc in (
+      subst (Contains (y ∷ ys)) same (in_head y ys),
+      subst (λ z. p z ≡ true) same t,
+    )
     by false rest t h = let r = rest h in (in_tail y ys x r.0, r.1)
 
 pub not_missed : {X : Type 0} (p : X → Bool) (xs : List X) (x : X) → Contains xs x → p x ≡ true → find p xs ≡ None → ⊥
@@ -58,11 +62,13 @@ from_months n m c =
 pub in_instruments : (rules : Rules) (i : Instrument) → IsListed rules i → Contains (instruments_of rules) i
 in_instruments rules (Outright m) l =
     let months = range_with_len 0 (month_count rules) in
-    Contains-append_left (map Outright months) (flat_map spreads_to months) (Outright m) (in_map (λ (k : ℕ). Outright k) months m (in_months (month_count rules) m l))
+    Contains-append_left (map Outright months) (flat_map spreads_to months) (Outright m)
+    (in_map (λ (k : ℕ). Outright k) months m (in_months (month_count rules) m l))
 in_instruments rules (Spread m far) l =
     let months = range_with_len 0 (month_count rules) in
     Contains-append_right (map Outright months) (flat_map spreads_to months) (Spread m far)
-    (in_flat_map spreads_to months far (Spread m far) (in_months (month_count rules) far l.1) (in_map (λ (near : ℕ). Spread near far) (range_with_len 0 far) m (in_months far m l.0)))
+    (in_flat_map spreads_to months far (Spread m far) (in_months (month_count rules) far l.1)
+    (in_map (λ (near : ℕ). Spread near far) (range_with_len 0 far) m (in_months far m l.0)))
 
 pub from_instruments : (rules : Rules) (i : Instrument) → Contains (instruments_of rules) i → IsListed rules i
 from_instruments rules i c =
@@ -83,30 +89,41 @@ name_lacks : (rules : Rules) → IsRules rules → (m : ℕ) → m < month_count
 name_lacks rules r m lt =
     let d : Month = record { name = []; reference = pos 0 } in
     let month = All-get_or (IsMonth rules.tick) rules.months m d lt r.months in
-    Lacks-name 45 refl (get_or (names_of rules) m []) (ap (list_all is_name_byte) (get_or-map (λ (x : Month). x.name) rules.months m d [] lt) ∙ month.name.letters)
+    Lacks-name 45 refl (get_or (names_of rules) m []) (ap (list_all is_name_byte)
+    (get_or-map (λ (x : Month). x.name) rules.months m d [] lt) ∙ month.name.letters)
 
-pub symbol_once : (rules : Rules) → IsRules rules → (i j : Instrument) → IsListed rules i → IsListed rules j → symbol_of rules i ≡ symbol_of rules j → i ≡ j
+pub symbol_once : (rules : Rules) → IsRules rules → (i j : Instrument) → IsListed rules i → IsListed rules j
+    → symbol_of rules i ≡ symbol_of rules j → i ≡ j
 symbol_once rules r (Outright m) (Outright n) a b e = ap Outright (r.names m n a b e)
-symbol_once rules r (Outright m) (Spread n far) a b e = absurd (not_lacking 45 (get_or (names_of rules) n []) (get_or (names_of rules) far []) (subst (Lacks 45) e (name_lacks rules r m a)))
-symbol_once rules r (Spread n far) (Outright m) b a e = absurd (not_lacking 45 (get_or (names_of rules) n []) (get_or (names_of rules) far []) (subst (Lacks 45) (sym e) (name_lacks rules r m a)))
+symbol_once rules r (Outright m) (Spread n far) a b e =
+    absurd (not_lacking 45 (get_or (names_of rules) n []) (get_or (names_of rules) far [])
+    (subst (Lacks 45) e (name_lacks rules r m a)))
+symbol_once rules r (Spread n far) (Outright m) b a e =
+    absurd (not_lacking 45 (get_or (names_of rules) n []) (get_or (names_of rules) far [])
+    (subst (Lacks 45) (sym e) (name_lacks rules r m a)))
 symbol_once rules r (Spread m f) (Spread n g) a b e =
     let af = a.1 in let bg = b.1 in let am = a.0 in let bn = b.0 in
-    let once = cut_once 45 (get_or (names_of rules) m []) (get_or (names_of rules) n []) (get_or (names_of rules) f []) (get_or (names_of rules) g []) e (name_lacks rules r m (omega arith)) (name_lacks rules r n (omega arith)) in
+    let once = cut_once 45 (get_or (names_of rules) m []) (get_or (names_of rules) n []) (get_or (names_of rules) f [])
+    (get_or (names_of rules) g []) e (name_lacks rules r m (omega arith)) (name_lacks rules r n (omega arith)) in
     ap (λ k. Spread k f) (r.names m n (omega arith) (omega arith) once.0) ∙ ap (Spread n) (r.names f g af bg once.1)
 
-pub find_symbol_some : (rules : Rules) → IsRules rules → (symbol : List ℕ) (i : Instrument) → IsListed rules i → symbol_of rules i ≡ symbol → find_symbol rules symbol ≡ Some i
+pub find_symbol_some : (rules : Rules) → IsRules rules → (symbol : List ℕ) (i : Instrument) → IsListed rules i
+    → symbol_of rules i ≡ symbol → find_symbol rules symbol ≡ Some i
 find_symbol_some rules r symbol i l e = by (find_symbol rules symbol) refl
   where
     test : Instrument → Bool
     test j = bytes_eq (symbol_of rules j) symbol
 
     by : (o : Option Instrument) → find test (instruments_of rules) ≡ o → o ≡ Some i
-    by None f = absurd (not_missed test (instruments_of rules) i (in_instruments rules i l) ((bytes_eq-Decides (symbol_of rules i) symbol).1 e) f)
+    by None f = absurd (not_missed test (instruments_of rules) i (in_instruments rules i l)
+        ((bytes_eq-Decides (symbol_of rules i) symbol).1 e) f)
     by (Some j) f =
         let h = find_found test (instruments_of rules) j f in
-        ap Some (symbol_once rules r j i (from_instruments rules j h.0) l ((bytes_eq-Decides (symbol_of rules j) symbol).0 h.1 ∙ sym e))
+        ap Some (symbol_once rules r j i (from_instruments rules j h.0) l
+        ((bytes_eq-Decides (symbol_of rules j) symbol).0 h.1 ∙ sym e))
 
-pub find_symbol_none : (rules : Rules) (symbol : List ℕ) → ((i : Instrument) → IsListed rules i → symbol_of rules i ≢ symbol) → find_symbol rules symbol ≡ None
+pub find_symbol_none : (rules : Rules) (symbol : List ℕ)
+    → ((i : Instrument) → IsListed rules i → symbol_of rules i ≢ symbol) → find_symbol rules symbol ≡ None
 find_symbol_none rules symbol none = by (find_symbol rules symbol) refl
   where
     test : Instrument → Bool
@@ -121,15 +138,20 @@ find_symbol_none rules symbol none = by (find_symbol rules symbol) refl
 -- ---- what a symbol that was cut at its dash says
 
 -- a spread with that symbol has the two parts as its months' names
-pub parts_are : (rules : Rules) → IsRules rules → (symbol near far : List ℕ) (m f : ℕ) → symbol ≡ near ++ 45 ∷ far → Lacks 45 near → IsListed rules (Spread m f) → symbol_of rules (Spread m f) ≡ symbol
-    → (m < month_count rules) × (f < month_count rules) × (get_or (names_of rules) m [] ≡ near) × (get_or (names_of rules) f [] ≡ far)
+pub parts_are : (rules : Rules) → IsRules rules → (symbol near far : List ℕ) (m f : ℕ) → symbol ≡ near ++ 45 ∷ far
+    → Lacks 45 near → IsListed rules (Spread m f) → symbol_of rules (Spread m f) ≡ symbol
+    → (m < month_count rules) × (f < month_count rules) × (get_or (names_of rules) m [] ≡ near)
+    × (get_or (names_of rules) f [] ≡ far)
 parts_are rules r symbol near far m f is lacks l e =
     let below = l.0 in let last = l.1 in
-    let once = cut_once 45 (get_or (names_of rules) m []) near (get_or (names_of rules) f []) far (e ∙ is) (name_lacks rules r m (omega arith)) lacks in
+    let once = cut_once 45 (get_or (names_of rules) m []) near (get_or (names_of rules) f []) far (e ∙ is)
+    (name_lacks rules r m (omega arith)) lacks in
     (omega arith, last, once.0, once.1)
 
 -- months in the wrong order are no spread
-pub not_reversed : (rules : Rules) → IsRules rules → (symbol near far : List ℕ) (i j m f : ℕ) → symbol ≡ near ++ 45 ∷ far → Lacks 45 near → (i < month_count rules) × (get_or (names_of rules) i [] ≡ near) → (j < month_count rules) × (get_or (names_of rules) j [] ≡ far) → j ≤ i
+pub not_reversed : (rules : Rules) → IsRules rules → (symbol near far : List ℕ) (i j m f : ℕ) → symbol ≡ near
+    ++ 45 ∷ far → Lacks 45 near → (i < month_count rules) × (get_or (names_of rules) i [] ≡ near)
+    → (j < month_count rules) × (get_or (names_of rules) j [] ≡ far) → j ≤ i
     → IsListed rules (Spread m f) → symbol_of rules (Spread m f) ≡ symbol → ⊥
 not_reversed rules r symbol near far i j m f is lacks a b le l e =
     let parts = parts_are rules r symbol near far m f is lacks l e in
@@ -139,15 +161,20 @@ not_reversed rules r symbol near far i j m f is lacks a b le l e =
     omega arith
 
 pub has_dash : (rules : Rules) (symbol : List ℕ) (m f : ℕ) → Lacks 45 symbol → symbol_of rules (Spread m f) ≢ symbol
-has_dash rules symbol m f lacks e = not_lacking 45 (get_or (names_of rules) m []) (get_or (names_of rules) f []) (subst (Lacks 45) (sym e) lacks)
+has_dash rules symbol m f lacks e = not_lacking 45 (get_or (names_of rules) m []) (get_or (names_of rules) f [])
+    (subst (Lacks 45) (sym e) lacks)
 
 -- neither a month nor a spread
-pub neither : (rules : Rules) (symbol : List ℕ) → ((m : ℕ) → m < month_count rules → get_or (names_of rules) m [] ≢ symbol) → ((m f : ℕ) → IsListed rules (Spread m f) → symbol_of rules (Spread m f) ≢ symbol)
+pub neither : (rules : Rules) (symbol : List ℕ) → ((m : ℕ) → m < month_count rules
+    → get_or (names_of rules) m [] ≢ symbol) → ((m f : ℕ) → IsListed rules (Spread m f)
+    → symbol_of rules (Spread m f) ≢ symbol)
     → (i : Instrument) → IsListed rules i → symbol_of rules i ≢ symbol
 neither rules symbol a b (Outright m) l = a m l
 neither rules symbol a b (Spread m f) l = b m f l
 
 -- what one look-up answers is what the search through the list does
-pub found_is : (rules : Rules) → IsRules rules → (symbol : List ℕ) (o : Option Instrument) → IfSome o (λ i. IsListed rules i × (symbol_of rules i ≡ symbol)) → IfNone o ((i : Instrument) → IsListed rules i → symbol_of rules i ≢ symbol) → o ≡ find_symbol rules symbol
+pub found_is : (rules : Rules) → IsRules rules → (symbol : List ℕ) (o : Option Instrument)
+    → IfSome o (λ i. IsListed rules i × (symbol_of rules i ≡ symbol))
+    → IfNone o ((i : Instrument) → IsListed rules i → symbol_of rules i ≢ symbol) → o ≡ find_symbol rules symbol
 found_is rules r symbol None s n = sym (find_symbol_none rules symbol n)
 found_is rules r symbol (Some i) s n = sym (find_symbol_some rules r symbol i s.0 s.1)

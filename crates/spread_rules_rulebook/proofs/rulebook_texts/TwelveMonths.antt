@@ -11,13 +11,15 @@ use Rattle.spread_rules_rulebook.specs.declared.rule_fault.RuleFault.TheVariants
 
 -- ---- texts without such lines
 
-no_pair_here : (text line after : List ℕ) → HasNoPairLine text → text ≡ line ++ after → (rest : List ℕ) → line ≢ codes "pair " ++ rest
+no_pair_here : (text line after : List ℕ) → HasNoPairLine text → text ≡ line ++ after → (rest : List ℕ)
+    → line ≢ codes "pair " ++ rest
 no_pair_here text line after h is rest e = h.first (rest ++ after) (is ∙ ap (λ l. l ++ after) e)
 
 no_pair_after : (text line after : List ℕ) → HasNoPairLine text → text ≡ line ++ 10 ∷ after → HasNoPairLine after
 no_pair_after text line after h is = record {
   first = λ rest e. h.later line rest (is ∙ ap (λ l. line ++ 10 ∷ l) e);
-  later = λ before rest e. h.later (line ++ 10 ∷ before) rest (is ∙ ap (λ l. line ++ 10 ∷ l) e ∙ sym (append_assoc line (10 ∷ before) (10 ∷ (codes "pair " ++ rest))));
+  later = λ before rest e. h.later (line ++ 10 ∷ before) rest
+      (is ∙ ap (λ l. line ++ 10 ∷ l) e ∙ sym (append_assoc line (10 ∷ before) (10 ∷ (codes "pair " ++ rest))));
 }
 
 -- ---- line by line
@@ -36,7 +38,8 @@ Suits line r = ((b : FirstSoFar) × (r ≡ Ok b)) ⊎ ((rest : List ℕ) → lin
 not_read : (b : FirstSoFar) (f : RuleFault) → ◌≡◌ {A = Result FirstSoFar RuleFault} (Err f) (Ok b) → ⊥
 not_read b f e = absurd cc
 
-line_kept : {n : ℕ} {b : FirstSoFar} {line : List ℕ} {r : Result FirstSoFar RuleFault} → FirstGives n b line r → r ≢ Err TooManyMonths → Suits line r → LineGives n (unswitched b) line (given r)
+line_kept : {n : ℕ} {b : FirstSoFar} {line : List ℕ} {r : Result FirstSoFar RuleFault} → FirstGives n b line r
+    → r ≢ Err TooManyMonths → Suits line r → LineGives n (unswitched b) line (given r)
 line_kept (first_skipped s) few suits = skipped s
 line_kept (first_tick t o i f) few suits = tick t o i f
 line_kept (first_no_tick o k h) few suits = no_tick o k h
@@ -46,7 +49,8 @@ line_kept (first_too_many t m o i f l) few suits = absurd (few refl)
 line_kept (first_twice t m o i f l d) few suits = twice t m o i f (omega arith) d
 line_kept (first_month t m o i f l d) few suits = month t m o i f (omega arith) d
 
-end_kept : {b : FirstSoFar} {a : Result FirstRules RuleFault} → FirstEnds b a → EndGives (unswitched b) (answer_with_all_on a)
+end_kept : {b : FirstSoFar} {a : Result FirstRules RuleFault} → FirstEnds b a
+    → EndGives (unswitched b) (answer_with_all_on a)
 end_kept (first_none e) = none e
 end_kept (first_some t o k) = some t o k
 
@@ -62,20 +66,29 @@ ok_is_read b e = absurd cc
 fault_not_read : (r : FirstRules) (f : RuleFault) → ◌≡◌ {A = Result FirstRules RuleFault} (Err f) (Ok r) → ⊥
 fault_not_read r f e = absurd cc
 
-few_lines : (f : RuleFault) → ◌≢◌ {A = Result FirstRules RuleFault} (Err f) (Err TooManyMonths) → ◌≢◌ {A = Result FirstSoFar RuleFault} (Err f) (Err TooManyMonths)
+few_lines : (f : RuleFault) → ◌≢◌ {A = Result FirstRules RuleFault} (Err f) (Err TooManyMonths)
+    → ◌≢◌ {A = Result FirstSoFar RuleFault} (Err f) (Err TooManyMonths)
 few_lines f few e = few (let same : f ≡ TooManyMonths = cc in ap Err same)
 
-text_kept : {n : ℕ} {b : FirstSoFar} {rest : List ℕ} {a : Result FirstRules RuleFault} → FirstReads n b rest a → a ≢ Err TooManyMonths → SuitsAll rest a → Reads n (unswitched b) rest (answer_with_all_on a)
-text_kept (first_last next l g e) few suits = last (unswitched next) l (line_kept g (ok_is_read next) (inl (next, refl))) (end_kept e)
+text_kept : {n : ℕ} {b : FirstSoFar} {rest : List ℕ} {a : Result FirstRules RuleFault} → FirstReads n b rest a
+    → a ≢ Err TooManyMonths → SuitsAll rest a → Reads n (unswitched b) rest (answer_with_all_on a)
+text_kept (first_last next l g e) few suits = last (unswitched next) l
+    (line_kept g (ok_is_read next) (inl (next, refl))) (end_kept e)
 text_kept (first_last_fault f l g) few (inl read) = absurd (fault_not_read read.0 f read.1)
-text_kept {rest = rest} (first_last_fault f l g) few (inr free) = last_fault f l (line_kept g (few_lines f few) (inr free.first))
-text_kept {rest = rest} (first_more line after next i l g r) few (inl read) = more line after (unswitched next) i l (line_kept g (ok_is_read next) (inl (next, refl))) (text_kept r few (inl read))
+text_kept {rest = rest} (first_last_fault f l g) few (inr free) =
+    last_fault f l (line_kept g (few_lines f few) (inr free.first))
+text_kept {rest = rest} (first_more line after next i l g r) few (inl read) =
+    more line after (unswitched next) i l (line_kept g (ok_is_read next) (inl (next, refl)))
+    (text_kept r few (inl read))
 text_kept {rest = rest} (first_more line after next i l g r) few (inr free) =
-    more line after (unswitched next) i l (line_kept g (ok_is_read next) (inl (next, refl))) (text_kept r few (inr (no_pair_after rest line after free i)))
+    more line after (unswitched next) i l (line_kept g (ok_is_read next) (inl (next, refl)))
+    (text_kept r few (inr (no_pair_after rest line after free i)))
 text_kept (first_fault line after f i l g) few (inl read) = absurd (fault_not_read read.0 f read.1)
-text_kept {rest = rest} (first_fault line after f i l g) few (inr free) = fault line after f i l (line_kept g (few_lines f few) (inr (no_pair_here rest line (10 ∷ after) free i)))
+text_kept {rest = rest} (first_fault line after f i l g) few (inr free) =
+    fault line after f i l (line_kept g (few_lines f few) (inr (no_pair_here rest line (10 ∷ after) free i)))
 
-pub kept : (text : List ℕ) (a : Result FirstRules RuleFault) → first_ReadsRulebook text a → a ≢ Err TooManyMonths → HasNoPairLine text → ReadsRulebook text (answer_with_all_on a)
+pub kept : (text : List ℕ) (a : Result FirstRules RuleFault) → first_ReadsRulebook text a → a ≢ Err TooManyMonths
+    → HasNoPairLine text → ReadsRulebook text (answer_with_all_on a)
 kept text a r few free = text_kept r few (inr free)
 
 rules_read : (r : FirstRules) → ◌≡◌ {A = Result FirstRules RuleFault} (Ok r) (Err TooManyMonths) → ⊥

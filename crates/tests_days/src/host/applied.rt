@@ -108,8 +108,9 @@ fn resting(rt: HostRuntime) {
     expect_applied(&rt, rt.alloc(), &DIRECT_FIRST);
 }
 
+/// A law asks nothing of who cites it, and does nothing when it runs. That it holds is the prover's to say.
 #[test]
-fn laws_are_called() {
+fn laws_have_no_premises() {
     numbers_spent();
     one_by_one();
 }

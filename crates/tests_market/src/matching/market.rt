@@ -79,8 +79,9 @@ fn room_is_asked_for(rt: HostRuntime) {
     holds(&rt, market.reserve(1_000) == Ok(()));
 }
 
+/// A law asks nothing of who cites it, and does nothing when it runs. That it holds is the prover's to say.
 #[test]
-fn laws_are_called() {
+fn laws_have_no_premises() {
     lawful();
     ranges();
     without_replace();

@@ -3,9 +3,9 @@ use crate::expect::holds;
 use spread_report::DeskFault;
 use spread_report::laws::{read_back, running};
 
-/// The laws hold of nothing but definitions, and want nothing.
+/// A law asks nothing of who cites it, and does nothing when it runs. That it holds is the prover's to say.
 #[test]
-fn laws_hold() {
+fn laws_have_no_premises() {
     read_back();
     running();
 }

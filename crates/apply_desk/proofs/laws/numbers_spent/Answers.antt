@@ -15,7 +15,9 @@ pub returns-clause-first : goal.returns-clause-first
 returns-clause-first c = first
 
 pub returns-clause-session : goal.returns-clause-session
-returns-clause-session c rules journal place h = some_session (spends_numbers rules (applied_entries rules (take place journal))) h.spent
+returns-clause-session c rules journal place h = some_session
+    (spends_numbers rules (applied_entries rules (take place journal))) h.spent
 
 pub returns-clause-none_before : goal.returns-clause-none_before
-returns-clause-none_before c rules journal place h = each_session (spends_numbers rules (applied_entries rules (take (place - 1) journal))) h.not_before
+returns-clause-none_before c rules journal place h =
+    each_session (spends_numbers rules (applied_entries rules (take (place - 1) journal))) h.not_before

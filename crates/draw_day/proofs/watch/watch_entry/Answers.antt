@@ -10,4 +10,5 @@ pub returns-in-Ok : goal.returns-in-Ok
 returns-in-Ok g c =
     let journal = c.args.journal.now in
     let n = c.args.n in
-    on_ok c.see.result (applied_through journal n c.index-journal-n.result c.in-Ok.outcome c.apply.new.self c.requires.within c.index-journal-n.is (c.in-Ok.ensures.next (take n journal) c.requires.applied))
+    on_ok c.see.result (applied_through journal n c.index-journal-n.result c.in-Ok.outcome c.apply.new.self
+    c.requires.within c.index-journal-n.is (c.in-Ok.ensures.next (take n journal) c.requires.applied))

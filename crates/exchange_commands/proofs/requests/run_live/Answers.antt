@@ -7,7 +7,8 @@ pub print_day-requires : goal.print_day-requires
 print_day-requires g c =
     let day = c.in_ok-day.day in
     let made = c.in_ok-day.ensures in
-    let each = sessions_sent c.in_ok-rulebook.rulebook c.in_ok-stamp.stamp day.journal.items day.fills.items day.out.items made.outgoing made.day in
+    let each = sessions_sent c.in_ok-rulebook.rulebook c.in_ok-stamp.stamp day.journal.items day.fills.items
+    day.out.items made.outgoing made.day in
     let count = each.lists in
     let few : length day.out.items ≤ 16 = omega (arith, count) in
     search (rules, few, each.rows, made.day.shown)

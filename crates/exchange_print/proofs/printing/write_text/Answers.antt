@@ -10,6 +10,7 @@ returns-clause-writes g c =
     let told = λ (k : _). g.K.Sink.written k in
     let first = c.write_journal_lines-so_far in
     let last = c.write_to in
-    both_written first.result last.result (told c.args.sink.now) (told first.new.sink) (told last.new.sink) (g.K.Sink.has_failed first.new.sink) (g.K.Sink.has_failed last.new.sink)
+    both_written first.result last.result (told c.args.sink.now) (told first.new.sink) (told last.new.sink)
+    (g.K.Sink.has_failed first.new.sink) (g.K.Sink.has_failed last.new.sink)
     (journal_text c.args.journal.now) (text_taken last.new.self) first.ensures.writes last.ensures.writes
     (on_err first.result (λ kept. (kept.0, ap told kept.1)) last.ensures.kept)

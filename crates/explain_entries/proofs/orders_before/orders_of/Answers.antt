@@ -18,5 +18,6 @@ returns g c =
     let count = c.len-count.ensures in
     elim c.loop-k-test.branch [
       | else-loop-k-test w ↦ c.loop-k.invariant ∙ take_all c.loop-k.k xs (let h = w.loop-k-test.false in omega arith)
-      | then-loop-k-test+in_default w ↦ c.loop-k.invariant ∙ take_all c.loop-k.k xs (walked_all xs c.loop-k.k (sym w.walk.ensures ∙ w.in_default.is))
+      | then-loop-k-test+in_default w ↦ c.loop-k.invariant
+          ∙ take_all c.loop-k.k xs (walked_all xs c.loop-k.k (sym w.walk.ensures ∙ w.in_default.is))
     ]

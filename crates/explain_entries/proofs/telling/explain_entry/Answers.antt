@@ -8,5 +8,7 @@ use Rattle.explain_entries.proofs.telling.explain_entry.Goals as goal
 pub explain_order-requires-clause-order_price : goal.explain_order-requires-clause-order_price
 explain_order-requires-clause-order_price g c =
     let named = c.named_by-named.result in
-    subst (λ (xs : List Order). All HasOrderPrice xs) (sym (c.others_of-others.ensures ∙ ap (λ (xs : List Order). others_of named xs) c.in_ok-orders.ensures.orders))
-    (trades_priced c.args.rulebook.now c.args.before.now named c.ranges-2.ensures.orders c.months.ensures.lawful c.requires.before)
+    subst (λ (xs : List Order). All HasOrderPrice xs) (sym
+    (c.others_of-others.ensures ∙ ap (λ (xs : List Order). others_of named xs) c.in_ok-orders.ensures.orders))
+    (trades_priced c.args.rulebook.now c.args.before.now named c.ranges-2.ensures.orders c.months.ensures.lawful
+    c.requires.before)

@@ -12,8 +12,11 @@ returns-in-Some-clause-beyond c =
     let on = implied c.args.rules.now in
     let xs = c.args.orders.now in (
       omega arith,
-      subst (λ (n : Order). IsBest on n xs (Some c.in-Some.candidate)) c.without_limit.ensures (least_of_all on c.without_limit.result xs (Some c.in-Some.candidate) c.in-Some.ensures.next),
+      subst (λ (n : Order). IsBest on n xs (Some c.in-Some.candidate)) c.without_limit.ensures
+          (least_of_all on c.without_limit.result xs (Some c.in-Some.candidate) c.in-Some.ensures.next),
       c.ticks_between.ensures
-          ∙ ap (λ (p : ℤ). ticks_between c.args.rules.now p (to_z w64 (of_z w64 c.args.left.now.price))) (leg_price c.in-Some.candidate.price c.in-Some.ensures.leg_price)
-          ∙ ap (λ (l : ℤ). ticks_between c.args.rules.now c.in-Some.candidate.price l) (order_price c.args.left.now.price c.requires.limit),
+          ∙ ap (λ (p : ℤ). ticks_between c.args.rules.now p (to_z w64 (of_z w64 c.args.left.now.price)))
+          (leg_price c.in-Some.candidate.price c.in-Some.ensures.leg_price)
+          ∙ ap (λ (l : ℤ). ticks_between c.args.rules.now c.in-Some.candidate.price l)
+          (order_price c.args.left.now.price c.requires.limit),
     )

@@ -7,6 +7,10 @@ use Rattle.explain_turns.proofs.next.least_behind.Goals as goal
 
 pub loop-first-preserved : goal.loop-first-preserved
 loop-first-preserved c = record {
-  found = c.with_pairs_of-found.ensures.value ∙ ap (λ b. fold (next_step (implied c.args.rules.now) c.args.new.now c.args.bound.now) b (map (Implied c.first-item.result) c.args.orders.now)) c.loop-first.invariant.found ∙ sym (rows_more (implied c.args.rules.now) c.args.new.now c.args.bound.now c.args.orders.now c.loop-first.first-index c.first-item.result (omega arith) c.first-item.is);
+  found = c.with_pairs_of-found.ensures.value ∙ ap (λ b. fold
+      (next_step (implied c.args.rules.now) c.args.new.now c.args.bound.now) b
+      (map (Implied c.first-item.result) c.args.orders.now)) c.loop-first.invariant.found
+      ∙ sym (rows_more (implied c.args.rules.now) c.args.new.now c.args.bound.now c.args.orders.now
+      c.loop-first.first-index c.first-item.result (omega arith) c.first-item.is);
   small = c.with_pairs_of-found.ensures.leg_price;
 }

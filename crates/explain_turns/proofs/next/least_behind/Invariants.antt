@@ -8,6 +8,7 @@ use Rattle.explain_turns.proofs.next.least_behind.Given as goal
 
 abbrev pub invariant-loop-first : goal.invariant-loop-first
 invariant-loop-first l = record {
-  found : l.found ≡ next_candidate_of (implied l.rules) l.new l.bound (map Direct l.orders ++ flat_map (λ a. map (Implied a) l.orders) (take l.first-index l.orders));
+  found : l.found ≡ next_candidate_of (implied l.rules) l.new l.bound
+      (map Direct l.orders ++ flat_map (λ a. map (Implied a) l.orders) (take l.first-index l.orders));
   small : IfSome l.found HasLegPrice;
 }

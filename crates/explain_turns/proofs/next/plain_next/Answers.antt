@@ -13,7 +13,9 @@ returns c =
     let n = c.args.new.now in
     let xs = c.args.orders.now in
     record {
-      next = subst (IsNextBest on n xs c.args.bound.now) (sym c.least_behind.ensures.value) (fold_is_next on n xs c.args.bound.now);
-      least = λ none. c.least_behind.ensures.value ∙ ap (λ (b : Option Candidate). next_candidate_of on n b (counterparties xs)) none ∙ without_bound on n (counterparties xs);
+      next = subst (IsNextBest on n xs c.args.bound.now) (sym c.least_behind.ensures.value)
+          (fold_is_next on n xs c.args.bound.now);
+      least = λ none. c.least_behind.ensures.value ∙ ap (λ (b : Option Candidate). next_candidate_of on n b
+          (counterparties xs)) none ∙ without_bound on n (counterparties xs);
       small = c.least_behind.ensures.leg_price;
     }

@@ -11,4 +11,5 @@ returns-then-not-levels_meet-clause-value c =
     let a = c.args.first.now in
     let b = c.args.second.now in
     sym (step_none on c.args.new.now c.args.bound.now c.args.best (Implied a b)
-    (none_on on c.args.new.now a b (some_no (candidate_of all_on c.args.new.now (Implied a b)) (sym (c.levels_meet.ensures a b (sym c.level.ensures) (sym c.level-2.ensures)) ∙ c.if-not-levels_meet.true))))
+    (none_on on c.args.new.now a b (some_no (candidate_of all_on c.args.new.now (Implied a b))
+    (sym (c.levels_meet.ensures a b (sym c.level.ensures) (sym c.level-2.ensures)) ∙ c.if-not-levels_meet.true))))

@@ -7,6 +7,7 @@ use Rattle.explain_turns.proofs.next.with_pairs.Given as goal
 
 abbrev pub invariant-loop-second : goal.invariant-loop-second
 invariant-loop-second l = record {
-  found : l.found ≡ fold (next_step (implied l.rules) l.new l.bound) l.fn.best (map (Implied l.first) (take l.second-index l.orders));
+  found : l.found ≡ fold (next_step (implied l.rules) l.new l.bound) l.fn.best
+      (map (Implied l.first) (take l.second-index l.orders));
   small : IfSome l.found HasLegPrice;
 }

@@ -8,7 +8,8 @@ use Rattle.explain_turns.proofs.turns_told.TurnsTold.{left_is, orders_are}
 use Rattle.explain_turns.proofs.turns.explain_order.Goals as goal
 
 pub beyond_limit-beyond-requires-clause-limit : goal.beyond_limit-beyond-requires-clause-limit
-beyond_limit-beyond-requires-clause-limit g c = subst IsOrderPrice (sym c.in_ok-told.ensures.after.price) c.requires.limit
+beyond_limit-beyond-requires-clause-limit g c = subst IsOrderPrice (sym c.in_ok-told.ensures.after.price)
+    c.requires.limit
 
 pub returns : goal.returns
 returns g c =
@@ -24,6 +25,8 @@ returns g c =
       small = e.small;
       left = ap (λ (o : Order). o.leaves) left;
       beyond =
-          subst (λ (o : Order). IsBeyond rules o (clear (implied rules) (references_of rules) n xs).orders c.beyond_limit-beyond.result) left
-          (subst (λ (ys : List Order). IsBeyond rules told.left ys c.beyond_limit-beyond.result) (c.deref.ensures.value ∙ orders) c.beyond_limit-beyond.ensures.beyond);
+          subst (λ (o : Order). IsBeyond rules o (clear (implied rules) (references_of rules) n xs).orders
+          c.beyond_limit-beyond.result) left
+          (subst (λ (ys : List Order). IsBeyond rules told.left ys c.beyond_limit-beyond.result)
+          (c.deref.ensures.value ∙ orders) c.beyond_limit-beyond.ensures.beyond);
     }

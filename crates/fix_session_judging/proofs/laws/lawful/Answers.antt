@@ -27,4 +27,5 @@ pub returns-clause-ordered_so_far : goal.returns-clause-ordered_so_far
 returns-clause-ordered_so_far c stream = in_order_of (events stream) _ (ordered stream)
 
 pub returns-clause-beginnings : goal.returns-clause-beginnings
-returns-clause-beginnings c stream xs ys e = in_order_of xs ys (subst (λ es. is_in_order es ≡ true) (sym e) (ordered stream))
+returns-clause-beginnings c stream xs ys e = in_order_of xs ys
+    (subst (λ es. is_in_order es ≡ true) (sym e) (ordered stream))

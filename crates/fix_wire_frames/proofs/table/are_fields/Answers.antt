@@ -24,7 +24,8 @@ returns-in_default-clause-row c =
     let body = take c.args.count c.args.text.now in
     let rest = c.loop-rest.rest in
     let long = length-take-le c.args.count c.args.text.now c.requires.within in
-    let some : 0 < length (drop c.loop-rest.rest (take c.args.count c.args.text.now)) = omega (arith, length-drop rest body, long, c.loop-rest-test.true) in
+    let some : 0 < length (drop c.loop-rest.rest (take c.args.count c.args.text.now)) =
+    omega (arith, length-drop rest body, long, c.loop-rest-test.true) in
     sym (ap is_some (row_none (drop rest body) some c.in_default.ensures.field)) ∙ c.loop-rest.invariant.2.row
 
 pub loop-rest-preserved : goal.loop-rest-preserved
@@ -37,17 +38,21 @@ loop-rest-preserved c =
       omega (arith, e.within),
       e.marks,
       subst (λ (t : FieldTable). IsTabled body t (f.end + 1)) (sym c.with_place-present.ensures)
-          (tabled_more body (record { places = c.loop-rest.table.places; present = c.loop-rest.present }) c.loop-rest.rest f c.loop-rest.invariant.2 e.field e.order (omega (arith, long, e.within)) (omega (arith, index))),
+          (tabled_more body (record { places = c.loop-rest.table.places; present = c.loop-rest.present })
+          c.loop-rest.rest f c.loop-rest.invariant.2 e.field e.order (omega (arith, long, e.within))
+          (omega (arith, index))),
     )
 
 pub returns-clause-row : goal.returns-clause-row
 returns-clause-row c =
     let body = take c.args.count c.args.text.now in
     let long = length-take-le c.args.count c.args.text.now c.requires.within in
-    sym (all_tabled body (record { places = c.loop-rest.table.places; present = c.loop-rest.present }) c.loop-rest.rest c.loop-rest.invariant.2 (omega (arith, long, c.loop-rest-test.false))).0
+    sym (all_tabled body (record { places = c.loop-rest.table.places; present = c.loop-rest.present }) c.loop-rest.rest
+    c.loop-rest.invariant.2 (omega (arith, long, c.loop-rest-test.false))).0
 
 pub returns-clause-table : goal.returns-clause-table
 returns-clause-table c =
     let body = take c.args.count c.args.text.now in
     let long = length-take-le c.args.count c.args.text.now c.requires.within in
-    (all_tabled body (record { places = c.loop-rest.table.places; present = c.loop-rest.present }) c.loop-rest.rest c.loop-rest.invariant.2 (omega (arith, long, c.loop-rest-test.false))).1
+    (all_tabled body (record { places = c.loop-rest.table.places; present = c.loop-rest.present }) c.loop-rest.rest
+    c.loop-rest.invariant.2 (omega (arith, long, c.loop-rest-test.false))).1

@@ -8,4 +8,5 @@ returns-clause-index c = c.from.ensures ∙ ap (λ t. get_or TAG_INDEXES t 0) c.
 
 pub returns-clause-within : goal.returns-clause-within
 returns-clause-within c =
-    subst (λ i. i ≤ 23) (sym (c.from.ensures ∙ ap (λ t. get_or TAG_INDEXES t 0) c.min.ensures ∙ tag_index c.args.tag)) (index_within c.args.tag)
+    subst (λ i. i ≤ 23) (sym (c.from.ensures ∙ ap (λ t. get_or TAG_INDEXES t 0) c.min.ensures ∙ tag_index c.args.tag))
+    (index_within c.args.tag)

@@ -6,4 +6,5 @@ use Rattle.fix_wire_values.proofs.values.limited_digits.Given as goal
 
 abbrev pub invariant-loop-b : goal.invariant-loop-b
 invariant-loop-b l =
-    (list_all is_ascii_digit (take l.b-index l.text) ≡ true) × (l.value ≡ min (number_of (take l.b-index l.text)) 1000000000)
+    (list_all is_ascii_digit (take l.b-index l.text) ≡ true)
+    × (l.value ≡ min (number_of (take l.b-index l.text)) 1000000000)

@@ -25,4 +25,5 @@ pub returns-clause-ended : goal.returns-clause-ended
 returns-clause-ended c = end_owed
 
 pub returns-clause-closes : goal.returns-clause-closes
-returns-clause-closes c stream = ap (list_any is_close) (sym (c.judge_into.ensures.whole stream)) ∙ whole_has_close new_session (frames stream) refl
+returns-clause-closes c stream = ap (list_any is_close) (sym (c.judge_into.ensures.whole stream))
+    ∙ whole_has_close new_session (frames stream) refl

@@ -19,8 +19,12 @@ loop-s-preserved g c =
     }
 
 pub returns : goal.returns
-returns g c =
-    (c.loop-s.auto.inboxes, c.loop-s.auto.gateways, (λ s d g below. c.loop-s.invariant.done s d g (omega (arith, c.loop-s-test.false))))
+returns g c = (
+  c.loop-s.auto.inboxes,
+  c.loop-s.auto.gateways,
+  (λ s d g below. c.loop-s.invariant.done s d g
+      (omega (arith, c.loop-s-test.false))),
+)
 
 pub loop-s-init : goal.loop-s-init
 loop-s-init g c = record {

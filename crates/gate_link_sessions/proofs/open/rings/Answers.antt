@@ -17,11 +17,20 @@ loop-s-preserved g c =
     let at : length c.loop-s.gateways.items ≡ c.loop-s.s = sym c.loop-s.gateways.ok.0 ∙ was.gateways.0 in
     let sent_none : events_sent g ≡ [] = rw (made.parts.1, ring.producer.0) in
     let room : free_slots g ≡ c.args.ring = rw (made.parts.1, ring.producer.1) in
-    let fresh : IsFresh c.args.ring (length c.loop-s.gateways.items) g = record { session = made.parts.0 ∙ sym at; sent = sent_none; room = room; state = made.state.0; held = made.state.1 } in
+    let fresh : IsFresh c.args.ring (length c.loop-s.gateways.items) g =
+    record {
+      session = made.parts.0 ∙ sym at;
+      sent = sent_none;
+      room = room;
+      state = made.state.0;
+      held =
+          made.state.1;
+    } in
     record {
       gateways = search rules;
       inboxes = search rules;
-      pairs = rw (c.push_reserved.ensures.items, c.push_reserved-in-loop-s.ensures.items) (pairs_snoc c.loop-s.inboxes.items c.loop-s.gateways.items l g was.pairs pair);
+      pairs = rw (c.push_reserved.ensures.items, c.push_reserved-in-loop-s.ensures.items)
+          (pairs_snoc c.loop-s.inboxes.items c.loop-s.gateways.items l g was.pairs pair);
       fresh = rw (c.push_reserved.ensures.items) (fresh_snoc c.args.ring c.loop-s.gateways.items g was.fresh fresh);
       idle = rw (c.push_reserved-in-loop-s.ensures.items) (idle_snoc taken c.loop-s.inboxes.items l was.idle none);
     }

@@ -10,4 +10,5 @@ returns-in-Some-clause-bytes c =
     let found = c.in-Some.ensures.item in
     let some = subst (λ (xs : List (List ℕ)). 0 < length xs) c.as_chunks.ensures.front found.3.0 in
     let is = found.1 in
-    whole_piece POSTED_BYTES (length bytes / POSTED_BYTES) bytes chunk refl c.requires some (subst (λ (xs : List (List ℕ)). chunk ≡ get_or xs 0 chunk) c.as_chunks.ensures.front is)
+    whole_piece POSTED_BYTES (length bytes / POSTED_BYTES) bytes chunk refl c.requires some
+    (subst (λ (xs : List (List ℕ)). chunk ≡ get_or xs 0 chunk) c.as_chunks.ensures.front is)

@@ -33,14 +33,16 @@ loop-done-preserved c =
     let more = take_more_set items count p free in
     let size : done + n - done ≡ n = omega arith in
     let joined : bytes_in (take count items) ++ bytes_of_piece p ≡ take (done + n) bytes =
-    ap (λ t. t ++ bytes_of_piece p) was.gave ∙ (ap (λ t. take done bytes ++ t) (c.put_piece.ensures.bytes ∙ ap (λ k. take k (drop done bytes)) size) ∙ sym (take-add done n bytes)) in
+    ap (λ t. t ++ bytes_of_piece p) was.gave ∙ (ap (λ t. take done bytes ++ t)
+    (c.put_piece.ensures.bytes ∙ ap (λ k. take k (drop done bytes)) size) ∙ sym (take-add done n bytes)) in
     record {
       long = length-set items count p ∙ was.long;
       within = omega (arith, c.min-n.ensures, lt);
       level = λ rest. omega (arith, c.min-n.ensures, level, rest);
       few = λ k h. omega (arith, lt, level, h);
       gave = ap bytes_in more ∙ (bytes_one (take count items) p ∙ joined);
-      plain = subst (λ (xs : _). ends is_mark xs false ≡ true) (sym more) (ends_more is_mark (take count items) p was.plain c.put_piece.ensures.plain);
+      plain = subst (λ (xs : _). ends is_mark xs false ≡ true) (sym more)
+          (ends_more is_mark (take count items) p was.plain c.put_piece.ensures.plain);
     }
 
 pub returns-clause-count : goal.returns-clause-count

@@ -12,9 +12,11 @@ returns-then-is_empty-clause-line g c =
     IfOk-weaker c.take_line.result
     (λ good. TakesLine good c.args.end.now c.args.line_sessions.now c.take_line.new.self)
     (λ good. TakesLine good (kept.items ++ c.args.end.now) c.args.line_sessions.now c.take_line.new.self)
-    (λ good takes. subst (λ (t : List ℕ). TakesLine good (t ++ c.args.end.now) c.args.line_sessions.now c.take_line.new.self) (sym none) takes)
+    (λ good takes. subst (λ (t : List ℕ). TakesLine good (t ++ c.args.end.now) c.args.line_sessions.now
+    c.take_line.new.self) (sym none) takes)
     c.take_line.ensures
 
 pub returns-clause-line : goal.returns-clause-line
 returns-clause-line g c =
-    subst (λ (t : List ℕ). TakesLine c.in_ok-is_good.is_good t c.args.line_sessions.now c.take_line-2.new.self) (c.deref.ensures.value ∙ c.in_ok-extend_from_slice.ensures.items) c.in_ok-is_good.ensures
+    subst (λ (t : List ℕ). TakesLine c.in_ok-is_good.is_good t c.args.line_sessions.now c.take_line-2.new.self)
+    (c.deref.ensures.value ∙ c.in_ok-extend_from_slice.ensures.items) c.in_ok-is_good.ensures

@@ -8,7 +8,13 @@ use Rattle.intake_lines.specs.code.PiecesRead.{HasRead}
 use Rattle.intake_lines.proofs.reading.read_pieces.Goals as goal
 
 pub loop-reader-init : goal.loop-reader-init
-loop-reader-init g c = (refl, omega arith, c.requires, omega (arith, c.in_ok-reader.ensures.number), ([], refl, Consumes-nil (g.S.Source.left c.args.source.now), c.in_ok-reader.ensures.read))
+loop-reader-init g c = (
+  refl,
+  omega arith,
+  c.requires,
+  omega (arith, c.in_ok-reader.ensures.number),
+  ([], refl, Consumes-nil (g.S.Source.left c.args.source.now), c.in_ok-reader.ensures.read),
+)
 
 -- what was read before, and the read that was one too many
 pub returns-then-count-taken-clause-taken : goal.returns-then-count-taken-clause-taken
@@ -17,7 +23,8 @@ returns-then-count-taken-clause-taken g c e =
     let input = before.4.0 in
     let piece = c.read_piece.new.piece in
     let count = c.in-Some.count in
-    let bound : count ≤ length piece = subst (λ (o : Option ℕ). IfSome o (λ n. n ≤ length piece)) c.in-Some.is c.in_ok-count.ensures.bound in
+    let bound : count ≤ length piece = subst (λ (o : Option ℕ). IfSome o (λ n. n ≤ length piece)) c.in-Some.is
+    c.in_ok-count.ensures.bound in
     let joined = length-append input (take count piece) in
     let few = length-take-le count piece bound in
     let same = c.read_piece.auto.piece in
@@ -26,12 +33,15 @@ returns-then-count-taken-clause-taken g c e =
     let taken = before.4.1 in (
       input ++ take count piece,
       omega (arith, joined, few, bound, same, room, small, taken),
-      Consumes-trans _ _ _ _ _ before.4.2 (subst (λ (o : Option ℕ). IfSome o (λ n. Consumes (g.S.Source.left c.loop-reader.source) (g.S.Source.left c.read_piece.new.source) (take n piece))) c.in-Some.is c.in_ok-count.ensures.bytes),
+      Consumes-trans _ _ _ _ _ before.4.2 (subst (λ (o : Option ℕ). IfSome o
+          (λ n. Consumes (g.S.Source.left c.loop-reader.source) (g.S.Source.left c.read_piece.new.source)
+          (take n piece))) c.in-Some.is c.in_ok-count.ensures.bytes),
     )
 
 pub loop-reader-smaller : goal.loop-reader-smaller
 loop-reader-smaller g c =
-    let more : 0 < c.in-Some.count = subst (λ (o : Option ℕ). IfSome o (λ n. 0 < n)) c.in-Some.is c.in_ok-count.ensures.more in
+    let more : 0 < c.in-Some.count = subst (λ (o : Option ℕ). IfSome o (λ n. 0 < n)) c.in-Some.is
+    c.in_ok-count.ensures.more in
     let below = c.if-count-taken.false in
     let small = c.loop-reader.invariant.1 in
     omega (arith, more, below, small)
@@ -43,7 +53,8 @@ loop-reader-preserved g c =
     let buf = c.read_piece.new.piece in
     let count = c.in-Some.count in
     let more = take count buf in
-    let bound : count ≤ length buf = subst (λ (o : Option ℕ). IfSome o (λ n. n ≤ length buf)) c.in-Some.is c.in_ok-count.ensures.bound in
+    let bound : count ≤ length buf = subst (λ (o : Option ℕ). IfSome o (λ n. n ≤ length buf)) c.in-Some.is
+    c.in_ok-count.ensures.bound in
     let piece = before.0 in
     let small = before.1 in
     let numbered = before.3 in
@@ -63,7 +74,10 @@ loop-reader-preserved g c =
       (
         input ++ more,
         omega (arith, joined, few, taken),
-        Consumes-trans _ _ _ _ _ before.4.2 (subst (λ (o : Option ℕ). IfSome o (λ n. Consumes (g.S.Source.left c.loop-reader.source) (g.S.Source.left c.read_piece.new.source) (take n buf))) c.in-Some.is c.in_ok-count.ensures.bytes),
-        subst (λ (t : List ℕ). HasRead t c.take_piece.new.self) (sym (map-append soh_for_bar input more)) (c.in_ok-take_piece.ensures.reads (with_soh input) before.4.3),
+        Consumes-trans _ _ _ _ _ before.4.2 (subst (λ (o : Option ℕ). IfSome o
+            (λ n. Consumes (g.S.Source.left c.loop-reader.source) (g.S.Source.left c.read_piece.new.source)
+            (take n buf))) c.in-Some.is c.in_ok-count.ensures.bytes),
+        subst (λ (t : List ℕ). HasRead t c.take_piece.new.self) (sym (map-append soh_for_bar input more))
+            (c.in_ok-take_piece.ensures.reads (with_soh input) before.4.3),
       ),
     )

@@ -13,7 +13,8 @@ finished-requires g c =
     let here : i < length c.args.written.now = omega (arith, c.loop-s-test.true, c.loop-s.auto.written) in
     let d = c.index-posters-s.result in
     let w = c.index-written-s.result in
-    pair_left c.args.posters.now c.loop-s.posters c.args.written.now c.loop-s.written i d w c.requires here (was.posters_left i d (omega arith)) (was.written_left i w (omega arith))
+    pair_left c.args.posters.now c.loop-s.posters c.args.written.now c.loop-s.written i d w c.requires here
+    (was.posters_left i d (omega arith)) (was.written_left i w (omega arith))
 
 pub loop-s-preserved : goal.loop-s-preserved
 loop-s-preserved g c =
@@ -28,7 +29,8 @@ loop-s-preserved g c =
     let left : get_or c.loop-s.posters i d ≡ get_or c.args.posters.now i d = was.posters_left i d (omega arith) in
     let same = c.finished.ensures.same in
     record {
-      done = row_written bytes_written posted c.loop-s.written c.args.posters.now i _ here was.done (same.1 ∙ (f ∙ (ap posted left ∙ sym (row_at posted c.args.posters.now i d there))));
+      done = row_written bytes_written posted c.loop-s.written c.args.posters.now i _ here was.done
+          (same.1 ∙ (f ∙ (ap posted left ∙ sym (row_at posted c.args.posters.now i d there))));
       posters_left = left_more c.args.posters.now c.loop-s.posters i c.finished.new.poster was.posters_left;
       written_left = left_more c.args.written.now c.loop-s.written i _ was.written_left;
     }

@@ -24,7 +24,8 @@ none_found None other h = h
 none_found (Some f) other h = absurd (other f refl)
 
 -- there are as many texts as sessions
-sixteen : (g : _) (c : After-into_parts-fills g) → HasPosted c.args.sequenced.journal.items c.args.matched.posted → vec_len c.into_parts-fills.result.out ≡ 16
+sixteen : (g : _) (c : After-into_parts-fills g) → HasPosted c.args.sequenced.journal.items c.args.matched.posted
+    → vec_len c.into_parts-fills.result.out ≡ 16
 sixteen g c had =
     let p = c.args.matched.posted in
     let texts = p.reported.texts in
@@ -36,7 +37,12 @@ sixteen g c had =
 pub with_written-out-requires : goal.with_written-out-requires
 with_written-out-requires g c =
     let all = none_found c.fault_of-fault.result c.in_default.not-Some c.fault_of-fault.ensures.whole in
-    omega (arith, sixteen g (goal.at.with_written-out-requires g c).After-into_parts-fills all.posted, c.requires.few_writers, c.args.written.ok.0)
+    omega (
+      arith,
+      sixteen g (goal.at.with_written-out-requires g c).After-into_parts-fills all.posted,
+      c.requires.few_writers,
+      c.args.written.ok.0,
+    )
 
 pub returns-clause-day : goal.returns-clause-day
 returns-clause-day g c =
@@ -46,8 +52,10 @@ returns-clause-day g c =
     let stamp = stamp_of p.reported in
     let journal = c.args.sequenced.journal.items in
     let ws = c.fault_of-fault.new.written in
-    let items : (with_items c.args.written ws).items ≡ ws = with_items_is c.args.written ws (c.fault_of-fault.ensures.count ∙ c.as_mut_slice.ensures.len) in
-    let n : vec_len c.args.written ≡ length p.posters.items = omega (arith, c.args.written.ok.0, all.count, c.fault_of-fault.ensures.count, c.as_mut_slice.ensures.len) in
+    let items : (with_items c.args.written ws).items ≡ ws =
+    with_items_is c.args.written ws (c.fault_of-fault.ensures.count ∙ c.as_mut_slice.ensures.len) in
+    let n : vec_len c.args.written ≡ length p.posters.items =
+    omega (arith, c.args.written.ok.0, all.count, c.fault_of-fault.ensures.count, c.as_mut_slice.ensures.len) in
     let out = c.with_written-out.result in
     let made = c.with_written-out.ensures in
     let kept = c.into_parts-fills.ensures.texts ∙ ap (λ r. r.texts) c.fault_of-fault.ensures.reported in
@@ -59,11 +67,21 @@ returns-clause-day g c =
     ∙ (ap (λ (xs : List (Written g.row.A.Denot)). written_at xs s) items
     ∙ all.written s (omega (arith, low, all.count))))
     (λ s past. made.others s (omega (arith, past, n)) ∙ ap (λ (ts : List (List ℕ)). session_text ts s) kept) in
-    subst (λ j. IsDayOfSessions rules stamp c.args.streams.now.value.items record { journal = j; applied = record { fills = c.into_parts-fills.result.fills; out = out } }) (sym c.fault_of-fault.ensures.journal)
+    subst (λ j. IsDayOfSessions rules stamp c.args.streams.now.value.items record
+    { journal = j; applied = record { fills = c.into_parts-fills.result.fills; out = out } })
+    (sym c.fault_of-fault.ensures.journal)
     record {
       parts = all.parts;
-      fills = c.into_parts-fills.ensures.fills ∙ (ap (λ r. r.applied.fills) c.fault_of-fault.ensures.reported ∙ all.posted.reported.applied.fills);
-      lists = omega (arith, out.ok.0, made.count, sixteen g (goal.at.returns-clause-day g c).After-into_parts-fills all.posted);
+      fills = c.into_parts-fills.ensures.fills ∙ (ap (λ r. r.applied.fills) c.fault_of-fault.ensures.reported
+          ∙ all.posted.reported.applied.fills);
+      lists = omega (
+        arith,
+        out.ok.0,
+        made.count,
+        sixteen g (goal.at.returns-clause-day g c).After-into_parts-fills
+            all.posted,
+      );
       out = sent;
-      whole = λ s h. subst (IsRow (messages_to rules stamp (applied_entries rules journal) s)) (sym (sent s h)) (all.posted.reported.sent.row s h);
+      whole = λ s h. subst (IsRow (messages_to rules stamp (applied_entries rules journal) s)) (sym (sent s h))
+          (all.posted.reported.sent.row s h);
     }

@@ -21,17 +21,20 @@ none_found None other h = h
 none_found (Some f) other h = absurd (other f refl)
 
 -- of each session, what was taken is a beginning of its stream's events
-took_parts : (g : _) (c : After-agree-agreed g) → IsBeginningOf c.args.streams.now.value.items (taken c.args.matched.now.matcher)
+took_parts : (g : _) (c : After-agree-agreed g) → IsBeginningOf c.args.streams.now.value.items
+    (taken c.args.matched.now.matcher)
 took_parts g c =
     let j = c.requires in
     let took = taken c.args.matched.now.matcher in
     let gave = given c.args.sequenced.now.feeder in
     let journal = c.args.sequenced.now.journal.items in
-    let front : IsPrefix took gave = agrees_prefix c.agree-agreed.result (feed_ended c.args.sequenced.now.feeder) gave took c.agree-agreed.ensures.agree in
+    let front : IsPrefix took gave = agrees_prefix c.agree-agreed.result (feed_ended c.args.sequenced.now.feeder) gave
+    took c.agree-agreed.ensures.agree in
     parts_of_front c.args.streams.now.value.items took journal (prefix_trans took gave journal front j.given_on) j.parts
 
 -- the place behind the entries that were worked
-within_taken : (g : _) (c : After-saturating_add-place g) → c.saturating_add-place.result ≤ length (taken c.args.matched.now.matcher) + 1
+within_taken : (g : _) (c : After-saturating_add-place g)
+    → c.saturating_add-place.result ≤ length (taken c.args.matched.now.matcher) + 1
 within_taken g c = omega (arith, c.saturating_add-place.ensures, c.requires.few)
 
 pub returns-in-Some-clause-fault : goal.returns-in-Some-clause-fault
@@ -40,7 +43,8 @@ returns-in-Some-clause-fault g c =
     let q = c.args.sequenced.now in
     let m = c.args.matched.now in
     let at = goal.at.returns-in-Some-clause-fault g c in
-    λ ring. fault_of_day c.args.room ring c.args.streams.now.value.items q m c.saturating_add-place.result j.sequenced j.matched (took_parts g at.After-agree-agreed)
+    λ ring. fault_of_day c.args.room ring c.args.streams.now.value.items q m c.saturating_add-place.result j.sequenced
+    j.matched (took_parts g at.After-agree-agreed)
     (within_taken g at.After-saturating_add-place) c.in-Some.fault c.in-Some.ensures.fault
 
 pub all_finished-requires : goal.all_finished-requires
@@ -53,7 +57,11 @@ returns-then-not-all_finished g c =
       journal = refl;
       reported = refl;
       count = c.all_finished.ensures.count;
-      fault = λ ring. inr (taken c.args.matched.now.matcher, took_parts g at.After-agree-agreed, within_taken g at.After-saturating_add-place);
+      fault = λ ring. inr (
+        taken c.args.matched.now.matcher,
+        took_parts g at.After-agree-agreed,
+        within_taken g at.After-saturating_add-place,
+      );
       whole = tt;
     }
 
@@ -65,8 +73,10 @@ returns g c =
     let feeder = c.args.sequenced.now.feeder in
     let journal = c.args.sequenced.now.journal.items in
     let ends = none_found c.first_fault.result c.in_default.not-Some c.first_fault.ensures.whole in
-    let whole = subst (λ (e : SequenceEnd). SequenceEnds e c.args.room c.args.streams.now.value.items journal feeder) ends.0 j.sequenced in
-    let all : took ≡ journal = agrees_whole c.agree-agreed.result (feed_ended feeder) (given feeder) took ends.2 c.agree-agreed.ensures.agree ∙ whole.1 in
+    let whole = subst (λ (e : SequenceEnd). SequenceEnds e c.args.room c.args.streams.now.value.items journal feeder)
+    ends.0 j.sequenced in
+    let all : took ≡ journal = agrees_whole c.agree-agreed.result (feed_ended feeder) (given feeder) took ends.2
+    c.agree-agreed.ensures.agree ∙ whole.1 in
     record {
       journal = refl;
       reported = refl;
@@ -74,10 +84,12 @@ returns g c =
       fault = tt;
       whole = record {
         parts = whole.0;
-        posted = subst (λ (es : List Entry). HasPosted es p) all (subst (λ (e : MatchEnd). MatchEnds e took p) ends.1 j.matched);
+        posted = subst (λ (es : List Entry). HasPosted es p) all
+            (subst (λ (e : MatchEnd). MatchEnds e took p) ends.1 j.matched);
         count = j.posts.0 ∙ sym c.all_finished.ensures.count;
         written = λ s below.
-            c.all_finished.ensures.finished c.if-not-all_finished.false s (omega (arith, below, c.all_finished.ensures.count))
+            c.all_finished.ensures.finished c.if-not-all_finished.false s
+            (omega (arith, below, c.all_finished.ensures.count))
             ∙ ap (λ (ps : List (Poster g.row.A.Denot)). posted_at ps s) c.as_mut_slice.ensures.value;
       };
     }

@@ -16,15 +16,19 @@ loop-one-preserved g c =
     let out = c.loop-one.out.items in
     let all : length ws ≡ vec_len c.args.written = sym c.args.written.ok.0 in
     let here : i < length ws = omega (arith, all, was.count, steps.1) in
-    let next = next_is ws (into_iter_items c.loop-one.one-iterator) (into_iter_items c.next.new.self) one i here was.left steps.0 in
-    let now : c.into_bytes.result.items ≡ written_at ws i = c.into_bytes.ensures ∙ (ap bytes_written next.0 ∙ sym (row_at bytes_written ws i one here)) in
+    let next = next_is ws (into_iter_items c.loop-one.one-iterator) (into_iter_items c.next.new.self) one i here
+    was.left steps.0 in
+    let now : c.into_bytes.result.items ≡ written_at ws i = c.into_bytes.ensures
+    ∙ (ap bytes_written next.0 ∙ sym (row_at bytes_written ws i one here)) in
     let low : i < length out = omega (arith, c.loop-one.out.ok.0, was.size, c.requires, all, here) in
     record {
       count = omega (arith, was.count, steps.1);
       left = next.1;
       size = was.size;
-      done = row_written (λ (v : Vec ℕ g.row.A.Denot). v.items) bytes_written out ws i c.into_bytes.result low was.done now;
+      done = row_written (λ (v : Vec ℕ g.row.A.Denot). v.items) bytes_written out ws i c.into_bytes.result low was.done
+          now;
       others = λ s after.
           let apart : s ≢ i = omega (arith, after) in
-          row_other (λ (v : Vec ℕ g.row.A.Denot). v.items) out i c.into_bytes.result s apart ∙ was.others s (omega (arith, after));
+          row_other (λ (v : Vec ℕ g.row.A.Denot). v.items) out i c.into_bytes.result s apart
+          ∙ was.others s (omega (arith, after));
     }

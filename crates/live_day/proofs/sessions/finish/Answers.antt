@@ -23,20 +23,24 @@ conclude-requires g c =
     let rs = c.join_writers-written.result in
     let lr : length rs.items ≡ length hs.items = omega (arith, rs.ok.0, hs.ok.0, c.join_writers-written.ensures.len) in
     record {
-      feed = feed_kept running.feeder c.sequence-sequenced.result.feeder promised.matcher.value c.join-matched.result.matcher q.ring m.ring r.feed;
+      feed = feed_kept running.feeder c.sequence-sequenced.result.feeder promised.matcher.value
+          c.join-matched.result.matcher q.ring m.ring r.feed;
       posts =
-          posts_kept promised.posted.value.posters.items c.join-matched.result.posted.posters.items r.writers hs.items rs.items r.writing_count lr r.posts m.writers
+          posts_kept promised.posted.value.posters.items c.join-matched.result.posted.posters.items r.writers hs.items
+          rs.items r.writing_count lr r.posts m.writers
           r.writing c.join_writers-written.ensures.kept;
       few_writers = omega (arith, lr, r.writing_count, r.few);
       few = m.few;
       given_on = q.given_on;
       parts = q.parts;
       size = subst (λ (n : ℕ). length c.sequence-sequenced.result.journal.items ≤ n) r.journal_room q.size;
-      sequenced = subst (λ (n : ℕ). SequenceEnds c.sequence-sequenced.result.end n c.args.streams.now.value.items c.sequence-sequenced.result.journal.items c.sequence-sequenced.result.feeder) r.journal_room q.ends;
+      sequenced = subst (λ (n : ℕ). SequenceEnds c.sequence-sequenced.result.end n c.args.streams.now.value.items
+          c.sequence-sequenced.result.journal.items c.sequence-sequenced.result.feeder) r.journal_room q.ends;
       matched = m.ends;
     }
 
 pub returns-clause-fault : goal.returns-clause-fault
 returns-clause-fault g c =
-    subst (λ (rules : Rules). IfErr c.conclude.result (λ f. (ring : ℕ) → IsThreadsFault rules c.args.streams.now.value.items ring c.args.room f)) c.join-matched.ensures.rules
+    subst (λ (rules : Rules). IfErr c.conclude.result (λ f. (ring : ℕ)
+    → IsThreadsFault rules c.args.streams.now.value.items ring c.args.room f)) c.join-matched.ensures.rules
     c.conclude.ensures.fault

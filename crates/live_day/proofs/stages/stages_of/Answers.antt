@@ -22,7 +22,8 @@ returns-clause-ready g c =
       unfed = record {
         taken_none = fed.fresh.taken_none;
         not_over = fed.fresh.not_over;
-        posted_none = posted_none p c.in-Ok-with_capacity.ensures.start rings.none (omega (arith, ps.ok.0, rings.count.0, linked.ranges.0.1));
+        posted_none = posted_none p c.in-Ok-with_capacity.ensures.start rings.none
+            (omega (arith, ps.ok.0, rings.count.0, linked.ranges.0.1));
         rings = record { open_ = rings.open; few = omega (arith, ps.ok.0, rings.count.0, linked.ranges.0.1) };
       };
       posts = rings.pairs;

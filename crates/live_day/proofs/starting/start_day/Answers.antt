@@ -16,8 +16,10 @@ returns-clause-running g c =
     let rooms = c.in-Ok.ensures in
     let hs = c.start_all-workers.result.workers.handles in
     let ws = c.start_writers-writing.result.writing.handles in
-    let all : vec_len hs ≡ vec_len stages.gateways = none_left c.start_all-workers.result.refused c.in_default-refused.not-Some workers.all in
-    let all_writing : vec_len ws ≡ vec_len stages.writers = none_left c.start_writers-writing.result.refused c.in_default-refused-2.not-Some writing.all in
+    let all : vec_len hs ≡ vec_len stages.gateways = none_left c.start_all-workers.result.refused
+    c.in_default-refused.not-Some workers.all in
+    let all_writing : vec_len ws ≡ vec_len stages.writers =
+    none_left c.start_writers-writing.result.refused c.in_default-refused-2.not-Some writing.all in
     record {
       staffed = record {
         gateways = stages.gateways.items;
@@ -34,9 +36,20 @@ returns-clause-running g c =
       writing = writing.started;
       writing_count = omega (arith, ws.ok.0, stages.writers.ok.0, all_writing);
       few = omega (arith, made.writer_count, c.requires.stream_count, c.requires.few);
-      gateways_back = rw workers.room (rooms.workers.1.0, omega (arith, rooms.workers.1.1, workers.most, c.len-sessions.ensures, stages.gateways.ok.0));
+      gateways_back = rw workers.room (
+        rooms.workers.1.0,
+        omega (arith, rooms.workers.1.1, workers.most, c.len-sessions.ensures, stages.gateways.ok.0),
+      );
       writers_back = rw writing.room (
         rooms.writers.1.0,
-        omega (arith, rooms.writers.1.1, writing.most, c.len-sessions.ensures, made.writer_count, stages.gateways.ok.0, stages.writers.ok.0),
+        omega (
+          arith,
+          rooms.writers.1.1,
+          writing.most,
+          c.len-sessions.ensures,
+          made.writer_count,
+          stages.gateways.ok.0,
+          stages.writers.ok.0,
+        ),
       );
     }

@@ -17,5 +17,6 @@ loop-preserved-in-Posted g c =
       same = same_poster_trans c.args.poster.now c.loop.poster c.post_many.new.self was.same c.in-Posted.ensures.ring;
       open_ = step.3;
       within = omega (arith, was.within, few, m, length-drop c.loop.done bytes);
-      gave = pieces_join (posted c.args.poster.now) (posted c.loop.poster) (posted c.post_many.new.self) bytes rest c.loop.done k was.within (tail_is bytes c.loop.done) few was.gave step.2;
+      gave = pieces_join (posted c.args.poster.now) (posted c.loop.poster) (posted c.post_many.new.self) bytes rest
+          c.loop.done k was.within (tail_is bytes c.loop.done) few was.gave step.2;
     }

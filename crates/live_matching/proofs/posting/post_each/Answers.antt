@@ -8,7 +8,8 @@ use Rattle.live_matching.proofs.Posters.{same_set, open_set, open_at, moved_set,
 use Rattle.live_matching.proofs.posting.post_each.Goals as goal
 use Rattle.live_matching.proofs.posting.post_each.Goals.{After-post_all}
 
-below_or_not : (P : ℕ → Type 0) (m n s : ℕ) (b : Bool) → nat_lt s m ≡ b → ((k : ℕ) → k < m → P k) → ((k : ℕ) → m ≤ k → k < n → P k) → s < n → P s
+below_or_not : (P : ℕ → Type 0) (m n s : ℕ) (b : Bool) → nat_lt s m ≡ b → ((k : ℕ) → k < m → P k)
+    → ((k : ℕ) → m ≤ k → k < n → P k) → s < n → P s
 below_or_not P m n s true e low high lt = low s (grind (arith, nat_tests))
 below_or_not P m n s false e low high lt = high s (grind (arith, nat_tests)) lt
 
@@ -24,11 +25,14 @@ post_all-requires g c =
 here : (g : _) (c : After-post_all g) → c.loop-s.s < length c.loop-s.posters
 here g c = omega (arith, c.loop-s-test.true, c.loop-s.auto.posters)
 
-same : (g : _) (c : After-post_all g) → SamePosters c.args.posters.now (slice_set c.loop-s.posters c.loop-s.s c.post_all.new.poster)
-same g c = same_set c.args.posters.now c.loop-s.posters c.loop-s.s c.index-posters-s.result c.post_all.new.poster (here g c) c.loop-s.invariant.same c.post_all.ensures.ring
+same : (g : _) (c : After-post_all g) → SamePosters c.args.posters.now
+    (slice_set c.loop-s.posters c.loop-s.s c.post_all.new.poster)
+same g c = same_set c.args.posters.now c.loop-s.posters c.loop-s.s c.index-posters-s.result c.post_all.new.poster
+    (here g c) c.loop-s.invariant.same c.post_all.ensures.ring
 
 open_ : (g : _) (c : After-post_all g) → NoneEnded (slice_set c.loop-s.posters c.loop-s.s c.post_all.new.poster)
-open_ g c = open_set c.loop-s.posters c.loop-s.s c.post_all.new.poster (here g c) c.loop-s.invariant.open_ c.post_all.ensures.open
+open_ g c = open_set c.loop-s.posters c.loop-s.s c.post_all.new.poster (here g c) c.loop-s.invariant.open_
+    c.post_all.ensures.open
 
 pub returns-then-not-post_all-clause-rings : goal.returns-then-not-post_all-clause-rings
 returns-then-not-post_all-clause-rings g c = same g (goal.at.returns-then-not-post_all-clause-rings g c).After-post_all
@@ -47,17 +51,22 @@ loop-s-preserved g c =
     let texts = c.loop-s.reported.texts in
     let low : i < length texts = omega (arith, here g at, was.same.0, was.count, c.requires.count) in
     let step : posted q ≡ posted (get_or ps i d) ++ session_text texts i =
-    c.post_all.ensures.whole c.if-not-post_all.false ∙ ap (λ (t : List ℕ). posted (get_or ps i d) ++ t) c.bytes.ensures in
+    c.post_all.ensures.whole c.if-not-post_all.false ∙ ap (λ (t : List ℕ). posted (get_or ps i d) ++ t) c.bytes.ensures
+    in
     let left = sym c.clear.ensures.texts in
-    let emptied = subst (λ (ts : List (List ℕ)). (s : ℕ) → s < i + 1 → session_text ts s ≡ []) left (empty_set texts i low was.done) in
+    let emptied = subst (λ (ts : List (List ℕ)). (s : ℕ) → s < i + 1 → session_text ts s ≡ []) left
+    (empty_set texts i low was.done) in
     record {
       same = same g at;
       open_ = open_ g at;
       applied = c.clear.ensures.applied ∙ was.applied;
       desk = c.clear.ensures.desk ∙ was.desk;
       count = ap length c.clear.ensures.texts ∙ (length-set texts i [] ∙ was.count);
-      done = λ s below. passed (λ k. session_text c.clear.new.self.texts k ≡ []) (i + 1) c.next_sent-s-in-loop-s.result emptied c.next_sent-s-in-loop-s.ensures.skipped s below;
+      done = λ s below. passed (λ k. session_text c.clear.new.self.texts k ≡ []) (i + 1) c.next_sent-s-in-loop-s.result
+          emptied c.next_sent-s-in-loop-s.ensures.skipped s below;
       moved =
-          subst (λ (ts : List (List ℕ)). (s : ℕ) → posted_at (slice_set ps i q) s ++ session_text ts s ≡ posted_at c.args.posters.now s ++ session_text c.args.reported.now.texts s) left
-          (moved_set ps texts (λ s. posted_at c.args.posters.now s ++ session_text c.args.reported.now.texts s) i d q (here g at) low step was.moved);
+          subst (λ (ts : List (List ℕ)). (s : ℕ) → posted_at (slice_set ps i q) s
+          ++ session_text ts s ≡ posted_at c.args.posters.now s ++ session_text c.args.reported.now.texts s) left
+          (moved_set ps texts (λ s. posted_at c.args.posters.now s ++ session_text c.args.reported.now.texts s) i d q
+          (here g at) low step was.moved);
     }

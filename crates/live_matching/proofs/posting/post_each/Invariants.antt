@@ -11,7 +11,8 @@ invariant-loop-s g l = record {
   desk : l.reported.desk ≡ l.initial.reported.desk;
   count : length l.reported.texts ≡ length l.initial.reported.texts;
   done : (s : ℕ) → s < l.s → session_text l.reported.texts s ≡ [];
-  moved : (s : ℕ) → posted_at l.posters s ++ session_text l.reported.texts s ≡ posted_at l.initial.posters s ++ session_text l.initial.reported.texts s;
+  moved : (s : ℕ) → posted_at l.posters s ++ session_text l.reported.texts s ≡ posted_at l.initial.posters s
+      ++ session_text l.initial.reported.texts s;
 }
 
 abbrev pub decreases-loop-s : goal.decreases-loop-s

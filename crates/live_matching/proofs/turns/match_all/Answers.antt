@@ -16,21 +16,27 @@ use Rattle.live_matching.proofs.turns.match_all.Goals as goal
 use Rattle.live_matching.proofs.turns.match_all.Goals.{After-lend, After-match_one}
 
 ring : (g : _) (c : After-lend g) → SameMatcher c.args.matcher.now c.lend.follows.lender-at-none
-ring g c = same_matcher_trans c.args.matcher.now c.loop.matcher c.lend.follows.lender-at-none c.loop.invariant.ring c.lend.follows.holds-at-none.0
+ring g c = same_matcher_trans c.args.matcher.now c.loop.matcher c.lend.follows.lender-at-none c.loop.invariant.ring
+    c.lend.follows.holds-at-none.0
 
 -- What lending did, where this was its answer.
-took_by : (g : _) (c : After-lend g) (r : Lent) → c.lend.result ≡ r → Takes (taken_of r) c.loop.matcher c.lend.follows.lender-at-none
-took_by g c r is = subst (λ (t : Lent). Takes (taken_of t) c.loop.matcher c.lend.follows.lender-at-none) is c.lend.follows.holds-at-none.1
+took_by : (g : _) (c : After-lend g) (r : Lent) → c.lend.result ≡ r
+    → Takes (taken_of r) c.loop.matcher c.lend.follows.lender-at-none
+took_by g c r is = subst (λ (t : Lent). Takes (taken_of t) c.loop.matcher c.lend.follows.lender-at-none) is
+    c.lend.follows.holds-at-none.1
 
-writers : (g : _) (c : After-match_one g) → SamePosters c.args.posted.now.posters.items c.match_one.new.posted.posters.items
-writers g c = same_posters_trans c.args.posted.now.posters.items c.loop.posted.posters.items c.match_one.new.posted.posters.items c.loop.invariant.writers c.match_one.ensures.writers
+writers : (g : _) (c : After-match_one g) → SamePosters c.args.posted.now.posters.items
+    c.match_one.new.posted.posters.items
+writers g c = same_posters_trans c.args.posted.now.posters.items c.loop.posted.posters.items
+    c.match_one.new.posted.posters.items c.loop.invariant.writers c.match_one.ensures.writers
 
 pub loop-preserved-in-Whole : goal.loop-preserved-in-Whole
 loop-preserved-in-Whole g c =
     let took = took_by g (goal.at.loop-preserved-in-Whole g c).After-lend (LentEntry c.in-Entry.entry) c.in-Entry.is in
     let was = c.loop.invariant in
     let next = c.in-Whole.ensures.step (taken c.loop.matcher) was.posted in
-    let now : HasPosted (taken c.lend.follows.lender-at-none) c.match_one.new.posted = subst (λ (es : List Entry). HasPosted es c.match_one.new.posted) (sym took.1) next in
+    let now : HasPosted (taken c.lend.follows.lender-at-none) c.match_one.new.posted =
+    subst (λ (es : List Entry). HasPosted es c.match_one.new.posted) (sym took.1) next in
     record {
       ring = ring g (goal.at.loop-preserved-in-Whole g c).After-lend;
       writers = writers g (goal.at.loop-preserved-in-Whole g c).After-match_one;
@@ -47,7 +53,8 @@ returns-in_default g c =
     let took = took_by g (goal.at.returns-in_default g c).After-lend (LentEntry c.in-Entry.entry) c.in-Entry.is in
     let was = c.loop.invariant in
     let es = taken c.loop.matcher in
-    let ends = step_ends c.match_one.result es c.in-Entry.entry.now c.loop.posted c.match_one.new.posted c.match_one.ensures.rules c.match_one.ensures.step was.posted in
+    let ends = step_ends c.match_one.result es c.in-Entry.entry.now c.loop.posted c.match_one.new.posted
+    c.match_one.ensures.rules c.match_one.ensures.step was.posted in
     record {
       ring = ring g (goal.at.returns-in_default g c).After-lend;
       writers = writers g (goal.at.returns-in_default g c).After-match_one;
@@ -70,13 +77,17 @@ returns-in-Ended g c =
     let new = c.end_each.new.posters in
     let p : PostedEntries g.row.A.Denot = record { reported = c.loop.posted.reported; posters = with_items old new } in
     let value = c.as_mut_slice.ensures.value in
-    let is : (with_items old new).items ≡ new = with_items_is old new (c.end_each.ensures.rings.0 ∙ c.as_mut_slice.ensures.len) in
-    let same : SamePosters old.items new = subst (λ (ps : List (Poster g.row.A.Denot)). SamePosters ps new) value c.end_each.ensures.rings in
+    let is : (with_items old new).items ≡ new = with_items_is old new
+    (c.end_each.ensures.rings.0 ∙ c.as_mut_slice.ensures.len) in
+    let same : SamePosters old.items new = subst (λ (ps : List (Poster g.row.A.Denot)). SamePosters ps new) value
+    c.end_each.ensures.rings in
     let all : SamePosters c.args.posted.now.posters.items (with_items old new).items =
-    subst (SamePosters c.args.posted.now.posters.items) (sym is) (same_posters_trans c.args.posted.now.posters.items old.items new was.writers same) in
+    subst (SamePosters c.args.posted.now.posters.items) (sym is)
+    (same_posters_trans c.args.posted.now.posters.items old.items new was.writers same) in
     let now : HasPosted (taken c.loop.matcher) p =
     posted_still (taken c.loop.matcher) c.loop.posted p was.posted refl (ap length is ∙ same.0)
-    (λ s. ap (λ (ps : List (Poster g.row.A.Denot)). posted_at ps s) is ∙ (c.end_each.ensures.posted s ∙ ap (λ (ps : List (Poster g.row.A.Denot)). posted_at ps s) value)) in
+    (λ s. ap (λ (ps : List (Poster g.row.A.Denot)). posted_at ps s) is
+    ∙ (c.end_each.ensures.posted s ∙ ap (λ (ps : List (Poster g.row.A.Denot)). posted_at ps s) value)) in
     record {
       ring = ring g (goal.at.returns-in-Ended g c).After-lend;
       writers = all;

@@ -23,7 +23,11 @@ pub returns-then-load-clause-whole : goal.returns-then-load-clause-whole
 returns-then-load-clause-whole g c all = absurd (cc all)
 
 pub loop-preserved-in-Gave : goal.loop-preserved-in-Gave
-loop-preserved-in-Gave g c = record { ring = ring g (goal.at.loop-preserved-in-Gave g c).After-feed; prefix = c.feed.ensures.prefix }
+loop-preserved-in-Gave g c = record {
+  ring = ring g (goal.at.loop-preserved-in-Gave g c).After-feed;
+  prefix =
+      c.feed.ensures.prefix;
+}
 
 pub loop-preserved : goal.loop-preserved
 loop-preserved g c = record { ring = ring g (goal.at.loop-preserved g c).After-feed; prefix = c.feed.ensures.prefix }

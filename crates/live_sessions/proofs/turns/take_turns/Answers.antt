@@ -9,11 +9,13 @@ use Rattle.live_sessions.proofs.turns.take_turns.Goals as goal
 use Rattle.live_sessions.proofs.turns.take_turns.Goals.{After-turn_each}
 
 linked : (g : _) (c : After-turn_each g) → SameLink c.args.sequencer.now c.turn_each.new.sequencer
-linked g c = same_link_trans c.args.sequencer.now c.loop.sequencer c.turn_each.new.sequencer c.loop.invariant.link c.turn_each.ensures.link
+linked g c = same_link_trans c.args.sequencer.now c.loop.sequencer c.turn_each.new.sequencer c.loop.invariant.link
+    c.turn_each.ensures.link
 
 -- what was given is a beginning of the journal, also after it has grown
 given_on : (g : _) (c : After-turn_each g) → IsPrefix (given c.loop.feeder) (journal_of c.turn_each.new.sequencer)
-given_on g c = prefix_trans (given c.loop.feeder) (journal_of c.loop.sequencer) (journal_of c.turn_each.new.sequencer) c.loop.invariant.prefix c.turn_each.ensures.grown
+given_on g c = prefix_trans (given c.loop.feeder) (journal_of c.loop.sequencer) (journal_of c.turn_each.new.sequencer)
+    c.loop.invariant.prefix c.turn_each.ensures.grown
 
 pub returns-in-AllDone-clause-link : goal.returns-in-AllDone-clause-link
 returns-in-AllDone-clause-link g c = linked g (goal.at.returns-in-AllDone-clause-link g c).After-turn_each
@@ -28,13 +30,15 @@ pub returns-in-Full-clause-prefix : goal.returns-in-Full-clause-prefix
 returns-in-Full-clause-prefix g c = given_on g (goal.at.returns-in-Full-clause-prefix g c).After-turn_each
 
 pub give-requires : goal.give-requires
-give-requires g c = subst (λ (j : List Entry). IsPrefix (given c.loop.feeder) j) (sym c.journal.ensures.journal) (given_on g (goal.at.give-requires g c).After-turn_each)
+give-requires g c = subst (λ (j : List Entry). IsPrefix (given c.loop.feeder) j) (sym c.journal.ensures.journal)
+    (given_on g (goal.at.give-requires g c).After-turn_each)
 
 pub loop-preserved : goal.loop-preserved
 loop-preserved g c = record {
   link = linked g (goal.at.loop-preserved g c).After-turn_each;
   ring = same_feeder_trans c.args.feeder.now c.loop.feeder c.give.new.self c.loop.invariant.ring c.give.ensures.ring;
-  prefix = subst (λ (j : List Entry). IsPrefix (given c.give.new.self) j) c.journal.ensures.journal c.give.ensures.prefix;
+  prefix = subst (λ (j : List Entry). IsPrefix (given c.give.new.self) j) c.journal.ensures.journal
+      c.give.ensures.prefix;
 }
 
 pub loop-init : goal.loop-init

@@ -8,19 +8,27 @@ use Rattle.live_sessions.proofs.worker.send_stream.Goals.{After-step_or_end}
 
 -- after the step, the same of what is left as before
 after : (g : _) (c : After-step_or_end g)
-    → SameGateway c.args.gateway.now c.step_or_end.new.gateway × (sent_and_pending c.step_or_end.new.gateway (drop c.loop.put c.args.stream.now) ≡ whole c.args.stream.now)
-after g c = stepped c.args.gateway.now c.loop.gateway c.see-judged.new.gateway c.step_or_end.new.gateway c.args.stream.now c.loop.put (whole c.args.stream.now)
+    → SameGateway c.args.gateway.now c.step_or_end.new.gateway
+    × (sent_and_pending c.step_or_end.new.gateway (drop c.loop.put c.args.stream.now) ≡ whole c.args.stream.now)
+after g c = stepped c.args.gateway.now c.loop.gateway c.see-judged.new.gateway c.step_or_end.new.gateway
+    c.args.stream.now c.loop.put (whole c.args.stream.now)
     c.loop.invariant.gate c.loop.invariant.total c.see-judged.ensures.kept c.step_or_end.ensures.kept
 
 pub returns-then-load : goal.returns-then-load
 returns-then-load g c =
     let was = c.loop.invariant in
-    record { sent = sent_of c.args.stream.now c.args.gateway.now c.loop.gateway (drop c.loop.put c.args.stream.now) was.gate was.total }
+    record {
+      sent = sent_of c.args.stream.now c.args.gateway.now c.loop.gateway (drop c.loop.put c.args.stream.now)
+          was.gate was.total;
+    }
 
 pub returns-in-Closed : goal.returns-in-Closed
 returns-in-Closed g c =
     let now = after g (goal.at.returns-in-Closed g c).After-step_or_end in
-    record { sent = sent_of c.args.stream.now c.args.gateway.now c.step_or_end.new.gateway (drop c.loop.put c.args.stream.now) now.0 now.1 }
+    record {
+      sent = sent_of c.args.stream.now c.args.gateway.now c.step_or_end.new.gateway
+          (drop c.loop.put c.args.stream.now) now.0 now.1;
+    }
 
 pub loop-init : goal.loop-init
 loop-init g c = record {
@@ -40,7 +48,8 @@ loop-preserved-in-Need g c =
     let now = after g (goal.at.loop-preserved-in-Need g c).After-step_or_end in
     let put = c.put_bytes-put.ensures in
     record {
-      gate = same_gateway_trans c.args.gateway.now c.step_or_end.new.gateway c.put_bytes-put.new.gateway now.0 put.kept.0;
+      gate = same_gateway_trans c.args.gateway.now c.step_or_end.new.gateway c.put_bytes-put.new.gateway now.0
+          put.kept.0;
       put = put.within;
       total = put.kept.1 ∙ now.1;
       ready = tt;

@@ -37,7 +37,8 @@ in_streams g c =
 
 streams_left : (g : _) (c : After-remove g) → 0 < length c.loop-gateway.streams.items
 streams_left g c =
-    let n = ap length c.loop-gateway.invariant.streams ∙ length-drop (vec_len c.loop-gateway.handles) c.args.streams.items in
+    let n = ap length c.loop-gateway.invariant.streams
+    ∙ length-drop (vec_len c.loop-gateway.handles) c.args.streams.items in
     omega (arith, n, in_streams g c)
 
 -- it is the one at hand, and a fresh one
@@ -49,8 +50,10 @@ start-requires-after_bounds g c κs within =
     let gateway = c.in-Some.gateway in
     let gs = c.args.gateways.items in
     let here = in_gateways g c in
-    let next = next_is gs (into_iter_items c.loop-gateway.gateway-iterator) (into_iter_items c.next.new.self) gateway (vec_len handles) here was.left steps.0 in
-    let fresh : IsFresh c.requires.fresh.0 (vec_len handles) gateway = rw next.0 (c.requires.fresh.1 (vec_len handles) gateway here) in
+    let next = next_is gs (into_iter_items c.loop-gateway.gateway-iterator) (into_iter_items c.next.new.self) gateway
+    (vec_len handles) here was.left steps.0 in
+    let fresh : IsFresh c.requires.fresh.0 (vec_len handles) gateway =
+    rw next.0 (c.requires.fresh.1 (vec_len handles) gateway here) in
     (fresh.sent, fresh.state, fresh.held)
 
 pub loop-gateway-preserved : goal.loop-gateway-preserved
@@ -67,9 +70,12 @@ loop-gateway-preserved g c =
     let n : length handles.items ≡ vec_len handles = sym handles.ok.0 in
     let here = in_gateways g at in
     let there : vec_len handles < length streams = in_streams g at in
-    let next = next_is gs (into_iter_items c.loop-gateway.gateway-iterator) (into_iter_items c.next.new.self) gateway (vec_len handles) here was.left steps.0 in
-    let first = first_removed c.loop-gateway.streams.items c.remove.new.self.items stream (streams_left g at) c.remove.ensures.value c.remove.ensures.items in
-    let after = next_is streams c.loop-gateway.streams.items c.remove.new.self.items stream (vec_len handles) there was.streams first in
+    let next = next_is gs (into_iter_items c.loop-gateway.gateway-iterator) (into_iter_items c.next.new.self) gateway
+    (vec_len handles) here was.left steps.0 in
+    let first = first_removed c.loop-gateway.streams.items c.remove.new.self.items stream (streams_left g at)
+    c.remove.ensures.value c.remove.ensures.items in
+    let after = next_is streams c.loop-gateway.streams.items c.remove.new.self.items stream (vec_len handles) there
+    was.streams first in
     record {
       count = search rules;
       left = rw c.push_reserved.ensures.len next.1;
@@ -77,7 +83,8 @@ loop-gateway-preserved g c =
       room = search rules;
       started =
           rw c.push_reserved.ensures.items
-          (started_snoc streams gs handles.items c.in-Some-start.handle gateway stream (rw n here) (rw n there) was.started
+          (started_snoc streams gs handles.items c.in-Some-start.handle gateway stream (rw n here) (rw n there)
+          was.started
           (rw n next.0) (rw n after.0) promised.0 (ap (λ (v : Vec ℕ _). v.items) promised.1));
     }
 
@@ -109,10 +116,23 @@ pub remove-requires : goal.remove-requires
 remove-requires g c =
     let was = c.loop-gateway.invariant in
     let n = ap length was.streams ∙ length-drop (vec_len c.loop-gateway.handles) c.args.streams.items in
-    omega (arith, n, c.requires.streams, c.args.streams.ok.0, c.loop-gateway.streams.ok.0, was.count, c.in-Some.ensures.steps.1)
+    omega (
+      arith,
+      n,
+      c.requires.streams,
+      c.args.streams.ok.0,
+      c.loop-gateway.streams.ok.0,
+      was.count,
+      c.in-Some.ensures.steps.1,
+    )
 
 pub push_reserved-requires : goal.push_reserved-requires
-push_reserved-requires g c = omega (arith, c.loop-gateway.invariant.room, c.loop-gateway.invariant.count, c.in-Some.ensures.steps.1)
+push_reserved-requires g c = omega (
+  arith,
+  c.loop-gateway.invariant.room,
+  c.loop-gateway.invariant.count,
+  c.in-Some.ensures.steps.1,
+)
 
 pub overflow_cast-refused : goal.overflow_cast-refused
 overflow_cast-refused g c = omega (arith, c.requires.few, c.loop-gateway.invariant.count)

@@ -26,10 +26,12 @@ loop-handle-preserved g c =
     let n : length joined.items ≡ vec_len joined = sym joined.ok.0 in
     let all : length hs ≡ vec_len c.args.handles = sym c.args.handles.ok.0 in
     let here : vec_len joined < length hs = omega (arith, was.count, steps.1) in
-    let next = next_is hs (into_iter_items c.loop-handle.handle-iterator) (into_iter_items c.next.new.self) handle (vec_len joined) here was.left steps.0 in
+    let next = next_is hs (into_iter_items c.loop-handle.handle-iterator) (into_iter_items c.next.new.self) handle
+    (vec_len joined) here was.left steps.0 in
     record {
       count = search rules;
       left = rw c.push_reserved.ensures.len next.1;
       room = search rules;
-      kept = rw c.push_reserved.ensures.items (joined_snoc g.P.Promise hs joined.items c.join.result handle (rw n here) was.kept (rw n next.0) c.join.ensures);
+      kept = rw c.push_reserved.ensures.items (joined_snoc g.P.Promise hs joined.items c.join.result handle (rw n here)
+          was.kept (rw n next.0) c.join.ensures);
     }

@@ -26,10 +26,12 @@ loop-writer-preserved g c =
     let n : length handles.items ≡ vec_len handles = sym handles.ok.0 in
     let all : length ws ≡ vec_len c.args.writers = sym c.args.writers.ok.0 in
     let here : vec_len handles < length ws = omega (arith, was.count, steps.1) in
-    let next = next_is ws (into_iter_items c.loop-writer.writer-iterator) (into_iter_items c.next.new.self) writer (vec_len handles) here was.left steps.0 in
+    let next = next_is ws (into_iter_items c.loop-writer.writer-iterator) (into_iter_items c.next.new.self) writer
+    (vec_len handles) here was.left steps.0 in
     record {
       count = search rules;
       left = rw c.push_reserved.ensures.len next.1;
       room = search rules;
-      started = rw c.push_reserved.ensures.items (writing_snoc ws handles.items c.in-Some-start_writer.handle writer (rw n here) was.started (rw n next.0) c.in-Some-start_writer.ensures);
+      started = rw c.push_reserved.ensures.items (writing_snoc ws handles.items c.in-Some-start_writer.handle writer
+          (rw n here) was.started (rw n next.0) c.in-Some-start_writer.ensures);
     }

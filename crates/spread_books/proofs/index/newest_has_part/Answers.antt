@@ -6,4 +6,5 @@ use Rattle.spread_books.proofs.index.newest_has_part.Goals as goal
 
 pub returns-in-Some : goal.returns-in-Some
 returns-in-Some c = λ k at.
-    c.has_part.ensures k (subst (λ (r : Option Order). IsSomeAnd r (λ o. IsInColumn o.instrument o.side c.args.side c.args.month k)) c.in-Some.is at)
+    c.has_part.ensures k (subst (λ (r : Option Order). IsSomeAnd r
+    (λ o. IsInColumn o.instrument o.side c.args.side c.args.month k)) c.in-Some.is at)

@@ -10,8 +10,10 @@ pub returns-then-may_be_front : goal.returns-then-may_be_front
 returns-then-may_be_front g c = λ xs up stands gone h.
     let o = c.args.order.now in
     let slots = c.args.fronts.now in
-    let next = subst (λ (ys : List Order). IsBestPrice ys o.instrument o.side c.best_price-next.result) gone c.best_price-next.ensures in
-    subst (λ (ys : List Order). HoldsPrices ys c.put.new.self) (sym gone) (subst (λ (t : List (Option BestPrice)). HoldsPrices (removed o.place xs) t) (sym c.put.ensures)
+    let next = subst (λ (ys : List Order). IsBestPrice ys o.instrument o.side c.best_price-next.result) gone
+    c.best_price-next.ensures in
+    subst (λ (ys : List Order). HoldsPrices ys c.put.new.self) (sym gone)
+    (subst (λ (t : List (Option BestPrice)). HoldsPrices (removed o.place xs) t) (sym c.put.ensures)
     (prices_removed xs slots o h up stands c.best_price-next.result next))
 
 pub returns-else-may_be_front : goal.returns-else-may_be_front
@@ -19,9 +21,12 @@ returns-else-may_be_front g c = λ xs up stands gone h.
     let o = c.args.order.now in
     let other : may_be_front c.in-Some.best o.place ≡ false = sym c.may_be_front.ensures ∙ c.if-may_be_front.false in
     subst (λ (ys : List Order). HoldsPrices ys c.args.fronts.now) (sym gone)
-    (prices_unremoved xs c.args.fronts.now o h up stands (λ b k. let s : b ≡ c.in-Some.best = let m = sym c.known_price.ensures ∙ c.in-Some.is in cc in subst (λ (r : Option BestPrice). may_be_front r o.place ≡ false) (sym s) other))
+    (prices_unremoved xs c.args.fronts.now o h up stands
+    (λ b k. let s : b ≡ c.in-Some.best = let m = sym c.known_price.ensures ∙ c.in-Some.is in cc in
+    subst (λ (r : Option BestPrice). may_be_front r o.place ≡ false) (sym s) other))
 
 pub returns-in_default : goal.returns-in_default
 returns-in_default g c = λ xs up stands gone h.
     subst (λ (ys : List Order). HoldsPrices ys c.args.fronts.now) (sym gone)
-    (prices_unremoved xs c.args.fronts.now c.args.order.now h up stands (λ b k. let m = sym c.known_price.ensures ∙ c.in_default.is in cc))
+    (prices_unremoved xs c.args.fronts.now c.args.order.now h up stands
+    (λ b k. let m = sym c.known_price.ensures ∙ c.in_default.is in cc))

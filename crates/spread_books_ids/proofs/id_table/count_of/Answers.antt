@@ -9,6 +9,8 @@ loop-at-preserved c =
     let at = c.loop-at.at in
     let within : at < length es = omega arith in
     elim c.if-line-at-ne0.branch [
-      | then-line-at-ne0 w ↦ subst (λ (n : ℕ). Counts es (at + 1) n) (sym w.count-is) (counts_more es at c.loop-at.count within c.requires c.loop-at.invariant w.if-line-at-ne0.true)
-      | else-line-at-ne0 w ↦ subst (λ (n : ℕ). Counts es (at + 1) n) (sym w.count-is) (counts_same es at c.loop-at.count within c.loop-at.invariant w.if-line-at-ne0.false)
+      | then-line-at-ne0 w ↦ subst (λ (n : ℕ). Counts es (at + 1) n) (sym w.count-is)
+          (counts_more es at c.loop-at.count within c.requires c.loop-at.invariant w.if-line-at-ne0.true)
+      | else-line-at-ne0 w ↦ subst (λ (n : ℕ). Counts es (at + 1) n) (sym w.count-is)
+          (counts_same es at c.loop-at.count within c.loop-at.invariant w.if-line-at-ne0.false)
     ]

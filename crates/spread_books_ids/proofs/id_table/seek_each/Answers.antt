@@ -8,7 +8,8 @@ returns-then-number-eq0 g c =
     let at = c.loop-at.at in
     let within : at < length es = omega arith in
     let inv = c.loop-at.invariant in
-    let here = end_here (g.R.IdRows.keys c.args.rows.now) c.args.key.now es at within c.if-number-eq0.true inv.named inv.ended inv.ends in
+    let here = end_here (g.R.IdRows.keys c.args.rows.now) c.args.key.now es at within c.if-number-eq0.true inv.named
+    inv.ended inv.ends in
     (here.0, here.1, c.loop-at-test.true)
 
 pub loop-at-preserved : goal.loop-at-preserved

@@ -4,4 +4,5 @@ use Rattle.spread_rules.specs.Meaning.{is_own}
 use Rattle.spread_books_plain.proofs.list.find_own.Given as goal
 
 abbrev pub invariant-loop-order : goal.invariant-loop-order
-invariant-loop-order l = find (is_own l.session l.id) (drop l.order-index l.orders) ≡ find (is_own l.session l.id) l.orders
+invariant-loop-order l = find (is_own l.session l.id) (drop l.order-index l.orders) ≡ find (is_own l.session l.id)
+    l.orders

@@ -7,4 +7,5 @@ use Rattle.spread_books_queues.proofs.queue_heaps.drop_all_departed.Goals as goa
 pub returns-clause-thinned : goal.returns-clause-thinned
 returns-clause-thinned g c =
     let kept = c.retain.ensures.filtered in
-    thinned c.args.rows.now c.args.queue (heap_items c.args.heap.now) kept.0 (heap_items c.retain.new.self) c.requires (filter_same _ _ _ (λ x b f' k. search rules) _ _ kept.1) kept.2
+    thinned c.args.rows.now c.args.queue (heap_items c.args.heap.now) kept.0 (heap_items c.retain.new.self) c.requires
+    (filter_same _ _ _ (λ x b f' k. search rules) _ _ kept.1) kept.2

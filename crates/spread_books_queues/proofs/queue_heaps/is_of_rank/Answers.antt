@@ -10,7 +10,8 @@ returns-then-queue_number-queue c =
     let number = c.queue_number.ensures.number in
     let test = c.if-queue_number-queue.true in
     let here : (queue_of o == c.args.queue) ≡ true = grind (arith, nat_tests, number, test) in
-    let same : is_rank (rank_of o) c.args.rank.now ≡ c.is.result = ap (λ (x : QueueRank). is_rank x c.args.rank.now) (sym c.new.ensures) ∙ sym c.is.ensures in
+    let same : is_rank (rank_of o) c.args.rank.now ≡ c.is.result =
+    ap (λ (x : QueueRank). is_rank x c.args.rank.now) (sym c.new.ensures) ∙ sym c.is.ensures in
     sym (ap (λ (b : Bool). b && is_rank (rank_of o) c.args.rank.now) here ∙ same)
 
 pub returns-else-queue_number-queue : goal.returns-else-queue_number-queue

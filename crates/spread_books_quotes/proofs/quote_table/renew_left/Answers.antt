@@ -7,4 +7,5 @@ returns-then-held-from g c = λ on xs ys told lt fewer keep h. c.cheapest_of_row
 
 pub returns-else-held-from : goal.returns-else-held-from
 returns-else-held-from g c = λ on xs ys told lt fewer keep h.
-    left_cell on xs ys c.args.side c.args.month c.args.months c.args.via c.args.held.now fewer keep (λ e. c.if-held-from.false (e ∙ sym c.from.ensures)) h
+    left_cell on xs ys c.args.side c.args.month c.args.months c.args.via c.args.held.now fewer keep
+    (λ e. c.if-held-from.false (e ∙ sym c.from.ensures)) h

@@ -21,16 +21,22 @@ spread_within g c =
     let both = c.min-count.ensures in
     let within = c.requires.within in
     let most = c.requires.most in
-    row_within c.args.side c.loop-month.month c.args.via (length c.spread_cells-spreads.result.now) c.row_cell.result c.row_cell.ensures (omega (arith, under, first, both)) (omega (arith, within, most))
+    row_within c.args.side c.loop-month.month c.args.via (length c.spread_cells-spreads.result.now) c.row_cell.result
+    c.row_cell.ensures (omega (arith, under, first, both)) (omega (arith, within, most))
 
-spread_small : (g : _) (c : After-row_cell g) → IfSome (cost_of_cell (get_or c.spread_cells-spreads.result.now c.row_cell.result (pos 0))) IsOrderPrice
-spread_small g c = small_there c.spread_cells-spreads.result.now c.row_cell.result (pos 0) (spread_within g c) c.spread_cells-spreads.ensures.order_price
+spread_small : (g : _) (c : After-row_cell g) → IfSome
+    (cost_of_cell (get_or c.spread_cells-spreads.result.now c.row_cell.result (pos 0))) IsOrderPrice
+spread_small g c = small_there c.spread_cells-spreads.result.now c.row_cell.result (pos 0) (spread_within g c)
+    c.spread_cells-spreads.ensures.order_price
 
-spread_told : (g : _) (c : After-row_cell g) → cost_of_cell (get_or c.spread_cells-spreads.result.now c.row_cell.result (pos 0)) ≡ spread_cost c.args.costs.now c.args.side c.loop-month.month c.args.via
+spread_told : (g : _) (c : After-row_cell g) → cost_of_cell
+    (get_or c.spread_cells-spreads.result.now c.row_cell.result (pos 0)) ≡ spread_cost c.args.costs.now c.args.side
+    c.loop-month.month c.args.via
 spread_told g c =
     told_there c.spread_cells-spreads.result.now c.row_cell.result (pos 0) (spread_within g c)
     ∙ (ap (cost_at (costs_of c.spread_cells-spreads.result.now)) c.row_cell.ensures
-    ∙ ap (λ (cs : List (Option ℤ)). cost_at cs (row_cell c.args.side c.loop-month.month c.args.via)) c.spread_cells-spreads.ensures.costs)
+    ∙ ap (λ (cs : List (Option ℤ)). cost_at cs (row_cell c.args.side c.loop-month.month c.args.via))
+    c.spread_cells-spreads.ensures.costs)
 
 pub bounds-spreads-row_cell : goal.bounds-spreads-row_cell
 bounds-spreads-row_cell g c = spread_within g c
@@ -38,18 +44,21 @@ bounds-spreads-row_cell g c = spread_within g c
 pub sum_of_cells-cost-requires-clause-first : goal.sum_of_cells-cost-requires-clause-first
 sum_of_cells-cost-requires-clause-first g c =
     let small = spread_small g (goal.at.sum_of_cells-cost-requires-clause-first g c).After-row_cell in
-    subst (λ (a : ℤ). IfSome (cost_of_cell a) IsOrderPrice) (sym (cell_whole (get_or c.spread_cells-spreads.result.now c.row_cell.result (pos 0)) small)) small
+    subst (λ (a : ℤ). IfSome (cost_of_cell a) IsOrderPrice)
+    (sym (cell_whole (get_or c.spread_cells-spreads.result.now c.row_cell.result (pos 0)) small)) small
 
 cell_within : (g : _) (c : After-row_cell g) → cell_of c.args.side c.loop-month.month < length c.loop-month.cells
 cell_within g c =
     let under = c.loop-month-test.true in
     let first = c.min.ensures in
     let both = c.min-count.ensures in
-    subst (λ (n : ℕ). cell_of c.args.side c.loop-month.month < n) (sym c.loop-month.invariant.count) (c.side_count.ensures.within c.loop-month.month (omega (arith, under, first, both)))
+    subst (λ (n : ℕ). cell_of c.args.side c.loop-month.month < n) (sym c.loop-month.invariant.count)
+    (c.side_count.ensures.within c.loop-month.month (omega (arith, under, first, both)))
 
 pub bounds-cells-cell : goal.bounds-cells-cell
 bounds-cells-cell g c =
-    subst (λ (n : ℕ). n < length c.loop-month.cells) (sym c.cell.ensures) (cell_within g (goal.at.bounds-cells-cell g c).After-row_cell)
+    subst (λ (n : ℕ). n < length c.loop-month.cells) (sym c.cell.ensures)
+    (cell_within g (goal.at.bounds-cells-cell g c).After-row_cell)
 
 pub loop-month-preserved : goal.loop-month-preserved
 loop-month-preserved g c =
@@ -64,30 +73,43 @@ loop-month-preserved g c =
     record {
       count = length-set cells n new ∙ was.count;
       rest = λ t m other. put_elsewhere cells s t k m n new at (λ q. other q.0) ∙ was.rest t m other;
-      later = λ m lt. put_elsewhere cells s s k m n new at (λ q. let e = q.1 in omega (arith, lt, e)) ∙ was.later m (omega (arith, lt));
+      later = λ m lt. put_elsewhere cells s s k m n new at (λ q. let e = q.1 in omega (arith, lt, e))
+          ∙ was.later m (omega (arith, lt));
       own = λ m before on xs ys told lt among keep h.
           elim (less_or_same on m k before) [
-            | inl earlier ↦ cell_as on months ys (pairs_of cells) (pairs_of (slice_set cells n new)) s m (put_elsewhere cells s s k m n new at (λ q. let e = q.1 in omega (arith, earlier, e))) (was.own m earlier on xs ys told lt among keep h)
+            | inl earlier ↦ cell_as on months ys (pairs_of cells) (pairs_of (slice_set cells n new)) s m
+                (put_elsewhere cells s s k m n new at (λ q. let e = q.1 in omega (arith, earlier, e)))
+                (was.own m earlier on xs ys told lt among keep h)
             | inr e ↦
-                let mine : HasCheapest on months xs (pairs_of cells) s k = cell_as on months xs (pairs_of c.args.cells.now) (pairs_of cells) s k (was.later k (omega arith)) (subst (λ (j : ℕ). HasCheapest on months xs (pairs_of c.args.cells.now) s j) e h) in
-                let here : KeepsOthers xs ys s k c.args.via = subst (λ (j : ℕ). KeepsOthers xs ys s j c.args.via) e keep in
+                let mine : HasCheapest on months xs (pairs_of cells) s k =
+                cell_as on months xs (pairs_of c.args.cells.now) (pairs_of cells) s k (was.later k (omega arith))
+                (subst (λ (j : ℕ). HasCheapest on months xs (pairs_of c.args.cells.now) s j) e h) in
+                let here : KeepsOthers xs ys s k c.args.via = subst (λ (j : ℕ). KeepsOthers xs ys s j c.args.via) e keep
+                in
                 let d = (goal.at.loop-month-preserved g c).After-row_cell in
                 let none : PairCost = record { cost = pos 0; other_month = 0 } in
                 let held = get_or cells n none in
                 let a = get_or c.spread_cells-spreads.result.now c.row_cell.result (pos 0) in
                 let b = c.outright_cell-outright.result in
-                let sum = sum_whole a b c.sum_of_cells-cost.result (spread_small g d) c.outright_cell-outright.ensures.order_price c.sum_of_cells-cost.ensures in
+                let sum = sum_whole a b c.sum_of_cells-cost.result (spread_small g d)
+                c.outright_cell-outright.ensures.order_price c.sum_of_cells-cost.ensures in
                 let renewed : IsCheapest on ys s k months (pair_of_cell new) =
-                subst (λ (p : PairCost). IsCheapest on ys s k months (pair_of_cell p)) (sym (c.offer.ensures ∙ ap (λ (z : ℤ). sooner_of z c.args.via held) sum))
-                (came_told on xs ys s k months c.args.via here c.requires.within among c.args.costs.now held a b told (subst (λ (j : ℕ). j < months) e lt) (spread_told g d) c.outright_cell-outright.ensures.cost
-                (spread_small g d) c.outright_cell-outright.ensures.order_price (held_there on months xs cells s k n none at (subst (λ (i : ℕ). i < length cells) (sym at) (cell_within g d)) mine)) in
-                subst (λ (j : ℕ). HasCheapest on months ys (pairs_of (slice_set cells n new)) s j) (sym e) (put_there on months ys cells s k n new at renewed)
+                subst (λ (p : PairCost). IsCheapest on ys s k months (pair_of_cell p))
+                (sym (c.offer.ensures ∙ ap (λ (z : ℤ). sooner_of z c.args.via held) sum))
+                (came_told on xs ys s k months c.args.via here c.requires.within among c.args.costs.now held a b told
+                (subst (λ (j : ℕ). j < months) e lt) (spread_told g d) c.outright_cell-outright.ensures.cost
+                (spread_small g d) c.outright_cell-outright.ensures.order_price
+                (held_there on months xs cells s k n none at (subst (λ (i : ℕ). i < length cells) (sym at)
+                (cell_within g d)) mine)) in
+                subst (λ (j : ℕ). HasCheapest on months ys (pairs_of (slice_set cells n new)) s j) (sym e)
+                (put_there on months ys cells s k n new at renewed)
           ];
     }
 
 pub returns-clause-own : goal.returns-clause-own
 returns-clause-own g c = λ m on xs ys told lt among keep h least known.
-    let there = subst (λ (n : ℕ). cell_of c.args.side m < n) c.loop-month.invariant.count (known_within c.loop-month.cells c.args.side m least known) in
+    let there = subst (λ (n : ℕ). cell_of c.args.side m < n) c.loop-month.invariant.count
+    (known_within c.loop-month.cells c.args.side m least known) in
     let in_cells = c.side_count.ensures.all m there in
     let rows = ap length c.spread_cells-spreads.ensures.costs in
     let long = length_told c.spread_cells-spreads.result.now in
@@ -96,4 +118,5 @@ returns-clause-own g c = λ m on xs ys told lt among keep h least known.
     let months = c.from.ensures in
     let all = c.min-count.ensures in
     let end = c.loop-month-test.false in
-    c.loop-month.invariant.own m (omega (arith, in_cells, rows, long, count, first, months, all, end, lt)) on xs ys told lt among keep h least known
+    c.loop-month.invariant.own m (omega (arith, in_cells, rows, long, count, first, months, all, end, lt)) on xs ys told
+    lt among keep h least known

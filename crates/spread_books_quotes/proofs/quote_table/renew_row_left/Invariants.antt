@@ -9,5 +9,6 @@ invariant-loop-month g l = record {
   count : length l.cells ≡ length l.fn.cells;
   rest : KeepsOtherSide l.side (pairs_of l.fn.cells) (pairs_of l.cells);
   later : (m : ℕ) → l.month ≤ m → known_pair (pairs_of l.cells) l.side m ≡ known_pair (pairs_of l.fn.cells) l.side m;
-  own : (m : ℕ) → m < l.month → RenewsCell Left l.costs l.months l.side l.via (pairs_of l.fn.cells) (pairs_of l.cells) m;
+  own : (m : ℕ) → m < l.month → RenewsCell Left l.costs l.months l.side l.via (pairs_of l.fn.cells) (pairs_of l.cells)
+      m;
 }

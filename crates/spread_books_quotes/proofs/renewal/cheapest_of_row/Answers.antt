@@ -40,7 +40,8 @@ loop-other_month-preserved g c =
     let first_small = small_there xs k (pos 0) in_spreads c.spread_row-spreads.ensures.order_price in
     let second_small = small_there ys k (pos 0) in_outrights c.outright_row-outrights.ensures.order_price in
     let sum = sum_is a b first_small second_small in
-    let more = λ (on : Pairs) (zs : List Order) (told : AreFrontCosts on c.args.months zs c.args.costs.now) (lt : c.args.month < c.args.months).
+    let more = λ (on : Pairs) (zs : List Order) (told : AreFrontCosts on c.args.months zs c.args.costs.now)
+    (lt : c.args.month < c.args.months).
     least_more on zs c.args.side c.args.month k c.args.months c.args.costs.now a b least at told lt in_months
     (told_there xs k (pos 0) in_spreads ∙ c.spread_row-spreads.ensures.costs k in_months)
     (told_there ys k (pos 0) in_outrights ∙ c.outright_row-outrights.ensures.costs k in_months)
@@ -51,19 +52,23 @@ loop-other_month-preserved g c =
           let is : new ≡ a +ℤ b = w.least-is ∙ sum in
           record {
             near = near_then (a +ℤ b) least new less is c.loop-other_month.invariant.near;
-            cheapest = λ on zs told lt. subst (IsCheapest on zs c.args.side c.args.month (k + 1)) (lesser_then (a +ℤ b) least new k at now less is w.month_of_least-is) (more on zs told lt);
+            cheapest = λ on zs told lt. subst (IsCheapest on zs c.args.side c.args.month (k + 1))
+                (lesser_then (a +ℤ b) least new k at now less is w.month_of_least-is) (more on zs told lt);
           }
       | else-cost-least w ↦
           let less : int_lt (a +ℤ b) least ≡ false = ap (λ (z : ℤ). int_lt z least) (sym sum) ∙ w.if-cost-least.false in
           record {
             near = subst (λ (z : ℤ). z ≤ℤ NO_PAIR) (sym w.least-is) c.loop-other_month.invariant.near;
-            cheapest = λ on zs told lt. subst (IsCheapest on zs c.args.side c.args.month (k + 1)) (lesser_else (a +ℤ b) least new k at now less w.least-is w.month_of_least-is) (more on zs told lt);
+            cheapest = λ on zs told lt. subst (IsCheapest on zs c.args.side c.args.month (k + 1))
+                (lesser_else (a +ℤ b) least new k at now less w.least-is w.month_of_least-is) (more on zs told lt);
           }
     ]
 
 -- over all months, once the rows have ended
-ended : (g : _) (c : After-loop-other_month g) → (on : Pairs) (zs : List Order) → AreFrontCosts on c.args.months zs c.args.costs.now → c.args.month < c.args.months →
-    IsCheapest on zs c.args.side c.args.month c.args.months (least_pair (to_z w64 c.loop-other_month.least-bits) c.loop-other_month.month_of_least)
+ended : (g : _) (c : After-loop-other_month g) → (on : Pairs) (zs : List Order)
+    → AreFrontCosts on c.args.months zs c.args.costs.now → c.args.month < c.args.months →
+    IsCheapest on zs c.args.side c.args.month c.args.months
+    (least_pair (to_z w64 c.loop-other_month.least-bits) c.loop-other_month.month_of_least)
 ended g c on zs told lt =
     let k = c.loop-other_month.other_month in
     let xs = c.spread_row-spreads.result.now in
@@ -71,8 +76,10 @@ ended g c on zs told lt =
     let end = c.min-other_month-end.ensures in
     let last = c.loop-other_month.auto.other_month-end in
     let stop = c.loop-other_month-test.false in
-    row_ended on zs c.args.side c.args.month k c.args.months c.args.costs.now xs ys (least_pair (to_z w64 c.loop-other_month.least-bits) c.loop-other_month.month_of_least) told lt
-    (omega (arith, end, last, stop)) c.spread_row-spreads.ensures.most c.spread_row-spreads.ensures.costs c.outright_row-outrights.ensures.costs (c.loop-other_month.invariant.cheapest on zs told lt)
+    row_ended on zs c.args.side c.args.month k c.args.months c.args.costs.now xs ys
+    (least_pair (to_z w64 c.loop-other_month.least-bits) c.loop-other_month.month_of_least) told lt
+    (omega (arith, end, last, stop)) c.spread_row-spreads.ensures.most c.spread_row-spreads.ensures.costs
+    c.outright_row-outrights.ensures.costs (c.loop-other_month.invariant.cheapest on zs told lt)
 
 pub returns : goal.returns
 returns g c = ended g (goal.at.returns g c).After-loop-other_month

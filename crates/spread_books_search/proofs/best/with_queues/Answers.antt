@@ -10,5 +10,6 @@ returns-else-fronts_meet g c =
       fair = fair;
       small = c.requires.best;
       keeps = λ q h. h;
-      covers = λ a b price r s e. absurd (covers_anyway on c.args.new.now xs c.args.first.instrument c.args.first.side c.args.second.instrument c.args.second.side None covers a b price r s e);
+      covers = λ a b price r s e. absurd (covers_anyway on c.args.new.now xs c.args.first.instrument c.args.first.side
+          c.args.second.instrument c.args.second.side None covers a b price r s e);
     }

@@ -11,8 +11,10 @@ loop-other_month-preserved g c =
     let on = implied c.args.pairs.now.rules.now in
     let month = c.loop-other_month.other_month in
     let least = c.loop-other_month.least in
-    let is : c.cheaper-least.result ≡ cheaper_of least c.pair_cost-cost.result month = c.cheaper-least.ensures ∙ ap (cheaper_of least c.pair_cost-cost.result) c.from.ensures in
+    let is : c.cheaper-least.result ≡ cheaper_of least c.pair_cost-cost.result month = c.cheaper-least.ensures
+    ∙ ap (cheaper_of least c.pair_cost-cost.result) c.from.ensures in
     record {
       cheapest = subst (IsCheapest on xs c.args.side c.args.month _) (sym is)
-          (cheapest_more on xs c.args.side c.args.month month least c.pair_cost-cost.result c.loop-other_month.invariant.cheapest c.pair_cost-cost.ensures.cost c.pair_cost-cost.ensures.leg_price);
+          (cheapest_more on xs c.args.side c.args.month month least c.pair_cost-cost.result
+          c.loop-other_month.invariant.cheapest c.pair_cost-cost.ensures.cost c.pair_cost-cost.ensures.leg_price);
     }

@@ -25,7 +25,9 @@ returns-in_default-front_cost-clause-cost g c =
     let xs = g.B.Book.orders c.args.book.now in
     let of = Outright c.args.other_month in
     let none : CostsOfFront xs of (other_side c.args.side) None =
-    subst (λ (s : Side). CostsOfFront xs of s None) c.opposite-opposite.ensures (subst (CostsOfFront xs of c.opposite-opposite.result) c.in_default-front_cost.is c.front_cost-2.ensures.cost) in
+    subst (λ (s : Side). CostsOfFront xs of s None) c.opposite-opposite.ensures
+    (subst (CostsOfFront xs of c.opposite-opposite.result) c.in_default-front_cost.is c.front_cost-2.ensures.cost)
+    in
     λ a b p. none b p.second
 
 pub returns-clause-cost : goal.returns-clause-cost
@@ -42,6 +44,11 @@ returns-clause-cost g c =
     (subst (λ (i : Instrument). CostsOfFront xs i q.side (Some x)) c.spreads_with-spreads.ensures.instrument
     (subst (CostsOfFront xs q.instrument q.side) c.in-Some.is c.front_cost.ensures.cost)) in
     let second : CostsOfFront xs and (other_side c.args.side) (Some y) =
-    subst (λ (s : Side). CostsOfFront xs and s (Some y)) c.opposite-opposite.ensures (subst (CostsOfFront xs and c.opposite-opposite.result) c.in-Some-front_cost.is c.front_cost-2.ensures.cost) in
-    let sum : c.together.result ≡ x +ℤ y = sum_passed x y c.together.result c.in-Some.ensures.order_price c.in-Some-front_cost.ensures.order_price c.together.ensures.sum in
-    subst (HasFronts (implied c.args.rules.now) xs c.args.side c.args.month c.args.other_month) (sym (leg_is c.together.result c.together.ensures.leg_price ∙ sum)) (fronts_cost (implied c.args.rules.now) xs c.args.side c.args.month c.args.other_month x y (sym c.is_pair_on.ensures ∙ c.if-not-is_pair_on.false) first second)
+    subst (λ (s : Side). CostsOfFront xs and s (Some y)) c.opposite-opposite.ensures
+    (subst (CostsOfFront xs and c.opposite-opposite.result) c.in-Some-front_cost.is c.front_cost-2.ensures.cost) in
+    let sum : c.together.result ≡ x +ℤ y = sum_passed x y c.together.result c.in-Some.ensures.order_price
+    c.in-Some-front_cost.ensures.order_price c.together.ensures.sum in
+    subst (HasFronts (implied c.args.rules.now) xs c.args.side c.args.month c.args.other_month)
+    (sym (leg_is c.together.result c.together.ensures.leg_price ∙ sum))
+    (fronts_cost (implied c.args.rules.now) xs c.args.side c.args.month c.args.other_month x y
+    (sym c.is_pair_on.ensures ∙ c.if-not-is_pair_on.false) first second)

@@ -10,7 +10,8 @@ use Rattle.spread_host.proofs.LawfulJournals.{has_fills}
 use Rattle.spread_host.proofs.day.day_of.Goals as goal
 use Rattle.spread_host.proofs.day.day_of.Goals.{In_ok-applied}
 
-holds : (g : _) (c : In_ok-applied g) → DayHolds c.args.rulebook.now c.args.stamp c.args.journal.items c.in_ok-applied.applied.fills.items c.in_ok-applied.applied.out.items
+holds : (g : _) (c : In_ok-applied g) → DayHolds c.args.rulebook.now c.args.stamp c.args.journal.items
+    c.in_ok-applied.applied.fills.items c.in_ok-applied.applied.out.items
 holds g c =
     let rules = c.args.rulebook.now in
     let stamp = c.args.stamp in
@@ -22,12 +23,14 @@ holds g c =
     (c.ranges-2.ensures.fills rules journal c.months.ensures.lawful c.requires.fits)
     (made.fills ∙ ap (λ (es : List Entry). (meaning_of_journal rules es).fills) same) made.lists
     (λ s h. made.out s h ∙ ap (λ (es : List Entry). outgoing_bytes rules stamp es s) same)
-    (λ s h. subst (λ (es : List Entry). IsRow (messages_to rules stamp (applied_entries rules es) s) (bytes_of out s)) same (made.whole s h))
+    (λ s h. subst (λ (es : List Entry). IsRow (messages_to rules stamp (applied_entries rules es) s) (bytes_of out s))
+    same (made.whole s h))
 
 pub returns-clause-fills : goal.returns-clause-fills
 returns-clause-fills g c =
     has_fills c.args.rulebook.now c.args.journal.items c.in_ok-applied.applied.fills.items
-    (c.in_ok-applied.ensures.fills ∙ ap (λ (es : List Entry). (meaning_of_journal c.args.rulebook.now es).fills) c.deref.ensures.value)
+    (c.in_ok-applied.ensures.fills ∙ ap (λ (es : List Entry). (meaning_of_journal c.args.rulebook.now es).fills)
+    c.deref.ensures.value)
 
 pub returns-clause-outgoing : goal.returns-clause-outgoing
 returns-clause-outgoing g c = (holds g c).outgoing

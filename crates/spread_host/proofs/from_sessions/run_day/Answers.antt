@@ -7,13 +7,16 @@ use Rattle.spread_host.proofs.SessionsWithoutEntries.{silent}
 use Rattle.spread_host.proofs.from_sessions.run_day.Goals as goal
 use Rattle.spread_host.proofs.from_sessions.run_day.Goals.{In_ok-journal}
 
-holds : (g : _) (c : In_ok-journal g) → DayHolds c.args.rulebook.now c.args.stamp c.in_ok-journal.field-0.journal.items c.in_ok-journal.field-0.applied.fills.items c.in_ok-journal.field-0.applied.out.items
+holds : (g : _) (c : In_ok-journal g) → DayHolds c.args.rulebook.now c.args.stamp c.in_ok-journal.field-0.journal.items
+    c.in_ok-journal.field-0.applied.fills.items c.in_ok-journal.field-0.applied.out.items
 holds g c =
     let day = c.in_ok-journal.field-0 in
     let e = c.in_ok-journal.ensures in
     let rules = c.args.rulebook.now in
-    day_holds rules c.args.stamp day.journal.items day.applied.fills.items day.applied.out.items c.months.ensures.lawful e.lawful
-    (c.ranges-2.ensures.fills rules day.journal.items c.months.ensures.lawful e.lawful.fits) e.day.fills e.day.lists e.day.out e.day.whole
+    day_holds rules c.args.stamp day.journal.items day.applied.fills.items day.applied.out.items c.months.ensures.lawful
+    e.lawful
+    (c.ranges-2.ensures.fills rules day.journal.items c.months.ensures.lawful e.lawful.fits) e.day.fills e.day.lists
+    e.day.out e.day.whole
 
 pub returns-clause-fills : goal.returns-clause-fills
 returns-clause-fills g c =
@@ -39,4 +42,5 @@ returns-clause-day g c = (holds g c).day
 pub returns-clause-no_stream : goal.returns-clause-no_stream
 returns-clause-no_stream g c s low past =
     let e = c.in_ok-journal.ensures in
-    e.day.out s low ∙ silent c.args.rulebook.now c.args.stamp c.in_ok-journal.field-0.journal.items s (e.day.parts s ∙ row_past whole_stream c.args.streams.items s past)
+    e.day.out s low ∙ silent c.args.rulebook.now c.args.stamp c.in_ok-journal.field-0.journal.items s
+    (e.day.parts s ∙ row_past whole_stream c.args.streams.items s past)

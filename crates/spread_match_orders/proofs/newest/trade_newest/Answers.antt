@@ -33,12 +33,15 @@ pub rest_or_remove-requires-clause-newest : goal.rest_or_remove-requires-clause-
 rest_or_remove-requires-clause-newest g c =
     let n = c.args.order.now in
     let xs = g.B.Book.orders c.args.book.now in
-    newest_after (implied c.args.rules.now) (references_of c.args.rules.now) n (removed n.place xs) (g.B.Book.orders c.trade-left.new.book) (below_is n xs c.requires.newest) c.trade-left.ensures.orders
+    newest_after (implied c.args.rules.now) (references_of c.args.rules.now) n (removed n.place xs)
+    (g.B.Book.orders c.trade-left.new.book) (below_is n xs c.requires.newest) c.trade-left.ensures.orders
 
 pub rest_or_remove-requires-clause-most : goal.rest_or_remove-requires-clause-most
 rest_or_remove-requires-clause-most g c =
     let n = c.args.order.now in
-    subst (λ (o : Order). o.leaves ≤ n.leaves) (sym c.trade-left.ensures.left) (clear_most (implied c.args.rules.now) (references_of c.args.rules.now) n (removed n.place (g.B.Book.orders c.args.book.now)))
+    subst (λ (o : Order). o.leaves ≤ n.leaves) (sym c.trade-left.ensures.left)
+    (clear_most (implied c.args.rules.now) (references_of c.args.rules.now) n
+    (removed n.place (g.B.Book.orders c.args.book.now)))
 
 pub returns-clause-orders : goal.returns-clause-orders
 returns-clause-orders g c =
@@ -48,5 +51,7 @@ returns-clause-orders g c =
     let d = trading_of c.args.rules.now n xs in
     c.rest_or_remove.ensures
     ∙ (ap (orders_after_trading c.args.immediate n c.trade-left.result.leaves) c.trade-left.ensures.orders
-    ∙ (ap (λ (o : Order). orders_after_trading c.args.immediate n o.leaves (d.orders ++ n ∷ [])) c.trade-left.ensures.left
-    ∙ settled_is (implied c.args.rules.now) refs c.args.immediate n (removed n.place xs) (below_is n xs c.requires.newest)))
+    ∙ (ap (λ (o : Order). orders_after_trading c.args.immediate n o.leaves (d.orders ++ n ∷ []))
+    c.trade-left.ensures.left
+    ∙ settled_is (implied c.args.rules.now) refs c.args.immediate n (removed n.place xs)
+    (below_is n xs c.requires.newest)))

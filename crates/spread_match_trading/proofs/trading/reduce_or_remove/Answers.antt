@@ -11,5 +11,6 @@ reduce-requires g c =
       order = c.args.order.now;
       stands = c.requires.stands;
       at = refl;
-      each = λ k d lt same. subst (λ (o : Order). c.args.by < o.leaves) (sym (c.requires.places _ c.args.order.now (Contains-get_or xs k d lt) c.requires.stands same)) enough;
+      each = λ k d lt same. subst (λ (o : Order). c.args.by < o.leaves)
+          (sym (c.requires.places _ c.args.order.now (Contains-get_or xs k d lt) c.requires.stands same)) enough;
     }

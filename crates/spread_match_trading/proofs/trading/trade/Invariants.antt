@@ -7,7 +7,8 @@ use Rattle.spread_match_trading.proofs.trading.trade.Given as goal
 
 abbrev pub invariant-loop-left : goal.invariant-loop-left
 invariant-loop-left g l = record {
-  after : (made : List Fill) × (l.fills.items ≡ l.fn.fills.items ++ made) × IsAfter (implied l.rules) (references_of l.rules) l.fn.new g.rest l.left (g.B.Book.orders l.book) made;
+  after : (made : List Fill) × (l.fills.items ≡ l.fn.fills.items ++ made)
+      × IsAfter (implied l.rules) (references_of l.rules) l.fn.new g.rest l.left (g.B.Book.orders l.book) made;
   tradable : IsTradable (month_count l.rules) (g.B.Book.orders l.book);
   room : vec_len l.fills + 3 * min l.left.leaves (length (g.B.Book.orders l.book) - 1) ≤ vec_capacity l.fills;
 }

@@ -22,10 +22,14 @@ pub returns : goal.returns
 returns g c =
     let named : with_37 c.if-refusal-eq0.named ≡ place_field c.args.refusal.place =
     elim c.if-refusal-eq0.branch [
-      | then-refusal-eq0 w ↦ ap with_37 w.named-is ∙ (ap (λ (t : List ℕ). text_field 37 t) w.of.ensures ∙ sym (named_none c.args.refusal.place w.if-refusal-eq0.true))
+      | then-refusal-eq0 w ↦ ap with_37 w.named-is ∙ (ap (λ (t : List ℕ). text_field 37 t) w.of.ensures
+          ∙ sym (named_none c.args.refusal.place w.if-refusal-eq0.true))
       | else-refusal-eq0 w ↦ ap with_37 w.named-is ∙ sym (named_place c.args.refusal.place w.if-refusal-eq0.false)
     ] in
     let q = c.args.request.now in
-    let message = λ (f : Field). numbered_message q.session 57 (f ∷ text_field 11 q.id.now ∷ text_field 41 q.original.now ∷ number_field 39 c.args.refusal.status ∷ number_field 434 c.args.refusal.response_to ∷ number_field 102 c.args.refusal.reason ∷ []) ∷ [] in
+    let message = λ (f : Field). numbered_message q.session 57
+    (f ∷ text_field 11 q.id.now ∷ text_field 41 q.original.now ∷ number_field 39 c.args.refusal.status ∷
+    number_field 434 c.args.refusal.response_to ∷ number_field 102 c.args.refusal.reason ∷ []) ∷ [] in
     sends_same c.args.outbound.now c.send.new.self c.args.lists.now c.send.new.lists
-    (message (with_37 c.if-refusal-eq0.named)) (message (place_field c.args.refusal.place)) c.send.result (ap message named) c.send.ensures.sent
+    (message (with_37 c.if-refusal-eq0.named)) (message (place_field c.args.refusal.place)) c.send.result
+    (ap message named) c.send.ensures.sent

@@ -7,5 +7,6 @@ returns-in-Cancelled g c fills =
 
 pub returns-in-CancelRefused : goal.returns-in-CancelRefused
 returns-in-CancelRefused g c fills =
-    let w = rw (c.in-CancelRefused.reason-is, c.in-CancelRefused.place-is, c.in-CancelRefused.status-is) at c.send_cancel_reject.ensures in
+    let w = rw (c.in-CancelRefused.reason-is, c.in-CancelRefused.place-is, c.in-CancelRefused.status-is) at
+    c.send_cancel_reject.ensures in
     rw c.in-CancelRefused.is w

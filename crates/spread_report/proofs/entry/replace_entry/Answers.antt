@@ -10,27 +10,35 @@ pub returns-in_ok-send_fills-in-Replaced : goal.returns-in_ok-send_fills-in-Repl
 returns-in_ok-send_fills-in-Replaced g c =
     let a = c.args.applied.now in
     let o = c.in-Replaced.order in
-    let first = report a.place 1 (replaced_report (symbol_of c.args.rules.now o.instrument) a.entry.now.session c.args.ticket.now.id c.args.original.now o) ∷ [] in
+    let first = report a.place 1 (replaced_report (symbol_of c.args.rules.now o.instrument) a.entry.now.session
+    c.args.ticket.now.id c.args.original.now o) ∷ [] in
     let rest = reports_from a.place 2 (fills_reports c.args.rules.now a.fills.now) in
     let sent = rw (c.symbol_of-symbol.ensures, c.in-Replaced.order-is) at c.in_ok-send_replaced-in-Replaced.ensures in
-    let all = sends_after c.args.outbound.now c.send_replaced.new.outbound c.send_fills.new.outbound c.args.lists.now c.send_replaced.new.lists c.send_fills.new.lists
+    let all = sends_after c.args.outbound.now c.send_replaced.new.outbound c.send_fills.new.outbound c.args.lists.now
+    c.send_replaced.new.lists c.send_fills.new.lists
     first rest tt (Ok c.in_ok-send_fills-in-Replaced.field-0) sent c.in_ok-send_fills-in-Replaced.ensures.sent in
-    rw c.in-Replaced.is (sends_ok c.args.outbound.now c.send_fills.new.outbound c.args.lists.now c.send_fills.new.lists (first ++ rest) c.in_ok-send_fills-in-Replaced.field-0 tt all)
+    rw c.in-Replaced.is (sends_ok c.args.outbound.now c.send_fills.new.outbound c.args.lists.now c.send_fills.new.lists
+    (first ++ rest) c.in_ok-send_fills-in-Replaced.field-0 tt all)
 
 pub returns-in_err-send_fills-in-Replaced : goal.returns-in_err-send_fills-in-Replaced
 returns-in_err-send_fills-in-Replaced g c =
     let a = c.args.applied.now in
     let o = c.in-Replaced.order in
-    let p = err_from_is_err_and c.from_residual-in_err-send_fills-in-Replaced.result c.from_residual-in_err-send_fills-in-Replaced.ensures.1 in
+    let p = err_from_is_err_and c.from_residual-in_err-send_fills-in-Replaced.result
+    c.from_residual-in_err-send_fills-in-Replaced.ensures.1 in
     let fault = c.in_err-send_fills-in-Replaced.field-0.0 in
-    let first = report a.place 1 (replaced_report (symbol_of c.args.rules.now o.instrument) a.entry.now.session c.args.ticket.now.id c.args.original.now o) ∷ [] in
+    let first = report a.place 1 (replaced_report (symbol_of c.args.rules.now o.instrument) a.entry.now.session
+    c.args.ticket.now.id c.args.original.now o) ∷ [] in
     let rest = reports_from a.place 2 (fills_reports c.args.rules.now a.fills.now) in
     let sent = rw (c.symbol_of-symbol.ensures, c.in-Replaced.order-is) at c.in_ok-send_replaced-in-Replaced.ensures in
-    let all = sends_after c.args.outbound.now c.send_replaced.new.outbound c.send_fills.new.outbound c.args.lists.now c.send_replaced.new.lists c.send_fills.new.lists
+    let all = sends_after c.args.outbound.now c.send_replaced.new.outbound c.send_fills.new.outbound c.args.lists.now
+    c.send_replaced.new.lists c.send_fills.new.lists
     first rest {T = ℕ} tt (Err fault) sent c.in_err-send_fills-in-Replaced.ensures.sent in
-    rw (p.1, p.2, c.in-Replaced.is) (sends_err c.args.outbound.now c.send_fills.new.outbound c.args.lists.now c.send_fills.new.lists (first ++ rest) ℕ (Unit {0}) fault all)
+    rw (p.1, p.2, c.in-Replaced.is) (sends_err c.args.outbound.now c.send_fills.new.outbound c.args.lists.now
+    c.send_fills.new.lists (first ++ rest) ℕ (Unit {0}) fault all)
 
 pub returns-in-CancelRefused : goal.returns-in-CancelRefused
 returns-in-CancelRefused g c =
-    let w = rw (c.in-CancelRefused.reason-is, c.in-CancelRefused.place-is, c.in-CancelRefused.status-is) at c.send_cancel_reject.ensures in
+    let w = rw (c.in-CancelRefused.reason-is, c.in-CancelRefused.place-is, c.in-CancelRefused.status-is) at
+    c.send_cancel_reject.ensures in
     rw c.in-CancelRefused.is w

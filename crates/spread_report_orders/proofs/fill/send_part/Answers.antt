@@ -15,4 +15,8 @@ code_is leaves = by_test (leaves == 0)
     by_test false = refl
 
 pub returns : goal.returns
-returns g c = rw (c.fill_status.ensures, to_z-of_z w64 c.args.part.now.price c.requires.price, code_is c.args.fill.now.leaves) at c.send_body.ensures.sent
+returns g c = rw (
+  c.fill_status.ensures,
+  to_z-of_z w64 c.args.part.now.price c.requires.price,
+  code_is c.args.fill.now.leaves,
+) at c.send_body.ensures.sent

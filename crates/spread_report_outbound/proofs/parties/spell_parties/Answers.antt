@@ -7,11 +7,13 @@ pub loop-s-preserved : goal.loop-s-preserved
 loop-s-preserved c =
     let r = c.index-comp_ids-s.result in
     let in_ids : c.loop-s.s < length c.args.comp_ids.now = omega (arith, c.loop-s-test.true, c.type_inv.comp_ids) in
-    let in_parties : c.loop-s.s < length c.loop-s.parties = omega (arith, c.loop-s-test.true, c.loop-s.invariant.size) in
+    let in_parties : c.loop-s.s < length c.loop-s.parties =
+    omega (arith, c.loop-s-test.true, c.loop-s.invariant.size) in
     record {
       size = length-set c.loop-s.parties c.loop-s.s c.spelled_parties.result ∙ c.loop-s.invariant.size;
       done =
-          spelled_more c.args.stamp.now c.args.comp_ids.now c.loop-s.parties c.loop-s.s c.spelled_parties.result r in_ids in_parties c.index-comp_ids-s.is
+          spelled_more c.args.stamp.now c.args.comp_ids.now c.loop-s.parties c.loop-s.s c.spelled_parties.result r
+          in_ids in_parties c.index-comp_ids-s.is
           (λ ids there. c.spelled_parties.ensures ids (sym c.index-comp_ids-s.is ∙ there))
           c.loop-s.invariant.done;
     }

@@ -7,5 +7,6 @@ use Rattle.spread_report_outbound.proofs.parties.spell_parties.Given as goal
 abbrev pub invariant-loop-s : goal.invariant-loop-s
 invariant-loop-s l = record {
   size : length l.parties ≡ 16;
-  done : (t : ℕ) → t < l.s → (ids : CompIds) → get_or l.comp_ids t None ≡ Some ids → (p : SpelledParties) → SpellsParties (get_or l.parties t p) ids.host ids.client l.stamp;
+  done : (t : ℕ) → t < l.s → (ids : CompIds) → get_or l.comp_ids t None ≡ Some ids → (p : SpelledParties)
+      → SpellsParties (get_or l.parties t p) ids.host ids.client l.stamp;
 }

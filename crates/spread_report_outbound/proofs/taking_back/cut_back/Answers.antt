@@ -8,6 +8,8 @@ loop-s-preserved g c =
     let below : c.loop-s.s < length c.loop-s.lists = omega (arith, c.loop-s-test.true, c.loop-s.invariant.size) in
     record {
       size = length-set c.loop-s.lists c.loop-s.s c.truncate.new.self ∙ c.loop-s.invariant.size;
-      cut = cut_more c.loop-s.lists c.args.lists.now c.loop-s.s c.truncate.new.self c.index-lists-s.result c.args.lengths.now below c.loop-s.invariant.cut c.loop-s.invariant.rest c.truncate.ensures.items;
-      rest = rest_more c.loop-s.lists c.args.lists.now c.loop-s.s c.truncate.new.self c.index-lists-s.result c.args.lengths.now c.loop-s.invariant.rest;
+      cut = cut_more c.loop-s.lists c.args.lists.now c.loop-s.s c.truncate.new.self c.index-lists-s.result
+          c.args.lengths.now below c.loop-s.invariant.cut c.loop-s.invariant.rest c.truncate.ensures.items;
+      rest = rest_more c.loop-s.lists c.args.lists.now c.loop-s.s c.truncate.new.self c.index-lists-s.result
+          c.args.lengths.now c.loop-s.invariant.rest;
     }

@@ -10,5 +10,7 @@ loop-s-preserved g c =
     let there : c.loop-s.s < length c.loop-s.lengths = omega (arith, c.loop-s-test.true, c.loop-s.invariant.size) in
     record {
       size = length-set c.loop-s.lengths c.loop-s.s c.len-count.result ∙ c.loop-s.invariant.size;
-      done = lengths_more c.args.lists.now c.loop-s.s c.len-count.result c.index-lists-s.result c.loop-s.lengths below there (c.len-count.ensures ∙ (c.index-lists-s.result.ok.0 ∙ ap (λ (v : Vec ℕ g.row.A.Denot). length v.items) c.index-lists-s.is)) c.loop-s.invariant.done;
+      done = lengths_more c.args.lists.now c.loop-s.s c.len-count.result c.index-lists-s.result c.loop-s.lengths below
+          there (c.len-count.ensures ∙ (c.index-lists-s.result.ok.0
+          ∙ ap (λ (v : Vec ℕ g.row.A.Denot). length v.items) c.index-lists-s.is)) c.loop-s.invariant.done;
     }

@@ -8,7 +8,8 @@ use Rattle.spread_rules.proofs.laws.least_in_rank.Goals as goal
 
 pub returns : goal.returns
 returns c = record {
-  least = λ on n xs. subst (λ (best : Option Candidate). IsBest on n xs best) (sym (best_is on n xs)) (first_is_least on n xs);
+  least = λ on n xs. subst (λ (best : Option Candidate). IsBest on n xs best) (sym (best_is on n xs))
+      (first_is_least on n xs);
   one_of_a_rank = one_of_a_rank;
   one_least = λ on n xs best d h. best_is_first on n xs best d h ∙ sym (best_is on n xs);
 }

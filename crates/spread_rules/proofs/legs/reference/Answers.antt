@@ -5,5 +5,6 @@ use Rattle.spread_rules.proofs.legs.reference.Goals as goal
 
 pub returns-then-month-months-clause-order_price : goal.returns-then-month-months-clause-order_price
 returns-then-month-months-clause-order_price c =
-    let small = subst IsOrderPrice (sym c.reference.ensures) (small_reference c.args.rules.now c.args.month c.months.ensures.lawful) in
+    let small = subst IsOrderPrice (sym c.reference.ensures)
+    (small_reference c.args.rules.now c.args.month c.months.ensures.lawful) in
     subst IsOrderPrice (sym (order_is c.reference.result small)) small

@@ -20,13 +20,17 @@ journal_again rules stamp (Ok day) bytes is =
 journal_again rules stamp (Err fault) bytes is = tt
 
 pub returns-clause-read_again : goal.returns-clause-read_again
-returns-clause-read_again g c = journal_again c.args.rulebook.now c.args.stamp c.replay.result c.replay.ensures.byte_ids c.replay.ensures.day
+returns-clause-read_again g c = journal_again c.args.rulebook.now c.args.stamp c.replay.result c.replay.ensures.byte_ids
+    c.replay.ensures.day
 
 pub returns-clause-outgoing : goal.returns-clause-outgoing
-returns-clause-outgoing g c = (answer_sent c.args.rulebook.now c.args.stamp c.replay.result c.replay.ensures.outgoing c.replay.ensures.day).outgoing
+returns-clause-outgoing g c = (answer_sent c.args.rulebook.now c.args.stamp c.replay.result c.replay.ensures.outgoing
+    c.replay.ensures.day).outgoing
 
 pub returns-clause-whole_frames : goal.returns-clause-whole_frames
-returns-clause-whole_frames g c = (answer_sent c.args.rulebook.now c.args.stamp c.replay.result c.replay.ensures.outgoing c.replay.ensures.day).whole_frames
+returns-clause-whole_frames g c = (answer_sent c.args.rulebook.now c.args.stamp c.replay.result
+    c.replay.ensures.outgoing c.replay.ensures.day).whole_frames
 
 pub returns-clause-lists : goal.returns-clause-lists
-returns-clause-lists g c = (answer_sent c.args.rulebook.now c.args.stamp c.replay.result c.replay.ensures.outgoing c.replay.ensures.day).lists
+returns-clause-lists g c = (answer_sent c.args.rulebook.now c.args.stamp c.replay.result c.replay.ensures.outgoing
+    c.replay.ensures.day).lists

@@ -19,12 +19,21 @@ returns-clause-write g c e =
     elim c.if-journal_only.branch [
       | then-journal_only w ↦
           let failed = sym w.written-is ∙ c.in-Err.is in
-          let same = ap (λ (es : List Entry). journal_text es) w.deref.ensures.value ∙ sym (ap text w.if-journal_only.true) in
-          subst (λ (k : _). (g.K.TakesBlocks.has_failed k ≡ true) × AppendsPrefix (told c.args.sink.now) (told k) (text c.args.journal_only)) (sym w.sink-is)
-          (of_err _ _ failed w.write_journal_lines-written.ensures.writes.failed, subst (λ (t : List ℕ). AppendsPrefix (told c.args.sink.now) (told w.write_journal_lines-written.new.sink) t) same (of_err _ _ failed w.write_journal_lines-written.ensures.writes.front))
+          let same = ap (λ (es : List Entry). journal_text es) w.deref.ensures.value
+          ∙ sym (ap text w.if-journal_only.true) in
+          subst (λ (k : _). (g.K.TakesBlocks.has_failed k ≡ true)
+          × AppendsPrefix (told c.args.sink.now) (told k) (text c.args.journal_only)) (sym w.sink-is) (
+            of_err _ _ failed w.write_journal_lines-written.ensures.writes.failed,
+            subst (λ (t : List ℕ). AppendsPrefix (told c.args.sink.now) (told w.write_journal_lines-written.new.sink)
+                t) same (of_err _ _ failed w.write_journal_lines-written.ensures.writes.front),
+          )
       | else-journal_only w ↦
           let failed = sym w.written-is ∙ c.in-Err.is in
           let all = sym (ap text w.if-journal_only.false) in
-          subst (λ (k : _). (g.K.TakesBlocks.has_failed k ≡ true) × AppendsPrefix (told c.args.sink.now) (told k) (text c.args.journal_only)) (sym w.sink-is)
-          (of_err _ _ failed w.write_parts-written.ensures.writes.failed, subst (λ (t : List ℕ). AppendsPrefix (told c.args.sink.now) (told w.write_parts-written.new.sink) t) all (of_err _ _ failed w.write_parts-written.ensures.writes.front))
+          subst (λ (k : _). (g.K.TakesBlocks.has_failed k ≡ true)
+          × AppendsPrefix (told c.args.sink.now) (told k) (text c.args.journal_only)) (sym w.sink-is) (
+            of_err _ _ failed w.write_parts-written.ensures.writes.failed,
+            subst (λ (t : List ℕ). AppendsPrefix (told c.args.sink.now) (told w.write_parts-written.new.sink) t) all
+                (of_err _ _ failed w.write_parts-written.ensures.writes.front),
+          )
     ]

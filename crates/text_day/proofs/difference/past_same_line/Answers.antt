@@ -25,4 +25,6 @@ returns-then-eq-clause-same c =
 
 pub returns-else-eq-clause-other : goal.returns-else-eq-clause-other
 returns-else-eq-clause-other c differ same =
-    other_lines c.in-Some.said.now c.in-Some-cut_at.wanted.now _ _ c.args.claim.now c.args.right.now c.in-Some.ensures.found c.in-Some-cut_at.ensures.found c.in-Some.ensures.first c.in-Some-cut_at.ensures.first (other_text _ _ c.if-eq.ensures) same
+    other_lines c.in-Some.said.now c.in-Some-cut_at.wanted.now _ _ c.args.claim.now c.args.right.now
+    c.in-Some.ensures.found c.in-Some-cut_at.ensures.found c.in-Some.ensures.first c.in-Some-cut_at.ensures.first
+    (other_text _ _ c.if-eq.ensures) same

@@ -6,5 +6,6 @@ use Rattle.text_day.proofs.months.put_all.Given as goal
 
 abbrev pub invariant-loop-month : goal.invariant-loop-month
 invariant-loop-month g l =
-    IsPut (g.K.TakesBlocks.written l.initial.sink) (g.K.TakesBlocks.written l.sink) l.block.items (l.initial.block.items ++ totals_lines_from 0 (take l.month (names_of l.rulebook)) l.totals)
+    IsPut (g.K.TakesBlocks.written l.initial.sink) (g.K.TakesBlocks.written l.sink) l.block.items
+    (l.initial.block.items ++ totals_lines_from 0 (take l.month (names_of l.rulebook)) l.totals)
     × (g.K.TakesBlocks.has_failed l.sink ≡ false) × (256 ≤ vec_capacity l.block)

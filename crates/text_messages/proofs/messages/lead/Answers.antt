@@ -48,4 +48,5 @@ pub returns-in-14 : goal.returns-in-14
 returns-in-14 c = record { text = lead_of_two c.args.session 4 c.in-14.is (omega arith); shown = refl }
 
 pub returns-in_default : goal.returns-in_default
-returns-in_default c = let last : c.args.session ≡ 15 = omega arith in record { text = lead_of_two c.args.session 5 last (omega arith); shown = refl }
+returns-in_default c = let last : c.args.session ≡ 15 = omega arith in
+    record { text = lead_of_two c.args.session 5 last (omega arith); shown = refl }

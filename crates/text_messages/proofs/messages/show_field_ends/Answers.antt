@@ -7,7 +7,9 @@ pub loop-byte-preserved : goal.loop-byte-preserved
 loop-byte-preserved c =
     let f = λ (b : ℕ). shown_byte b in
     let i = c.loop-byte.byte-index in
-    let at : get_or c.loop-byte.text i 0 ≡ get_or c.args.text.now i 0 = ap (λ (xs : List ℕ). get_or xs i 0) c.loop-byte.invariant ∙ map_rest f c.args.text.now i 0 c.loop-byte-test.true in
+    let at : get_or c.loop-byte.text i 0 ≡ get_or c.args.text.now i 0 =
+    ap (λ (xs : List ℕ). get_or xs i 0) c.loop-byte.invariant
+    ∙ map_rest f c.args.text.now i 0 c.loop-byte-test.true in
     ap (λ (b : ℕ). set c.loop-byte.text i b) (c.shown_byte.ensures ∙ ap f at)
     ∙ ap (λ (xs : List ℕ). set xs i (f (get_or c.args.text.now i 0))) c.loop-byte.invariant
     ∙ map_next f c.args.text.now i 0 c.loop-byte-test.true

@@ -15,7 +15,10 @@ returns-clause-start g c =
     record {
       applied = c.in-Ok-with_capacity.ensures.start;
       sent =
-          subst (λ (d : OutboundState). HasSent rules d.stamp 1 [] d (behind (λ s. []) (texts_of lists))) (sym c.new.ensures)
-          (subst (HasSent rules c.args.stamp 1 [] (sessions_starting c.args.stamp 1)) (sym (behind_none (texts_of lists)))
-          (sent_start rules c.args.stamp 1 (texts_of lists) (texts_length lists ∙ c.in-Ok.ensures.count) (λ s h. c.in-Ok.ensures.empty s)));
+          subst (λ (d : OutboundState). HasSent rules d.stamp 1 [] d (behind (λ s. []) (texts_of lists)))
+          (sym c.new.ensures)
+          (subst (HasSent rules c.args.stamp 1 [] (sessions_starting c.args.stamp 1))
+          (sym (behind_none (texts_of lists)))
+          (sent_start rules c.args.stamp 1 (texts_of lists) (texts_length lists ∙ c.in-Ok.ensures.count)
+          (λ s h. c.in-Ok.ensures.empty s)));
     }

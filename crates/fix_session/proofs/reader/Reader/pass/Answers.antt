@@ -8,13 +8,15 @@ use Rattle.fix_session.proofs.reader.Reader.pass.Goals as goal
 
 pub invariant_of-self : goal.invariant_of-self
 invariant_of-self c =
-    found_kept c.self.inside.framer c.find_due.new.framer c.self.inside.session c.find_due.new.verdict c.find_due.new.due c.find_due.ensures.held c.find_due.ensures.found
+    found_kept c.self.inside.framer c.find_due.new.framer c.self.inside.session c.find_due.new.verdict
+    c.find_due.new.due c.find_due.ensures.held c.find_due.ensures.found
 
 pub returns-in_default-clause-passed : goal.returns-in_default-clause-passed
 returns-in_default-clause-passed c =
     let s = c.self.inside.session in
     same_state _ _ s s c.find_due.ensures.held refl
-    ∙ none_passed (state_of c.self.inside) (sym c.find_due.ensures.found ∙ ap (option_map (judgement_with s c.find_due.new.verdict)) c.in_default.is)
+    ∙ none_passed (state_of c.self.inside) (sym c.find_due.ensures.found
+    ∙ ap (option_map (judgement_with s c.find_due.new.verdict)) c.in_default.is)
     ∙ ap after_passing c.self.view_is
 
 pub returns-clause-passed : goal.returns-clause-passed
@@ -22,6 +24,8 @@ returns-clause-passed c =
     let s = c.self.inside.session in
     let v = c.find_due.new.verdict in
     same_state c.pass.new.self c.pass.new.self _ _ refl c.change.ensures
-    ∙ one_passed (state_of c.self.inside) c.find_due.new.framer c.pass.new.self (judgement_with s v c.in-Some.change) c.pass.result
-    c.find_due.ensures.held (sym c.find_due.ensures.found ∙ ap (option_map (judgement_with s v)) c.in-Some.is) c.pass.ensures.stands c.pass.ensures.passed
+    ∙ one_passed (state_of c.self.inside) c.find_due.new.framer c.pass.new.self (judgement_with s v c.in-Some.change)
+    c.pass.result
+    c.find_due.ensures.held (sym c.find_due.ensures.found ∙ ap (option_map (judgement_with s v)) c.in-Some.is)
+    c.pass.ensures.stands c.pass.ensures.passed
     ∙ ap after_passing c.self.view_is

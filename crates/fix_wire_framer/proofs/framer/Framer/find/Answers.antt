@@ -14,16 +14,21 @@ use Rattle.fix_wire_framer.proofs.framer.Framer.find.Goals as goal
 use Rattle.fix_wire_framer.proofs.framer.Framer.find.Goals.{After-first_start-skip, In-Some}
 
 -- what was looked at is what is held from that place on
-part : (c : After-first_start-skip) → between (c.self.inside.start + c.args.at) c.self.inside.end c.self.inside.buffer ≡ drop c.args.at c.args.self.now
+part : (c : After-first_start-skip) → between (c.self.inside.start + c.args.at) c.self.inside.end c.self.inside.buffer ≡
+    drop c.args.at c.args.self.now
 part c =
     let f = c.self.inside in
     range_drop f.buffer f.start c.args.at f.end ∙ ap (drop c.args.at) c.self.view_is
 
-kept : (c : After-first_start-skip) → drop c.first_start-skip.result.0 (drop c.args.at c.args.self.now) ≡ from_first_start (drop c.args.at c.args.self.now)
-kept c = subst (λ (t : List ℕ). drop c.first_start-skip.result.0 t ≡ from_first_start t) (part c) c.first_start-skip.ensures.kept
+kept : (c : After-first_start-skip) → drop c.first_start-skip.result.0 (drop c.args.at c.args.self.now) ≡
+    from_first_start (drop c.args.at c.args.self.now)
+kept c = subst (λ (t : List ℕ). drop c.first_start-skip.result.0 t ≡ from_first_start t) (part c)
+    c.first_start-skip.ensures.kept
 
-found : (c : After-first_start-skip) → c.first_start-skip.result.1 ≡ frame_at (from_first_start (drop c.args.at c.args.self.now))
-found c = subst (λ (t : List ℕ). c.first_start-skip.result.1 ≡ frame_at (from_first_start t)) (part c) c.first_start-skip.ensures.found
+found : (c : After-first_start-skip) → c.first_start-skip.result.1 ≡ frame_at
+    (from_first_start (drop c.args.at c.args.self.now))
+found c = subst (λ (t : List ℕ). c.first_start-skip.result.1 ≡ frame_at (from_first_start t)) (part c)
+    c.first_start-skip.ensures.found
 
 -- where the frame ends
 ends : (c : In-Some) → EndsFirst c.args.self.now c.args.at (c.args.at + c.first_start-skip.result.0 + c.in-Some.length)
@@ -32,16 +37,22 @@ ends c =
     let skip = c.first_start-skip.result.0 in
     let n = c.in-Some.length in
     let held = drop at c.args.self.now in
-    let whole = subst (λ (t : List ℕ). skip + n ≤ length t) (part c.before) (subst (λ (o : Option ℕ). IfSome o (λ m. skip + m ≤ length (between (c.self.inside.start + at) c.self.inside.end c.self.inside.buffer))) c.in-Some.is c.first_start-skip.ensures.fits) in
-    let later = ends_later c.args.self.now at (skip + n) c.requires (ends_first held skip n (kept c.before) (sym (found c.before) ∙ c.in-Some.is) whole) in
+    let whole = subst (λ (t : List ℕ). skip + n ≤ length t) (part c.before)
+    (subst (λ (o : Option ℕ). IfSome o (λ m. skip + m ≤ length
+    (between (c.self.inside.start + at) c.self.inside.end c.self.inside.buffer))) c.in-Some.is
+    c.first_start-skip.ensures.fits) in
+    let later = ends_later c.args.self.now at (skip + n) c.requires
+    (ends_first held skip n (kept c.before) (sym (found c.before) ∙ c.in-Some.is) whole) in
     subst (λ m. EndsFirst c.args.self.now at m) (omega arith) later
 
 pub returns-in-Some-clause-first : goal.returns-in-Some-clause-first
 returns-in-Some-clause-first c =
     let at = c.args.at in
     let n = c.in-Some.length in
-    ap Some (frame_part c.args.self.now at c.first_start-skip.result.0 n (kept (goal.at.returns-in-Some-clause-first c).After-first_start-skip))
-    ∙ sym (ap first_frame (held_frames (drop at c.args.self.now) n (sym (found (goal.at.returns-in-Some-clause-first c).After-first_start-skip) ∙ c.in-Some.is)))
+    ap Some (frame_part c.args.self.now at c.first_start-skip.result.0 n
+    (kept (goal.at.returns-in-Some-clause-first c).After-first_start-skip))
+    ∙ sym (ap first_frame (held_frames (drop at c.args.self.now) n
+    (sym (found (goal.at.returns-in-Some-clause-first c).After-first_start-skip) ∙ c.in-Some.is)))
 
 pub returns-in-Some-clause-after : goal.returns-in-Some-clause-after
 returns-in-Some-clause-after c = ends (goal.at.returns-in-Some-clause-after c).In-Some
@@ -54,8 +65,11 @@ returns-in-Some-clause-place c =
     let held = drop at c.args.self.now in
     let table = c.first_start-skip.new.table in
     let e = sym (found (goal.at.returns-in-Some-clause-place c).After-first_start-skip) ∙ c.in-Some.is in
-    let known = subst (λ (t : List ℕ). IsTableOf (from_first_start t) table) (part (goal.at.returns-in-Some-clause-place c).After-first_start-skip) (c.first_start-skip.ensures.table n c.in-Some.is) in
-    let same = sym (frame_part c.args.self.now at skip n (kept (goal.at.returns-in-Some-clause-place c).After-first_start-skip)) in
+    let known = subst (λ (t : List ℕ). IsTableOf (from_first_start t) table)
+    (part (goal.at.returns-in-Some-clause-place c).After-first_start-skip)
+    (c.first_start-skip.ensures.table n c.in-Some.is) in
+    let same = sym (frame_part c.args.self.now at skip n
+    (kept (goal.at.returns-in-Some-clause-place c).After-first_start-skip)) in
     record {
       order = omega arith;
       within = (ends (goal.at.returns-in-Some-clause-place c).In-Some).1;
@@ -64,4 +78,6 @@ returns-in-Some-clause-place c =
     }
 
 pub returns-in-None-clause-first : goal.returns-in-None-clause-first
-returns-in-None-clause-first c = sym (ap first_frame (no_frames (drop c.args.at c.args.self.now) (sym (found (goal.at.returns-in-None-clause-first c).After-first_start-skip) ∙ c.in-None.is)))
+returns-in-None-clause-first c = sym (ap first_frame
+    (no_frames (drop c.args.at c.args.self.now) (sym (found
+    (goal.at.returns-in-None-clause-first c).After-first_start-skip) ∙ c.in-None.is)))

@@ -15,7 +15,9 @@ of_frame-requires-clause-lawful c =
     let f = c.self.inside in
     let len = c.in-Some.length in
     let e = sym c.requires.front ∙ c.in-Some.is in
-    subst IsFrame (ap (take len) (sym c.self.view_is) ∙ sym (range_take f.buffer f.start len f.end (skip_within f len c.args.self.now c.self.told c.self.invariant c.self.view_is (frame_within c.args.self.now len e).1))) (frame_alone c.args.self.now len e)
+    subst IsFrame (ap (take len) (sym c.self.view_is) ∙ sym
+    (range_take f.buffer f.start len f.end (skip_within f len c.args.self.now c.self.told c.self.invariant
+    c.self.view_is (frame_within c.args.self.now len e).1))) (frame_alone c.args.self.now len e)
 
 pub of_frame-requires-clause-tabled : goal.of_frame-requires-clause-tabled
 of_frame-requires-clause-tabled c =
@@ -23,9 +25,12 @@ of_frame-requires-clause-tabled c =
     let now = c.args.self.now in
     let len = c.in-Some.length in
     let e = sym c.requires.front ∙ c.in-Some.is in
-    let range = range_take f.buffer f.start len f.end (skip_within f len now c.self.told c.self.invariant c.self.view_is (frame_within now len e).1) in
-    let tabled = subst (λ (t : List ℕ). IsTableOf t f.table) c.self.view_is (c.self.invariant.tabled (λ z. absurd (omega (arith, z, c.if-self-gt0.true)))) in
-    subst (λ (t : List ℕ). IsTableOf t f.table) (ap (take len) (sym c.self.view_is) ∙ sym range) (table_alone now len f.table e tabled)
+    let range = range_take f.buffer f.start len f.end (skip_within f len now c.self.told c.self.invariant c.self.view_is
+    (frame_within now len e).1) in
+    let tabled = subst (λ (t : List ℕ). IsTableOf t f.table) c.self.view_is
+    (c.self.invariant.tabled (λ z. absurd (omega (arith, z, c.if-self-gt0.true)))) in
+    subst (λ (t : List ℕ). IsTableOf t f.table) (ap (take len) (sym c.self.view_is) ∙ sym range)
+    (table_alone now len f.table e tabled)
 
 pub returns-then-self-gt0 : goal.returns-then-self-gt0
 returns-then-self-gt0 c =
@@ -33,7 +38,9 @@ returns-then-self-gt0 c =
     let now = c.args.self.now in
     let len = c.in-Some.length in
     let e = sym c.requires.front ∙ c.in-Some.is in
-    ap Some (c.of_frame.ensures ∙ range_take f.buffer f.start len f.end (skip_within f len c.args.self.now c.self.told c.self.invariant c.self.view_is (frame_within c.args.self.now len e).1) ∙ ap (take len) (c.self.view_is ∙ sym c.requires.settled))
+    ap Some (c.of_frame.ensures ∙ range_take f.buffer f.start len f.end
+    (skip_within f len c.args.self.now c.self.told c.self.invariant c.self.view_is
+    (frame_within c.args.self.now len e).1) ∙ ap (take len) (c.self.view_is ∙ sym c.requires.settled))
     ∙ sym (ap first_frame (held_frames now len (ap frame_at c.requires.settled ∙ e)))
 
 pub returns-in-Some-whole : goal.returns-in-Some-whole
@@ -42,7 +49,9 @@ returns-in-Some-whole c =
     let now = c.args.self.now in
     let len = c.in-Some.length in
     let e = sym c.requires.front ∙ c.in-Some.is in
-    ap Some (c.in-Some-whole.ensures.same ∙ range_take f.buffer f.start len f.end (skip_within f len c.args.self.now c.self.told c.self.invariant c.self.view_is (frame_within c.args.self.now len e).1) ∙ ap (take len) (c.self.view_is ∙ sym c.requires.settled))
+    ap Some (c.in-Some-whole.ensures.same ∙ range_take f.buffer f.start len f.end
+    (skip_within f len c.args.self.now c.self.told c.self.invariant c.self.view_is
+    (frame_within c.args.self.now len e).1) ∙ ap (take len) (c.self.view_is ∙ sym c.requires.settled))
     ∙ sym (ap first_frame (held_frames now len (ap frame_at c.requires.settled ∙ e)))
 
 pub returns-in-None-whole : goal.returns-in-None-whole
@@ -50,11 +59,14 @@ returns-in-None-whole c =
     let f = c.self.inside in
     let len = c.in-Some.length in
     let e = sym c.requires.front ∙ c.in-Some.is in
-    let lawful = subst IsFrame (ap (take len) (sym c.self.view_is) ∙ sym (range_take f.buffer f.start len f.end (skip_within f len c.args.self.now c.self.told c.self.invariant c.self.view_is (frame_within c.args.self.now len e).1))) (frame_alone c.args.self.now len e) in
+    let lawful = subst IsFrame (ap (take len) (sym c.self.view_is)
+    ∙ sym (range_take f.buffer f.start len f.end (skip_within f len c.args.self.now c.self.told c.self.invariant
+    c.self.view_is (frame_within c.args.self.now len e).1))) (frame_alone c.args.self.now len e) in
     absurd (false≢true (c.in-None.ensures.only.1 lawful))
 
 pub returns-in_default : goal.returns-in_default
-returns-in_default c = sym (ap first_frame (no_frames c.args.self.now (ap frame_at c.requires.settled ∙ sym c.requires.front ∙ c.in_default.is)))
+returns-in_default c = sym (ap first_frame (no_frames c.args.self.now
+    (ap frame_at c.requires.settled ∙ sym c.requires.front ∙ c.in_default.is)))
 
 pub slice_bounds-frame-end : goal.slice_bounds-frame-end
 slice_bounds-frame-end c =

@@ -17,9 +17,14 @@ invariant_of-self c =
       | then-taken-self w ↦
           let s = ap (λ r. r.start) w.self-inside-is in
           let e = ap (λ r. r.end) w.self-inside-is in
-          put_kept f i _ _ c.min-taken.result c.self.invariant (omega (arith, s, e)) (omega (arith, e, taken, order, c.self.invariant.room)) (ap (λ r. r.front_length) w.self-inside-is) (ap (λ r. r.table) w.self-inside-is) (ap held_of w.self-inside-is ∙ w.slide.ensures) len c.append.ensures
+          put_kept f i _ _ c.min-taken.result c.self.invariant (omega (arith, s, e))
+          (omega (arith, e, taken, order, c.self.invariant.room)) (ap (λ r. r.front_length) w.self-inside-is)
+          (ap (λ r. r.table) w.self-inside-is) (ap held_of w.self-inside-is ∙ w.slide.ensures) len c.append.ensures
       | else-taken-self w ↦
           let s = ap (λ r. r.start) w.self-inside-is in
           let e = ap (λ r. r.end) w.self-inside-is in
-          put_kept f i _ _ c.min-taken.result c.self.invariant (omega (arith, s, e, order)) (omega (arith, e, w.if-taken-self.false, c.self.invariant.room)) (ap (λ r. r.front_length) w.self-inside-is) (ap (λ r. r.table) w.self-inside-is) (ap held_of w.self-inside-is) len c.append.ensures
+          put_kept f i _ _ c.min-taken.result c.self.invariant (omega (arith, s, e, order))
+          (omega (arith, e, w.if-taken-self.false, c.self.invariant.room))
+          (ap (λ r. r.front_length) w.self-inside-is) (ap (λ r. r.table) w.self-inside-is)
+          (ap held_of w.self-inside-is) len c.append.ensures
     ]

@@ -7,4 +7,5 @@ body_of-requires-clause-header c = (c.in-Frame.ensures.table c.in-Frame.n refl).
 
 pub invariant_of-result-clause-framed : goal.invariant_of-result-clause-framed
 invariant_of-result-clause-framed c =
-    ap (option_map (body_at c.args.bytes.now)) (c.in-Frame.ensures.table c.in-Frame.n refl).header ∙ ap Some (sym c.body_of.ensures)
+    ap (option_map (body_at c.args.bytes.now)) (c.in-Frame.ensures.table c.in-Frame.n refl).header
+    ∙ ap Some (sym c.body_of.ensures)

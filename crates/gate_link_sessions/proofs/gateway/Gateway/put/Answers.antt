@@ -9,4 +9,5 @@ returns-then-is_closed-clause-pending g c more =
     let a = c.args.self.now in
     let shut = sym c.is_closed.ensures ∙ c.if-is_closed.true in
     owes_nothing a.reader.session (frames (a.reader.held ++ more)) shut
-    ∙ sym (owes_nothing a.reader.session (frames (a.reader.held ++ (take (length c.args.piece.now) c.args.piece.now ++ more))) shut)
+    ∙ sym (owes_nothing a.reader.session (frames (a.reader.held
+    ++ (take (length c.args.piece.now) c.args.piece.now ++ more))) shut)

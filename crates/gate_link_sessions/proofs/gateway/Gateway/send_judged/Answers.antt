@@ -13,7 +13,8 @@ use Rattle.gate_link_sessions.proofs.gateway.Gateway.send_judged.Goals.{Start}
 opens : (g : _) (c : Start g) → is_closed c.args.self.now.reader.session ≡ false
 opens g c =
     let a = c.args.self.now in
-    open_where_judged c.args.frames a.reader.session (frames a.reader.held) (omega (arith, c.requires.some, c.requires.judged.judged.messages))
+    open_where_judged c.args.frames a.reader.session (frames a.reader.held)
+    (omega (arith, c.requires.some, c.requires.judged.judged.messages))
 
 some : (g : _) (c : Start g) → c.args.ahead.now.messages ≢ 0
 some g c none = omega (arith, c.requires.some, none)
@@ -25,11 +26,14 @@ invariant_of-self g c =
     let j = c.requires.judged.judged in
     let r = c.args.ahead.now in
     let before = entry_events (sent a.producer) in
-    let none = no_events_said a.session r.events a.slice (first_events c.args.frames a) j.events c.requires.judged.fits c.if-ahead-eq0.true in
+    let none = no_events_said a.session r.events a.slice (first_events c.args.frames a) j.events c.requires.judged.fits
+    c.if-ahead-eq0.true in
     record {
       close_sent =
           closed_later a.reader.session c.pass_ahead.new.self.session (first_messages c.args.frames a) before before
-          (opens g (goal.at.invariant_of-self g c).Start) a.close_sent (ap (λ s. s.session) c.pass_ahead.ensures ∙ j.session) (sent_same before (first_events c.args.frames a) none);
+          (opens g (goal.at.invariant_of-self g c).Start) a.close_sent
+          (ap (λ s. s.session) c.pass_ahead.ensures ∙ j.session)
+          (sent_same before (first_events c.args.frames a) none);
     }
 
 pub returns-then-ahead-eq0-clause-step : goal.returns-then-ahead-eq0-clause-step
@@ -38,7 +42,8 @@ returns-then-ahead-eq0-clause-step g c =
     let j = c.requires.judged.judged in
     let r = c.args.ahead.now in
     let from = (goal.at.returns-then-ahead-eq0-clause-step g c).Start in
-    let none = no_events_said a.session r.events a.slice (first_events c.args.frames a) j.events c.requires.judged.fits c.if-ahead-eq0.true in
+    let none = no_events_said a.session r.events a.slice (first_events c.args.frames a) j.events c.requires.judged.fits
+    c.if-ahead-eq0.true in
     let passes = passed_many a _ a.session c.args.frames a.slice r j c.pass_ahead.ensures (some g from) in
     record {
       open_before = opens g from;
@@ -46,7 +51,8 @@ returns-then-ahead-eq0-clause-step g c =
       none = none;
       sent = refl;
       room = refl;
-      pending = owed_silent a.reader.session c.pass_ahead.new.self.session (first_messages c.args.frames a) a.reader.held c.pass_ahead.new.self.held passes.left passes.state none;
+      pending = owed_silent a.reader.session c.pass_ahead.new.self.session (first_messages c.args.frames a)
+          a.reader.held c.pass_ahead.new.self.held passes.left passes.state none;
     }
 
 -- their events were pushed
@@ -55,11 +61,14 @@ invariant_of-self-2 g c =
     let a = c.args.self.now in
     let j = c.requires.judged.judged in
     let r = c.args.ahead.now in
-    let more = sent_more a.session r.events (sent a.producer) _ a.slice (first_events c.args.frames a) c.in-Ok.ensures.ok.0 j.events in
+    let more = sent_more a.session r.events (sent a.producer) _ a.slice (first_events c.args.frames a)
+    c.in-Ok.ensures.ok.0 j.events in
     record {
       close_sent =
-          closed_later a.reader.session c.pass_ahead-2.new.self.session (first_messages c.args.frames a) (entry_events (sent a.producer)) _
-          (opens g (goal.at.invariant_of-self-2 g c).Start) a.close_sent (ap (λ s. s.session) c.pass_ahead-2.ensures ∙ j.session) more;
+          closed_later a.reader.session c.pass_ahead-2.new.self.session (first_messages c.args.frames a)
+          (entry_events (sent a.producer)) _
+          (opens g (goal.at.invariant_of-self-2 g c).Start) a.close_sent
+          (ap (λ s. s.session) c.pass_ahead-2.ensures ∙ j.session) more;
     }
 
 pub returns-clause-step : goal.returns-clause-step
@@ -74,9 +83,11 @@ returns-clause-step g c =
       passes = passes;
       some = grind (arith, c.if-ahead-eq0.false);
       count = events_size a.session r.events a.slice (first_events c.args.frames a) j.events c.requires.judged.fits;
-      sent = sent_more a.session r.events (sent a.producer) _ a.slice (first_events c.args.frames a) c.in-Ok.ensures.ok.0 j.events;
+      sent = sent_more a.session r.events (sent a.producer) _ a.slice (first_events c.args.frames a)
+          c.in-Ok.ensures.ok.0 j.events;
       room = omega (arith, c.in-Ok.ensures.ok.1, length-take-le r.events a.slice c.requires.judged.fits);
-      pending = owed_many a.reader.session c.pass_ahead-2.new.self.session (first_messages c.args.frames a) a.reader.held c.pass_ahead-2.new.self.held passes.left passes.state;
+      pending = owed_many a.reader.session c.pass_ahead-2.new.self.session (first_messages c.args.frames a)
+          a.reader.held c.pass_ahead-2.new.self.held passes.left passes.state;
     }
 
 -- there was no room for them
@@ -86,7 +97,8 @@ returns-in_default-clause-step g c =
     let r = c.args.ahead.now in
     let full = c.in_default.ensures.full in
     let fits = c.requires.judged.fits in
-    let count = events_size a.session r.events a.slice (first_events c.args.frames a) c.requires.judged.judged.events fits in
+    let count = events_size a.session r.events a.slice (first_events c.args.frames a) c.requires.judged.judged.events
+    fits in
     record {
       open_before = opens g (goal.at.returns-in_default-clause-step g c).Start;
       full = omega (arith, full.2, length-take-le r.events a.slice fits, count);

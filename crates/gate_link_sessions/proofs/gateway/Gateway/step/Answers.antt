@@ -39,7 +39,8 @@ returns-in_default-verdict-clause-step g c =
       passes = message_passed a _ mid m.0 None c.look.ensures.skipped m.1.0 c.pass.ensures.passed says;
       sent = refl;
       room = refl;
-      pending = owed_nothing a.reader.session new.session m.0 a.reader.held new.held (leaves_passed a.reader mid new m.0 c.look.ensures.skipped m.1.0 c.pass.ensures.passed).0
+      pending = owed_nothing a.reader.session new.session m.0 a.reader.held new.held
+          (leaves_passed a.reader mid new m.0 c.look.ensures.skipped m.1.0 c.pass.ensures.passed).0
           (session_passed a.reader mid new m.0 c.look.ensures.skipped m.1.0 c.pass.ensures.passed) says;
     }
 
@@ -49,7 +50,8 @@ invariant_of-self-in_default-verdict g c =
     let m = verdict_some a.reader c.in-Some.verdict (sym c.in-Some.ensures.says) in
     let opens : is_closed a.reader.session ≡ false = sym c.is_closed.ensures ∙ c.if-is_closed.false in record {
       close_sent =
-          ap is_closed (session_passed a.reader c.look.new.self c.pass.new.self m.0 c.look.ensures.skipped m.1.0 c.pass.ensures.passed)
+          ap is_closed (session_passed a.reader c.look.new.self c.pass.new.self m.0 c.look.ensures.skipped m.1.0
+          c.pass.ensures.passed)
           ∙ (closes_with a.reader.session m.0 opens
           ∙ (ap is_closing (m.1.1 ∙ c.in_default-verdict.is)
           ∙ (sym opens ∙ a.close_sent)));
@@ -73,7 +75,10 @@ returns-in_default-push-clause-step g c =
 pub invariant_of-self-in_default-push : goal.invariant_of-self-in_default-push
 invariant_of-self-in_default-push g c =
     let sent_is = ap (λ es. list_any is_close (entry_events es)) c.in_default-push.ensures.full.1 in
-    record { close_sent = ap (λ r. is_closed r.session) c.look.ensures.skipped ∙ (c.args.self.now.close_sent ∙ sym sent_is) }
+    record {
+      close_sent = ap (λ r. is_closed r.session) c.look.ensures.skipped
+          ∙ (c.args.self.now.close_sent ∙ sym sent_is);
+    }
 
 -- the message has an event, which was pushed
 pub returns-clause-step : goal.returns-clause-step
@@ -88,7 +93,8 @@ returns-clause-step g c =
       passes = message_passed a _ mid m.0 (Some e) c.look.ensures.skipped m.1.0 c.pass-2.ensures.passed says;
       sent = ap entry_events c.in-Ok.ensures.ok.0 ∙ events_later (sent a.producer) (entry a.session e);
       room = c.in-Ok.ensures.ok.1;
-      pending = owed_event a.reader.session c.pass-2.new.self.session m.0 a.reader.held c.pass-2.new.self.held e (leaves_passed a.reader mid c.pass-2.new.self m.0 c.look.ensures.skipped m.1.0 c.pass-2.ensures.passed).0
+      pending = owed_event a.reader.session c.pass-2.new.self.session m.0 a.reader.held c.pass-2.new.self.held e
+          (leaves_passed a.reader mid c.pass-2.new.self m.0 c.look.ensures.skipped m.1.0 c.pass-2.ensures.passed).0
           (session_passed a.reader mid c.pass-2.new.self m.0 c.look.ensures.skipped m.1.0 c.pass-2.ensures.passed) says;
     }
 
@@ -101,7 +107,8 @@ invariant_of-self-2 g c =
     let opens : is_closed a.reader.session ≡ false = sym c.is_closed.ensures ∙ c.if-is_closed.false in
     let sent_is = ap entry_events c.in-Ok.ensures.ok.0 ∙ events_later (sent a.producer) (entry a.session e) in record {
       close_sent =
-          ap is_closed (session_passed a.reader c.look.new.self c.pass-2.new.self m.0 c.look.ensures.skipped m.1.0 c.pass-2.ensures.passed)
+          ap is_closed (session_passed a.reader c.look.new.self c.pass-2.new.self m.0 c.look.ensures.skipped m.1.0
+          c.pass-2.ensures.passed)
           ∙ (closes_with a.reader.session m.0 opens
           ∙ (ap is_closing (m.1.1 ∙ c.in-Event.is)
           ∙ (sym (close_later (entry_events (sent a.producer)) e (sym a.close_sent ∙ opens))

@@ -24,8 +24,11 @@ returns-then-ahead-eq0-clause-step g c =
     let judged = c.judge_many-ahead.ensures in
     let same : mid.reader ≡ a.reader = λ i. record { held = judged.held i; session = judged.state i } in
     let opens : is_closed a.reader.session ≡ false = sym c.is_closed.ensures ∙ c.if-is_closed.false in
-    let count : length (next_messages c.args.frames a.reader) ≡ 0 = ap (λ r. length (next_messages c.args.frames r)) (sym same) ∙ (sym judged.judged.judged.messages ∙ c.if-ahead-eq0.true) in
-    let none = none_first c.args.frames a.reader.session (frames a.reader.held) opens (omega (arith, c.requires.0)) count in
+    let count : length (next_messages c.args.frames a.reader) ≡ 0 =
+    ap (λ r. length (next_messages c.args.frames r)) (sym same)
+    ∙ (sym judged.judged.judged.messages ∙ c.if-ahead-eq0.true) in
+    let none = none_first c.args.frames a.reader.session (frames a.reader.held) opens (omega (arith, c.requires.0))
+    count in
     let skipped = c.look.ensures.skipped ∙ ap after_skipping same in
     record {
       open_before = opens;

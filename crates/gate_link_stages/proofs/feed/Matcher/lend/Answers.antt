@@ -12,17 +12,23 @@ use Rattle.gate_link_stages.proofs.feed.Matcher.lend.Goals as goal
 
 -- Handing out the next held item puts it behind those handed out, and the others stay held.
 next : (g : _) (c : After-is_end-is_end g)
-    → (first_items (received c.fill.new.self.consumer) (c.fill.new.self.filled - (c.fill.new.self.next + 1)) ≡ handed c.fill.new.self ++ c.index-items-at.result ∷ [])
-    × (received c.fill.new.self.consumer ≡ first_items (received c.fill.new.self.consumer) (c.fill.new.self.filled - (c.fill.new.self.next + 1)) ++ held_items c.fill.new.self.items (c.fill.new.self.next + 1) c.fill.new.self.filled)
+    → (first_items (received c.fill.new.self.consumer) (c.fill.new.self.filled - (c.fill.new.self.next + 1)) ≡ handed
+    c.fill.new.self ++ c.index-items-at.result ∷ [])
+    × (received c.fill.new.self.consumer ≡ first_items (received c.fill.new.self.consumer)
+    (c.fill.new.self.filled - (c.fill.new.self.next + 1))
+    ++ held_items c.fill.new.self.items (c.fill.new.self.next + 1) c.fill.new.self.filled)
 next g c =
     let m = c.fill.new.self in
     let x = c.index-items-at.result in
-    next_held (received m.consumer) m.items m.next m.filled x x c.if-not-fill.ensures.held m.range.1 m.held c.index-items-at.is
+    next_held (received m.consumer) m.items m.next m.filled x x c.if-not-fill.ensures.held m.range.1 m.held
+    c.index-items-at.is
 
 -- It is ended just where that item is the mark, and the item's entry is the next one.
 more : (g : _) (c : After-is_end-is_end g)
-    → (ends is_end (first_items (received c.fill.new.self.consumer) (c.fill.new.self.filled - (c.fill.new.self.next + 1))) c.is_end-is_end.result ≡ true)
-    × (entries (first_items (received c.fill.new.self.consumer) (c.fill.new.self.filled - (c.fill.new.self.next + 1))) ≡ taken c.args.self.now ++ entries (c.index-items-at.result ∷ []))
+    → (ends is_end (first_items (received c.fill.new.self.consumer)
+    (c.fill.new.self.filled - (c.fill.new.self.next + 1))) c.is_end-is_end.result ≡ true)
+    × (entries (first_items (received c.fill.new.self.consumer) (c.fill.new.self.filled - (c.fill.new.self.next + 1))) ≡
+    taken c.args.self.now ++ entries (c.index-items-at.result ∷ []))
 more g c =
     let m = c.fill.new.self in
     let x = c.index-items-at.result in
@@ -34,12 +40,17 @@ more g c =
 -- The item that is lent is the one that was looked at.
 same : (g : _) (c : After-is_end-is_end g) (y z : Fed) → get_or c.fill.new.self.items c.fill.new.self.next y ≡ z
     → (c.is_end-is_end.result ≡ is_end z)
-    × (entries (first_items (received c.fill.new.self.consumer) (c.fill.new.self.filled - (c.fill.new.self.next + 1))) ≡ taken c.args.self.now ++ entries (z ∷ []))
+    × (entries (first_items (received c.fill.new.self.consumer) (c.fill.new.self.filled - (c.fill.new.self.next + 1))) ≡
+    taken c.args.self.now ++ entries (z ∷ []))
 same g c y z is =
     let m = c.fill.new.self in
     let x = c.index-items-at.result in
-    let looked : get_or m.items m.next x ≡ z = get_or_default m.items m.next x y (omega (arith, c.if-not-fill.ensures.held, m.range.1)) ∙ is in
-    (c.is_end-is_end.ensures ∙ ap is_end looked, (more g c).1 ∙ ap (λ t. taken c.args.self.now ++ entries (t ∷ [])) (c.index-items-at.is ∙ looked))
+    let looked : get_or m.items m.next x ≡ z = get_or_default m.items m.next x y
+    (omega (arith, c.if-not-fill.ensures.held, m.range.1)) ∙ is in (
+      c.is_end-is_end.ensures ∙ ap is_end looked,
+      (more g c).1
+          ∙ ap (λ t. taken c.args.self.now ++ entries (t ∷ [])) (c.index-items-at.is ∙ looked),
+    )
 
 pub invariant_of-self : goal.invariant_of-self
 invariant_of-self g c =
@@ -53,7 +64,8 @@ invariant_of-self g c =
 
 pub returns-in-Entry : goal.returns-in-Entry
 returns-in-Entry g c =
-    let took = same g (goal.at.returns-in-Entry g c).After-is_end-is_end c.index-held-at.result (Item c.in-Entry.entry) c.in-Entry.is in (
+    let took = same g (goal.at.returns-in-Entry g c).After-is_end-is_end c.index-held-at.result (Item c.in-Entry.entry)
+    c.in-Entry.is in (
       (refl, (λ _. tt), (c.fill.ensures.ring, (c.if-self.false, took.1, took.0))),
       record { after = tt },
     )

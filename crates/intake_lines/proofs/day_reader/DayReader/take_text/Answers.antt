@@ -21,8 +21,10 @@ returns-in_default-clause-reads g c =
     let left = c.lines.left.now in
     let reader = c.lines.self in
     let still : reader.bad ≡ None = none_at reader.bad c.is_none.result c.is_none.ensures c.lines-test.true in
-    let kept = rest_kept left reader _ still c.in_default.ensures.none refl c.in_ok-extend_from_slice.ensures.items refl still in
-    subst (λ (t : List ℕ). ReadsOn t c.args.self.now (record reader { rest = c.extend_from_slice.new.self })) (sym so_far.1) (reads_both so_far.0 left c.args.self.now reader _ so_far.2 kept)
+    let kept = rest_kept left reader _ still c.in_default.ensures.none refl c.in_ok-extend_from_slice.ensures.items refl
+    still in
+    subst (λ (t : List ℕ). ReadsOn t c.args.self.now (record reader { rest = c.extend_from_slice.new.self }))
+    (sym so_far.1) (reads_both so_far.0 left c.args.self.now reader _ so_far.2 kept)
 
 pub returns-clause-reads : goal.returns-clause-reads
 returns-clause-reads g c =
@@ -30,7 +32,8 @@ returns-clause-reads g c =
     let left = c.lines.left.now in
     let reader = c.lines.self in
     let over = some_at reader.bad c.is_none.result c.is_none.ensures c.lines-test.false in
-    subst (λ (t : List ℕ). ReadsOn t c.args.self.now reader) (sym so_far.1) (reads_both so_far.0 left c.args.self.now reader reader so_far.2 (nothing_more left reader over))
+    subst (λ (t : List ℕ). ReadsOn t c.args.self.now reader) (sym so_far.1)
+    (reads_both so_far.0 left c.args.self.now reader reader so_far.2 (nothing_more left reader over))
 
 pub lines-preserved : goal.lines-preserved
 lines-preserved g c =
@@ -42,7 +45,14 @@ lines-preserved g c =
         so_far.1
             ∙ ap (λ (t : List ℕ). so_far.0 ++ t) (c.in-Some.ensures.found ∙ sym (append_assoc line (10 ∷ []) after))
             ∙ sym (append_assoc so_far.0 (line ++ 10 ∷ []) after),
-        reads_both so_far.0 (line ++ 10 ∷ []) c.args.self.now c.lines.self c.end_line.new.self so_far.2 c.in_ok-end_line.ensures.reads,
+        reads_both so_far.0 (line ++ 10 ∷ []) c.args.self.now c.lines.self c.end_line.new.self so_far.2
+            c.in_ok-end_line.ensures.reads,
       ),
-      omega (arith, c.lines.invariant.1, c.in_ok-end_line.ensures.number, ap length c.in-Some.ensures.found, length-append {A = ℕ}),
+      omega (
+        arith,
+        c.lines.invariant.1,
+        c.in_ok-end_line.ensures.number,
+        ap length c.in-Some.ensures.found,
+        length-append {A = ℕ},
+      ),
     )

@@ -9,6 +9,8 @@ use Rattle.spread_books.proofs.index.IndexBook.others_pair.Goals as goal
 pub returns : goal.returns
 returns g c =
     let xs = c.self.inside.others.orders in
-    kept_by_newest (implied c.args.self.now.rules) xs c.args.self.now.orders c.self.inside.newest c.args.side c.args.month c.in_ok-held.held (ap (λ (v : BookView). v.orders) c.self.view_is)
+    kept_by_newest (implied c.args.self.now.rules) xs c.args.self.now.orders c.self.inside.newest c.args.side
+    c.args.month c.in_ok-held.held (ap (λ (v : BookView). v.orders) c.self.view_is)
     (λ k at. let no : false ≡ true = sym c.if-newest_has_part.false ∙ c.newest_has_part.ensures k at in cc)
-    (subst (λ (r : Rules). IsCheapest (implied r) xs c.args.side c.args.month MAX_MONTHS c.in_ok-held.held) (ap (λ (v : BookView). v.rules) c.self.view_is) c.in_ok-held.ensures)
+    (subst (λ (r : Rules). IsCheapest (implied r) xs c.args.side c.args.month MAX_MONTHS c.in_ok-held.held)
+    (ap (λ (v : BookView). v.rules) c.self.view_is) c.in_ok-held.ensures)

@@ -15,7 +15,11 @@ returns g c =
     let xs = c.args.self.now.orders in
     let i = c.args.near in
     let j = c.args.far in
-    let part : on i j ≡ true = ap (λ (r : Rules). implied r i j) (sym (c.rules.ensures ∙ ap (λ (v : BookView). v.rules) c.self.view_is)) ∙ (sym c.implied.ensures ∙ c.if-not-implied.false) in
+    let part : on i j ≡ true = ap (λ (r : Rules). implied r i j)
+    (sym (c.rules.ensures ∙ ap (λ (v : BookView). v.rules) c.self.view_is))
+    ∙ (sym c.implied.ensures ∙ c.if-not-implied.false) in
     spread_quote on xs i j c.args.side c.pair_quote.result
-    (quote_on on xs (Spread i j) c.args.side (Outright i) (other_side c.args.side) (Outright j) c.args.side c.pair_quote.result part
-    (subst (λ (s : Side). IsQuoteOfFronts all_on xs (Spread i j) c.args.side (Outright i) s (Outright j) c.args.side c.pair_quote.result) c.opposite.ensures c.pair_quote.ensures))
+    (quote_on on xs (Spread i j) c.args.side (Outright i) (other_side c.args.side) (Outright j) c.args.side
+    c.pair_quote.result part
+    (subst (λ (s : Side). IsQuoteOfFronts all_on xs (Spread i j) c.args.side (Outright i) s (Outright j) c.args.side
+    c.pair_quote.result) c.opposite.ensures c.pair_quote.ensures))

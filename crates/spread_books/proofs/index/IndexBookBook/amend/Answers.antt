@@ -16,13 +16,17 @@ returns-in-Some-clause-ok g c =
     let xs = c.self.inside.others.orders in
     let f = with_quantity c.args.id c.args.quantity in
     ap (λ (o : Order). xs ++ o ∷ []) c.with_quantity.ensures
-    ∙ sym (changed_newest xs c.self.inside.newest c.args.place c.in-Some.was (sym c.newest_at.ensures ∙ c.in-Some.is) c.self.invariant f)
-    ∙ ap (λ (ys : List Order). amended c.args.place c.args.id c.args.quantity ys) (ap (λ (v : BookView). v.orders) c.self.view_is)
+    ∙ sym (changed_newest xs c.self.inside.newest c.args.place c.in-Some.was (sym c.newest_at.ensures ∙ c.in-Some.is)
+    c.self.invariant f)
+    ∙ ap (λ (ys : List Order). amended c.args.place c.args.id c.args.quantity ys)
+    (ap (λ (v : BookView). v.orders) c.self.view_is)
 
 pub amend-requires : goal.amend-requires
 amend-requires g c =
-    amend_before c.self.inside.others.orders (option_to_list c.self.inside.newest) c.args.place (sym c.newest_at.ensures ∙ c.in_default.is) c.args.id c.args.quantity
-    (subst (λ (xs : List Order). CanAmend xs c.args.place c.args.id c.args.quantity) (sym (ap (λ (v : BookView). v.orders) c.self.view_is)) c.requires)
+    amend_before c.self.inside.others.orders (option_to_list c.self.inside.newest) c.args.place
+    (sym c.newest_at.ensures ∙ c.in_default.is) c.args.id c.args.quantity
+    (subst (λ (xs : List Order). CanAmend xs c.args.place c.args.id c.args.quantity)
+    (sym (ap (λ (v : BookView). v.orders) c.self.view_is)) c.requires)
 
 pub invariant_of-self-2 : goal.invariant_of-self-2
 invariant_of-self-2 g c =

@@ -10,7 +10,8 @@ invariant_of-self-then-self-2 g c =
     let xs = c.self.inside.book in
     let ys = c.add.new.self in
     let o = c.args.order in
-    let come : HasCome xs ys o c.front_level-others.result = record { is = c.in_ok-add.ensures.ok; front = c.front_level-others.ensures } in
+    let come : HasCome xs ys o c.front_level-others.result =
+    record { is = c.in_ok-add.ensures.ok; front = c.front_level-others.ensures } in
     let both : (c.self.inside.listed ≡ true) × IsListed c.self.inside.pairs.months o = elim c.if-self.branch [
       | then-self w ↦ (w.if-self.true, w.is_listed-self-inside.ensures (sym w.self-is ∙ c.if-self-2.true))
       | else-self w ↦ let no : false ≡ true = sym w.if-self.false ∙ (sym w.self-is ∙ c.if-self-2.true) in cc
@@ -18,5 +19,7 @@ invariant_of-self-then-self-2 g c =
     record {
       most = c.self.invariant.most;
       on = c.self.invariant.on;
-      quoted = λ e. come_table (implied c.self.inside.pairs.rules.now) c.self.inside.pairs.months xs ys o c.front_level-others.result c.self.inside.quotes c.renew_for.new.self (c.self.invariant.quoted both.0) both.1 come (c.renew_for.ensures.came refl xs come);
+      quoted = λ e. come_table (implied c.self.inside.pairs.rules.now) c.self.inside.pairs.months xs ys o
+          c.front_level-others.result c.self.inside.quotes c.renew_for.new.self (c.self.invariant.quoted both.0) both.1
+          come (c.renew_for.ensures.came refl xs come);
     }

@@ -9,7 +9,13 @@ use Rattle.spread_books.proofs.quoted_book.QuotedBookBook.amend.Goals as goal
 
 pub invariant_of-self : goal.invariant_of-self
 invariant_of-self g c =
-    let kept = changed_table (with_quantity c.args.id c.args.quantity) (record { instrument = λ o. refl; side = λ o. refl; price = λ o. refl; place = λ o. refl }) c.args.place c.self.inside.all_on c.self.inside.listed (implied c.self.inside.pairs.rules.now) c.self.inside.pairs.months c.self.inside.book c.self.inside.quotes c.self.invariant in
+    let kept = changed_table (with_quantity c.args.id c.args.quantity)
+    (record { instrument = λ o. refl; side = λ o. refl; price = λ o. refl; place = λ o. refl }) c.args.place
+    c.self.inside.all_on c.self.inside.listed (implied c.self.inside.pairs.rules.now) c.self.inside.pairs.months
+    c.self.inside.book c.self.inside.quotes c.self.invariant in
     from_both c.amend.result c.amend.ensures.ok c.amend.ensures.unchanged_on_err
-    (λ e. subst (λ (ys : List Order). KeepsQuotes c.self.inside.all_on c.self.inside.listed (implied c.self.inside.pairs.rules.now) c.self.inside.pairs.months ys c.self.inside.quotes) (sym e) kept)
-    (λ e. subst (λ (ys : List Order). KeepsQuotes c.self.inside.all_on c.self.inside.listed (implied c.self.inside.pairs.rules.now) c.self.inside.pairs.months ys c.self.inside.quotes) (sym e) c.self.invariant)
+    (λ e. subst (λ (ys : List Order). KeepsQuotes c.self.inside.all_on c.self.inside.listed
+    (implied c.self.inside.pairs.rules.now) c.self.inside.pairs.months ys c.self.inside.quotes) (sym e) kept)
+    (λ e. subst (λ (ys : List Order). KeepsQuotes c.self.inside.all_on c.self.inside.listed
+    (implied c.self.inside.pairs.rules.now) c.self.inside.pairs.months ys c.self.inside.quotes) (sym e)
+    c.self.invariant)

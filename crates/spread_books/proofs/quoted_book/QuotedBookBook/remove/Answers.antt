@@ -19,7 +19,8 @@ renew_for-requires g c =
     let quoted = c.self.invariant.quoted c.if-self.true in
     let at = rests_at xs c.args.place c.in-Some.order c.in-Some.ensures.was in
     record {
-      small = subst (λ (ys : List Order). All HasOrderPrice ys) (sym c.in-Some.ensures.book) (removed_all HasOrderPrice xs c.args.place quoted.small);
+      small = subst (λ (ys : List Order). All HasOrderPrice ys) (sym c.in-Some.ensures.book)
+          (removed_all HasOrderPrice xs c.args.place quoted.small);
       within = All-contains (λ (o : Order). IsInMonths months o.instrument) xs c.in-Some.order quoted.within at.0;
       most = c.self.invariant.most;
     }
@@ -39,11 +40,14 @@ invariant_of-self g c =
     record {
       most = c.self.invariant.most;
       on = c.self.invariant.on;
-      quoted = λ e. left_table (implied c.self.inside.pairs.rules.now) c.self.inside.pairs.months xs ys o c.front_level-others.result c.self.inside.quotes c.renew_for.new.self (c.self.invariant.quoted e) left (c.renew_for.ensures.left refl xs left);
+      quoted = λ e. left_table (implied c.self.inside.pairs.rules.now) c.self.inside.pairs.months xs ys o
+          c.front_level-others.result c.self.inside.quotes c.renew_for.new.self (c.self.invariant.quoted e) left
+          (c.renew_for.ensures.left refl xs left);
     }
 
 pub invariant_of-self-in_default : goal.invariant_of-self-in_default
 invariant_of-self-in_default g c =
     let xs = c.self.inside.book in
-    let rests = subst (λ (ys : List Order). HasPlace ys c.args.place) (ap (λ (v : BookView). v.orders) (sym c.self.view_is)) c.requires in
+    let rests = subst (λ (ys : List Order). HasPlace ys c.args.place)
+    (ap (λ (v : BookView). v.orders) (sym c.self.view_is)) c.requires in
     absurd (not_nobody xs c.args.place rests.order rests.stands rests.at c.in_default.ensures.was)

@@ -13,7 +13,8 @@ returns-in_err-rank g c =
     let ranks = c.self.inside.queues in
     let now = subst (λ (ys : List Order). IsIndex ys ranks) c.self.view_is c.self.invariant in
     let none = subst (λ (n : ℕ). ranks_at ranks n ≡ []) c.queue_number.ensures.number c.in_err-rank.ensures.none in
-    subst (λ (r : Option BestPrice). IsBestPrice xs c.args.instrument c.args.side r) (sym c.from_residual.ensures) (None, no_rank xs ranks now c.args.instrument c.args.side none, refl)
+    subst (λ (r : Option BestPrice). IsBestPrice xs c.args.instrument c.args.side r) (sym c.from_residual.ensures)
+    (None, no_rank xs ranks now c.args.instrument c.args.side none, refl)
 
 pub returns : goal.returns
 returns g c =
@@ -21,7 +22,12 @@ returns g c =
     let ranks = c.self.inside.queues in
     let now = subst (λ (ys : List Order). IsIndex ys ranks) c.self.view_is c.self.invariant in
     let k = c.in_ok-rank.rank in
-    let least = subst (λ (n : ℕ). IsLeast (ranks_at ranks n) k) c.queue_number.ensures.number c.in_ok-rank.ensures.some in
+    let least = subst (λ (n : ℕ). IsLeast (ranks_at ranks n) k) c.queue_number.ensures.number c.in_ok-rank.ensures.some
+    in
     let front = front_of_rank xs ranks now c.args.instrument c.args.side c.queue_number.ensures.months k least in
-    let o = front.0 in
-    (Some o, front.2, ap (λ (b : BestPrice). Some b) (rank_price k o c.args.side c.best_price.result front.1 front.2.0.side_is c.best_price.ensures.price c.best_price.ensures.place))
+    let o = front.0 in (
+      Some o,
+      front.2,
+      ap (λ (b : BestPrice). Some b) (rank_price k o c.args.side c.best_price.result front.1
+          front.2.0.side_is c.best_price.ensures.price c.best_price.ensures.place),
+    )

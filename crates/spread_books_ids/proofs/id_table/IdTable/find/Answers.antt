@@ -10,5 +10,7 @@ pub returns-in-Open : goal.returns-in-Open
 returns-in-Open g c =
     let ks = g.R.IdRows.keys c.args.rows.now in
     let lines = c.args.self.now.lines.items in
-    let sought = subst (IsSeek (named_row ks c.args.key.now (line_for lines c.args.key.now)) (line_for lines c.args.key.now)) c.in-Open.is c.seek.ensures in
-    open_is_none lines (get id_key_cmp c.args.self.now.behind) ks c.args.key.now c.in-Open.field-0 c.requires sought.0 sought.1 (omega arith)
+    let sought = subst (IsSeek (named_row ks c.args.key.now (line_for lines c.args.key.now))
+    (line_for lines c.args.key.now)) c.in-Open.is c.seek.ensures in
+    open_is_none lines (get id_key_cmp c.args.self.now.behind) ks c.args.key.now c.in-Open.field-0 c.requires sought.0
+    sought.1 (omega arith)

@@ -10,7 +10,8 @@ all_before keys n e = ap (λ k. take k keys) e ∙ take-length keys
 
 pub note_row-requires-clause-table : goal.note_row-requires-clause-table
 note_row-requires-clause-table g c =
-    subst (IsTableOf c.reserve.new.self) (sym (all_before (g.R.IdRows.keys c.args.rows.now) c.len.result c.len.ensures)) c.reserve.ensures
+    subst (IsTableOf c.reserve.new.self) (sym (all_before (g.R.IdRows.keys c.args.rows.now) c.len.result c.len.ensures))
+    c.reserve.ensures
 
 pub returns-clause-used : goal.returns-clause-used
 returns-clause-used g c =

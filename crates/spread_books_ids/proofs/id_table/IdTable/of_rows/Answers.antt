@@ -13,8 +13,10 @@ loop-row-preserved g c =
     let row = c.loop-row.row in
     elim c.match-key_at.branch [
       | in-Some+in_ok-note_row w ↦ record {
-        noted = subst (λ (t : IdTable g.row.A.Denot). AreOfRows t.lines.items (get id_key_cmp t.behind) (take (row + 1) ks)) (sym w.table-is)
-            (subst (AreOfRows w.note_row.new.self.lines.items (get id_key_cmp w.note_row.new.self.behind)) (take_next ks row w.in-Some.key (sym c.key_at.ensures ∙ w.in-Some.is)) w.in_ok-note_row.ensures.ok);
+        noted = subst (λ (t : IdTable g.row.A.Denot). AreOfRows t.lines.items (get id_key_cmp t.behind)
+            (take (row + 1) ks)) (sym w.table-is)
+            (subst (AreOfRows w.note_row.new.self.lines.items (get id_key_cmp w.note_row.new.self.behind))
+            (take_next ks row w.in-Some.key (sym c.key_at.ensures ∙ w.in-Some.is)) w.in_ok-note_row.ensures.ok);
       }
       | in_default w ↦ absurd (has_row ks row (omega arith) (sym c.key_at.ensures ∙ w.in_default.is))
     ]

@@ -9,5 +9,6 @@ returns g c =
     let xs = c.self.inside.orders.items in
     subst (λ (ys : List Order). IsFront ys c.args.instrument c.args.side c.first_in.result) c.self.view_is
     (subst (IsFront xs c.args.instrument c.args.side)
-    (sym (c.first_in.ensures ∙ ap (λ (ys : List Order). fold (front_step c.args.instrument c.args.side) None ys) c.deref.ensures.value))
+    (sym (c.first_in.ensures ∙ ap (λ (ys : List Order). fold (front_step c.args.instrument c.args.side) None ys)
+    c.deref.ensures.value))
     (fold_front xs c.args.instrument c.args.side))

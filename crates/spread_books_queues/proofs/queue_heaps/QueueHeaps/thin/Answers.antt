@@ -8,5 +8,9 @@ pub returns-then-len-most : goal.returns-then-len-most
 returns-then-len-most g c =
     let heaps = c.self.inside.heaps.items in
     let own = c.drop_all_departed.new.heap in
-    let within : c.args.queue < length heaps = let ok = c.self.inside.heaps.ok in let len = c.len.ensures in let test = c.if-n-len.true in omega (arith, ok, len, test) in
-    subst (λ (q : List (List QueueRank)). Thins c.args.rows.now c.args.queue q (map ranks_in (set heaps c.args.queue own))) c.self.view_is (heap_changes heaps c.args.queue c.index_mut.result.now within c.index_mut.ensures.value own (HasThinned c.args.rows.now c.args.queue) c.drop_all_departed.ensures.thinned)
+    let within : c.args.queue < length heaps = let ok = c.self.inside.heaps.ok in let len = c.len.ensures in let test =
+    c.if-n-len.true in omega (arith, ok, len, test) in
+    subst (λ (q : List (List QueueRank)). Thins c.args.rows.now c.args.queue q
+    (map ranks_in (set heaps c.args.queue own))) c.self.view_is
+    (heap_changes heaps c.args.queue c.index_mut.result.now within c.index_mut.ensures.value own
+    (HasThinned c.args.rows.now c.args.queue) c.drop_all_departed.ensures.thinned)

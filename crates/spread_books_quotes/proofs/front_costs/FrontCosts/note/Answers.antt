@@ -19,7 +19,8 @@ returns-in-Outright g c = λ xs one h.
     (outright_noted on months c.requires.most xs ys c.args.self.now via o.side c.front_cost-cost.result
     (subst (IsInMonths months) c.in-Outright.is c.requires.within)
     (subst (λ (i : Instrument). ChangesOneQueue xs ys i o.side) c.in-Outright.is one) h
-    (subst (λ (i : Instrument). CostsOfFront ys i o.side c.front_cost-cost.result) c.in-Outright.is c.front_cost-cost.ensures.cost))
+    (subst (λ (i : Instrument). CostsOfFront ys i o.side c.front_cost-cost.result) c.in-Outright.is
+    c.front_cost-cost.ensures.cost))
 
 pub returns-then-is_pair_on : goal.returns-then-is_pair_on
 returns-then-is_pair_on g c = λ xs one h.
@@ -28,11 +29,13 @@ returns-then-is_pair_on g c = λ xs one h.
     let on = implied c.args.pairs.now.rules.now in
     let months = c.args.pairs.now.months in
     subst (λ (rows : CostRows). AreFrontCosts on months ys rows) (sym c.note_spread.ensures)
-    (spread_noted on months c.requires.most xs ys c.args.self.now c.in-Spread.near c.in-Spread.far o.side c.front_cost-cost.result
+    (spread_noted on months c.requires.most xs ys c.args.self.now c.in-Spread.near c.in-Spread.far o.side
+    c.front_cost-cost.result
     (subst (IsInMonths months) c.in-Spread.is c.requires.within)
     (subst (λ (i : Instrument). ChangesOneQueue xs ys i o.side) c.in-Spread.is one) h
     (sym c.is_pair_on.ensures ∙ c.if-is_pair_on.true)
-    (subst (λ (i : Instrument). CostsOfFront ys i o.side c.front_cost-cost.result) c.in-Spread.is c.front_cost-cost.ensures.cost))
+    (subst (λ (i : Instrument). CostsOfFront ys i o.side c.front_cost-cost.result) c.in-Spread.is
+    c.front_cost-cost.ensures.cost))
 
 pub returns-else-is_pair_on : goal.returns-else-is_pair_on
 returns-else-is_pair_on g c = λ xs one h.
@@ -40,7 +43,8 @@ returns-else-is_pair_on g c = λ xs one h.
     let o = c.args.order.now in
     let on = implied c.args.pairs.now.rules.now in
     let months = c.args.pairs.now.months in
-    spread_off on months c.requires.most xs ys c.args.self.now c.in-Spread.near c.in-Spread.far o.side c.front_cost-cost.result
+    spread_off on months c.requires.most xs ys c.args.self.now c.in-Spread.near c.in-Spread.far o.side
+    c.front_cost-cost.result
     (subst (IsInMonths months) c.in-Spread.is c.requires.within)
     (subst (λ (i : Instrument). ChangesOneQueue xs ys i o.side) c.in-Spread.is one) h
     (sym c.is_pair_on.ensures ∙ c.if-is_pair_on.false)

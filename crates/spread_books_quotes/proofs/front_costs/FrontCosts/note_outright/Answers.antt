@@ -9,14 +9,18 @@ pub invariant_of-self : goal.invariant_of-self
 invariant_of-self g c =
     let n = row_cell (other_side c.args.side) 0 c.args.month in (
       c.self.invariant.0,
-      cells_small c.deref_mut.result.now c.put_cost.new.cells c.self.inside.outrights.items c.self.inside.outrights.len c.row_cell.result n c.args.cost
-          c.put_cost.ensures (c.row_cell.ensures ∙ ap (λ (s : Side). row_cell s 0 c.args.month) c.opposite.ensures) c.deref_mut.ensures.value c.deref_mut.ensures.len c.requires c.self.invariant.1,
+      cells_small c.deref_mut.result.now c.put_cost.new.cells c.self.inside.outrights.items c.self.inside.outrights.len
+          c.row_cell.result n c.args.cost
+          c.put_cost.ensures (c.row_cell.ensures ∙ ap (λ (s : Side). row_cell s 0 c.args.month) c.opposite.ensures)
+          c.deref_mut.ensures.value c.deref_mut.ensures.len c.requires c.self.invariant.1,
     )
 
 pub returns : goal.returns
 returns g c =
     let n = row_cell (other_side c.args.side) 0 c.args.month in
     rows_are _ _ _ _ refl
-    (cells_put c.deref_mut.result.now c.put_cost.new.cells c.self.inside.outrights.items c.self.inside.outrights.len c.row_cell.result n c.args.cost
-    c.put_cost.ensures (c.row_cell.ensures ∙ ap (λ (s : Side). row_cell s 0 c.args.month) c.opposite.ensures) c.deref_mut.ensures.value c.deref_mut.ensures.len c.requires)
+    (cells_put c.deref_mut.result.now c.put_cost.new.cells c.self.inside.outrights.items c.self.inside.outrights.len
+    c.row_cell.result n c.args.cost
+    c.put_cost.ensures (c.row_cell.ensures ∙ ap (λ (s : Side). row_cell s 0 c.args.month) c.opposite.ensures)
+    c.deref_mut.ensures.value c.deref_mut.ensures.len c.requires)
     ∙ ap (λ (rows : CostRows). with_outright_cost rows c.args.side c.args.month c.args.cost) c.self.view_is

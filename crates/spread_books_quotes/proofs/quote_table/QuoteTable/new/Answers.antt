@@ -9,6 +9,7 @@ pub returns : goal.returns
 returns g c =
     let cell : PairCost = record { cost = NO_PAIR; other_month = c.from.result } in
     ap pairs_of (c.in_ok-resize.ensures.items
-    ∙ (resized c.new-cells.result.items (c.from-2.result * 2) c.new-cells.result.len cell c.new-cells.ensures.items c.new-cells.ensures.len
+    ∙ (resized c.new-cells.result.items (c.from-2.result * 2) c.new-cells.result.len cell c.new-cells.ensures.items
+    c.new-cells.ensures.len
     ∙ ap (λ (n : ℕ). replicate (n * 2) cell) c.from-2.ensures))
     ∙ no_pairs (c.args.months * 2) cell refl

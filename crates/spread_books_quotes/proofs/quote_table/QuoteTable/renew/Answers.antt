@@ -14,7 +14,9 @@ returns-in-Outright g c = λ on xs ys told came one h.
     let j = c.in-Outright.via in
     outright_renewed on months xs ys old new j c.args.order.now.side
     (subst (λ (u : Side). KeepsOtherSide u old new) c.opposite-side.ensures c.renew_months.ensures.rest)
-    (subst (λ (u : Side). (m : ℕ) → m < months → KeepsOthers xs ys u m j → HasCheapest on months xs old u m → HasCheapest on months ys new u m) c.opposite-side.ensures (λ m lt. c.renew_months.ensures.own m on xs ys told lt came))
+    (subst (λ (u : Side). (m : ℕ) → m < months → KeepsOthers xs ys u m j → HasCheapest on months xs old u m
+    → HasCheapest on months ys new u m) c.opposite-side.ensures
+    (λ m lt. c.renew_months.ensures.own m on xs ys told lt came))
     (subst (λ (i : Instrument). ChangesOneQueue xs ys i c.args.order.now.side) c.in-Outright.is one) h
 
 pub returns-in-Spread : goal.returns-in-Spread
@@ -26,8 +28,11 @@ returns-in-Spread g c = λ on xs ys told came one h.
     let near = c.in-Spread.near in
     let far = c.in-Spread.far in
     spread_renewed on months xs ys old mid new near far c.args.order.now.side
-    (subst (λ (u : Side). (t : Side) (m : ℕ) → ((t ≡ u) × (m ≡ near) → ⊥) → known_pair mid t m ≡ known_pair old t m) c.opposite-side.ensures c.renew_cell.ensures.rest)
-    (subst (λ (u : Side). near < months → KeepsOthers xs ys u near far → HasCheapest on months xs old u near → HasCheapest on months ys mid u near) c.opposite-side.ensures (λ lt. c.renew_cell.ensures.own on xs ys told lt came))
+    (subst (λ (u : Side). (t : Side) (m : ℕ) → ((t ≡ u) × (m ≡ near) → ⊥) → known_pair mid t m ≡ known_pair old t m)
+    c.opposite-side.ensures c.renew_cell.ensures.rest)
+    (subst (λ (u : Side). near < months → KeepsOthers xs ys u near far → HasCheapest on months xs old u near
+    → HasCheapest on months ys mid u near) c.opposite-side.ensures
+    (λ lt. c.renew_cell.ensures.own on xs ys told lt came))
     c.renew_cell-in-Spread.ensures.rest
     (λ lt. c.renew_cell-in-Spread.ensures.own on xs ys told lt came)
     (subst (λ (i : Instrument). ChangesOneQueue xs ys i c.args.order.now.side) c.in-Spread.is one) h

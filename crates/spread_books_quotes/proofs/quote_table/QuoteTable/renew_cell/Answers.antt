@@ -13,11 +13,13 @@ use Rattle.spread_books_quotes.proofs.quote_table.QuoteTable.renew_cell.Goals.{e
 
 pub returns-in-Came-clause-rest : goal.returns-in-Came-clause-rest
 returns-in-Came-clause-rest g c = λ t m other.
-    put_elsewhere c.self.inside.cells.items c.args.column.side t c.args.month m c.cell-n.result c.offer.new.held c.cell-n.ensures other ∙ ap (λ (ps : List (Option PairCost)). known_pair ps t m) c.self.view_is
+    put_elsewhere c.self.inside.cells.items c.args.column.side t c.args.month m c.cell-n.result c.offer.new.held
+    c.cell-n.ensures other ∙ ap (λ (ps : List (Option PairCost)). known_pair ps t m) c.self.view_is
 
 pub returns-in-Left-clause-rest : goal.returns-in-Left-clause-rest
 returns-in-Left-clause-rest g c = λ t m other.
-    put_elsewhere c.self.inside.cells.items c.args.column.side t c.args.month m c.cell-n.result c.renew_left.new.held c.cell-n.ensures other ∙ ap (λ (ps : List (Option PairCost)). known_pair ps t m) c.self.view_is
+    put_elsewhere c.self.inside.cells.items c.args.column.side t c.args.month m c.cell-n.result c.renew_left.new.held
+    c.cell-n.ensures other ∙ ap (λ (ps : List (Option PairCost)). known_pair ps t m) c.self.view_is
 
 pub returns-in-Came-clause-own : goal.returns-in-Came-clause-own
 returns-in-Came-clause-own g c = λ on xs ys told lt way keep h.
@@ -28,18 +30,24 @@ returns-in-Came-clause-own g c = λ on xs ys told lt way keep h.
     let cells = c.self.inside.cells.items in
     let n = c.cell-n.result in
     let among = subst (λ (w : Change). IsOneWay w xs ys) c.in-Came.is way in
-    let was : HasCheapest on months xs (pairs_of cells) s m = subst (λ (ps : List (Option PairCost)). HasCheapest on months xs ps s m) (sym c.self.view_is) h in
+    let was : HasCheapest on months xs (pairs_of cells) s m =
+    subst (λ (ps : List (Option PairCost)). HasCheapest on months xs ps s m) (sym c.self.view_is) h in
     let a = c.spread_cell-spread.result in
     let b = c.outright_cell.result in
-    let sum = sum_whole a b c.sum_of_cells-cost.result c.spread_cell-spread.ensures.order_price c.outright_cell.ensures.order_price c.sum_of_cells-cost.ensures in
+    let sum = sum_whole a b c.sum_of_cells-cost.result c.spread_cell-spread.ensures.order_price
+    c.outright_cell.ensures.order_price c.sum_of_cells-cost.ensures in
     let before = c.if-n-len.true in
     let count = c.len.ensures in
     let all = c.self.inside.cells.ok.0 in
-    let held = held_there on months xs cells s m n c.index_mut.result.now c.cell-n.ensures (omega (arith, before, count, all)) was in
+    let held = held_there on months xs cells s m n c.index_mut.result.now c.cell-n.ensures
+    (omega (arith, before, count, all)) was in
     put_there on months ys cells s m n c.offer.new.held c.cell-n.ensures
-    (subst (λ (p : PairCost). IsCheapest on ys s m months (pair_of_cell p)) (sym (c.offer.ensures ∙ ap (λ (z : ℤ). sooner_of z via c.index_mut.result.now) sum))
-    (came_told on xs ys s m months via keep c.if-via-months.true among c.args.costs.now c.index_mut.result.now a b told lt c.spread_cell-spread.ensures.cost c.outright_cell.ensures.cost
-    c.spread_cell-spread.ensures.order_price c.outright_cell.ensures.order_price (subst (λ (p : PairCost). IsCheapest on xs s m months (pair_of_cell p)) (sym c.index_mut.ensures.value) held)))
+    (subst (λ (p : PairCost). IsCheapest on ys s m months (pair_of_cell p))
+    (sym (c.offer.ensures ∙ ap (λ (z : ℤ). sooner_of z via c.index_mut.result.now) sum))
+    (came_told on xs ys s m months via keep c.if-via-months.true among c.args.costs.now c.index_mut.result.now a b told
+    lt c.spread_cell-spread.ensures.cost c.outright_cell.ensures.cost
+    c.spread_cell-spread.ensures.order_price c.outright_cell.ensures.order_price
+    (subst (λ (p : PairCost). IsCheapest on xs s m months (pair_of_cell p)) (sym c.index_mut.ensures.value) held)))
 
 pub returns-in-Left-clause-own : goal.returns-in-Left-clause-own
 returns-in-Left-clause-own g c = λ on xs ys told lt way keep h.
@@ -49,19 +57,24 @@ returns-in-Left-clause-own g c = λ on xs ys told lt way keep h.
     let cells = c.self.inside.cells.items in
     let n = c.cell-n.result in
     let among = subst (λ (w : Change). IsOneWay w xs ys) c.in-Left.is way in
-    let was : HasCheapest on months xs (pairs_of cells) s m = subst (λ (ps : List (Option PairCost)). HasCheapest on months xs ps s m) (sym c.self.view_is) h in
+    let was : HasCheapest on months xs (pairs_of cells) s m =
+    subst (λ (ps : List (Option PairCost)). HasCheapest on months xs ps s m) (sym c.self.view_is) h in
     let before = c.if-n-len.true in
     let count = c.len.ensures in
     let all = c.self.inside.cells.ok.0 in
-    let held = held_there on months xs cells s m n c.index_mut-in-Left.result.now c.cell-n.ensures (omega (arith, before, count, all)) was in
+    let held = held_there on months xs cells s m n c.index_mut-in-Left.result.now c.cell-n.ensures
+    (omega (arith, before, count, all)) was in
     put_there on months ys cells s m n c.renew_left.new.held c.cell-n.ensures
-    (c.renew_left.ensures on xs ys told lt among keep (subst (λ (p : PairCost). IsCheapest on xs s m months (pair_of_cell p)) (sym c.index_mut-in-Left.ensures.value) held))
+    (c.renew_left.ensures on xs ys told lt among keep (subst
+    (λ (p : PairCost). IsCheapest on xs s m months (pair_of_cell p)) (sym c.index_mut-in-Left.ensures.value) held))
 
 pub returns-else-via-months-clause-own : goal.returns-else-via-months-clause-own
 returns-else-via-months-clause-own g c = λ on xs ys told lt way keep h least known.
     elim c.else-via-months.branch [
       | else-via-months-via-then-via-months+else-n-len w ↦
-          let there : known_pair (pairs_of c.self.inside.cells.items) c.args.column.side c.args.month ≡ Some least = ap (λ (ps : List (Option PairCost)). known_pair ps c.args.column.side c.args.month) c.self.view_is ∙ known in
+          let there : known_pair (pairs_of c.self.inside.cells.items) c.args.column.side c.args.month ≡ Some least =
+          ap (λ (ps : List (Option PairCost)). known_pair ps c.args.column.side c.args.month) c.self.view_is
+          ∙ known in
           let inside = known_within c.self.inside.cells.items c.args.column.side c.args.month least there in
           let past = w.if-n-len.false in
           let count = w.len.ensures in
@@ -69,5 +82,7 @@ returns-else-via-months-clause-own g c = λ on xs ys told lt way keep h least kn
           let all = c.self.inside.cells.ok.0 in
           absurd (omega (arith, inside, past, count, at, all))
       | else-via-months-via-else-via-months w ↦
-          kept_row on xs ys c.args.column.side c.args.month c.args.months least (λ k below. keep k (not_via c.args.months c.args.column.via k w.if-via-months.false below)) (h least known)
+          kept_row on xs ys c.args.column.side c.args.month c.args.months least
+          (λ k below. keep k (not_via c.args.months c.args.column.via k w.if-via-months.false below))
+          (h least known)
     ]

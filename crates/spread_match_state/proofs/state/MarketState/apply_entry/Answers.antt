@@ -18,7 +18,8 @@ returns-in-Some-clause-outcome g c =
     let m = c.args.self.now in
     let session = c.args.entry.now.session in
     let own = sym c.in-Some.ensures in
-    let is = replaced_means c.args.rules.now m c.args.place session c.in-Replace.original c.in-Replace.ticket c.in-Some.resting own ∙ ap (meaning_in c.args.rules.now m c.args.place session) (sym c.in-Replace.is) in
+    let is = replaced_means c.args.rules.now m c.args.place session c.in-Replace.original c.in-Replace.ticket
+    c.in-Some.resting own ∙ ap (meaning_in c.args.rules.now m c.args.place session) (sym c.in-Replace.is) in
     if_ok c.replace_resting.result _ _ (ap (λ (e : EntryMeaning). e.outcome) is) c.replace_resting.ensures.outcome
 
 pub returns-in-Some-clause-fills : goal.returns-in-Some-clause-fills
@@ -26,8 +27,10 @@ returns-in-Some-clause-fills g c =
     let m = c.args.self.now in
     let session = c.args.entry.now.session in
     let own = sym c.in-Some.ensures in
-    let is = replaced_means c.args.rules.now m c.args.place session c.in-Replace.original c.in-Replace.ticket c.in-Some.resting own ∙ ap (meaning_in c.args.rules.now m c.args.place session) (sym c.in-Replace.is) in
-    on_ok c.replace_resting.result _ _ (λ h. h ∙ ap (λ (e : EntryMeaning). c.args.fills.now.items ++ e.fills) is) c.replace_resting.ensures.fills
+    let is = replaced_means c.args.rules.now m c.args.place session c.in-Replace.original c.in-Replace.ticket
+    c.in-Some.resting own ∙ ap (meaning_in c.args.rules.now m c.args.place session) (sym c.in-Replace.is) in
+    on_ok c.replace_resting.result _ _ (λ h. h ∙ ap (λ (e : EntryMeaning). c.args.fills.now.items ++ e.fills) is)
+    c.replace_resting.ensures.fills
 
 pub returns-in-Some-clause-after : goal.returns-in-Some-clause-after
 returns-in-Some-clause-after g c =
@@ -35,5 +38,6 @@ returns-in-Some-clause-after g c =
     let session = c.args.entry.now.session in
     let own = sym c.in-Some.ensures in
     on_ok c.replace_resting.result _ _
-    (λ h. h ∙ (replaced_state c.args.rules.now m c.args.place session c.in-Replace.original c.in-Replace.ticket c.in-Some.resting own ∙ ap (state_after c.args.rules.now m c.args.place session) (sym c.in-Replace.is)))
+    (λ h. h ∙ (replaced_state c.args.rules.now m c.args.place session c.in-Replace.original c.in-Replace.ticket
+    c.in-Some.resting own ∙ ap (state_after c.args.rules.now m c.args.place session) (sym c.in-Replace.is)))
     c.replace_resting.ensures.after

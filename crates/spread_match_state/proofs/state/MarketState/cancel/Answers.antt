@@ -8,7 +8,9 @@ use Rattle.spread_match_state.proofs.state.MarketState.cancel.Goals as goal
 pub remove-requires : goal.remove-requires
 remove-requires g c = record {
   order = c.in-Some.order;
-  stands = subst (λ (xs : List Order). Contains xs c.in-Some.order) (sym (ap (λ (m : MarketState). m.orders) c.self.view_is))
-      (find_stands (is_own c.args.session c.args.original.now) c.args.self.now.orders c.in-Some.order (sym c.resting-resting.ensures ∙ c.in-Some.is));
+  stands = subst (λ (xs : List Order). Contains xs c.in-Some.order)
+      (sym (ap (λ (m : MarketState). m.orders) c.self.view_is))
+      (find_stands (is_own c.args.session c.args.original.now) c.args.self.now.orders c.in-Some.order
+      (sym c.resting-resting.ensures ∙ c.in-Some.is));
   at = refl;
 }

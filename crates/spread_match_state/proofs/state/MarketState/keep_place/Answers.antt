@@ -10,5 +10,7 @@ add_amended-requires-clause-amend g c =
     let m = c.args.self.now in
     let r = c.args.resting.now in
     let t = c.args.ticket.now in
-    subst (λ (xs : List Order). CanAmend xs r.place t.id t.quantity) (sym (ap (λ (x : MarketState). x.orders) c.self.view_is))
-    (may_amend m.orders m.statuses r t.id t.quantity c.requires.places c.requires.known c.requires.rests c.requires.unused c.requires.more c.requires.most)
+    subst (λ (xs : List Order). CanAmend xs r.place t.id t.quantity)
+    (sym (ap (λ (x : MarketState). x.orders) c.self.view_is))
+    (may_amend m.orders m.statuses r t.id t.quantity c.requires.places c.requires.known c.requires.rests
+    c.requires.unused c.requires.more c.requires.most)

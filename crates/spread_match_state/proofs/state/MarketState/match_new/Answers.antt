@@ -28,17 +28,22 @@ added : (m after : MarketState) (n : Order) → after ≡ with_order m n → aft
 added m after n e = ap (λ (x : MarketState). x.orders) e
 
 -- how it is traded
-traded : (rules : Rules) (m after : MarketState) (place session : ℕ) (t : Ticket) (i : Instrument) (n : Order) → n ≡ order_of place session t i → after ≡ with_order m n → m.last < place → All (λ o. o.place ≤ m.last) m.orders →
+traded : (rules : Rules) (m after : MarketState) (place session : ℕ) (t : Ticket) (i : Instrument) (n : Order)
+    → n ≡ order_of place session t i → after ≡ with_order m n → m.last < place → All (λ o. o.place ≤ m.last) m.orders →
     trading_in rules after n ≡ clear (implied rules) (references_of rules) (order_of place session t i) m.orders
 traded rules m after place session t i n same e later below =
-    clear_same (implied rules) (references_of rules) (references_of rules) n _ (removed n.place after.orders) m.orders refl same
+    clear_same (implied rules) (references_of rules) (references_of rules) n _ (removed n.place after.orders) m.orders
+    refl same
     (rest_is n place m.last after.orders m.orders (ap (λ (o : Order). o.place) same) later below (added m after n e))
 
 -- an id that was not used is matched
-not_used : (rules : Rules) (m : MarketState) (place session : ℕ) (t : Ticket) (i : Instrument) (n : Order) (used : _) → n ≡ order_of place session t i → used ≡ is_some (find (has_id n.session n.id) m.statuses) → used ≡ false →
-    matched_in rules m place session t i ≡ clearing_means t.immediate (clear (implied rules) (references_of rules) (order_of place session t i) m.orders)
+not_used : (rules : Rules) (m : MarketState) (place session : ℕ) (t : Ticket) (i : Instrument) (n : Order) (used : _)
+    → n ≡ order_of place session t i → used ≡ is_some (find (has_id n.session n.id) m.statuses) → used ≡ false →
+    matched_in rules m place session t i ≡ clearing_means t.immediate
+    (clear (implied rules) (references_of rules) (order_of place session t i) m.orders)
 not_used rules m place session t i n used same e f =
-    id_is_new (find (has_id session t.id) m.statuses) m.orders _ (ap (λ (o : Order). is_some (find (has_id o.session o.id) m.statuses)) (sym same) ∙ (sym e ∙ f))
+    id_is_new (find (has_id session t.id) m.statuses) m.orders _
+    (ap (λ (o : Order). is_some (find (has_id o.session o.id) m.statuses)) (sym same) ∙ (sym e ∙ f))
 
 pub trade_newest-left-requires-clause-tradable : goal.trade_newest-left-requires-clause-tradable
 trade_newest-left-requires-clause-tradable g c =
@@ -47,8 +52,11 @@ trade_newest-left-requires-clause-tradable g c =
     let months = month_count c.args.rules.now in
     let at = ap (λ (o : Order). o.place) c.new_order-order.ensures in
     subst (IsTradable months) (sym (added m c.add_to_book.new.self n (c.in_ok-used.ensures.stands c.if-used.false)))
-    (tradable_more months m.orders n c.requires.ready.tradable (subst (λ (k : ℕ). All (λ (o : Order). o.place < k) m.orders) (sym at) (below_new m.orders m.last c.args.new.now.place c.requires.ready.below c.requires.place))
-    (subst HasOrderPrice (sym c.new_order-order.ensures) (record { low = c.requires.price.low; high = c.requires.price.high }))
+    (tradable_more months m.orders n c.requires.ready.tradable
+    (subst (λ (k : ℕ). All (λ (o : Order). o.place < k) m.orders) (sym at)
+    (below_new m.orders m.last c.args.new.now.place c.requires.ready.below c.requires.place))
+    (subst HasOrderPrice (sym c.new_order-order.ensures)
+    (record { low = c.requires.price.low; high = c.requires.price.high }))
     (subst IsNearFirst (sym c.new_order-order.ensures) (record { near_before_far = c.requires.listed }))
     (subst (λ (o : Order). IsInMonths months o.instrument) (sym c.new_order-order.ensures) c.requires.within)
     (subst (λ (o : Order). 0 < o.leaves) (sym c.new_order-order.ensures) c.requires.some))
@@ -59,19 +67,27 @@ trade_newest-left-requires-clause-room g c =
     let n = c.new_order-order.result in
     let after = c.add_to_book.new.self in
     let at = ap (λ (o : Order). o.place) c.new_order-order.ensures in
-    let rest : removed n.place after.orders ≡ m.orders = rest_is n c.args.new.now.place m.last after.orders m.orders at c.requires.place c.requires.ready.below (added m after n (c.in_ok-used.ensures.stands c.if-used.false)) in
-    room_new _ _ c.min.result c.len.result c.args.new.now.ticket.now.quantity n.leaves (length (removed n.place after.orders)) c.in_ok-reserve.ensures.ok c.min.ensures
-    (c.len.ensures ∙ (ap (λ (x : MarketState). length x.orders) c.self.view_is ∙ ap (λ (ys : List Order). length ys) (sym rest))) (ap (λ (o : Order). o.leaves) c.new_order-order.ensures)
+    let rest : removed n.place after.orders ≡ m.orders =
+    rest_is n c.args.new.now.place m.last after.orders m.orders at c.requires.place c.requires.ready.below
+    (added m after n (c.in_ok-used.ensures.stands c.if-used.false)) in
+    room_new _ _ c.min.result c.len.result c.args.new.now.ticket.now.quantity n.leaves
+    (length (removed n.place after.orders)) c.in_ok-reserve.ensures.ok c.min.ensures
+    (c.len.ensures ∙ (ap (λ (x : MarketState). length x.orders) c.self.view_is
+    ∙ ap (λ (ys : List Order). length ys) (sym rest))) (ap (λ (o : Order). o.leaves) c.new_order-order.ensures)
 
 pub returns-clause-outcome : goal.returns-clause-outcome
 returns-clause-outcome g c =
     let m = c.args.self.now in
     let t = c.args.new.now.ticket.now in
     let n = c.new_order-order.result in
-    let same = traded c.args.rules.now m c.add_to_book.new.self c.args.new.now.place c.args.new.now.session t c.args.new.now.instrument n c.new_order-order.ensures (c.in_ok-used.ensures.stands c.if-used.false) c.requires.place c.requires.ready.below in
+    let same = traded c.args.rules.now m c.add_to_book.new.self c.args.new.now.place c.args.new.now.session t
+    c.args.new.now.instrument n c.new_order-order.ensures (c.in_ok-used.ensures.stands c.if-used.false)
+    c.requires.place c.requires.ready.below in
     c.outcome_with.ensures
     ∙ (ap (outcome_of t.immediate) (c.trade_newest-left.ensures.left ∙ ap (λ (d : Trading). d.new.leaves) same)
-    ∙ ap (λ (e : EntryMeaning). e.outcome) (sym (not_used c.args.rules.now m c.args.new.now.place c.args.new.now.session t c.args.new.now.instrument n c.in_ok-used.used c.new_order-order.ensures c.in_ok-used.ensures.used c.if-used.false)))
+    ∙ ap (λ (e : EntryMeaning). e.outcome) (sym (not_used c.args.rules.now m c.args.new.now.place c.args.new.now.session
+    t c.args.new.now.instrument n c.in_ok-used.used c.new_order-order.ensures c.in_ok-used.ensures.used
+    c.if-used.false)))
 
 pub returns-clause-fills : goal.returns-clause-fills
 returns-clause-fills g c =
@@ -79,11 +95,15 @@ returns-clause-fills g c =
     let t = c.args.new.now.ticket.now in
     let n = c.new_order-order.result in
     let after = c.add_to_book.new.self in
-    let same = traded c.args.rules.now m after c.args.new.now.place c.args.new.now.session t c.args.new.now.instrument n c.new_order-order.ensures (c.in_ok-used.ensures.stands c.if-used.false) c.requires.place c.requires.ready.below in
+    let same = traded c.args.rules.now m after c.args.new.now.place c.args.new.now.session t c.args.new.now.instrument n
+    c.new_order-order.ensures (c.in_ok-used.ensures.stands c.if-used.false) c.requires.place c.requires.ready.below
+    in
     c.trade_newest-left.ensures.fills
     ∙ (ap (λ (fs : List Fill). fs ++ (trading_in c.args.rules.now after n).fills) c.reserve.ensures.items
     ∙ (ap (λ (d : Trading). c.args.fills.now.items ++ d.fills) same
-    ∙ ap (λ (e : EntryMeaning). c.args.fills.now.items ++ e.fills) (sym (not_used c.args.rules.now m c.args.new.now.place c.args.new.now.session t c.args.new.now.instrument n c.in_ok-used.used c.new_order-order.ensures c.in_ok-used.ensures.used c.if-used.false))))
+    ∙ ap (λ (e : EntryMeaning). c.args.fills.now.items ++ e.fills)
+    (sym (not_used c.args.rules.now m c.args.new.now.place c.args.new.now.session t c.args.new.now.instrument n
+    c.in_ok-used.used c.new_order-order.ensures c.in_ok-used.ensures.used c.if-used.false))))
 
 pub returns-clause-after : goal.returns-clause-after
 returns-clause-after g c =
@@ -93,14 +113,23 @@ returns-clause-after g c =
     let after = c.add_to_book.new.self in
     let made = c.trade_newest-left.new.self in
     let stands = c.in_ok-used.ensures.stands c.if-used.false in
-    let d = clear (implied c.args.rules.now) (references_of c.args.rules.now) (order_of c.args.new.now.place c.args.new.now.session t c.args.new.now.instrument) m.orders in
-    let same = traded c.args.rules.now m after c.args.new.now.place c.args.new.now.session t c.args.new.now.instrument n c.new_order-order.ensures stands c.requires.place c.requires.ready.below in
-    let orders : made.orders ≡ resting t.immediate d = c.trade_newest-left.ensures.orders ∙ ap (λ (x : Trading). resting t.immediate x) same in
-    let statuses : made.statuses ≡ statuses_after d.fills (m.statuses ++ entered_status (order_of c.args.new.now.place c.args.new.now.session t c.args.new.now.instrument) ∷ []) =
+    let d = clear (implied c.args.rules.now) (references_of c.args.rules.now)
+    (order_of c.args.new.now.place c.args.new.now.session t c.args.new.now.instrument) m.orders in
+    let same = traded c.args.rules.now m after c.args.new.now.place c.args.new.now.session t c.args.new.now.instrument n
+    c.new_order-order.ensures stands c.requires.place c.requires.ready.below in
+    let orders : made.orders ≡ resting t.immediate d = c.trade_newest-left.ensures.orders
+    ∙ ap (λ (x : Trading). resting t.immediate x) same in
+    let statuses : made.statuses ≡ statuses_after d.fills
+    (m.statuses ++ entered_status (order_of c.args.new.now.place c.args.new.now.session t c.args.new.now.instrument)
+    ∷ []) =
     c.trade_newest-left.ensures.statuses
     ∙ (ap (λ (x : Trading). statuses_after x.fills after.statuses) same
     ∙ (ap (λ (x : MarketState). statuses_after d.fills x.statuses) stands
     ∙ ap (λ (o : Order). statuses_after d.fills (m.statuses ++ entered_status o ∷ [])) c.new_order-order.ensures)) in
-    ap (λ (x : MarketState). record { orders = x.orders; statuses = x.statuses; last = c.args.new.now.place }) c.self-3.view_is
-    ∙ (matched_state m c.args.new.now.place c.args.new.now.session t c.args.new.now.instrument made.orders made.statuses d orders statuses
-    ∙ ap (state_with m c.args.new.now.place c.args.new.now.session (New t)) (sym (not_used c.args.rules.now m c.args.new.now.place c.args.new.now.session t c.args.new.now.instrument n c.in_ok-used.used c.new_order-order.ensures c.in_ok-used.ensures.used c.if-used.false)))
+    ap (λ (x : MarketState). record { orders = x.orders; statuses = x.statuses; last = c.args.new.now.place })
+    c.self-3.view_is
+    ∙ (matched_state m c.args.new.now.place c.args.new.now.session t c.args.new.now.instrument made.orders made.statuses
+    d orders statuses
+    ∙ ap (state_with m c.args.new.now.place c.args.new.now.session (New t))
+    (sym (not_used c.args.rules.now m c.args.new.now.place c.args.new.now.session t c.args.new.now.instrument n
+    c.in_ok-used.used c.new_order-order.ensures c.in_ok-used.ensures.used c.if-used.false)))

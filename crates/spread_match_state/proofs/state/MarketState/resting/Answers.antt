@@ -8,10 +8,13 @@ use Rattle.spread_match_state.specs.State.{MarketState}
 use Rattle.spread_match_state.proofs.state.MarketState.resting.Goals as goal
 
 pub resting_order-requires-clause-places : goal.resting_order-requires-clause-places
-resting_order-requires-clause-places g c = subst PlacesDiffer (sym (ap (λ (m : MarketState). m.orders) c.self.view_is)) c.requires.places
+resting_order-requires-clause-places g c = subst PlacesDiffer (sym (ap (λ (m : MarketState). m.orders) c.self.view_is))
+    c.requires.places
 
 pub resting_order-requires-clause-known : goal.resting_order-requires-clause-known
-resting_order-requires-clause-known g c = subst (λ (m : MarketState). HaveStatuses m.statuses m.orders) (sym c.self.view_is) c.requires.known
+resting_order-requires-clause-known g c = subst (λ (m : MarketState). HaveStatuses m.statuses m.orders)
+    (sym c.self.view_is) c.requires.known
 
 pub returns : goal.returns
-returns g c = c.resting_order.ensures ∙ ap (λ (m : MarketState). find (is_own c.args.session c.args.id.now) m.orders) c.self.view_is
+returns g c = c.resting_order.ensures ∙ ap (λ (m : MarketState). find (is_own c.args.session c.args.id.now) m.orders)
+    c.self.view_is

@@ -14,7 +14,8 @@ use Rattle.spread_match_statuses.proofs.statuses.Statuses.add.Goals as goal
 use Rattle.spread_match_statuses.proofs.statuses.Statuses.add.Goals.{After-push_reserved}
 
 -- whether its session and id were used
-used : (g : Over) (c : After-push_reserved g) → c.is_known-used.result ≡ is_some (find (has_id c.args.status.session c.args.status.id) c.self.inside.rows.items)
+used : (g : Over) (c : After-push_reserved g) → c.is_known-used.result ≡ is_some
+    (find (has_id c.args.status.session c.args.status.id) c.self.inside.rows.items)
 used g c =
     let s = c.args.status in
     let rows = c.self.inside.rows.items in
@@ -31,12 +32,17 @@ invariant_of-self-2 g c =
     let was = c.is_known-used.result in
     let s = record c.args.status { status = cond was 8 c.args.status.status } in
     let items : c.push_reserved.new.self.items ≡ rows ++ s ∷ [] =
-    c.push_reserved.ensures.items ∙ (ap (λ (xs : List OrderStatus). xs ++ c.if_refused.result ∷ []) c.reserve.ensures.items ∙ ap (λ (t : OrderStatus). rows ++ t ∷ []) c.if_refused.ensures) in
+    c.push_reserved.ensures.items ∙ (ap (λ (xs : List OrderStatus). xs ++ c.if_refused.result ∷ [])
+    c.reserve.ensures.items ∙ ap (λ (t : OrderStatus). rows ++ t ∷ []) c.if_refused.ensures) in
     let shown : c.deref.result.now ≡ rows = c.deref.ensures.value ∙ c.reserve.ensures.items in
-    let table = subst (λ (xs : List OrderStatus). IsTableOf c.note.new.self (map key_of_status xs ++ c.new-key.result ∷ [])) shown c.in_ok-noted.ensures.ok in (
-      subst AreRefusedLater (sym items) (later_more rows s was (used g c) (λ e. ap (λ b. cond b 8 c.args.status.status) e) c.self.invariant.0),
-      subst (IsIndex c.note.new.self) (sym items) (index_more c.note.new.self rows s c.new-key.result c.new-key.ensures.bytes c.new-key.ensures.key c.self.invariant.1.bytes table),
+    let table = subst (λ (xs : List OrderStatus). IsTableOf c.note.new.self
+    (map key_of_status xs ++ c.new-key.result ∷ [])) shown c.in_ok-noted.ensures.ok in (
+      subst AreRefusedLater (sym items) (later_more rows s was (used g c)
+          (λ e. ap (λ b. cond b 8 c.args.status.status) e) c.self.invariant.0),
+      subst (IsIndex c.note.new.self) (sym items) (index_more c.note.new.self rows s c.new-key.result
+          c.new-key.ensures.bytes c.new-key.ensures.key c.self.invariant.1.bytes table),
     )
 
 pub returns-clause-used : goal.returns-clause-used
-returns-clause-used g c = used g c ∙ ap (λ (ss : List OrderStatus). is_some (find (has_id c.args.status.session c.args.status.id) ss)) c.self.view_is
+returns-clause-used g c = used g c ∙ ap (λ (ss : List OrderStatus). is_some
+    (find (has_id c.args.status.session c.args.status.id) ss)) c.self.view_is

@@ -18,7 +18,8 @@ returns-in-None g c =
     let ks = map key_of_status rows in
     let looked : None ≡ first_row (key_of session id) ks =
     sym c.in-None.is ∙ (c.find.ensures
-    ∙ (ap (λ (xs : List OrderStatus). first_row c.new.result (map key_of_status xs)) c.deref.ensures.value ∙ ap (λ (k : IdKey). first_row k ks) c.new.ensures.key)) in
+    ∙ (ap (λ (xs : List OrderStatus). first_row c.new.result (map key_of_status xs)) c.deref.ensures.value
+    ∙ ap (λ (k : IdKey). first_row k ks) c.new.ensures.key)) in
     ap (option_and_then (slice_get rows)) looked
     ∙ (find_is rows session id c.self.invariant.1.bytes c.new.ensures.bytes
     ∙ ap (λ (ss : List OrderStatus). find (has_id session id) ss) c.self.view_is)
@@ -29,10 +30,12 @@ returns-in-Some g c =
     let session = c.args.session in
     let id = c.args.id.now in
     let ks = map key_of_status rows in
-    let got : c.status_at.result ≡ slice_get rows c.in-Some.at = c.status_at.ensures ∙ ap (λ (xs : List OrderStatus). slice_get xs c.in-Some.at) c.deref-in-Some.ensures.value in
+    let got : c.status_at.result ≡ slice_get rows c.in-Some.at = c.status_at.ensures
+    ∙ ap (λ (xs : List OrderStatus). slice_get xs c.in-Some.at) c.deref-in-Some.ensures.value in
     let looked : Some c.in-Some.at ≡ first_row (key_of session id) ks =
     sym c.in-Some.is ∙ (c.find.ensures
-    ∙ (ap (λ (xs : List OrderStatus). first_row c.new.result (map key_of_status xs)) c.deref.ensures.value ∙ ap (λ (k : IdKey). first_row k ks) c.new.ensures.key)) in
+    ∙ (ap (λ (xs : List OrderStatus). first_row c.new.result (map key_of_status xs)) c.deref.ensures.value
+    ∙ ap (λ (k : IdKey). first_row k ks) c.new.ensures.key)) in
     got
     ∙ (ap (option_and_then (slice_get rows)) looked
     ∙ (find_is rows session id c.self.invariant.1.bytes c.new.ensures.bytes

@@ -12,9 +12,14 @@ returns-clause-text c =
     let r = c.args.self.now in
     let a = r.order in
     let o = take c.args.at c.args.room.now in
-    let traded = rw (c.price_of.ensures.value, to_z-of_z w64 r.last_px c.price_of.ensures.fits) at c.put_last-at.ensures.text in
+    let traded = rw (c.price_of.ensures.value, to_z-of_z w64 r.last_px c.price_of.ensures.fits) at
+    c.put_last-at.ensures.text in
     let event = more o _ _ (order_fields a) (event_fields a) c.put_event-at.ensures.text c.put_order-at.ensures.text in
     let terms = more o _ _ (order_fields a ++ event_fields a) (terms_fields a) c.put_terms-at.ensures.text event in
-    let last = more o _ _ ((order_fields a ++ event_fields a) ++ terms_fields a) (last_fields r.last_shares r.last_px) traded terms in
-    let left = more o _ _ (((order_fields a ++ event_fields a) ++ terms_fields a) ++ last_fields r.last_shares r.last_px) (left_fields a) c.put_left-at.ensures.text last in
-    next o _ _ ((((order_fields a ++ event_fields a) ++ terms_fields a) ++ last_fields r.last_shares r.last_px) ++ left_fields a) (number_field 442 (multi_leg_code r.multi_leg)) (rw c.code.ensures at c.put_field.ensures.text) left
+    let last = more o _ _ ((order_fields a ++ event_fields a) ++ terms_fields a) (last_fields r.last_shares r.last_px)
+    traded terms in
+    let left = more o _ _ (((order_fields a ++ event_fields a) ++ terms_fields a)
+    ++ last_fields r.last_shares r.last_px) (left_fields a) c.put_left-at.ensures.text last in
+    next o _ _ ((((order_fields a ++ event_fields a) ++ terms_fields a) ++ last_fields r.last_shares r.last_px)
+    ++ left_fields a) (number_field 442 (multi_leg_code r.multi_leg))
+    (rw c.code.ensures at c.put_field.ensures.text) left

@@ -10,6 +10,9 @@ returns-clause-text c =
     let a = r.order in
     let o = take c.args.at c.args.room.now in
     let event = more o _ _ (order_fields a) (event_fields a) c.put_event-at.ensures.text c.put_order-at.ensures.text in
-    let reason = next o _ _ (order_fields a ++ event_fields a) (number_field 103 r.reason) c.put_field-at.ensures.text event in
-    let terms = more o _ _ ((order_fields a ++ event_fields a) ++ number_field 103 r.reason ∷ []) (terms_fields a) c.put_terms-at.ensures.text reason in
-    more o _ _ (((order_fields a ++ event_fields a) ++ number_field 103 r.reason ∷ []) ++ terms_fields a) (left_fields a) c.put_left.ensures.text terms
+    let reason = next o _ _ (order_fields a ++ event_fields a) (number_field 103 r.reason) c.put_field-at.ensures.text
+    event in
+    let terms = more o _ _ ((order_fields a ++ event_fields a) ++ number_field 103 r.reason ∷ []) (terms_fields a)
+    c.put_terms-at.ensures.text reason in
+    more o _ _ (((order_fields a ++ event_fields a) ++ number_field 103 r.reason ∷ []) ++ terms_fields a)
+    (left_fields a) c.put_left.ensures.text terms

@@ -13,14 +13,17 @@ pub returns-then-number-next-clause-sent : goal.returns-then-number-next-clause-
 returns-then-number-next-clause-sent g c =
     let i = c.self.inside in
     let there : c.args.session < length i.comp_ids = omega (arith, c.self.invariant.comp_ids, c.requires.session) in
-    let is_ids : get_or i.comp_ids c.args.session None ≡ Some c.in-Some.ids = get_or_default i.comp_ids c.args.session None _ there ∙ c.in-Some.is in
+    let is_ids : get_or i.comp_ids c.args.session None ≡ Some c.in-Some.ids =
+    get_or_default i.comp_ids c.args.session None _ there ∙ c.in-Some.is in
     let in_ns = c.self.invariant.numbers in
     let in_os = c.self.invariant.comp_ids in
     let r = session_of (get_or i.numbers c.args.session 0) (get_or i.comp_ids c.args.session None) in
     let above : nat_lt c.from-number.result r.next ≡ false = search (rules, c.if-number-next.true) in
     rw (← c.self.view_is) (record {
       stamp = refl;
-      result = gap_none i.stamp (sessions_of i.numbers i.comp_ids) c.args.lists.now c.args.session r (in_sessions i.numbers i.comp_ids in_ns in_os) c.requires.session (read_at i.numbers i.comp_ids in_ns in_os c.args.session 0 None c.requires.session)
+      result = gap_none i.stamp (sessions_of i.numbers i.comp_ids) c.args.lists.now c.args.session r
+          (in_sessions i.numbers i.comp_ids in_ns in_os) c.requires.session
+          (read_at i.numbers i.comp_ids in_ns in_os c.args.session 0 None c.requires.session)
           c.args.first c.args.last c.in-Some.ids is_ids (rw (← c.from-number.ensures) above);
     })
 
@@ -28,7 +31,8 @@ pub returns-in_ok-write_message-in-Some-clause-sent : goal.returns-in_ok-write_m
 returns-in_ok-write_message-in-Some-clause-sent g c =
     let i = c.self.inside in
     let there : c.args.session < length i.comp_ids = omega (arith, c.self.invariant.comp_ids, c.requires.session) in
-    let is_ids : get_or i.comp_ids c.args.session None ≡ Some c.in-Some.ids = get_or_default i.comp_ids c.args.session None _ there ∙ c.in-Some.is in
+    let is_ids : get_or i.comp_ids c.args.session None ≡ Some c.in-Some.ids =
+    get_or_default i.comp_ids c.args.session None _ there ∙ c.in-Some.is in
     let in_ns = c.self.invariant.numbers in
     let in_os = c.self.invariant.comp_ids in
     let r = session_of (get_or i.numbers c.args.session 0) (get_or i.comp_ids c.args.session None) in
@@ -36,12 +40,17 @@ returns-in_ok-write_message-in-Some-clause-sent g c =
     rw (← c.self.view_is) (record {
       stamp = refl;
       result =
-          gap_line i.stamp (sessions_of i.numbers i.comp_ids) c.args.lists.now c.args.session c.args.first c.args.last r c.index-lists-at.result c.in-Some.ids c.write_message.new.out _
-          (in_sessions i.numbers i.comp_ids in_ns in_os) c.requires.lists c.requires.session (read_at i.numbers i.comp_ids in_ns in_os c.args.session 0 None c.requires.session) is_ids
+          gap_line i.stamp (sessions_of i.numbers i.comp_ids) c.args.lists.now c.args.session c.args.first c.args.last r
+          c.index-lists-at.result c.in-Some.ids c.write_message.new.out _
+          (in_sessions i.numbers i.comp_ids in_ns in_os) c.requires.lists c.requires.session
+          (read_at i.numbers i.comp_ids in_ns in_os c.args.session 0 None c.requires.session) is_ids
           c.in_ok-write_message-in-Some.ensures.ok
-          (gap_text i.stamp c.in-Some.ids r.next c.args.first c.args.last c.from-number.result c.new_seq_no-new_number.result c.from.result c.of.result
+          (gap_text i.stamp c.in-Some.ids r.next c.args.first c.args.last c.from-number.result
+          c.new_seq_no-new_number.result c.from.result c.of.result
           c.from-number.ensures c.new_seq_no-new_number.ensures c.from.ensures c.of.ensures below)
-          (written_row (head_of i.stamp c.in-Some.ids 52 c.from-number.result true) (number_field 36 c.new_seq_no-new_number.result ∷ text_field 123 c.of.result ∷ []) (omega arith) refl (omega arith) c.in_ok-write_message-in-Some.ensures.short c.in_ok-write_message-in-Some.ensures.lawful);
+          (written_row (head_of i.stamp c.in-Some.ids 52 c.from-number.result true)
+          (number_field 36 c.new_seq_no-new_number.result ∷ text_field 123 c.of.result ∷ []) (omega arith) refl
+          (omega arith) c.in_ok-write_message-in-Some.ensures.short c.in_ok-write_message-in-Some.ensures.lawful);
     })
 
 pub returns-in_err-write_message-in-Some-clause-sent : goal.returns-in_err-write_message-in-Some-clause-sent
@@ -50,20 +59,25 @@ returns-in_err-write_message-in-Some-clause-sent g c =
     let p = err_from_is_err_and c.from_residual.result c.from_residual.ensures.1 in
     rw (p.1, p.2, ← c.self.view_is) (record {
       stamp = refl;
-      result = appended_line (sessions_of i.numbers i.comp_ids) c.args.lists.now c.args.session c.index-lists-at.result c.write_message.new.out c.requires.lists c.requires.session c.in_err-write_message-in-Some.ensures.unchanged_on_err;
+      result = appended_line (sessions_of i.numbers i.comp_ids) c.args.lists.now c.args.session c.index-lists-at.result
+          c.write_message.new.out c.requires.lists c.requires.session
+          c.in_err-write_message-in-Some.ensures.unchanged_on_err;
     })
 
 pub returns-in-None-clause-sent : goal.returns-in-None-clause-sent
 returns-in-None-clause-sent g c =
     let i = c.self.inside in
     let there : c.args.session < length i.comp_ids = omega (arith, c.self.invariant.comp_ids, c.requires.session) in
-    let off : get_or i.comp_ids c.args.session None ≡ None = get_or_default i.comp_ids c.args.session None _ there ∙ c.in-None.is in
+    let off : get_or i.comp_ids c.args.session None ≡ None = get_or_default i.comp_ids c.args.session None _ there
+    ∙ c.in-None.is in
     let in_ns = c.self.invariant.numbers in
     let in_os = c.self.invariant.comp_ids in
     let r = session_of (get_or i.numbers c.args.session 0) (get_or i.comp_ids c.args.session None) in
     rw (← c.self.view_is) (record {
       stamp = refl;
-      result = sent_off i.stamp (sessions_of i.numbers i.comp_ids) c.args.lists.now c.args.session r (in_sessions i.numbers i.comp_ids in_ns in_os) c.requires.session (read_at i.numbers i.comp_ids in_ns in_os c.args.session 0 None c.requires.session)
+      result = sent_off i.stamp (sessions_of i.numbers i.comp_ids) c.args.lists.now c.args.session r
+          (in_sessions i.numbers i.comp_ids in_ns in_os) c.requires.session
+          (read_at i.numbers i.comp_ids in_ns in_os c.args.session 0 None c.requires.session)
           (gap_fill c.args.first c.args.last) off refl refl refl;
     })
 
@@ -71,4 +85,6 @@ pub returns-in_err-write_message-in-Some-clause-lists_kept : goal.returns-in_err
 returns-in_err-write_message-in-Some-clause-lists_kept g c =
     let i = c.self.inside in
     let p = err_from_is_err_and c.from_residual.result c.from_residual.ensures.1 in
-    rw p.1 (kept_line (sessions_of i.numbers i.comp_ids) c.args.lists.now c.args.session c.index-lists-at.result c.write_message.new.out c.requires.lists c.requires.session c.in_err-write_message-in-Some.ensures.unchanged_on_err)
+    rw p.1 (kept_line (sessions_of i.numbers i.comp_ids) c.args.lists.now c.args.session c.index-lists-at.result
+    c.write_message.new.out c.requires.lists c.requires.session
+    c.in_err-write_message-in-Some.ensures.unchanged_on_err)

@@ -14,5 +14,6 @@ returns g c =
       count = in_sessions i.numbers i.comp_ids in_ns in_os;
       lengths = c.note_lengths.ensures;
       numbers = number_of i.numbers i.comp_ids in_ns in_os;
-      comp_ids = get_or_default i.comp_ids c.args.session _ None there ∙ comp_ids_of i.numbers i.comp_ids in_ns in_os c.args.session;
+      comp_ids = get_or_default i.comp_ids c.args.session _ None there
+          ∙ comp_ids_of i.numbers i.comp_ids in_ns in_os c.args.session;
     })

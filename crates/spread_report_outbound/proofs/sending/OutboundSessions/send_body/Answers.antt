@@ -21,7 +21,8 @@ pub returns-then-number-from-clause-sent : goal.returns-then-number-from-clause-
 returns-then-number-from-clause-sent g c =
     let i = c.self.inside in
     let there : c.args.session < length i.comp_ids = omega (arith, c.self.invariant.comp_ids, c.requires.session) in
-    let is_ids : get_or i.comp_ids c.args.session None ≡ Some c.in-Some.field-0 = get_or_default i.comp_ids c.args.session None _ there ∙ c.in-Some.is in
+    let is_ids : get_or i.comp_ids c.args.session None ≡ Some c.in-Some.field-0 =
+    get_or_default i.comp_ids c.args.session None _ there ∙ c.in-Some.is in
     let in_ns = c.self.invariant.numbers in
     let in_os = c.self.invariant.comp_ids in
     let a = sessions_of i.numbers i.comp_ids in
@@ -32,7 +33,8 @@ returns-then-number-from-clause-sent g c =
       result = (
         appended_none a c.args.lists.now,
         spent_line i.stamp a c.args.session (numbered c.args.kind (g.B.Body.fields c.args.body.now)) r c.in-Some.field-0
-            (in_sessions i.numbers i.comp_ids in_ns in_os) c.requires.session (read_at i.numbers i.comp_ids in_ns in_os c.args.session 0 None c.requires.session) is_ids spent,
+            (in_sessions i.numbers i.comp_ids in_ns in_os) c.requires.session
+            (read_at i.numbers i.comp_ids in_ns in_os c.args.session 0 None c.requires.session) is_ids spent,
       );
     })
 
@@ -40,7 +42,8 @@ pub write_body-requires-clause-parties : goal.write_body-requires-clause-parties
 write_body-requires-clause-parties g c =
     let i = c.self.inside in
     let there : c.args.session < length i.comp_ids = omega (arith, c.self.invariant.comp_ids, c.requires.session) in
-    let is_ids : get_or i.comp_ids c.args.session None ≡ Some c.in-Some.field-0 = get_or_default i.comp_ids c.args.session None _ there ∙ c.in-Some.is in
+    let is_ids : get_or i.comp_ids c.args.session None ≡ Some c.in-Some.field-0 =
+    get_or_default i.comp_ids c.args.session None _ there ∙ c.in-Some.is in
     let spelled = c.self.invariant.spelled c.args.session c.requires.session c.in-Some.field-0 is_ids no_parties in
     spelled.short
 
@@ -50,7 +53,8 @@ invariant_of-self g c =
     record {
       numbers = c.self.invariant.numbers;
       comp_ids = c.self.invariant.comp_ids;
-      spelled = subst (λ (ps : List SpelledParties). AreSpelled i.stamp i.comp_ids ps) (sym (set-get_or i.parties c.args.session no_parties)) c.self.invariant.spelled;
+      spelled = subst (λ (ps : List SpelledParties). AreSpelled i.stamp i.comp_ids ps)
+          (sym (set-get_or i.parties c.args.session no_parties)) c.self.invariant.spelled;
     }
 
 pub returns-in_err-write_body-in-Some-clause-sent : goal.returns-in_err-write_body-in-Some-clause-sent
@@ -59,7 +63,8 @@ returns-in_err-write_body-in-Some-clause-sent g c =
     let p = err_from_is_err_and c.from_residual.result c.from_residual.ensures.1 in
     rw (p.1, p.2, ← c.self.view_is) (record {
       stamp = refl;
-      result = appended_line (sessions_of i.numbers i.comp_ids) c.args.lists.now c.args.session c.index-lists-at.result c.write_body.new.out c.requires.lists c.requires.session c.in_err-write_body-in-Some.ensures.unchanged_on_err;
+      result = appended_line (sessions_of i.numbers i.comp_ids) c.args.lists.now c.args.session c.index-lists-at.result
+          c.write_body.new.out c.requires.lists c.requires.session c.in_err-write_body-in-Some.ensures.unchanged_on_err;
     })
 
 pub invariant_of-self-in-Some : goal.invariant_of-self-in-Some
@@ -68,20 +73,24 @@ invariant_of-self-in-Some g c =
     record {
       numbers = length-set i.numbers c.args.session (get_or i.numbers c.args.session 0 + 1) ∙ c.self.invariant.numbers;
       comp_ids = c.self.invariant.comp_ids;
-      spelled = subst (λ (ps : List SpelledParties). AreSpelled i.stamp i.comp_ids ps) (sym (set-get_or i.parties c.args.session no_parties)) c.self.invariant.spelled;
+      spelled = subst (λ (ps : List SpelledParties). AreSpelled i.stamp i.comp_ids ps)
+          (sym (set-get_or i.parties c.args.session no_parties)) c.self.invariant.spelled;
     }
 
 pub returns-in-None-clause-sent : goal.returns-in-None-clause-sent
 returns-in-None-clause-sent g c =
     let i = c.self.inside in
     let there : c.args.session < length i.comp_ids = omega (arith, c.self.invariant.comp_ids, c.requires.session) in
-    let off : get_or i.comp_ids c.args.session None ≡ None = get_or_default i.comp_ids c.args.session None _ there ∙ c.in-None.is in
+    let off : get_or i.comp_ids c.args.session None ≡ None = get_or_default i.comp_ids c.args.session None _ there
+    ∙ c.in-None.is in
     let in_ns = c.self.invariant.numbers in
     let in_os = c.self.invariant.comp_ids in
     let r = session_of (get_or i.numbers c.args.session 0) (get_or i.comp_ids c.args.session None) in
     rw (← c.self.view_is) (record {
       stamp = refl;
-      result = sent_off i.stamp (sessions_of i.numbers i.comp_ids) c.args.lists.now c.args.session r (in_sessions i.numbers i.comp_ids in_ns in_os) c.requires.session (read_at i.numbers i.comp_ids in_ns in_os c.args.session 0 None c.requires.session)
+      result = sent_off i.stamp (sessions_of i.numbers i.comp_ids) c.args.lists.now c.args.session r
+          (in_sessions i.numbers i.comp_ids in_ns in_os) c.requires.session
+          (read_at i.numbers i.comp_ids in_ns in_os c.args.session 0 None c.requires.session)
           (numbered c.args.kind (g.B.Body.fields c.args.body.now)) off refl refl refl;
     })
 
@@ -93,27 +102,39 @@ returns-in_ok-write_body-in-Some-clause-sent g c =
     let a = sessions_of i.numbers i.comp_ids in
     let ids = c.in-Some.field-0 in
     let there : c.args.session < length i.comp_ids = omega (arith, c.self.invariant.comp_ids, c.requires.session) in
-    let is_ids : get_or i.comp_ids c.args.session None ≡ Some ids = get_or_default i.comp_ids c.args.session None _ there ∙ c.in-Some.is in
+    let is_ids : get_or i.comp_ids c.args.session None ≡ Some ids =
+    get_or_default i.comp_ids c.args.session None _ there ∙ c.in-Some.is in
     let fields = g.B.Body.fields c.args.body.now in
     let message = numbered c.args.kind fields in
     let r = session_of (get_or i.numbers c.args.session 0) (get_or i.comp_ids c.args.session None) in
-    let after : sessions_of (set i.numbers c.args.session (r.next + 1)) i.comp_ids ≡ set a c.args.session (session_of (r.next + 1) (Some ids)) =
-    numbered_again i.numbers i.comp_ids c.args.session (r.next + 1) ∙ ap (λ (o : Option CompIds). set a c.args.session (session_of (r.next + 1) o)) is_ids in
+    let after : sessions_of (set i.numbers c.args.session (r.next + 1)) i.comp_ids ≡ set a c.args.session
+    (session_of (r.next + 1) (Some ids)) =
+    numbered_again i.numbers i.comp_ids c.args.session (r.next + 1)
+    ∙ ap (λ (o : Option CompIds). set a c.args.session (session_of (r.next + 1) o)) is_ids in
     let unspent : nat_lt 999999999 r.next ≡ false = search (rules, rw c.from.ensures at c.if-number-from.false) in
     let head = head_of i.stamp ids c.args.kind r.next false in
     let spelled = c.self.invariant.spelled c.args.session c.requires.session ids is_ids no_parties in
     rw (← c.self.view_is) (record {
       stamp = refl;
       result =
-          subst (λ (b : List OutboundSession). Sent i.stamp a b c.args.lists.now (set c.args.lists.now c.args.session c.write_body.new.out) (one c.args.session message)) (sym after)
+          subst (λ (b : List OutboundSession). Sent i.stamp a b c.args.lists.now
+          (set c.args.lists.now c.args.session c.write_body.new.out) (one c.args.session message)) (sym after)
           (sent_line i.stamp a c.args.lists.now c.args.session message r c.index-lists-at.result ids
-          c.write_body.new.out (message_text head fields) (r.next + 1) (in_sessions i.numbers i.comp_ids in_ns in_os) c.requires.lists c.requires.session (read_at i.numbers i.comp_ids in_ns in_os c.args.session 0 None c.requires.session) is_ids
-          (c.in_ok-write_body-in-Some.ensures.ok head (record { kind = refl; number = refl; duplicate = refl; parties = spelled })) refl refl unspent
-          (written_row head fields c.requires.kind c.requires.tags c.requires.few (c.in_ok-write_body-in-Some.ensures.short head (record { kind = refl; number = refl; duplicate = refl; parties = spelled })) (c.in_ok-write_body-in-Some.ensures.lawful head (record { kind = refl; number = refl; duplicate = refl; parties = spelled }))));
+          c.write_body.new.out (message_text head fields) (r.next + 1) (in_sessions i.numbers i.comp_ids in_ns in_os)
+          c.requires.lists c.requires.session (read_at i.numbers i.comp_ids in_ns in_os c.args.session 0 None
+          c.requires.session) is_ids
+          (c.in_ok-write_body-in-Some.ensures.ok head (record
+          { kind = refl; number = refl; duplicate = refl; parties = spelled })) refl refl unspent
+          (written_row head fields c.requires.kind c.requires.tags c.requires.few
+          (c.in_ok-write_body-in-Some.ensures.short head (record
+          { kind = refl; number = refl; duplicate = refl; parties = spelled }))
+          (c.in_ok-write_body-in-Some.ensures.lawful head (record
+          { kind = refl; number = refl; duplicate = refl; parties = spelled }))));
     })
 
 pub returns-in_err-write_body-in-Some-clause-lists_kept : goal.returns-in_err-write_body-in-Some-clause-lists_kept
 returns-in_err-write_body-in-Some-clause-lists_kept g c =
     let i = c.self.inside in
     let p = err_from_is_err_and c.from_residual.result c.from_residual.ensures.1 in
-    rw p.1 (kept_line (sessions_of i.numbers i.comp_ids) c.args.lists.now c.args.session c.index-lists-at.result c.write_body.new.out c.requires.lists c.requires.session c.in_err-write_body-in-Some.ensures.unchanged_on_err)
+    rw p.1 (kept_line (sessions_of i.numbers i.comp_ids) c.args.lists.now c.args.session c.index-lists-at.result
+    c.write_body.new.out c.requires.lists c.requires.session c.in_err-write_body-in-Some.ensures.unchanged_on_err)

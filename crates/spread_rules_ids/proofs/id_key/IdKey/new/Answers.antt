@@ -11,7 +11,8 @@ returns-clause-key c =
     let second : c.word-2.result ≡ word_of c.args.id.now 8 = c.word-2.ensures ∙ at 8 in
     let third : c.word-3.result ≡ word_of c.args.id.now 16 = c.word-3.ensures ∙ at 16 in
     let fourth : c.word-4.result ≡ word_of c.args.id.now 24 = c.word-4.ensures ∙ at 24 in
-    let size : length c.bytes-text.result.now ≡ length c.args.id.now = ap (λ (bs : List ℕ). length bs) c.bytes-text.ensures.value in
+    let size : length c.bytes-text.result.now ≡ length c.args.id.now =
+    ap (λ (bs : List ℕ). length bs) c.bytes-text.ensures.value in
     cc
 
 pub returns-clause-bytes : goal.returns-clause-bytes

@@ -18,7 +18,8 @@ amend-requires g c =
       order = order;
       stands = walked xs c.args.n order here;
       at = refl;
-      each = each_there (λ (o : Order). done o < c.args.quantity) xs c.args.n order.place order here (c.is_filled_to.ensures c.if-is_filled_to.false) (c.is_alone.ensures c.if-not-is_alone.false);
+      each = each_there (λ (o : Order). done o < c.args.quantity) xs c.args.n order.place order here
+          (c.is_filled_to.ensures c.if-is_filled_to.false) (c.is_alone.ensures c.if-not-is_alone.false);
       most = c.if-quantity-gt-MAX_ORDER_QTY.false;
       free = sym c.find.ensures ∙ none_is c.find.result (sym c.is_some.ensures ∙ c.if-is_some.false);
     }

@@ -12,5 +12,6 @@ reduce-requires g c =
       order = order;
       stands = walked xs c.args.n order here;
       at = refl;
-      each = each_there (λ (o : Order). c.args.by < o.leaves) xs c.args.n order.place order here (omega arith) (c.is_alone.ensures c.if-not-is_alone.false);
+      each = each_there (λ (o : Order). c.args.by < o.leaves) xs c.args.n order.place order here (omega arith)
+          (c.is_alone.ensures c.if-not-is_alone.false);
     }

@@ -6,7 +6,9 @@ use Rattle.tests_market.proofs.books.pairs.are_priced.Goals as goal
 
 pub loop-n-preserved : goal.loop-n-preserved
 loop-n-preserved g c =
-    one_more HasOrderPrice (g.B.Book.orders c.args.book.now) c.loop-n.n (omega arith) c.loop-n.invariant (c.is_priced_at.ensures c.if-not-is_priced_at.false)
+    one_more HasOrderPrice (g.B.Book.orders c.args.book.now) c.loop-n.n (omega arith) c.loop-n.invariant
+    (c.is_priced_at.ensures c.if-not-is_priced_at.false)
 
 pub returns : goal.returns
-returns g c = λ e. subst (All HasOrderPrice) (take_all c.loop-n.n (g.B.Book.orders c.args.book.now) (omega arith)) c.loop-n.invariant
+returns g c = λ e. subst (All HasOrderPrice) (take_all c.loop-n.n (g.B.Book.orders c.args.book.now) (omega arith))
+    c.loop-n.invariant

@@ -9,7 +9,8 @@ pub returns-then-is_empty-clause-read : goal.returns-then-is_empty-clause-read
 returns-then-is_empty-clause-read g c =
     let was = c.loop.self.filled in
     let none = none_of c.in-Ok.block c.is_empty.result c.is_empty.ensures c.if-is_empty.true in
-    mark_more (received was) (received c.pop.new.self) c.in-Ok.block false refl c.loop.invariant.plain c.in-Ok.ensures.ok.0 (is_mark_of c.in-Ok.block none)
+    mark_more (received was) (received c.pop.new.self) c.in-Ok.block false refl c.loop.invariant.plain
+    c.in-Ok.ensures.ok.0 (is_mark_of c.in-Ok.block none)
 
 pub returns-then-is_empty-clause-writes : goal.returns-then-is_empty-clause-writes
 returns-then-is_empty-clause-writes g c =
@@ -26,23 +27,28 @@ loop-preserved-in-Ok g c =
     let some = some_of p c.is_empty.result c.is_empty.ensures c.if-is_empty.false in
     let text = text_more (received was) (received c.pop.new.self) p c.in-Ok.ensures.ok.0 in
     record {
-      plain = plain_more (received was) (received c.pop.new.self) p false refl c.loop.invariant.plain c.in-Ok.ensures.ok.0 (no_mark_of p some);
+      plain = plain_more (received was) (received c.pop.new.self) p false refl c.loop.invariant.plain
+          c.in-Ok.ensures.ok.0 (no_mark_of p some);
       writes =
           elim c.if-is_ok.branch [
             | then-is_ok w ↦
                 let wrote = w.write_all-result in
                 rw (w.result-is, w.sink-is, text, ← w.deref.ensures.value)
-                (writes_more c.loop.result wrote.result (told c.args.sink.now) (told c.loop.sink) (told wrote.new.sink) (g.K.Sink.has_failed c.loop.sink) (g.K.Sink.has_failed wrote.new.sink)
-                (text_in (received was)) w.deref.result.now (sym c.is_ok.ensures.value ∙ w.if-is_ok.true) c.loop.invariant.writes
+                (writes_more c.loop.result wrote.result (told c.args.sink.now) (told c.loop.sink) (told wrote.new.sink)
+                (g.K.Sink.has_failed c.loop.sink) (g.K.Sink.has_failed wrote.new.sink)
+                (text_in (received was)) w.deref.result.now (sym c.is_ok.ensures.value ∙ w.if-is_ok.true)
+                c.loop.invariant.writes
                 wrote.ensures.ok wrote.ensures.not_failed wrote.ensures.failed_on_err wrote.ensures.front)
             | else-is_ok w ↦
                 rw (w.result-is, w.sink-is, text)
-                (writes_no_more c.loop.result (told c.args.sink.now) (told c.loop.sink) (g.K.Sink.has_failed c.loop.sink) (text_in (received was)) p.items
+                (writes_no_more c.loop.result (told c.args.sink.now) (told c.loop.sink)
+                (g.K.Sink.has_failed c.loop.sink) (text_in (received was)) p.items
                 (sym c.is_ok.ensures.value ∙ w.if-is_ok.false) c.loop.invariant.writes)
           ];
       kept =
           elim c.if-is_ok.branch [
-            | then-is_ok w ↦ none_failed _ _ c.args.so_far c.loop.result c.loop.invariant.kept (sym c.is_ok.ensures.value ∙ w.if-is_ok.true)
+            | then-is_ok w ↦ none_failed _ _ c.args.so_far c.loop.result c.loop.invariant.kept
+                (sym c.is_ok.ensures.value ∙ w.if-is_ok.true)
             | else-is_ok w ↦ rw (w.result-is, w.sink-is) c.loop.invariant.kept
           ];
     }
