@@ -163,7 +163,7 @@ impl<B: Book, A: Allocator + Copy> MarketState<B, A> {
         )
     }
 
-    /// Clears a ticket of a listed instrument, which is refused only where its id was used. All growth comes first.
+    /// Matches a ticket's order of a listed instrument, which is refused only where its id was used. All growth comes first.
     fn match_new(
         &mut self,
         rules: &Rulebook,
