@@ -17,5 +17,5 @@ returns c =
           (fold_is_next on n xs c.args.bound.now);
       least = λ none. c.least_behind.ensures.value ∙ ap (λ (b : Option Candidate). next_candidate_of on n b
           (counterparties xs)) none ∙ without_bound on n (counterparties xs);
-      small = c.least_behind.ensures.leg_price;
+      leg_price = c.least_behind.ensures.leg_price;
     }

@@ -22,7 +22,7 @@ returns g c =
     let orders = orders_are rules n xs told.left c.tell_turns.new.orders.items told.turns.items e.after e.turns in
     record {
       turns = e.turns;
-      small = e.small;
+      leg_price = e.leg_price;
       left = ap (λ (o : Order). o.leaves) left;
       beyond =
           subst (λ (o : Order). IsBeyond rules o (clear (implied rules) (references_of rules) n xs).orders

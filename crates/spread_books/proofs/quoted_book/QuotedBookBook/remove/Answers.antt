@@ -19,7 +19,7 @@ renew_for-requires g c =
     let quoted = c.self.invariant.quoted c.if-self.true in
     let at = rests_at xs c.args.place c.in-Some.order c.in-Some.ensures.was in
     record {
-      small = subst (λ (ys : List Order). All HasOrderPrice ys) (sym c.in-Some.ensures.book)
+      order_price = subst (λ (ys : List Order). All HasOrderPrice ys) (sym c.in-Some.ensures.book)
           (removed_all HasOrderPrice xs c.args.place quoted.small);
       within = All-contains (λ (o : Order). IsInMonths months o.instrument) xs c.in-Some.order quoted.within at.0;
       most = c.self.invariant.most;

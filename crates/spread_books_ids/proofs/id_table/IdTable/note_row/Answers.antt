@@ -39,7 +39,7 @@ returns-in-Found g c =
       back = c.requires.table;
       ok =
           noted_used lines rest (take c.args.row ks) key c.requires.table (sym used);
-      err = tt;
+      table_on_err = tt;
     }
 
 pub returns-in-Open : goal.returns-in-Open
@@ -78,7 +78,7 @@ returns-in-Open g c =
           (subst (λ (b : BTreeMap IdKey ℕ). AreOfRows (with_number lines (line_of (length lines) key) c.in-Open.at
           c.number_of.result) (get id_key_cmp b) (take c.args.row ks ++ key ∷ [])) (sym c.put_number.ensures.behind)
           noted);
-      err = tt;
+      table_on_err = tt;
     }
 
 -- no number of the line is of the key, and the line is full or the row is none that can be named
