@@ -14,7 +14,7 @@ use spread_rules_ids::Id;
 use spread_rules_ids::limits::SESSIONS;
 use std::alloc::Allocator;
 
-impl<A: Allocator + Copy> Outbox<'_, A> {
+impl<A: Allocator> Outbox<'_, A> {
     /// Appends a gap fill (SequenceReset with GapFillFlag, FIX 4.2) to the session's list, where the numbers that were asked for
     /// begin below the next one; 0 as the last of them is no end. It uses no number. After an error nothing has changed.
     pub fn fill_gap(&mut self, session: u8, first: u32, last: u32) -> Result<(), DeskFault>

@@ -12,17 +12,20 @@ use crate::fault::DeskFault;
 use crate::outbox::Outbox;
 use crate::parties::{spell_parties, spelled_parties};
 use crate::session::CompIds;
-use fix_wire::{Body, Field, FieldList, SpelledHead, SpelledParties, write_body};
+use fix_wire::{
+    Body, FIELD_ROOM, FRAME_ROOM, Field, FieldList, SpelledHead, SpelledParties, write_body,
+};
 use spread_rules_ids::Id;
+use spread_rules_ids::bytes::SOH;
 use spread_rules_ids::limits::{MAX_MSG_SEQ_NUM, SESSIONS};
 use std::alloc::Allocator;
 use std::marker::Model;
 
-/// The most fields of a message behind its standard header.
+/// The most fields that a message has behind its standard header.
 pub const MAX_FIELDS: usize = 18;
 
 /// Room for one message of so many fields.
-const MESSAGE_ROOM: usize = 64 * MAX_FIELDS + 256;
+const MESSAGE_ROOM: usize = FIELD_ROOM * MAX_FIELDS + FRAME_ROOM;
 
 /// For each of the sixteen sessions the number that its next message bears, and the CompIDs of its last Logon; and the
 /// stamp that every message bears as its SendingTime.
@@ -80,7 +83,7 @@ impl OutboundSessions {
         body: &B,
     ) -> Result<(), DeskFault>
         requires session { session < SESSIONS }
-        requires kind { kind ≢ 1 }
+        requires kind { kind ≢ SOH }
         requires tags { list_all has_tag (B.fields body.now) ≡ true }
         requires few { length (B.fields body.now) ≤ MAX_FIELDS }
         ensures appended { OnOk result (Appended self.old.stamp session self.old.sessions self.new.sessions
@@ -113,7 +116,7 @@ impl OutboundSessions {
     }
 }
 
-impl<A: Allocator + Copy> Outbox<'_, A> {
+impl<A: Allocator> Outbox<'_, A> {
     /// Gives a session the CompIDs that its Logon brings.
     pub fn log_on(&mut self, session: u8, comp_ids: CompIds)
         requires { session < SESSIONS }
@@ -134,7 +137,7 @@ impl<A: Allocator + Copy> Outbox<'_, A> {
     /// is sent nothing. After an error nothing has changed.
     pub fn send_body<B: Body>(&mut self, session: u8, kind: u8, body: &B) -> Result<(), DeskFault>
         requires session { session < SESSIONS }
-        requires kind { kind ≢ 1 }
+        requires kind { kind ≢ SOH }
         requires tags { list_all has_tag (B.fields body.now) ≡ true }
         requires few { length (B.fields body.now) ≤ MAX_FIELDS }
         ensures sent { Sends self.old self.new
@@ -150,7 +153,7 @@ impl<A: Allocator + Copy> Outbox<'_, A> {
     /// Sends a message of any fields, as `send_body` does.
     pub fn send(&mut self, session: u8, kind: u8, fields: &[Field]) -> Result<(), DeskFault>
         requires session { session < SESSIONS }
-        requires kind { kind ≢ 1 }
+        requires kind { kind ≢ SOH }
         requires tags { list_all has_tag fields.now ≡ true }
         requires few { length fields.now ≤ MAX_FIELDS }
         ensures sent { Sends self.old self.new (numbered_message session kind fields.now ∷ []) result }
