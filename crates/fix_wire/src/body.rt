@@ -7,6 +7,12 @@ ghost use Rattle.fix_wire.specs.Layout.{field_text, FitsValueOf};
 use crate::spelling::put_fields;
 use crate::writer::Field;
 
+/// The greatest length of a field.
+pub const MAX_FIELD_LENGTH: usize = 63;
+
+/// Room for a field, whatever it holds.
+pub const FIELD_ROOM: usize = 64;
+
 /// The fields of a message. What knows its tags writes them faster than a list of fields does.
 pub trait Body {
     ghost fields: { Self → List given.Field };
@@ -17,10 +23,10 @@ pub trait Body {
 
     /// Writes them into the room from that place on, and tells where they end.
     fn put(&self, room: &mut [u8], at: usize) -> usize
-        requires within { at + 64 * length (fields self.now) ≤ length room.old }
+        requires within { at + FIELD_ROOM * length (fields self.now) ≤ length room.old }
         ensures text { take result room.new
             ≡ take at room.old ++ flat_map field_text (fields self.now) }
-        ensures most { result ≤ at + 64 * length (fields self.now) }
+        ensures most { result ≤ at + FIELD_ROOM * length (fields self.now) }
         ensures values { AllByRecursion FitsValueOf (fields self.now) }
         ensures size { length room.new ≡ length room.old };
 }

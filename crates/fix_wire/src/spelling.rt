@@ -11,7 +11,7 @@ ghost use Rattle.fix_wire.specs.Layout.{value_text, field_text, orig_time, FitsV
 ghost use Rattle.fix_wire.specs.code.Layout.{summed_text};
 ghost use Rattle.fix_wire.specs.Spelling.{kind_text, orig_text, spelled, spelled_head, spelled_body};
 
-use crate::body::Body;
+use crate::body::{Body, FIELD_ROOM, MAX_FIELD_LENGTH};
 use crate::parties::{MAX_PARTIES_LENGTH, PARTIES_ROOM, SpelledParties};
 use crate::writer::{Field, SpelledHead, Value};
 use fix_wire_frames::{BEGIN_BYTES, BEGIN_TEXT, CHECKSUM_BYTES, checksum, checksum_digits};
@@ -70,10 +70,10 @@ fn put_tag(room: &mut [u8], at: usize, tag: u32) -> usize
 /// would be copied twice, in parts of odd lengths.
 #[inline(always)]
 pub fn put_text_field(room: &mut [u8], at: usize, tag: u32, text: &Id) -> usize
-    requires within { at + 63 ≤ length room.old }
+    requires within { at + MAX_FIELD_LENGTH ≤ length room.old }
     ensures text { take result room.new
         ≡ take at room.old ++ field_text (record { tag = tag; value = Text text.now }) }
-    ensures most { result ≤ at + 63 }
+    ensures most { result ≤ at + MAX_FIELD_LENGTH }
     ensures fits { FitsValueOf (record { tag = tag; value = Text text.now }) }
     ensures size { length room.new ≡ length room.old }
 {
@@ -85,10 +85,10 @@ pub fn put_text_field(room: &mut [u8], at: usize, tag: u32, text: &Id) -> usize
 /// Writes a field at that place, and tells where it ends.
 #[inline(always)]
 pub fn put_field(room: &mut [u8], at: usize, field: &Field) -> usize
-    requires within { at + 63 ≤ length room.old }
+    requires within { at + MAX_FIELD_LENGTH ≤ length room.old }
     ensures text { take result room.new
         ≡ take at room.old ++ field_text field.now }
-    ensures most { result ≤ at + 63 }
+    ensures most { result ≤ at + MAX_FIELD_LENGTH }
     ensures fits { FitsValueOf field.now }
     ensures size { length room.new ≡ length room.old }
 {
@@ -98,10 +98,10 @@ pub fn put_field(room: &mut [u8], at: usize, field: &Field) -> usize
 }
 
 pub(crate) fn put_fields(room: &mut [u8], at: usize, fields: &[Field]) -> usize
-    requires within { at + 64 * length fields.now ≤ length room.old }
+    requires within { at + FIELD_ROOM * length fields.now ≤ length room.old }
     ensures text { take result room.new
         ≡ take at room.old ++ flat_map field_text fields.now }
-    ensures most { result ≤ at + 64 * length fields.now }
+    ensures most { result ≤ at + FIELD_ROOM * length fields.now }
     ensures values { AllByRecursion FitsValueOf fields.now }
     ensures size { length room.new ≡ length room.old }
 {
@@ -161,11 +161,14 @@ fn put_orig_time(room: &mut [u8], at: usize, head: &SpelledHead<'_>) -> usize
     }
 }
 
+/// The greatest length of what a body has before its fields: MsgType to OrigSendingTime.
+pub const MAX_HEAD_LENGTH: usize = 180;
+
 fn put_head(room: &mut [u8], at: usize, head: &SpelledHead<'_>) -> usize
-    requires within { at + 180 ≤ length room.old }
+    requires within { at + MAX_HEAD_LENGTH ≤ length room.old }
     requires short { head.now.parties.now.len ≤ MAX_PARTIES_LENGTH }
     ensures text { take result room.new ≡ take at room.old ++ spelled_head head.now }
-    ensures most { result ≤ at + 180 }
+    ensures most { result ≤ at + MAX_HEAD_LENGTH }
     ensures range { head.now.number < 2 ^ 64 }
     ensures size { length room.new ≡ length room.old }
 {
@@ -176,12 +179,12 @@ fn put_head(room: &mut [u8], at: usize, head: &SpelledHead<'_>) -> usize
 
 /// MsgType to the last field.
 fn put_body<B: Body>(room: &mut [u8], at: usize, head: &SpelledHead<'_>, body: &B) -> usize
-    requires within { at + 64 * length (B.fields body.now) + 180 ≤ length room.old }
+    requires within { at + FIELD_ROOM * length (B.fields body.now) + MAX_HEAD_LENGTH ≤ length room.old }
     requires short { head.now.parties.now.len ≤ MAX_PARTIES_LENGTH }
     ensures text { take result room.new
         ≡ take at room.old ++ spelled_body head.now (B.fields body.now) }
     ensures end { result ≡ at + length (spelled_body head.now (B.fields body.now)) }
-    ensures most { result ≤ at + 64 * length (B.fields body.now) + 180 }
+    ensures most { result ≤ at + FIELD_ROOM * length (B.fields body.now) + MAX_HEAD_LENGTH }
     ensures size { length room.new ≡ length room.old }
     ensures range { head.now.number < 2 ^ 64 }
     ensures values { AllByRecursion FitsValueOf (B.fields body.now) }
@@ -190,12 +193,15 @@ fn put_body<B: Body>(room: &mut [u8], at: usize, head: &SpelledHead<'_>, body: &
     body.put(room, rest)
 }
 
+/// The greatest length of BeginString and BodyLength.
+const MAX_BEGIN_LENGTH: usize = 33;
+
 /// BeginString, and the BodyLength of a body of that length.
 fn put_begin(room: &mut [u8], at: usize, body_length: usize) -> usize
-    requires within { at + 33 ≤ length room.old }
+    requires within { at + MAX_BEGIN_LENGTH ≤ length room.old }
     ensures text { take result room.new
         ≡ take at room.old ++ (begin_text ++ (decimal body_length ++ SOH ∷ [])) }
-    ensures most { result ≤ at + 33 }
+    ensures most { result ≤ at + MAX_BEGIN_LENGTH }
     ensures size { length room.new ≡ length room.old }
 {
     let length = put(room, at, &BEGIN_TEXT);
@@ -224,15 +230,15 @@ pub(crate) fn put_summed<B: Body>(
     head: &SpelledHead<'_>,
     body: &B,
 ) -> usize
-    requires within { start + 64 * length (B.fields body.now) + 220 ≤ length room.old }
+    requires within { start + FIELD_ROOM * length (B.fields body.now) + MAX_HEAD_LENGTH + MAX_BEGIN_LENGTH ≤ length room.old }
     requires short { head.now.parties.now.len ≤ MAX_PARTIES_LENGTH }
     ensures text { take result room.new
         ≡ take start room.old ++ summed_text (spelled_body head.now (B.fields body.now)) }
     ensures least { start ≤ result }
-    ensures most { result ≤ start + 64 * length (B.fields body.now) + 220 }
+    ensures most { result ≤ start + FIELD_ROOM * length (B.fields body.now) + MAX_HEAD_LENGTH + MAX_BEGIN_LENGTH }
     ensures size { length room.new ≡ length room.old }
     ensures body { length (spelled_body head.now (B.fields body.now))
-        ≤ 64 * length (B.fields body.now) + 180 }
+        ≤ FIELD_ROOM * length (B.fields body.now) + MAX_HEAD_LENGTH }
     ensures range { head.now.number < 2 ^ 64 }
     ensures values { AllByRecursion FitsValueOf (B.fields body.now) }
 {

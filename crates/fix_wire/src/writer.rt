@@ -7,9 +7,9 @@ ghost use Rattle.fix_wire.specs.code.Layout.{frame_text};
 ghost use Rattle.fix_wire.specs.Layout.{FitsKind, FitsTags, FitsBody, FitsValueOf, IsReadBack};
 ghost use Rattle.fix_wire.specs.Spelling.{spelled_body};
 
-use crate::body::{Body, FieldList};
+use crate::body::{Body, FIELD_ROOM, FieldList};
 use crate::parties::{MAX_PARTIES_LENGTH, SpelledParties};
-use crate::spelling::{put_checksum, put_summed};
+use crate::spelling::{MAX_HEAD_LENGTH, put_checksum, put_summed};
 use spread_rules_ends::NoMemory;
 use spread_rules_ids::Id;
 use std::alloc::Allocator;
@@ -51,11 +51,14 @@ pub struct SpelledHead<'a> {
     pub parties: &'a SpelledParties,
 }
 
+/// Room for what a message has around its fields, and for the zeros behind it of which CheckSum is summed.
+pub const FRAME_ROOM: usize = 256;
+
 /// Room for a message with so many fields, whatever they hold.
 fn room_for(fields: usize) -> usize
-    ensures { result ≡ min (64 * fields + 256) (2 ^ 64 - 1) }
+    ensures { result ≡ min (FIELD_ROOM * fields + FRAME_ROOM) (2 ^ 64 - 1) }
 {
-    fields.saturating_mul(64).saturating_add(256)
+    fields.saturating_mul(FIELD_ROOM).saturating_add(FRAME_ROOM)
 }
 
 /// The OrigSendingTime that a duplicate bears: its SendingTime.
@@ -79,7 +82,7 @@ pub fn write_message<A: Allocator>(
     ensures ok { OnOk result (out.new.items ≡ out.old.items ++ message_text head.now fields.now) }
     ensures unchanged_on_err { OnErr result (out.new.items ≡ out.old.items) }
     ensures short { OnOk result
-        (length (body_text head.now fields.now) ≤ 64 * length fields.now + 180) }
+        (length (body_text head.now fields.now) ≤ FIELD_ROOM * length fields.now + MAX_HEAD_LENGTH) }
     // Where the kind isn't byte 1, tags have 1 to 9 digits and the body fits, it is a lawful frame with exactly its fields.
     ensures lawful { OnOk result (FitsKind head.now → FitsTags fields.now →
         FitsBody head.now fields.now → IsReadBack head.now fields.now) }
@@ -101,15 +104,15 @@ pub fn write_message<A: Allocator>(
 }
 
 /// Appends one message whose body writes its own fields, as `write_message` does one of a list of fields. It is written into
-/// a room of the caller's first, of 64 bytes for each field and 256 more. A
-/// caller that keeps its room from message to message fills no bytes that no message has.
+/// a room of the caller's first, of `FIELD_ROOM` for each field and `FRAME_ROOM` more. A caller that keeps its room from
+/// message to message fills no bytes that no message has.
 pub fn write_body<A: Allocator, B: Body>(
     room: &mut [u8],
     out: &mut Vec<u8, A>,
     head: &SpelledHead<'_>,
     body: &B,
 ) -> Result<(), NoMemory>
-    requires room { 64 * length (B.fields body.now) + 256 ≤ length room.old }
+    requires room { FIELD_ROOM * length (B.fields body.now) + FRAME_ROOM ≤ length room.old }
     requires parties { head.now.parties.now.len ≤ MAX_PARTIES_LENGTH }
     ensures ok { OnOk result ((h : Head) → SpellsHead head.now h →
         out.new.items ≡ out.old.items ++ message_text h (B.fields body.now)) }
@@ -118,7 +121,8 @@ pub fn write_body<A: Allocator, B: Body>(
     ensures unchanged_on_err { OnErr result (out.new.items ≡ out.old.items) }
     ensures size { length room.new ≡ length room.old }
     ensures short { OnOk result ((h : Head) → SpellsHead head.now h →
-        length (body_text h (B.fields body.now)) ≤ 64 * length (B.fields body.now) + 180) }
+        length (body_text h (B.fields body.now))
+        ≤ FIELD_ROOM * length (B.fields body.now) + MAX_HEAD_LENGTH) }
     ensures lawful { OnOk result ((h : Head) → SpellsHead head.now h → FitsKind h →
         FitsTags (B.fields body.now) → FitsBody h (B.fields body.now) → IsReadBack h (B.fields body.now)) }
 {
@@ -129,14 +133,14 @@ pub fn write_body<A: Allocator, B: Body>(
 
 /// Writes a message at that place, and tells where it ends.
 fn put_message<B: Body>(room: &mut [u8], start: usize, head: &SpelledHead<'_>, body: &B) -> usize
-    requires within { start + 64 * length (B.fields body.now) + 256 ≤ length room.old }
+    requires within { start + FIELD_ROOM * length (B.fields body.now) + FRAME_ROOM ≤ length room.old }
     requires short { head.now.parties.now.len ≤ MAX_PARTIES_LENGTH }
     ensures text { take result room.new
         ≡ take start room.old ++ frame_text (spelled_body head.now (B.fields body.now)) }
     ensures end { result ≤ length room.new }
     ensures size { length room.new ≡ length room.old }
     ensures body { length (spelled_body head.now (B.fields body.now))
-        ≤ 64 * length (B.fields body.now) + 180 }
+        ≤ FIELD_ROOM * length (B.fields body.now) + MAX_HEAD_LENGTH }
     ensures range { head.now.number < 2 ^ 64 }
     ensures values { AllByRecursion FitsValueOf (B.fields body.now) }
 {

@@ -1,3 +1,4 @@
 pub mod TakenBack
 pub mod OneEntryMore
 pub mod EntrySent
+pub mod EntryLent

@@ -9,7 +9,7 @@ ghost use Rattle.spread_report.specs.Running.{RunsOut};
 ghost use Rattle.spread_report.specs.code.PerSession.{entry_bytes, entry_texts, entry_outbound, entry_spends, applied_at};
 
 use crate::entry::{AppliedEntry, note_comp_ids, send_entry};
-use spread_report_outbound::{DeskFault, OutboundSessions};
+use spread_report_outbound::{DeskFault, OutboundSessions, Outbox};
 use spread_rules::{Entry, Fill, Outcome, Rulebook};
 use spread_rules_ids::Id;
 use spread_rules_ids::limits::SESSIONS;
@@ -90,17 +90,18 @@ impl Desk {
         ensures lists_kept { OnErr result (KeepsBytes lists.old lists.new) }
         ensures count { length lists.new ≡ SESSIONS }
     {
-        let mark = self.outbound.mark(lists, entry.session);
-        note_comp_ids(&mut self.outbound, entry);
+        let mut outbox = Outbox::new(&mut self.outbound, lists);
+        let mark = outbox.mark(entry.session);
+        note_comp_ids(&mut outbox, entry);
         let applied = AppliedEntry {
             place,
             entry,
             outcome,
             fills,
         };
-        let result = send_entry(&mut self.outbound, lists, rules, &applied);
+        let result = send_entry(&mut outbox, rules, &applied);
         if result.is_err() {
-            self.outbound.take_back(lists, &mark);
+            outbox.take_back(&mark);
         }
         result
     }

@@ -1,9 +1,10 @@
 //! What an entry sends, by its event and by what came of it.
-ghost use Rattle.std.specs.Prelude.{◌≡◌, ℕ, ◌<◌, ◌+◌, List, ◌∷◌, length, IfOk};
+ghost use Rattle.std.specs.Prelude.{◌≡◌, ℕ, ◌<◌, ◌+◌, List, ◌∷◌, IfOk};
+ghost use Rattle.spread_rules_ids.specs.declared.limits.TheConstants.{SESSIONS};
 ghost use Rattle.spread_rules.specs.declared.event.Event.TheVariants.{New, Cancel, Replace};
 ghost use Rattle.spread_rules.specs.declared.fill.Fill.{Fill};
 ghost use Rattle.spread_rules.specs.Ranges.{FitsCancel, FitsNew, FitsReplace, FitsOutcome, FitFills};
-ghost use Rattle.spread_report_outbound.specs.code.Sending.{Sends};
+ghost use Rattle.spread_report_outbound.specs.code.Sending.{StaysLent, Sends};
 ghost use Rattle.spread_report.specs.code.PerSession.{noted_messages, outbound_at_entry};
 ghost use Rattle.spread_report_orders.specs.code.Reports.{reports_of, reports_from};
 ghost use Rattle.spread_report.specs.code.Addressed.{event_messages};
@@ -18,10 +19,9 @@ use spread_report_orders::{
     CancelRequest, NewOrder, send_accepted, send_cancelled, send_ended, send_fills, send_rejected,
     send_replaced,
 };
-use spread_report_outbound::{CompIds, DeskFault, OutboundSessions};
+use spread_report_outbound::{CompIds, DeskFault, Outbox};
 use spread_rules::{Entry, Event, Fill, Outcome, Rulebook, Ticket};
 use spread_rules_ids::Id;
-use spread_rules_ids::limits::SESSIONS;
 use std::alloc::Allocator;
 
 /// An entry at its place in the journal, and what came of it.
@@ -31,6 +31,7 @@ pub struct AppliedEntry<'a> {
     pub entry: &'a Entry,
     pub outcome: &'a Outcome,
     pub fills: &'a [Fill],
+    ghost in_range: { entry.now.session < SESSIONS },
 }
 
 /// Why a cancel request or a cancel/replace request is refused, and what it says of the order that it names.
@@ -47,52 +48,44 @@ pub struct CancelRefusal {
 }
 
 /// Notes the CompIDs that a Logon brings.
-pub fn note_comp_ids(outbound: &mut OutboundSessions, entry: &Entry)
+pub fn note_comp_ids<A: Allocator + Copy>(outbox: &mut Outbox<'_, A>, entry: &Entry)
     requires { entry.now.session < SESSIONS }
-    ensures stamp { outbound.new.stamp ≡ outbound.old.stamp }
+    ensures lent { StaysLent outbox.old outbox.new }
+    ensures lists { outbox.new.lists.now ≡ outbox.old.lists.now }
+    ensures stamp { outbox.new.outbound.now.stamp ≡ outbox.old.outbound.now.stamp }
     ensures noted { (s : ℕ) → s < SESSIONS
-        → outbound_at outbound.new.sessions s ≡ outbound_at_entry s
-        (outbound_at outbound.old.sessions s) entry.now.session entry.now.event }
+        → outbound_at outbox.new.outbound.now.sessions s ≡ outbound_at_entry s
+        (outbound_at outbox.old.outbound.now.sessions s) entry.now.session entry.now.event }
 {
     if let Event::Logon { client, host, .. } = entry.event {
-        outbound.log_on(entry.session, CompIds { client, host });
+        outbox.log_on(entry.session, CompIds { client, host });
     }
 }
 
 /// Sends an entry's messages, the session's CompIDs being there.
 pub fn send_entry<A: Allocator + Copy>(
-    outbound: &mut OutboundSessions,
-    lists: &mut [Vec<u8, A>],
+    outbox: &mut Outbox<'_, A>,
     rules: &Rulebook,
     applied: &AppliedEntry,
 ) -> Result<(), DeskFault>
-    requires lists { length lists.old ≡ SESSIONS }
-    requires session { applied.now.entry.now.session < SESSIONS }
     requires outcome { FitsOutcome rules.now applied.now.entry.now.event
         applied.now.outcome.now }
     requires fills { FitFills rules.now applied.now.fills.now }
-    ensures { Sends outbound.old outbound.new lists.old lists.new
+    ensures { Sends outbox.old outbox.new
         (noted_messages rules.now applied.now.place applied.now.entry.now.session
         applied.now.entry.now.event applied.now.outcome.now applied.now.fills.now) result }
 {
     let place = applied.place;
     let session = applied.entry.session;
     match &applied.entry.event {
-        Event::Logon { beat, .. } => send_logon(outbound, lists, session, *beat),
+        Event::Logon { beat, .. } => send_logon(outbox, session, *beat),
         Event::New(ticket) => {
             let order = NewOrder {
                 place,
                 session,
                 ticket,
             };
-            new_entry(
-                outbound,
-                lists,
-                rules,
-                &order,
-                applied.outcome,
-                applied.fills,
-            )
+            new_entry(outbox, rules, &order, applied.outcome, applied.fills)
         }
         Event::Cancel { id, original } => {
             let request = CancelRequest {
@@ -101,45 +94,42 @@ pub fn send_entry<A: Allocator + Copy>(
                 id,
                 original,
             };
-            cancel_entry(outbound, lists, rules, &request, applied.outcome)
+            cancel_entry(outbox, rules, &request, applied.outcome)
         }
         Event::Replace { original, ticket } => {
-            replace_entry(outbound, lists, rules, applied, original, ticket)
+            replace_entry(outbox, rules, applied, original, ticket)
         }
-        Event::TestReply { text } => send_heartbeat(outbound, lists, session, text),
-        Event::Gap { first } => send_resend_request(outbound, lists, session, *first),
-        Event::Resend { first, last } => outbound.fill_gap(lists, session, *first, *last),
-        Event::Reject { number, reason } => send_reject(outbound, lists, session, *number, *reason),
-        Event::Close { reason } => send_logout(outbound, lists, session, *reason),
+        Event::TestReply { text } => send_heartbeat(outbox, session, text),
+        Event::Gap { first } => send_resend_request(outbox, session, *first),
+        Event::Resend { first, last } => outbox.fill_gap(session, *first, *last),
+        Event::Reject { number, reason } => send_reject(outbox, session, *number, *reason),
+        Event::Close { reason } => send_logout(outbox, session, *reason),
     }
 }
 
 /// Tells the session of a new order what came of it.
 fn new_entry<A: Allocator + Copy>(
-    outbound: &mut OutboundSessions,
-    lists: &mut [Vec<u8, A>],
+    outbox: &mut Outbox<'_, A>,
     rules: &Rulebook,
     order: &NewOrder<'_>,
     outcome: &Outcome,
     fills: &[Fill],
 ) -> Result<(), DeskFault>
-    requires lists { length lists.old ≡ SESSIONS }
-    requires session { order.now.session < SESSIONS }
     requires outcome { FitsNew order.now.ticket.now.quantity outcome.now }
     requires fills { FitFills rules.now fills.now }
-    ensures { Sends outbound.old outbound.new lists.old lists.new
+    ensures { Sends outbox.old outbox.new
         (event_messages rules.now order.now.place order.now.session (New order.now.ticket.now)
         outcome.now fills.now) result }
 {
     match *outcome {
-        Outcome::Refused(reason) => send_rejected(outbound, lists, order, reason),
+        Outcome::Refused(reason) => send_rejected(outbox, order, reason),
         Outcome::Rested | Outcome::Filled => {
-            accepted_with_fills(outbound, lists, rules, order, fills)?;
+            accepted_with_fills(outbox, rules, order, fills)?;
             Ok(())
         }
         Outcome::Ended { left } => {
-            let index = accepted_with_fills(outbound, lists, rules, order, fills)?;
-            send_ended(outbound, lists, order, index, left)
+            let index = accepted_with_fills(outbox, rules, order, fills)?;
+            send_ended(outbox, order, index, left)
         }
         _ => Ok(()),
     }
@@ -147,44 +137,38 @@ fn new_entry<A: Allocator + Copy>(
 
 /// Reports a new order and its fills, and tells the next index.
 fn accepted_with_fills<A: Allocator + Copy>(
-    outbound: &mut OutboundSessions,
-    lists: &mut [Vec<u8, A>],
+    outbox: &mut Outbox<'_, A>,
     rules: &Rulebook,
     order: &NewOrder<'_>,
     fills: &[Fill],
 ) -> Result<u64, DeskFault>
-    requires lists { length lists.old ≡ SESSIONS }
-    requires session { order.now.session < SESSIONS }
-    requires fills { FitFills rules.now fills.now }
-    ensures sent { Sends outbound.old outbound.new lists.old lists.new
+    requires { FitFills rules.now fills.now }
+    ensures sent { Sends outbox.old outbox.new
         (reports_from order.now.place 1
         (new_report order.now.session order.now.place order.now.ticket.now
         ∷ fills_reports rules.now fills.now)) result }
     ensures index { IfOk result (λ i. i ≡ 2 + reports_of fills.now) }
 {
-    send_accepted(outbound, lists, order)?;
-    send_fills(outbound, lists, rules, order.place, fills)
+    send_accepted(outbox, order)?;
+    send_fills(outbox, rules, order.place, fills)
 }
 
 /// Tells the session of a cancel what came of it.
 fn cancel_entry<A: Allocator + Copy>(
-    outbound: &mut OutboundSessions,
-    lists: &mut [Vec<u8, A>],
+    outbox: &mut Outbox<'_, A>,
     rules: &Rulebook,
     request: &CancelRequest<'_>,
     outcome: &Outcome,
 ) -> Result<(), DeskFault>
-    requires lists { length lists.old ≡ SESSIONS }
-    requires session { request.now.session < SESSIONS }
-    requires outcome { FitsCancel rules.now outcome.now }
-    ensures { (fills : List Fill) → Sends outbound.old outbound.new lists.old lists.new
+    requires { FitsCancel rules.now outcome.now }
+    ensures { (fills : List Fill) → Sends outbox.old outbox.new
         (event_messages rules.now request.now.place request.now.session
         (Cancel request.now.id.now request.now.original.now) outcome.now fills) result }
 {
     match *outcome {
         Outcome::Cancelled(order) => {
             let symbol = symbol_of(rules, order.instrument);
-            send_cancelled(outbound, lists, request, &order, &symbol)
+            send_cancelled(outbox, request, &order, &symbol)
         }
         Outcome::CancelRefused {
             reason,
@@ -197,7 +181,7 @@ fn cancel_entry<A: Allocator + Copy>(
                 place,
                 status,
             };
-            send_cancel_reject(outbound, lists, request, refusal)
+            send_cancel_reject(outbox, request, refusal)
         }
         _ => Ok(()),
     }
@@ -206,18 +190,15 @@ fn cancel_entry<A: Allocator + Copy>(
 /// Tells the session of a replace what came of it: a report of the replaced order and behind it
 /// those of its fills, or an OrderCancelReject with CxlRejResponseTo (tag 434) 2.
 fn replace_entry<A: Allocator + Copy>(
-    outbound: &mut OutboundSessions,
-    lists: &mut [Vec<u8, A>],
+    outbox: &mut Outbox<'_, A>,
     rules: &Rulebook,
     applied: &AppliedEntry,
     original: &Id,
     ticket: &Ticket,
 ) -> Result<(), DeskFault>
-    requires lists { length lists.old ≡ SESSIONS }
-    requires session { applied.now.entry.now.session < SESSIONS }
     requires outcome { FitsReplace rules.now applied.now.outcome.now }
     requires fills { FitFills rules.now applied.now.fills.now }
-    ensures { Sends outbound.old outbound.new lists.old lists.new
+    ensures { Sends outbox.old outbox.new
         (event_messages rules.now applied.now.place applied.now.entry.now.session
         (Replace original.now ticket.now) applied.now.outcome.now applied.now.fills.now) result }
 {
@@ -230,8 +211,8 @@ fn replace_entry<A: Allocator + Copy>(
     match *applied.outcome {
         Outcome::Replaced(order) => {
             let symbol = symbol_of(rules, order.instrument);
-            send_replaced(outbound, lists, &request, &order, &symbol)?;
-            send_fills(outbound, lists, rules, request.place, applied.fills)?;
+            send_replaced(outbox, &request, &order, &symbol)?;
+            send_fills(outbox, rules, request.place, applied.fills)?;
             Ok(())
         }
         Outcome::CancelRefused {
@@ -245,7 +226,7 @@ fn replace_entry<A: Allocator + Copy>(
                 place,
                 status,
             };
-            send_cancel_reject(outbound, lists, &request, refusal)
+            send_cancel_reject(outbox, &request, refusal)
         }
         _ => Ok(()),
     }

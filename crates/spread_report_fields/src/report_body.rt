@@ -1,12 +1,12 @@
 //! The execution reports write their fields themselves: each tag is known where it is written.
-ghost use Rattle.std.specs.Prelude.{◌≡◌, ◌++◌, ◌≤◌, ◌+◌, FitsSigned, length, take};
+ghost use Rattle.std.specs.Prelude.{◌≡◌, ◌++◌, ◌≤◌, ◌+◌, ◌*◌, FitsSigned, length, take};
 ghost use Rattle.std.specs.Int.{w64};
 ghost use Rattle.std.specs.List.{flat_map, AllByRecursion};
 ghost use Rattle.fix_wire.specs.Layout.{field_text, FitsValueOf};
 ghost use Rattle.spread_report_fields.specs.code.ReportBodies.{order_fields, event_fields, terms_fields, left_fields, last_fields, fields_of_order, fields_of_reject, fields_of_cancel, fields_of_fill};
 
 use crate::codes::{EXEC_TRANS_TYPE_NEW, MultiLegReportingType, OrdStatus, side_code};
-use fix_wire::{Body, Field, Value, put_field, put_text_field};
+use fix_wire::{Body, FIELD_ROOM, Field, Value, put_field, put_text_field};
 use fix_wire_frames::tags;
 use spread_rules::Side;
 use spread_rules_ids::Id;
@@ -68,10 +68,10 @@ pub struct FillReport<'a> {
 
 #[inline(always)]
 fn put_order(room: &mut [u8], at: usize, report: &OrderReport<'_>) -> usize
-    requires within { at + 128 ≤ length room.old }
+    requires within { at + 2 * FIELD_ROOM ≤ length room.old }
     ensures text { take result room.new ≡ take at room.old
         ++ flat_map field_text (order_fields report.now) }
-    ensures most { result ≤ at + 128 }
+    ensures most { result ≤ at + 2 * FIELD_ROOM }
     ensures values { AllByRecursion FitsValueOf (order_fields report.now) }
     ensures size { length room.new ≡ length room.old }
 {
@@ -81,10 +81,10 @@ fn put_order(room: &mut [u8], at: usize, report: &OrderReport<'_>) -> usize
 
 #[inline(always)]
 fn put_event(room: &mut [u8], at: usize, report: &OrderReport<'_>) -> usize
-    requires within { at + 256 ≤ length room.old }
+    requires within { at + 4 * FIELD_ROOM ≤ length room.old }
     ensures text { take result room.new ≡ take at room.old
         ++ flat_map field_text (event_fields report.now) }
-    ensures most { result ≤ at + 256 }
+    ensures most { result ≤ at + 4 * FIELD_ROOM }
     ensures values { AllByRecursion FitsValueOf (event_fields report.now) }
     ensures size { length room.new ≡ length room.old }
 {
@@ -106,10 +106,10 @@ fn put_event(room: &mut [u8], at: usize, report: &OrderReport<'_>) -> usize
 
 #[inline(always)]
 fn put_terms(room: &mut [u8], at: usize, report: &OrderReport<'_>) -> usize
-    requires within { at + 192 ≤ length room.old }
+    requires within { at + 3 * FIELD_ROOM ≤ length room.old }
     ensures text { take result room.new ≡ take at room.old
         ++ flat_map field_text (terms_fields report.now) }
-    ensures most { result ≤ at + 192 }
+    ensures most { result ≤ at + 3 * FIELD_ROOM }
     ensures values { AllByRecursion FitsValueOf (terms_fields report.now) }
     ensures size { length room.new ≡ length room.old }
 {
@@ -120,10 +120,10 @@ fn put_terms(room: &mut [u8], at: usize, report: &OrderReport<'_>) -> usize
 
 #[inline(always)]
 fn put_left(room: &mut [u8], at: usize, report: &OrderReport<'_>) -> usize
-    requires within { at + 192 ≤ length room.old }
+    requires within { at + 3 * FIELD_ROOM ≤ length room.old }
     ensures text { take result room.new ≡ take at room.old
         ++ flat_map field_text (left_fields report.now) }
-    ensures most { result ≤ at + 192 }
+    ensures most { result ≤ at + 3 * FIELD_ROOM }
     ensures values { AllByRecursion FitsValueOf (left_fields report.now) }
     ensures size { length room.new ≡ length room.old }
 {
@@ -138,10 +138,10 @@ fn put_left(room: &mut [u8], at: usize, report: &OrderReport<'_>) -> usize
 
 #[inline(always)]
 fn put_last(room: &mut [u8], at: usize, quantity: u64, price: i64) -> usize
-    requires within { at + 128 ≤ length room.old }
+    requires within { at + 2 * FIELD_ROOM ≤ length room.old }
     ensures text { take result room.new ≡ take at room.old
         ++ flat_map field_text (last_fields quantity price) }
-    ensures most { result ≤ at + 128 }
+    ensures most { result ≤ at + 2 * FIELD_ROOM }
     ensures values { AllByRecursion FitsValueOf (last_fields quantity price) }
     ensures size { length room.new ≡ length room.old }
 {

@@ -2,11 +2,10 @@
 use Rattle.std.proofs.Common.{◌≡◌, ℕ, ◌+◌, ◌<◌, List, [], ◌∷◌, ◌++◌, length, get_or, take, drop, subst, Ok, Err, sym, ap, ◌∙◌, arith, refl, append-nil, length-append}
 use Rattle.std.proofs.lemmas.Grind.{flat_map-append}
 use Rattle.std.proofs.lemmas.List.{take_more, take-append-drop}
-use Rattle.std.specs.declared.vec.Vec.{Vec}
 use Rattle.spread_report_outbound.specs.declared.fault.DeskFault.{DeskFault}
-use Rattle.spread_report_outbound.specs.code.Sessions.{OutboundState}
+use Rattle.spread_report_outbound.specs.declared.outbox.Outbox.{Outbox}
 use Rattle.spread_report_outbound.specs.code.Sending.{Sends}
-use Rattle.spread_report_outbound.proofs.MoreMessages.{all_sent, sends_after, sends_no_more}
+use Rattle.spread_report_outbound.proofs.MoreMessages.{all_sent, sends_after, sends_no_more, sends_ok}
 use Rattle.spread_rules.specs.declared.fill.Fill.{Fill}
 use Rattle.spread_rules_rulebook.specs.Rulebook.{Rules}
 use Rattle.spread_report_orders.specs.ExecutionReports.{ExecutionReport, fill_reports, fills_reports}
@@ -93,8 +92,7 @@ fills_sent_more : (rules : Rules) (place i : ℕ) (fs : List Fill) (k : ℕ) (d 
 fills_sent_more rules place i fs k d h = ap (λ (l : List Fill). fills_sent rules place i l) (take_more fs k d h)
     ∙ fills_sent-push rules place i (take k fs) (get_or fs k d)
 
-module _ {A : Type 0} (a b d : OutboundState) (x y z : List (Vec ℕ A)) (rules : Rules) (place i n k : ℕ)
-    (fs : List Fill) (f e : Fill) where
+module _ {A : Type 0} (a b d : Outbox A) (rules : Rules) (place i n k : ℕ) (fs : List Fill) (f e : Fill) where
   next_reports : k < length fs → f ≡ get_or fs k e → n ≡ i + reports_of (take k fs)
       → fills_sent rules place i (take k fs) ++ fill_sent rules place n f ≡ fills_sent rules place i (take (k + 1) fs)
   next_reports below is_f is_n =
@@ -105,19 +103,19 @@ module _ {A : Type 0} (a b d : OutboundState) (x y z : List (Vec ℕ A)) (rules 
 
   -- one fill more was reported
   pub fills_more : {U : Type 0} (t : U) → k < length fs → f ≡ get_or fs k e → n ≡ i + reports_of (take k fs)
-      → Sends a b x y (fills_sent rules place i (take k fs)) all_sent → Sends b d y z (fill_sent rules place n f) (Ok t)
-      → Sends a d x z (fills_sent rules place i (take (k + 1) fs)) all_sent
+      → Sends a b (fills_sent rules place i (take k fs)) all_sent → Sends b d (fill_sent rules place n f) (Ok t)
+      → Sends a d (fills_sent rules place i (take (k + 1) fs)) all_sent
   fills_more t below is_f is_n p q =
-      let rest : Sends b d y z (fill_sent rules place n f) all_sent = record { stamp = q.stamp; result = q.result } in
-      subst (λ (l : List AddressedStep). Sends a d x z l all_sent) (next_reports below is_f is_n)
-      (sends_after a b d x y z (fills_sent rules place i (take k fs)) (fill_sent rules place n f) tt all_sent p rest)
+      subst (λ (l : List AddressedStep). Sends a d l all_sent) (next_reports below is_f is_n)
+      (sends_after a b d (fills_sent rules place i (take k fs)) (fill_sent rules place n f) tt all_sent p
+      (sends_ok b d (fill_sent rules place n f) t tt q))
 
   -- one fill was not reported
   pub fills_stop : (T U : Type 0) (fault : DeskFault) → k < length fs → f ≡ get_or fs k e
       → n ≡ i + reports_of (take k fs)
-      → Sends a b x y (fills_sent rules place i (take k fs)) all_sent
-      → Sends {T = T} b d y z (fill_sent rules place n f) (Err fault)
-      → Sends {T = U} a d x z (fills_sent rules place i fs) (Err fault)
+      → Sends a b (fills_sent rules place i (take k fs)) all_sent
+      → Sends {T = T} b d (fill_sent rules place n f) (Err fault)
+      → Sends {T = U} a d (fills_sent rules place i fs) (Err fault)
   fills_stop T U fault below is_f is_n p w =
       let rest : List AddressedStep = fills_sent rules place (i + reports_of (take (k + 1) fs)) (drop (k + 1) fs) in
       let all : (fills_sent rules place i (take k fs) ++ fill_sent rules place n f)
@@ -125,7 +123,7 @@ module _ {A : Type 0} (a b d : OutboundState) (x y z : List (Vec ℕ A)) (rules 
       ap (λ (l : List AddressedStep). l ++ rest) (next_reports below is_f is_n)
       ∙ (sym (fills_sent-append rules place i (take (k + 1) fs) (drop (k + 1) fs))
       ∙ ap (λ (l : List Fill). fills_sent rules place i l) (take-append-drop (k + 1) fs)) in
-      subst (λ (l : List AddressedStep). Sends {T = U} a d x z l (Err fault)) all
-      (sends_no_more a d x z (fills_sent rules place i (take k fs) ++ fill_sent rules place n f) rest T U fault
-      (sends_after a b d x y z (fills_sent rules place i (take k fs)) (fill_sent rules place n f) {T = T} tt (Err fault)
+      subst (λ (l : List AddressedStep). Sends {T = U} a d l (Err fault)) all
+      (sends_no_more a d (fills_sent rules place i (take k fs) ++ fill_sent rules place n f) rest T U fault
+      (sends_after a b d (fills_sent rules place i (take k fs)) (fill_sent rules place n f) {T = T} tt (Err fault)
       p w))

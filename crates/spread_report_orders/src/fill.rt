@@ -1,5 +1,5 @@
 //! The execution reports of fills: of a spread's the whole, then its two legs.
-ghost use Rattle.std.specs.Prelude.{◌≡◌, ◌<◌, ◌≤◌, ◌+◌, ◌∷◌, [], length, FitsSigned, IfOk};
+ghost use Rattle.std.specs.Prelude.{◌≡◌, ◌<◌, ◌≤◌, ◌+◌, ◌^◌, ◌∷◌, [], FitsSigned, IfOk};
 ghost use Rattle.std.specs.Int.{w64};
 ghost use Rattle.spread_rules.specs.Legs.{other_side};
 ghost use Rattle.spread_rules_rulebook.specs.Rulebook.{month_count};
@@ -13,7 +13,7 @@ use fix_wire_frames::msg_types;
 use spread_report_fields::{
     ExecId, FillReport, MultiLegReportingType, OrdStatus, OrderReport, symbol_of,
 };
-use spread_report_outbound::{DeskFault, OutboundSessions};
+use spread_report_outbound::{DeskFault, Outbox};
 use spread_rules::{Fill, Instrument, Rulebook, Side};
 use spread_rules_ids::Id;
 use spread_rules_ids::limits::SESSIONS;
@@ -31,17 +31,15 @@ struct ReportedPart<'a> {
 
 /// One report of a fill.
 fn send_part<A: Allocator + Copy>(
-    outbound: &mut OutboundSessions,
-    lists: &mut [Vec<u8, A>],
+    outbox: &mut Outbox<'_, A>,
     exec_id: ExecId,
     fill: &Fill,
     part: &ReportedPart<'_>,
 ) -> Result<(), DeskFault>
-    requires lists { length lists.old ≡ SESSIONS }
     requires session { fill.now.session < SESSIONS }
     requires left { fill.now.leaves ≤ fill.now.total }
     requires price { FitsSigned w64 part.now.price }
-    ensures { Sends outbound.old outbound.new lists.old lists.new
+    ensures { Sends outbox.old outbox.new
         (report exec_id.place exec_id.index (part_report fill.now part.now.symbol.now
         part.now.side part.now.price part.now.multi_leg) ∷ []) result }
 {
@@ -62,24 +60,22 @@ fn send_part<A: Allocator + Copy>(
         last_px: part.price,
         multi_leg: part.multi_leg,
     };
-    outbound.send_body(lists, fill.session, msg_types::EXECUTION_REPORT, &report)
+    outbox.send_body(fill.session, msg_types::EXECUTION_REPORT, &report)
 }
 
 /// Reports the legs of a spread's fill, in the near and in the far month.
 fn send_legs<A: Allocator + Copy>(
-    outbound: &mut OutboundSessions,
-    lists: &mut [Vec<u8, A>],
+    outbox: &mut Outbox<'_, A>,
     rules: &Rulebook,
     exec_id: ExecId,
     fill: &Fill,
     months: (u8, u8),
 ) -> Result<(), DeskFault>
-    requires lists { length lists.old ≡ SESSIONS }
     requires near { months.0 < month_count rules.now }
     requires far { months.1 < month_count rules.now }
     requires fits { FitsFill rules.now fill.now }
-    requires index { exec_id.index < 18446744073709551614 }
-    ensures { Sends outbound.old outbound.new lists.old lists.new
+    requires index { exec_id.index + 1 < 2 ^ 64 }
+    ensures { Sends outbox.old outbox.new
         (reports_from exec_id.place exec_id.index
         (leg_reports months.0 months.1 rules.now fill.now)) result }
 {
@@ -91,28 +87,26 @@ fn send_legs<A: Allocator + Copy>(
         price: near_of(fill),
         multi_leg: MultiLegReportingType::IndividualLeg,
     };
-    send_part(outbound, lists, exec_id, fill, &near)?;
+    send_part(outbox, exec_id, fill, &near)?;
     let far = ReportedPart {
         symbol: &far_month,
         side: other_side(fill.side),
         price: far_of(fill),
         multi_leg: MultiLegReportingType::IndividualLeg,
     };
-    send_part(outbound, lists, next(exec_id), fill, &far)
+    send_part(outbox, next(exec_id), fill, &far)
 }
 
 /// Reports a fill: of a spread the whole, then its two legs.
 fn send_fill<A: Allocator + Copy>(
-    outbound: &mut OutboundSessions,
-    lists: &mut [Vec<u8, A>],
+    outbox: &mut Outbox<'_, A>,
     rules: &Rulebook,
     exec_id: ExecId,
     fill: &Fill,
 ) -> Result<(), DeskFault>
-    requires lists { length lists.old ≡ SESSIONS }
     requires fits { FitsFill rules.now fill.now }
-    requires index { exec_id.index < 18446744073709551613 }
-    ensures { Sends outbound.old outbound.new lists.old lists.new
+    requires index { exec_id.index + 2 < 2 ^ 64 }
+    ensures { Sends outbox.old outbox.new
         (reports_from exec_id.place exec_id.index
         (fill_reports rules.now fill.now fill.now.instrument)) result }
 {
@@ -125,7 +119,7 @@ fn send_fill<A: Allocator + Copy>(
                 price: price_of(fill),
                 multi_leg: MultiLegReportingType::SingleSecurity,
             };
-            send_part(outbound, lists, exec_id, fill, &part)
+            send_part(outbox, exec_id, fill, &part)
         }
         Instrument::Spread(near, far) => {
             let part = ReportedPart {
@@ -134,29 +128,27 @@ fn send_fill<A: Allocator + Copy>(
                 price: price_of(fill),
                 multi_leg: MultiLegReportingType::MultiLegSecurity,
             };
-            send_part(outbound, lists, exec_id, fill, &part)?;
-            send_legs(outbound, lists, rules, next(exec_id), fill, (near, far))
+            send_part(outbox, exec_id, fill, &part)?;
+            send_legs(outbox, rules, next(exec_id), fill, (near, far))
         }
     }
 }
 
 /// Reports all fills of an entry, and tells the next index.
 pub fn send_fills<A: Allocator + Copy>(
-    outbound: &mut OutboundSessions,
-    lists: &mut [Vec<u8, A>],
+    outbox: &mut Outbox<'_, A>,
     rules: &Rulebook,
     place: u64,
     fills: &[Fill],
 ) -> Result<u64, DeskFault>
-    requires lists { length lists.old ≡ SESSIONS }
-    requires fills { FitFills rules.now fills.now }
-    ensures sent { Sends outbound.old outbound.new lists.old lists.new
+    requires { FitFills rules.now fills.now }
+    ensures sent { Sends outbox.old outbox.new
         (reports_from place 2 (fills_reports rules.now fills.now)) result }
     ensures index { IfOk result (λ i. i ≡ 2 + reports_of fills.now) }
 {
     let mut index = 2;
     for one in fills {
-        send_fill(outbound, lists, rules, ExecId { place, index }, one)?;
+        send_fill(outbox, rules, ExecId { place, index }, one)?;
         index += report_count(one.instrument);
     }
     Ok(index)
@@ -164,7 +156,7 @@ pub fn send_fills<A: Allocator + Copy>(
 
 /// The ExecID of the report behind.
 fn next(exec_id: ExecId) -> ExecId
-    requires { exec_id.index < 18446744073709551615 }
+    requires { exec_id.index + 1 < 2 ^ 64 }
     ensures { result ≡ record { place = exec_id.place; index = exec_id.index + 1 } }
 {
     ExecId {

@@ -13,8 +13,9 @@ use Rattle.spread_report_outbound.specs.code.PerSession.{messages_bytes, texts_t
 use Rattle.spread_report_outbound.proofs.Steps.{outbound_after-append, messages_bytes-append, texts_to-append, spends-append}
 use Rattle.spread_report_outbound.proofs.FrameRows.{rows_both}
 use Rattle.spread_report_outbound.specs.Sessions.{bytes_of}
-use Rattle.spread_report_outbound.specs.code.Sessions.{OutboundState, outbound_at}
-use Rattle.spread_report_outbound.specs.code.Sending.{Sends, Sent, OnlyAppended, NumbersRunOut, SendResult}
+use Rattle.spread_report_outbound.specs.code.Sessions.{outbound_at}
+use Rattle.spread_report_outbound.specs.code.Sending.{Sends, StaysLent, Sent, OnlyAppended, NumbersRunOut, SendResult}
+use Rattle.spread_report_outbound.specs.declared.outbox.Outbox.{Outbox}
 
 pub row-append : (stamp : List ℕ) (s : ℕ) (l k : OutboundSession) (xs ys : List AddressedStep)
     → k ≡ outbound_after s l xs
@@ -121,42 +122,53 @@ module _ {A : Type 0} (stamp : List ℕ) (a b : List OutboundSession) (x y : Lis
     result_no_more T U NoMemory w = w
     result_no_more T U NumbersSpent w = (w.0, spends_first w.1)
 
--- ---- the same of a desk
+-- ---- the same of an outbox
 
 -- everything was sent
 abbrev pub all_sent : Result (Unit {0}) DeskFault
 all_sent = Ok tt
 
-module _ {A : Type 0} (a b d : OutboundState) (x y z : List (Vec ℕ A)) (ms ns : List AddressedStep) where
+module _ {A : Type 0} (a b d : Outbox A) where
+  lent_both : StaysLent a b → StaysLent b d → StaysLent a d
+  lent_both p q = record { outbound = q.outbound ∙ p.outbound; lists = q.lists ∙ p.lists }
+
   -- these were sent, and this became of those
-  pub sends_after : {T U : Type 0} (t : U) (r : Result T DeskFault)
-      → Sends a b x y ms (Ok t) → Sends b d y z ns r → Sends a d x z (ms ++ ns) r
-  sends_after {T} t r p q =
-      let rest : SendResult a.stamp b.sessions d.sessions y z ns r =
-      subst (λ (s : List ℕ). SendResult s b.sessions d.sessions y z ns r) p.stamp q.result in
+  pub sends_after : (ms ns : List AddressedStep) {T U : Type 0} (t : U) (r : Result T DeskFault)
+      → Sends a b ms (Ok t) → Sends b d ns r → Sends a d (ms ++ ns) r
+  sends_after ms ns {T} t r p q =
+      let before = a.outbound.now in
+      let between = b.outbound.now in
+      let after = d.outbound.now in
+      let rest : SendResult before.stamp between.sessions after.sessions b.lists.now d.lists.now ns r =
+      subst (λ (s : List ℕ). SendResult s between.sessions after.sessions b.lists.now d.lists.now ns r) p.stamp
+      q.result in
       record {
+        lent = lent_both p.lent q.lent;
         stamp = q.stamp ∙ p.stamp;
-        result = result_after a.stamp a.sessions b.sessions d.sessions x y z ms ns r p.result rest;
+        result = result_after before.stamp before.sessions between.sessions after.sessions a.lists.now b.lists.now
+            d.lists.now ms ns r p.result rest;
       }
 
-module _ {A : Type 0} (a b : OutboundState) (x y : List (Vec ℕ A)) (ms ns : List AddressedStep) where
+module _ {A : Type 0} (a b : Outbox A) (ms ns : List AddressedStep) where
   -- where these were not sent, more were not
-  pub sends_no_more : (T U : Type 0) (f : DeskFault)
-      → Sends {T = T} a b x y ms (Err f) → Sends {T = U} a b x y (ms ++ ns) (Err f)
+  pub sends_no_more : (T U : Type 0) (f : DeskFault) → Sends {T = T} a b ms (Err f)
+      → Sends {T = U} a b (ms ++ ns) (Err f)
   sends_no_more T U f p = record {
+    lent = p.lent;
     stamp = p.stamp;
-    result = result_no_more a.stamp a.sessions b.sessions x y ms ns T U f p.result;
+    result = result_no_more a.outbound.now.stamp a.outbound.now.sessions b.outbound.now.sessions a.lists.now
+        b.lists.now ms ns T U f p.result;
   }
 
   -- messages that are the same
-  pub sends_same : {T : Type 0} (r : Result T DeskFault) → ms ≡ ns → Sends a b x y ms r → Sends a b x y ns r
-  sends_same r e w = subst (λ (l : List AddressedStep). Sends a b x y l r) e w
+  pub sends_same : {T : Type 0} (r : Result T DeskFault) → ms ≡ ns → Sends a b ms r → Sends a b ns r
+  sends_same r e w = subst (λ (l : List AddressedStep). Sends a b l r) e w
 
 -- what was sent, or was not, whatever is told besides
-module _ {A : Type 0} (a b : OutboundState) (x y : List (Vec ℕ A)) (ms : List AddressedStep) where
-  pub sends_ok : {T U : Type 0} (t : T) (u : U) → Sends a b x y ms (Ok t) → Sends a b x y ms (Ok u)
-  sends_ok t u p = record { stamp = p.stamp; result = p.result }
+module _ {A : Type 0} (a b : Outbox A) (ms : List AddressedStep) where
+  pub sends_ok : {T U : Type 0} (t : T) (u : U) → Sends a b ms (Ok t) → Sends a b ms (Ok u)
+  sends_ok t u p = record { lent = p.lent; stamp = p.stamp; result = p.result }
 
-  pub sends_err : (T U : Type 0) (f : DeskFault) → Sends {T = T} a b x y ms (Err f) → Sends {T = U} a b x y ms (Err f)
-  sends_err T U NoMemory p = record { stamp = p.stamp; result = p.result }
-  sends_err T U NumbersSpent p = record { stamp = p.stamp; result = p.result }
+  pub sends_err : (T U : Type 0) (f : DeskFault) → Sends {T = T} a b ms (Err f) → Sends {T = U} a b ms (Err f)
+  sends_err T U NoMemory p = record { lent = p.lent; stamp = p.stamp; result = p.result }
+  sends_err T U NumbersSpent p = record { lent = p.lent; stamp = p.stamp; result = p.result }

@@ -1,5 +1,5 @@
 -- One message of one session.
-use Rattle.std.proofs.Common.{◌≡◌, ◌≢◌, ℕ, ◌<◌, nat_lt, codes, subst, true, false, List, [], ◌∷◌, ◌++◌, map, length, get_or, refl, sym, ap, ◌∙◌, inl, inr, arith, append-nil, Option, Some, None, Result}
+use Rattle.std.proofs.Common.{◌≡◌, ◌≢◌, ℕ, ◌<◌, nat_lt, codes, subst, true, false, List, [], ◌∷◌, ◌++◌, map, length, get_or, refl, sym, ap, ◌∙◌, inl, inr, arith, append-nil, Option, Some, None, Result, Ok, Err}
 use Rattle.std.proofs.Math.Bool.{or-false}
 use Rattle.std.proofs.Math.ListN.{set}
 use Rattle.std.proofs.lemmas.List.{map-set, get_or-set_other, get_or-set_same, length-map, length-set, take_all, get_or_default, get_or-map, set-get_or}
@@ -8,7 +8,10 @@ use Rattle.std.specs.declared.vec.Vec.{Vec}
 use Rattle.spread_report_outbound.specs.declared.session.OutboundSession.{OutboundSession}
 use Rattle.spread_report_outbound.specs.declared.session.CompIds.{CompIds}
 use Rattle.spread_report_outbound.specs.declared.fault.DeskFault.{DeskFault}
-use Rattle.spread_report_outbound.specs.Steps.{OutgoingStep, gap_fill, step_texts, after_step, head_of}
+use Rattle.spread_report_outbound.specs.declared.fault.DeskFault.TheVariants.{NoMemory, NumbersSpent}
+use Rattle.fix_wire.specs.declared.writer.Field.{Field}
+use Rattle.std.specs.Result.{OnOk, OnErr, IsErrOf}
+use Rattle.spread_report_outbound.specs.Steps.{OutgoingStep, numbered, gap_fill, step_texts, after_step, head_of}
 use Rattle.spread_report_outbound.specs.code.Steps.{outbound_before_logon}
 use Rattle.spread_report_fields.specs.code.Fields.{text_field, number_field}
 use Rattle.spread_report_outbound.specs.code.Addressed.{AddressedStep, new_seq_no}
@@ -18,8 +21,8 @@ use Rattle.fix_wire.specs.Layout.{message_text}
 use Rattle.spread_report_outbound.specs.Rows.{IsRow}
 use Rattle.spread_report_outbound.proofs.FrameRows.{no_row}
 use Rattle.spread_report_outbound.specs.Sessions.{bytes_of}
-use Rattle.spread_report_outbound.specs.code.Sessions.{outbound_at, KeepsBytes}
-use Rattle.spread_report_outbound.specs.code.Sending.{Sent, OnlyAppended, NumbersRunOut, SendResult}
+use Rattle.spread_report_outbound.specs.code.Sessions.{OutboundState, outbound_at, KeepsBytes}
+use Rattle.spread_report_outbound.specs.code.Sending.{Appended, Sent, OnlyAppended, SendResult}
 
 -- the message
 abbrev pub one : ℕ → OutgoingStep → List AddressedStep
@@ -213,15 +216,97 @@ module _ {A : Type 0} (stamp : List ℕ) (a : List OutboundSession) (x : List (V
       (rw (here, there) (text ∙ ap (λ (u : List ℕ). (get_or x i w).items ++ u) bytes)) (rw here next) (rw here refl)
       (rw here unspent) (rw here whole)
 
+-- one message that is appended to one list, as the code reads the session
 module _ (stamp : List ℕ) (a : List OutboundSession) (i : ℕ) (content : OutgoingStep) (r : OutboundSession)
-    (ids : CompIds) where
-  pub spent_line : length a ≡ 16 → i < 16 → r ≡ get_or a i r → r.comp_ids ≡ Some ids
-      → is_above_limit (record { next = r.next; comp_ids = Some ids }) content ≡ true → NumbersRunOut a (one i content)
-  spent_line in_a below is_r is_ids spent =
-      let here : outbound_at a i ≡ record { next = r.next; comp_ids = Some ids } =
-      get_or_default a i (outbound_before_logon 1) r (rw in_a below)
-      ∙ (sym is_r ∙ ap (λ (o : Option CompIds). record { next = r.next; comp_ids = o }) is_ids) in
-      record { session = i; below = below; spent = spends_same stamp (outbound_at a i) content i ∙ rw here spent }
+    (in_a : length a ≡ 16) (below : i < 16) (is_r : r ≡ get_or a i r) where
+  there_is : (o : Option CompIds) → r.comp_ids ≡ o → outbound_at a i ≡ record { next = r.next; comp_ids = o }
+  there_is o is_o = get_or_default a i (outbound_before_logon 1) r (rw in_a below)
+      ∙ (sym is_r ∙ ap (λ (p : Option CompIds). record { next = r.next; comp_ids = p }) is_o)
+
+  module _ (ids : CompIds) (is_ids : r.comp_ids ≡ Some ids) where
+    abbrev on_line : OutboundSession
+    on_line = record { next = r.next; comp_ids = Some ids }
+
+    pub appended_on : (u v t : List ℕ) (n : ℕ) → v ≡ u ++ t → t ∷ [] ≡ step_texts stamp (Some ids) r.next content
+        → record { next = n; comp_ids = Some ids } ≡ after_step on_line content → is_above_limit on_line content ≡ false
+        → IsRow (t ∷ []) (concat (t ∷ []))
+        → Appended stamp i a (set a i (record { next = n; comp_ids = Some ids })) u v content
+    appended_on u v t n text is_t next unspent row =
+        let here : outbound_at a i ≡ on_line = there_is (Some ids) is_ids in
+        let bytes : t ≡ message_bytes stamp on_line content = sym (append-nil t) ∙ ap concat is_t in
+        record {
+          known = rw in_a below;
+          bytes = rw here (text ∙ ap (λ (w : List ℕ). u ++ w) bytes);
+          outbound = rw here (ap (λ (l : OutboundSession). set a i l) next);
+          unspent = rw here unspent;
+          row = rw here (subst (λ (ts : List (List ℕ)). IsRow ts (concat ts)) is_t row);
+        }
+
+    pub above_on : is_above_limit on_line content ≡ true → is_above_limit (outbound_at a i) content ≡ true
+    above_on above = rw (there_is (Some ids) is_ids) above
+
+  -- before its Logon a session is sent nothing
+  pub appended_off : (u : List ℕ) → r.comp_ids ≡ None → step_texts stamp None r.next content ≡ []
+      → after_step (record { next = r.next; comp_ids = None }) content ≡ record { next = r.next; comp_ids = None }
+      → is_above_limit (record { next = r.next; comp_ids = None }) content ≡ false
+      → Appended stamp i a a u u content
+  appended_off u off text same unspent =
+      let here : outbound_at a i ≡ record { next = r.next; comp_ids = None } = there_is None off in
+      let back : outbound_at a i ≡ get_or a i r = get_or_default a i (outbound_before_logon 1) r (rw in_a below) in
+      record {
+        known = rw in_a below;
+        bytes = rw here (sym (append-nil u) ∙ ap (λ (ts : List (List ℕ)). u ++ concat ts) (sym text));
+        outbound = rw (here, same) (sym (ap (λ (l : OutboundSession). set a i l) (sym here ∙ back) ∙ set-get_or a i r));
+        unspent = rw here unspent;
+        row = rw (here, text) no_row;
+      }
+
+-- what was appended to one list, in all sessions and all lists
+module _ {A : Type 0} (before after : OutboundState) (x : List (Vec ℕ A)) (i : ℕ) (w v : Vec ℕ A) (kind : ℕ)
+    (fields : List Field) (in_x : length x ≡ 16) (below : i < 16) where
+  abbrev sent : OutgoingStep
+  sent = numbered kind fields
+
+  abbrev own : OutboundSession
+  own = outbound_at before.sessions i
+
+  ids_stay : (n : ℕ) (o : Option CompIds) → (after_step (record { next = n; comp_ids = o }) sent).comp_ids ≡ o
+  ids_stay n None = refl
+  ids_stay n (Some ids) = refl
+
+  list_is : bytes_of x i ≡ (get_or x i w).items
+  list_is = get_or-map (λ (u : Vec ℕ A). u.items) x i w [] (rw in_x below)
+
+  sent_numbered : Appended before.stamp i before.sessions after.sessions (get_or x i w).items v.items sent
+      → Sent before.stamp before.sessions after.sessions x (set x i v) (one i sent)
+  sent_numbered p =
+      subst (λ (c : List OutboundSession). Sent before.stamp before.sessions c x (set x i v) (one i sent))
+      (sym p.outbound)
+      (sent_at before.stamp before.sessions x i sent v (after_step own sent) p.known (rw in_x below)
+      (rw list_is p.bytes) refl (ids_stay own.next own.comp_ids) p.unspent p.row)
+
+  appended_nothing : after ≡ before → v.items ≡ (get_or x i w).items
+      → OnlyAppended before.sessions after.sessions x (set x i v)
+  appended_nothing same kept =
+      subst (λ (d : OutboundState). OnlyAppended before.sessions d.sessions x (set x i v)) (sym same)
+      (appended_same before.sessions x i v (rw in_x below) (kept ∙ sym list_is))
+
+  pub sent_one : {T : Type 0} (r : Result T DeskFault)
+      → OnOk r (Appended before.stamp i before.sessions after.sessions (get_or x i w).items v.items sent)
+      → (IsErrOf r NumbersSpent → is_above_limit own sent ≡ true) → OnErr r (after ≡ before)
+      → OnErr r (v.items ≡ (get_or x i w).items)
+      → SendResult before.stamp before.sessions after.sessions x (set x i v) (one i sent) r
+  sent_one (Ok t) appended spent same kept = sent_numbered appended
+  sent_one (Err NoMemory) appended spent same kept = appended_nothing same kept
+  sent_one (Err NumbersSpent) appended spent same kept = (
+    appended_nothing same kept,
+    record { session = i; below = below; spent = spends_same before.stamp own sent i ∙ spent refl },
+  )
+
+  pub kept_one : {T : Type 0} (r : Result T DeskFault) → OnErr r (v.items ≡ (get_or x i w).items)
+      → OnErr r (KeepsBytes x (set x i v))
+  kept_one (Ok t) kept = tt
+  kept_one (Err fault) kept = stays before.sessions x i v (rw in_x below) (kept ∙ sym list_is)
 
 module _ {A : Type 0} (a : List OutboundSession) (x : List (Vec ℕ A)) (i : ℕ) (w : Vec ℕ A) where
   pub appended_line : (v : Vec ℕ A) → length x ≡ 16 → i < 16 → v.items ≡ (get_or x i w).items

@@ -7,7 +7,7 @@ use Rattle.std.proofs.lemmas.List.{length-set, get_or_default, get_or-set_same, 
 use Rattle.spread_report_outbound.specs.declared.session.OutboundSession.{OutboundSession}
 use Rattle.spread_report_outbound.specs.declared.session.CompIds.{CompIds}
 use Rattle.spread_report_outbound.specs.code.Sessions.{outbound_at}
-use Rattle.spread_report_outbound.specs.code.Sending.{sessions_of}
+use Rattle.spread_report_outbound.specs.code.OutboundFields.{sessions_of}
 
 abbrev pub session_of : ℕ → Option CompIds → OutboundSession
 session_of n o = record { next = n; comp_ids = o }

@@ -9,7 +9,7 @@ use Rattle.spread_report_outbound.specs.declared.session.CompIds.{CompIds}
 use Rattle.spread_report_outbound.specs.code.Steps.{outbound_before_logon}
 use Rattle.spread_report_outbound.specs.Sessions.{bytes_of}
 use Rattle.spread_report_outbound.specs.code.Sessions.{OutboundState, outbound_at}
-use Rattle.spread_report_outbound.specs.code.Sending.{sessions_of}
+use Rattle.spread_report_outbound.specs.code.OutboundFields.{sessions_of}
 use Rattle.spread_report_outbound.proofs.OneMessage.{row_same, row_other}
 use Rattle.spread_report_outbound.proofs.SessionsOf.{session_of, length-sessions_of, get_or-sessions_of}
 

@@ -1,5 +1,5 @@
 -- The sessions' lists and their outbound states, session by session.
-use Rattle.std.specs.Prelude.{◌≡◌, ℕ, ◌<◌, List, [], map, ◌&&◌, if◌then◌else◌, slice_index_or}
+use Rattle.std.specs.Prelude.{ℕ, List, [], map, slice_index_or}
 use Rattle.std.specs.declared.vec.Vec.{Vec}
 
 -- the bytes of session s

@@ -3,13 +3,16 @@ ghost use Rattle.std.specs.Prelude.{◌≡◌};
 ghost use Rattle.spread_report_outbound.specs.Faults.{fault_number};
 
 use spread_rules_ends::NoMemory;
+use thiserror::Error;
 
 /// Why messages were not sent: of one message, or of an entry. Nothing has changed then.
-#[derive(Clone, Copy, Debug, PartialEq, Eq)]
+#[derive(Clone, Copy, Debug, PartialEq, Eq, Error)]
 pub enum DeskFault {
     /// A request for memory was refused.
+    #[error("no memory")]
     NoMemory,
     /// A message would have to bear a number above the limit.
+    #[error("numbers spent")]
     NumbersSpent,
 }
 

@@ -3,12 +3,14 @@
 
 mod fault;
 mod gap_fill;
+mod outbox;
 mod parties;
 mod sending;
 mod session;
 mod taking_back;
 
 pub use fault::DeskFault;
-pub use sending::OutboundSessions;
+pub use outbox::Outbox;
+pub use sending::{MAX_FIELDS, OutboundSessions};
 pub use session::{CompIds, OutboundSession};
 pub use taking_back::Mark;

@@ -1,7 +1,7 @@
 //! The CompIDs of the sessions, spelled for their messages.
 ghost use Rattle.std.specs.Prelude.{◌≡◌, Some, length};
 ghost use Rattle.fix_wire.specs.Layout.{SpellsParties};
-ghost use Rattle.spread_report_outbound.specs.code.Sending.{AreSpelled};
+ghost use Rattle.spread_report_outbound.specs.code.OutboundFields.{AreSpelled};
 
 use crate::session::CompIds;
 use fix_wire::SpelledParties;

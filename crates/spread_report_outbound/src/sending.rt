@@ -1,21 +1,31 @@
 //! Messages that bear their session's next number.
-ghost use Rattle.std.specs.Prelude.{◌≡◌, ◌≢◌, ℕ, ◌<◌, ◌≤◌, ◌==◌, ◌∷◌, [], true, length, Some, OnErr, if◌then◌else◌};
+ghost use Rattle.std.specs.Prelude.{◌≡◌, ◌≢◌, ℕ, ◌<◌, ◌≤◌, ◌==◌, ◌∷◌, [], true, length, Some, OnOk, OnErr, IsErrOf, if◌then◌else◌};
 ghost use Rattle.std.specs.List.{list_all};
 ghost use Rattle.spread_report_outbound.specs.code.Sessions.{sessions_starting, sessions_at, outbound_at, KeepsBytes};
 ghost use Rattle.spread_report_outbound.specs.code.Addressed.{has_tag, numbered_message};
-ghost use Rattle.spread_report_outbound.specs.code.Sending.{Sends};
+ghost use Rattle.spread_report_outbound.specs.code.PerSession.{is_above_limit};
+ghost use Rattle.spread_report_outbound.specs.code.Sending.{Appended, StaysLent, Sends};
+ghost use Rattle.spread_report_outbound.specs.Steps.{numbered};
+ghost use Rattle.spread_report_outbound.specs.declared.fault.DeskFault.TheVariants.{NumbersSpent};
 
 use crate::fault::DeskFault;
+use crate::outbox::Outbox;
 use crate::parties::{spell_parties, spelled_parties};
 use crate::session::CompIds;
-use fix_wire::{Body, Field, FieldList, SpelledHead, SpelledParties, write_body};
+use fix_wire::{
+    Body, FIELD_ROOM, FRAME_ROOM, Field, FieldList, SpelledHead, SpelledParties, write_body,
+};
 use spread_rules_ids::Id;
+use spread_rules_ids::bytes::SOH;
 use spread_rules_ids::limits::{MAX_MSG_SEQ_NUM, SESSIONS};
 use std::alloc::Allocator;
 use std::marker::Model;
 
-/// Room for one message of up to 18 fields.
-const MESSAGE_ROOM: usize = 1408;
+/// The most fields that a message has behind its standard header.
+pub const MAX_FIELDS: usize = 18;
+
+/// Room for one message of so many fields.
+const MESSAGE_ROOM: usize = FIELD_ROOM * MAX_FIELDS + FRAME_ROOM;
 
 /// For each of the sixteen sessions the number that its next message bears, and the CompIDs of its last Logon; and the
 /// stamp that every message bears as its SendingTime.
@@ -34,7 +44,7 @@ pub struct OutboundSessions {
 
 impl Model for OutboundSessions {
     ghost use Rattle.spread_report_outbound.specs.code.Sessions.{OutboundState};
-    ghost use Rattle.spread_report_outbound.specs.code.Sending.{state_of, AreKept};
+    ghost use Rattle.spread_report_outbound.specs.code.OutboundFields.{state_of, AreKept};
 
     ghost Value = { OutboundState };
 
@@ -62,37 +72,27 @@ impl OutboundSessions {
         }
     }
 
-    /// Gives a session the CompIDs that its Logon brings.
-    pub fn log_on(&mut self, session: u8, comp_ids: CompIds)
-        requires { session < SESSIONS }
-        ensures stamp { self.new.stamp ≡ self.old.stamp }
-        ensures logged_on { (s : ℕ) → s < SESSIONS → outbound_at self.new.sessions s
-            ≡ (if session == s
-            then record (outbound_at self.old.sessions s) { comp_ids = Some comp_ids }
-            else outbound_at self.old.sessions s) }
-    {
-        self.comp_ids[session as usize] = Some(comp_ids);
-        spell_parties(&mut self.parties, &self.comp_ids, &self.stamp);
-    }
-
-    /// Appends a message that bears the session's next number to its list, and uses that number; before its Logon a session
-    /// is sent nothing. After an error nothing has changed.
-    pub fn send_body<A: Allocator + Copy, B: Body>(
+    /// Appends a message that bears the session's next number to this list of the session's, and uses that number; before its
+    /// Logon a session is sent nothing. After an error nothing has changed.
+    #[inline(always)]
+    fn append<A: Allocator, B: Body>(
         &mut self,
-        lists: &mut [Vec<u8, A>],
+        list: &mut Vec<u8, A>,
         session: u8,
         kind: u8,
         body: &B,
     ) -> Result<(), DeskFault>
-        requires lists { length lists.old ≡ SESSIONS }
         requires session { session < SESSIONS }
-        requires kind { kind ≢ 1 }
+        requires kind { kind ≢ SOH }
         requires tags { list_all has_tag (B.fields body.now) ≡ true }
-        requires few { length (B.fields body.now) ≤ 18 }
-        ensures sent { Sends self.old self.new lists.old lists.new
-            (numbered_message session kind (B.fields body.now) ∷ []) result }
+        requires few { length (B.fields body.now) ≤ MAX_FIELDS }
+        ensures appended { OnOk result (Appended self.old.stamp session self.old.sessions self.new.sessions
+            list.old.items list.new.items (numbered kind (B.fields body.now))) }
+        ensures spent { IsErrOf result NumbersSpent → is_above_limit
+            (outbound_at self.old.sessions session) (numbered kind (B.fields body.now)) ≡ true }
+        ensures stamp { self.new.stamp ≡ self.old.stamp }
         ensures unchanged_on_err { OnErr result (self.new ≡ self.old) }
-        ensures lists_kept { OnErr result (KeepsBytes lists.old lists.new) }
+        ensures list_kept { OnErr result (list.new.items ≡ list.old.items) }
     {
         let at = session as usize;
         match self.comp_ids[at] {
@@ -108,32 +108,59 @@ impl OutboundSessions {
                     orig_time: None,
                     parties: &self.parties[at],
                 };
-                write_body(&mut self.room, &mut lists[at], &head, body)?;
+                write_body(&mut self.room, list, &head, body)?;
                 self.numbers[at] = number + 1;
                 Ok(())
             }
         }
     }
+}
+
+impl<A: Allocator> Outbox<'_, A> {
+    /// Gives a session the CompIDs that its Logon brings.
+    pub fn log_on(&mut self, session: u8, comp_ids: CompIds)
+        requires { session < SESSIONS }
+        ensures lent { StaysLent self.old self.new }
+        ensures lists { self.new.lists.now ≡ self.old.lists.now }
+        ensures stamp { self.new.outbound.now.stamp ≡ self.old.outbound.now.stamp }
+        ensures logged_on { (s : ℕ) → s < SESSIONS → outbound_at self.new.outbound.now.sessions s
+            ≡ (if session == s
+            then record (outbound_at self.old.outbound.now.sessions s) { comp_ids = Some comp_ids }
+            else outbound_at self.old.outbound.now.sessions s) }
+    {
+        let outbound = &mut *self.outbound;
+        outbound.comp_ids[session as usize] = Some(comp_ids);
+        spell_parties(&mut outbound.parties, &outbound.comp_ids, &outbound.stamp);
+    }
+
+    /// Appends a message that bears the session's next number to its list, and uses that number; before its Logon a session
+    /// is sent nothing. After an error nothing has changed.
+    pub fn send_body<B: Body>(&mut self, session: u8, kind: u8, body: &B) -> Result<(), DeskFault>
+        requires session { session < SESSIONS }
+        requires kind { kind ≢ SOH }
+        requires tags { list_all has_tag (B.fields body.now) ≡ true }
+        requires few { length (B.fields body.now) ≤ MAX_FIELDS }
+        ensures sent { Sends self.old self.new
+            (numbered_message session kind (B.fields body.now) ∷ []) result }
+        ensures unchanged_on_err { OnErr result (self.new.outbound.now ≡ self.old.outbound.now) }
+        ensures lists_kept { OnErr result (KeepsBytes self.old.lists.now self.new.lists.now) }
+    {
+        let lists = &mut *self.lists;
+        let list = &mut lists[session as usize];
+        self.outbound.append(list, session, kind, body)
+    }
 
     /// Sends a message of any fields, as `send_body` does.
-    pub fn send<A: Allocator + Copy>(
-        &mut self,
-        lists: &mut [Vec<u8, A>],
-        session: u8,
-        kind: u8,
-        fields: &[Field],
-    ) -> Result<(), DeskFault>
-        requires lists { length lists.old ≡ SESSIONS }
+    pub fn send(&mut self, session: u8, kind: u8, fields: &[Field]) -> Result<(), DeskFault>
         requires session { session < SESSIONS }
-        requires kind { kind ≢ 1 }
+        requires kind { kind ≢ SOH }
         requires tags { list_all has_tag fields.now ≡ true }
-        requires few { length fields.now ≤ 18 }
-        ensures sent { Sends self.old self.new lists.old lists.new
-            (numbered_message session kind fields.now ∷ []) result }
-        ensures unchanged_on_err { OnErr result (self.new ≡ self.old) }
-        ensures lists_kept { OnErr result (KeepsBytes lists.old lists.new) }
+        requires few { length fields.now ≤ MAX_FIELDS }
+        ensures sent { Sends self.old self.new (numbered_message session kind fields.now ∷ []) result }
+        ensures unchanged_on_err { OnErr result (self.new.outbound.now ≡ self.old.outbound.now) }
+        ensures lists_kept { OnErr result (KeepsBytes self.old.lists.now self.new.lists.now) }
     {
-        self.send_body(lists, session, kind, &FieldList { fields })
+        self.send_body(session, kind, &FieldList { fields })
     }
 }
 

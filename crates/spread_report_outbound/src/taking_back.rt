@@ -4,8 +4,8 @@ ghost use Rattle.spread_rules_ids.specs.declared.limits.TheConstants.{SESSIONS};
 ghost use Rattle.spread_report_outbound.specs.Sessions.{bytes_of};
 ghost use Rattle.spread_report_outbound.specs.code.Sessions.{OutboundState, texts_of, session_text};
 
+use crate::outbox::Outbox;
 use crate::parties::spell_parties;
-use crate::sending::OutboundSessions;
 use crate::session::CompIds;
 use spread_rules_ids::limits::SESSIONS;
 use std::alloc::Allocator;
@@ -21,22 +21,23 @@ pub struct Mark {
     ghost counted: { length numbers ≡ SESSIONS },
 }
 
-impl OutboundSessions {
+impl<A: Allocator> Outbox<'_, A> {
+    ghost use Rattle.spread_report_outbound.specs.code.Sending.{StaysLent};
     ghost use Rattle.spread_report_outbound.specs.code.TakingBack.{IsMark, SentSince};
 
     /// Notes how the sessions and their lists stand before this session's entry, which alone may bring other CompIDs.
-    pub fn mark<A: Allocator>(&self, lists: &[Vec<u8, A>], session: u8) -> Mark
-        requires lists { length lists.now ≡ SESSIONS }
-        requires session { session < SESSIONS }
-        ensures { IsMark result session self.now (texts_of lists.now) }
+    pub fn mark(&self, session: u8) -> Mark
+        requires { session < SESSIONS }
+        ensures { IsMark result session self.now.outbound.now (texts_of self.now.lists.now) }
     {
+        let outbound = &*self.outbound;
         let mut mark = Mark {
             lengths: [0; SESSIONS],
-            numbers: self.numbers,
+            numbers: outbound.numbers,
             session,
-            comp_ids: self.comp_ids[session as usize],
+            comp_ids: outbound.comp_ids[session as usize],
         };
-        note_lengths(lists, &mut mark.lengths);
+        note_lengths(self.lists, &mut mark.lengths);
         mark
     }
 
@@ -44,22 +45,23 @@ impl OutboundSessions {
     /// entry is refused, and stands apart from the code of the others.
     #[cold]
     #[inline(never)]
-    pub fn take_back<A: Allocator>(&mut self, lists: &mut [Vec<u8, A>], mark: &Mark)
-        requires { length lists.old ≡ SESSIONS }
+    pub fn take_back(&mut self, mark: &Mark)
+        ensures lent { StaysLent self.old self.new }
         ensures sessions { (session : ℕ) (before : OutboundState) (texts : List (List ℕ)) →
             IsMark mark.now session before texts →
-            SentSince session before self.old texts (texts_of lists.old) → self.new ≡ before }
+            SentSince session before self.old.outbound.now texts (texts_of self.old.lists.now) →
+            self.new.outbound.now ≡ before }
         ensures lists { (session : ℕ) (before : OutboundState) (texts : List (List ℕ)) →
             IsMark mark.now session before texts →
-            SentSince session before self.old texts (texts_of lists.old) →
-            (s : ℕ) → s < SESSIONS → bytes_of lists.new s ≡ session_text texts s }
-        ensures stamp { self.new.stamp ≡ self.old.stamp }
-        ensures count { length lists.new ≡ SESSIONS }
+            SentSince session before self.old.outbound.now texts (texts_of self.old.lists.now) →
+            (s : ℕ) → s < SESSIONS → bytes_of self.new.lists.now s ≡ session_text texts s }
+        ensures stamp { self.new.outbound.now.stamp ≡ self.old.outbound.now.stamp }
     {
-        self.numbers = mark.numbers;
-        self.comp_ids[mark.session as usize] = mark.comp_ids;
-        spell_parties(&mut self.parties, &self.comp_ids, &self.stamp);
-        cut_back(lists, &mark.lengths);
+        let outbound = &mut *self.outbound;
+        outbound.numbers = mark.numbers;
+        outbound.comp_ids[mark.session as usize] = mark.comp_ids;
+        spell_parties(&mut outbound.parties, &outbound.comp_ids, &outbound.stamp);
+        cut_back(self.lists, &mark.lengths);
     }
 }
 

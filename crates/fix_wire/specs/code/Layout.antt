@@ -1,5 +1,5 @@
 -- Words of the code alone, beside `Layout`: no promise of a whole day needs them to be read.
-use Rattle.std.specs.Prelude.{◌≡◌, ◌≢◌, ℕ, ◌%◌, ◌<◌, ◌≤◌, ◌^◌, Bool, if◌then◌else◌, List, [], ◌∷◌, ◌++◌, length, sum, decimal}
+use Rattle.std.specs.Prelude.{ℕ, ◌%◌, Bool, if◌then◌else◌, List, [], ◌∷◌, ◌++◌, length, sum, decimal}
 use Rattle.spread_rules_ids.specs.declared.bytes.TheConstants.{SOH}
 use Rattle.fix_wire.specs.declared.writer.Field as given
 use Rattle.fix_wire_frames.specs.Frames.{begin_text, checksum_field}

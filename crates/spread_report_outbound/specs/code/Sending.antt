@@ -1,42 +1,29 @@
 -- What sending some messages does to the sessions, `a` before and `b` after, and to their lists, `x` before and `y`
--- after. Words of the code alone.
-use Rattle.std.specs.Prelude.{◌≡◌, ℕ, ◌<◌, true, false, List, [], ◌∷◌, ◌++◌, length, take, slice_index_or, Option, Some, None, Result, Ok, Err}
+-- after; and to an outbox, which lends both. Words of the code alone.
+use Rattle.std.specs.Prelude.{◌≡◌, ℕ, ◌<◌, true, false, List, ◌++◌, length, take, slice_set, Result, Ok, Err}
 use Rattle.std.specs.declared.vec.Vec.{Vec}
 use Rattle.spread_rules_ids.specs.declared.limits.TheConstants.{SESSIONS}
-use Rattle.fix_wire.specs.declared.parties.SpelledParties.{SpelledParties}
-use Rattle.fix_wire.specs.Layout.{SpellsParties}
-use Rattle.spread_report_outbound.specs.declared.session.CompIds.{CompIds}
 use Rattle.spread_report_outbound.specs.declared.session.OutboundSession.{OutboundSession}
 use Rattle.spread_report_outbound.specs.declared.fault.DeskFault.{DeskFault}
 use Rattle.spread_report_outbound.specs.declared.fault.DeskFault.TheVariants.{NoMemory, NumbersSpent}
-use Rattle.spread_report_outbound.specs.declared.sending.OutboundSessions.TheInside.{Inside}
+use Rattle.spread_report_outbound.specs.declared.outbox.Outbox.{Outbox}
 use Rattle.spread_report_outbound.specs.code.Addressed.{AddressedStep}
+use Rattle.spread_report_outbound.specs.Steps.{OutgoingStep, step_texts, after_step}
 use Rattle.spread_report_outbound.specs.Rows.{IsRow}
-use Rattle.spread_report_outbound.specs.code.PerSession.{messages_bytes, texts_to, outbound_after, spends}
+use Rattle.spread_report_outbound.specs.code.PerSession.{message_bytes, is_above_limit, messages_bytes, texts_to, outbound_after, spends}
 use Rattle.spread_report_outbound.specs.Sessions.{bytes_of}
-use Rattle.spread_report_outbound.specs.code.Sessions.{OutboundState, outbound_at}
+use Rattle.spread_report_outbound.specs.code.Sessions.{outbound_at}
 
--- each session with its next number and its CompIDs
-abbrev pub sessions_of : List ℕ → List (Option CompIds) → List OutboundSession
-sessions_of [] os = []
-sessions_of (n ∷ ns) [] = []
-sessions_of (n ∷ ns) (o ∷ os) = record { next = n; comp_ids = o } ∷ sessions_of ns os
-
--- what callers see of the sessions
-abbrev pub state_of : Inside → OutboundState
-state_of d = record { stamp = d.stamp; sessions = sessions_of d.numbers d.comp_ids }
-
--- of each session that has CompIDs, these and the stamp are spelled
-abbrev pub AreSpelled : List ℕ → List (Option CompIds) → List SpelledParties → Type 0
-AreSpelled stamp comp_ids parties = (s : ℕ) → s < SESSIONS → (ids : CompIds)
-    → slice_index_or comp_ids s None ≡ Some ids → (p : SpelledParties)
-    → SpellsParties (slice_index_or parties s p) ids.host ids.client stamp
-
--- each session has a number and may have CompIDs, which are spelled then
-pub record AreKept (d : Inside) : Type 0 where
-  pub numbers : length d.numbers ≡ SESSIONS
-  pub comp_ids : length d.comp_ids ≡ SESSIONS
-  pub spelled : AreSpelled d.stamp d.comp_ids d.parties
+-- To one list of session s exactly the text of this step was appended, a row of whole frames, and the session's outbound
+-- state went on with it.
+pub record Appended (stamp : List ℕ) (s : ℕ) (a b : List OutboundSession) (x y : List ℕ)
+    (step : OutgoingStep) : Type 0 where
+  pub known : s < length a
+  pub bytes : y ≡ x ++ message_bytes stamp (outbound_at a s) step
+  pub outbound : b ≡ slice_set a s (after_step (outbound_at a s) step)
+  pub unspent : is_above_limit (outbound_at a s) step ≡ false
+  pub row : IsRow (step_texts stamp (outbound_at a s).comp_ids (outbound_at a s).next step)
+      (message_bytes stamp (outbound_at a s) step)
 
 -- to each session exactly what these messages send it was appended, a row of whole frames, and its
 -- outbound state went on with them; its CompIDs stayed
@@ -73,8 +60,14 @@ SendResult stamp a b x y ms (Ok r) = Sent stamp a b x y ms
 SendResult stamp a b x y ms (Err NoMemory) = OnlyAppended a b x y
 SendResult stamp a b x y ms (Err NumbersSpent) = OnlyAppended a b x y × NumbersRunOut a ms
 
+-- the sessions and the lists that were lent stay lent
+pub record StaysLent {A : Type 0} (a b : Outbox A) : Type 0 where
+  pub outbound : b.outbound.ghost_name ≡ a.outbound.ghost_name
+  pub lists : b.lists.ghost_name ≡ a.lists.ghost_name
+
 -- what became of the sessions and of their lists as these messages were sent
-pub record Sends {A T : Type 0} (a b : OutboundState) (x y : List (Vec ℕ A))
-    (ms : List AddressedStep) (r : Result T DeskFault) : Type 0 where
-  pub stamp : b.stamp ≡ a.stamp
-  pub result : SendResult a.stamp a.sessions b.sessions x y ms r
+pub record Sends {A T : Type 0} (a b : Outbox A) (ms : List AddressedStep) (r : Result T DeskFault) : Type 0 where
+  pub lent : StaysLent a b
+  pub stamp : b.outbound.now.stamp ≡ a.outbound.now.stamp
+  pub result : SendResult a.outbound.now.stamp a.outbound.now.sessions b.outbound.now.sessions a.lists.now b.lists.now
+      ms r

@@ -1,5 +1,5 @@
 -- Words of the code alone, beside `Steps`: no promise of a whole day needs them to be read.
-use Rattle.std.specs.Prelude.{ℕ, ◌+◌, ◌==◌, ◌||◌, if◌then◌else◌, [], ◌∷◌, ◌++◌, None}
+use Rattle.std.specs.Prelude.{ℕ, None}
 use Rattle.spread_report_outbound.specs.declared.session.OutboundSession.{OutboundSession}
 
 -- before its Logon, with this next number

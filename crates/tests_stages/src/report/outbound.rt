@@ -3,7 +3,7 @@ use crate::expect::holds;
 use fix_wire::{Field, Value};
 use fix_wire_frames::{msg_types, tags};
 use spread_report_fields::text_field;
-use spread_report_outbound::{CompIds, Mark, OutboundSessions};
+use spread_report_outbound::{CompIds, Mark, OutboundSessions, Outbox};
 use std::alloc::Global;
 use std::process::Abort;
 use tests_shared::{id, stamp};
@@ -29,15 +29,24 @@ fn comp_ids() -> CompIds {
     }
 }
 
+/// How the sessions and their lists stand once session 0 has logged on. None where there are not sixteen lists.
+fn logged_on(outbound: &mut OutboundSessions, lists: &mut [Vec<u8>]) -> Option<Mark> {
+    if lists.len() != 16 {
+        return None;
+    }
+    let mut outbox = Outbox::new(outbound, lists);
+    outbox.log_on(0, comp_ids());
+    Some(outbox.mark(0))
+}
+
 /// Whether session 0 is sent a Heartbeat.
 fn is_sent(outbound: &mut OutboundSessions, lists: &mut [Vec<u8>]) -> bool {
     if lists.len() != 16 {
         return false;
     }
     let fields = [text_field!(tags::TEST_REQ_ID, id(b"T"))];
-    outbound
-        .send(lists, 0, msg_types::HEARTBEAT, &fields)
-        .is_ok()
+    let mut outbox = Outbox::new(outbound, lists);
+    outbox.send(0, msg_types::HEARTBEAT, &fields).is_ok()
 }
 
 /// Whether session 0 is sent a gap fill for its numbers from 2 on.
@@ -45,7 +54,8 @@ fn is_filled(outbound: &mut OutboundSessions, lists: &mut [Vec<u8>]) -> bool {
     if lists.len() != 16 {
         return false;
     }
-    outbound.fill_gap(lists, 0, 2, 0).is_ok()
+    let mut outbox = Outbox::new(outbound, lists);
+    outbox.fill_gap(0, 2, 0).is_ok()
 }
 
 /// Whether all is taken back to the mark.
@@ -53,7 +63,8 @@ fn is_taken_back(outbound: &mut OutboundSessions, lists: &mut [Vec<u8>], mark: &
     if lists.len() != 16 {
         return false;
     }
-    outbound.take_back(lists, mark);
+    let mut outbox = Outbox::new(outbound, lists);
+    outbox.take_back(mark);
     true
 }
 
@@ -69,12 +80,10 @@ fn was_sent(lists: &[Vec<u8>], want: &[u8]) -> bool {
 fn sent_and_taken_back(rt: HostRuntime) {
     let mut lists = sixteen_lists(&rt, rt.alloc());
     let lists = lists.as_mut_slice();
-    if lists.len() != 16 {
-        rt.panic("sixteen lists");
-    }
     let mut outbound = OutboundSessions::new(stamp());
-    outbound.log_on(0, comp_ids());
-    let mark = outbound.mark(lists, 0);
+    let Some(mark) = logged_on(&mut outbound, lists) else {
+        rt.panic("sixteen lists");
+    };
     for _ in 0..2 {
         holds(&rt, is_sent(&mut outbound, lists));
         holds(&rt, was_sent(lists, FIRST_HEARTBEAT));
@@ -94,7 +103,10 @@ fn numbers_start_at_another_one(rt: HostRuntime) {
         rt.panic("a number within the limit");
     };
     let mut lists = sixteen_lists(&rt, rt.alloc());
-    outbound.log_on(0, comp_ids());
+    holds(
+        &rt,
+        logged_on(&mut outbound, lists.as_mut_slice()).is_some(),
+    );
     holds(&rt, is_filled(&mut outbound, lists.as_mut_slice()));
     holds(&rt, is_sent(&mut outbound, lists.as_mut_slice()));
     holds(&rt, was_sent(&lists, HEARTBEAT_BEHIND_A_GAP_FILL));

@@ -30,6 +30,6 @@ returns g c =
     let message = λ (f : Field). numbered_message q.session 57
     (f ∷ text_field 11 q.id.now ∷ text_field 41 q.original.now ∷ number_field 39 c.args.refusal.status ∷
     number_field 434 c.args.refusal.response_to ∷ number_field 102 c.args.refusal.reason ∷ []) ∷ [] in
-    sends_same c.args.outbound.now c.send.new.self c.args.lists.now c.send.new.lists
+    sends_same c.args.outbox.now c.send.new.self
     (message (with_37 c.if-refusal-eq0.named)) (message (place_field c.args.refusal.place)) c.send.result
     (ap message named) c.send.ensures.sent

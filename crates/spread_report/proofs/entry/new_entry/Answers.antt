@@ -18,13 +18,12 @@ returns-in_ok-index-in-Ended g c =
     let last : ExecutionReport = ended_report o.session o.place o.ticket.now c.in-Ended.left in
     let sent : List AddressedStep = reports_from o.place 1 (first ∷ fills_reports c.args.rules.now c.args.fills.now) in
     let e = rw c.in_ok-index-in-Ended.ensures.index at c.send_ended.ensures in
-    let all = sends_after c.args.outbound.now c.accepted_with_fills-in-Ended.new.outbound c.send_ended.new.outbound
-    c.args.lists.now c.accepted_with_fills-in-Ended.new.lists c.send_ended.new.lists
+    let all = sends_after c.args.outbox.now c.accepted_with_fills-in-Ended.new.outbox c.send_ended.new.outbox
     sent
     (report o.place (2 + reports_of c.args.fills.now) last ∷ []) c.in_ok-index-in-Ended.index c.send_ended.result
     c.in_ok-index-in-Ended.ensures.sent e in
     rw (c.in-Ended.is, ← c.in-Ended.left-is)
-    (sends_same c.args.outbound.now c.send_ended.new.outbound c.args.lists.now c.send_ended.new.lists
+    (sends_same c.args.outbox.now c.send_ended.new.outbox
     (sent ++ report o.place (2 + reports_of c.args.fills.now) last ∷ [])
     (event_messages c.args.rules.now o.place o.session (New o.ticket.now) (Ended c.in-Ended.left) c.args.fills.now)
     c.send_ended.result
@@ -40,13 +39,11 @@ returns-in_err-index-in-Ended g c =
     let last : ExecutionReport = ended_report o.session o.place o.ticket.now c.in-Ended.left in
     let sent : List AddressedStep = reports_from o.place 1 (first ∷ fills_reports c.args.rules.now c.args.fills.now) in
     let behind : List AddressedStep = report o.place (2 + reports_of c.args.fills.now) last ∷ [] in
-    let all = sends_no_more c.args.outbound.now c.accepted_with_fills-in-Ended.new.outbound c.args.lists.now
-    c.accepted_with_fills-in-Ended.new.lists
+    let all = sends_no_more c.args.outbox.now c.accepted_with_fills-in-Ended.new.outbox
     sent behind ℕ (Unit {0}) fault c.in_err-index-in-Ended.ensures.sent in
     let ended : c.args.outcome.now ≡ Ended c.in-Ended.left = rw c.in-Ended.left-is c.in-Ended.is in
     rw (p.1, p.2)
-    (sends_same c.args.outbound.now c.accepted_with_fills-in-Ended.new.outbound c.args.lists.now
-    c.accepted_with_fills-in-Ended.new.lists
+    (sends_same c.args.outbox.now c.accepted_with_fills-in-Ended.new.outbox
     (sent ++ behind)
     (event_messages c.args.rules.now o.place o.session (New o.ticket.now) c.args.outcome.now c.args.fills.now)
     {T = Unit {0}} (Err fault)

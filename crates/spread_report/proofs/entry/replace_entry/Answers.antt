@@ -14,10 +14,9 @@ returns-in_ok-send_fills-in-Replaced g c =
     c.args.ticket.now.id c.args.original.now o) ∷ [] in
     let rest = reports_from a.place 2 (fills_reports c.args.rules.now a.fills.now) in
     let sent = rw (c.symbol_of-symbol.ensures, c.in-Replaced.order-is) at c.in_ok-send_replaced-in-Replaced.ensures in
-    let all = sends_after c.args.outbound.now c.send_replaced.new.outbound c.send_fills.new.outbound c.args.lists.now
-    c.send_replaced.new.lists c.send_fills.new.lists
+    let all = sends_after c.args.outbox.now c.send_replaced.new.outbox c.send_fills.new.outbox
     first rest tt (Ok c.in_ok-send_fills-in-Replaced.field-0) sent c.in_ok-send_fills-in-Replaced.ensures.sent in
-    rw c.in-Replaced.is (sends_ok c.args.outbound.now c.send_fills.new.outbound c.args.lists.now c.send_fills.new.lists
+    rw c.in-Replaced.is (sends_ok c.args.outbox.now c.send_fills.new.outbox
     (first ++ rest) c.in_ok-send_fills-in-Replaced.field-0 tt all)
 
 pub returns-in_err-send_fills-in-Replaced : goal.returns-in_err-send_fills-in-Replaced
@@ -31,11 +30,10 @@ returns-in_err-send_fills-in-Replaced g c =
     c.args.ticket.now.id c.args.original.now o) ∷ [] in
     let rest = reports_from a.place 2 (fills_reports c.args.rules.now a.fills.now) in
     let sent = rw (c.symbol_of-symbol.ensures, c.in-Replaced.order-is) at c.in_ok-send_replaced-in-Replaced.ensures in
-    let all = sends_after c.args.outbound.now c.send_replaced.new.outbound c.send_fills.new.outbound c.args.lists.now
-    c.send_replaced.new.lists c.send_fills.new.lists
+    let all = sends_after c.args.outbox.now c.send_replaced.new.outbox c.send_fills.new.outbox
     first rest {T = ℕ} tt (Err fault) sent c.in_err-send_fills-in-Replaced.ensures.sent in
-    rw (p.1, p.2, c.in-Replaced.is) (sends_err c.args.outbound.now c.send_fills.new.outbound c.args.lists.now
-    c.send_fills.new.lists (first ++ rest) ℕ (Unit {0}) fault all)
+    rw (p.1, p.2, c.in-Replaced.is) (sends_err c.args.outbox.now c.send_fills.new.outbox (first ++ rest) ℕ (Unit {0})
+    fault all)
 
 pub returns-in-CancelRefused : goal.returns-in-CancelRefused
 returns-in-CancelRefused g c =

@@ -17,7 +17,7 @@ returns-in-Outright g c =
     (fill_reports c.args.rules.now f k) in
     let w = rw (c.symbol_of-symbol.ensures, c.price_of.ensures.value, to_z-of_z w64 f.price c.price_of.ensures.fits) at
     c.send_part.ensures in
-    sends_same c.args.outbound.now c.send_part.new.outbound c.args.lists.now c.send_part.new.lists
+    sends_same c.args.outbox.now c.send_part.new.outbox
     (reports (Outright c.in-Outright.field-0)) (reports f.instrument) c.send_part.result
     (ap reports (sym c.in-Outright.is)) w
 
@@ -32,12 +32,11 @@ returns-in_ok-send_part-in-Spread g c =
       to_z-of_z w64 f.price c.price_of-in-Spread.ensures.fits,
     ) at c.in_ok-send_part-in-Spread.ensures in
     let two = rw c.next.ensures at c.send_legs.ensures in
-    let all = sends_after c.args.outbound.now c.send_part-in-Spread.new.outbound c.send_legs.new.outbound
-    c.args.lists.now c.send_part-in-Spread.new.lists c.send_legs.new.lists
+    let all = sends_after c.args.outbox.now c.send_part-in-Spread.new.outbox c.send_legs.new.outbox
     (report id.place id.index (part_report f (symbol_of c.args.rules.now f.instrument) f.side f.price MultiLegSecurity)
     ∷ [])
     (reports_from id.place (id.index + 1) (leg_reports c.in-Spread.near c.in-Spread.far c.args.rules.now f)) tt
     c.send_legs.result one two in
-    sends_same c.args.outbound.now c.send_legs.new.outbound c.args.lists.now c.send_legs.new.lists
+    sends_same c.args.outbox.now c.send_legs.new.outbox
     (reports (Spread c.in-Spread.near c.in-Spread.far)) (reports f.instrument) c.send_legs.result
     (ap reports (sym c.in-Spread.is)) all

@@ -7,8 +7,8 @@ use Rattle.spread_report_orders.proofs.fill.send_fills.Goals as goal
 
 pub loop-one-preserved : goal.loop-one-preserved
 loop-one-preserved g c = record {
-  sent = fills_more c.args.outbound.now c.loop-one.outbound c.send_fill.new.outbound c.args.lists.now c.loop-one.lists
-      c.send_fill.new.lists c.args.rules.now c.args.place 2 c.loop-one.index c.loop-one.one-index c.args.fills.now
+  sent = fills_more c.args.outbox.now c.loop-one.outbox c.send_fill.new.outbox c.args.rules.now c.args.place 2
+      c.loop-one.index c.loop-one.one-index c.args.fills.now
       c.one-item.result c.one-item.result
       tt c.loop-one-test.true c.one-item.is c.loop-one.invariant.index c.loop-one.invariant.sent
       c.in_ok-send_fill.ensures;
@@ -29,8 +29,8 @@ pub returns-in_err-send_fill-clause-sent : goal.returns-in_err-send_fill-clause-
 returns-in_err-send_fill-clause-sent g c =
     let p = err_from_is_err_and c.from_residual.result c.from_residual.ensures.1 in
     rw (p.1, p.2)
-    (fills_stop c.args.outbound.now c.loop-one.outbound c.send_fill.new.outbound c.args.lists.now c.loop-one.lists
-    c.send_fill.new.lists c.args.rules.now c.args.place 2 c.loop-one.index c.loop-one.one-index c.args.fills.now
+    (fills_stop c.args.outbox.now c.loop-one.outbox c.send_fill.new.outbox c.args.rules.now c.args.place 2
+    c.loop-one.index c.loop-one.one-index c.args.fills.now
     c.one-item.result c.one-item.result
     (Unit {0}) ℕ c.in_err-send_fill.field-0.0 c.loop-one-test.true c.one-item.is c.loop-one.invariant.index
     c.loop-one.invariant.sent c.in_err-send_fill.ensures)

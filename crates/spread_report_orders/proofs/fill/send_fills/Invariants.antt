@@ -7,7 +7,7 @@ use Rattle.spread_report_orders.proofs.fill.send_fills.Given as goal
 
 abbrev pub invariant-loop-one : goal.invariant-loop-one
 invariant-loop-one g l = record {
-  sent : Sends l.initial.outbound l.outbound l.initial.lists l.lists
+  sent : Sends l.initial.outbox l.outbox
       (reports_from l.place 2 (fills_reports l.rules (take l.one-index l.fills))) all_sent;
   index : l.index ≡ 2 + reports_of (take l.one-index l.fills);
   bound : l.index ≤ 2 + 3 * l.one-index;

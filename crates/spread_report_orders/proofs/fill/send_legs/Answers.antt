@@ -17,5 +17,4 @@ returns g c =
       to_z-of_z w64 c.args.fill.now.far c.far_of.ensures.fits,
       c.next.ensures,
     ) at c.send_part-2.ensures in
-    sends_after c.args.outbound.now c.send_part.new.outbound c.send_part-2.new.outbound c.args.lists.now
-    c.send_part.new.lists c.send_part-2.new.lists _ _ tt c.send_part-2.result one two
+    sends_after c.args.outbox.now c.send_part.new.outbox c.send_part-2.new.outbox _ _ tt c.send_part-2.result one two
