@@ -1,5 +1,5 @@
 use Rattle.std.proofs.Common.{◌≡◌, false}
-use Rattle.tests_stages.proofs.pieces.give_lines.Given as goal
+use Rattle.tests_stages.proofs.blocks.give_lines.Given as goal
 
 abbrev pub invariant-loop : goal.invariant-loop
 invariant-loop g l = l.sink.ended ≡ false
