@@ -32,13 +32,13 @@ M U6 0 0 0 0\n";
 /// The places that refusals have named: that of the first entry not worked through, 0 where none was begun, one more than
 /// the journal's length where all were.
 #[derive(Drop)]
-struct Places {
+pub struct Places {
     last: u64,
     seen: [bool; 16],
 }
 
 impl Places {
-    fn new() -> Places {
+    pub fn new() -> Places {
         Places {
             last: 0,
             seen: [false; 16],
@@ -46,7 +46,7 @@ impl Places {
     }
 
     /// Notes a place. False where it lies below an earlier one, though the refused request came later.
-    fn note(&mut self, place: u64) -> bool {
+    pub fn note(&mut self, place: u64) -> bool {
         if place < self.last || place > 15 {
             return false;
         }
@@ -56,7 +56,7 @@ impl Places {
     }
 
     /// Whether these places were named, and no others.
-    fn are(&self, places: &[usize]) -> bool {
+    pub fn are(&self, places: &[usize]) -> bool {
         (0..16).all(|place| self.seen[place] == places.contains(&place))
     }
 }
@@ -147,8 +147,11 @@ fn first_trade_refused_memory(rt: HostRuntime) {
     holds(&rt, places.seen[5] && places.last == 5);
 }
 
-/// Of the entries the first order is the second, and room for it was made before the first; the next order lets tables
-/// grow; the last, the fifth, makes the first fills. The last of the numbers names no request.
+/// The places that a check of the five entries names. The first order is the second entry, and room for it was made before
+/// the first. Each later order sends the one before it into the tables of a queue of its own. Then the text is made.
+pub const CHECKED_PLACES: [usize; 5] = [0, 3, 4, 5, 6];
+
+/// The last of the numbers names no request.
 #[test]
 fn check_refused_memory(rt: HostRuntime) {
     let rules = three_months(&rt);
@@ -162,9 +165,5 @@ fn check_refused_memory(rt: HostRuntime) {
         note_fault(&rt, &mut places, last_refused, fault);
     }
     holds(&rt, !last_refused);
-    holds(
-        &rt,
-        places.seen[0] && !places.seen[1] && !places.seen[2] && places.seen[3],
-    );
-    holds(&rt, places.seen[5] && places.seen[6] && places.last == 6);
+    holds(&rt, places.are(&CHECKED_PLACES));
 }
