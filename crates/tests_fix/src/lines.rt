@@ -2,7 +2,7 @@
 ghost use Rattle.std.specs.Prelude.{◌<◌, length};
 
 use crate::expect::holds;
-use intake_lines::laws::day_journal;
+use intake_lines::laws::{day_journal, day_lines};
 use intake_lines::{DayReader, LinesFault, read_day_lines};
 use spread_rules::{Entry, Event};
 use spread_rules_ends::{FromReader, TestSource};
@@ -34,7 +34,6 @@ const SESSIONS: &[(&[u8], &[u8])] = &[
 /// before.
 #[test]
 fn sessions_of_lines(rt: HostRuntime) {
-    day_journal();
     for (lines, sessions) in SESSIONS {
         for cut in 0..=lines.len() {
             let journal = read_cut(rt.alloc(), lines, cut).expect(&rt, "day lines");
@@ -188,4 +187,11 @@ fn lines_with_memory_refused(rt: HostRuntime) {
         }
     }
     holds(&rt, false);
+}
+
+/// A law asks nothing of who cites it, and does nothing when it runs. That it holds is the prover's to say.
+#[test]
+fn laws_have_no_premises() {
+    day_lines();
+    day_journal();
 }

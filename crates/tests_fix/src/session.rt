@@ -13,7 +13,7 @@ mod numbering;
 mod reader;
 mod table;
 
-const LOGON: &str = "35=A|34=1|49=C1|52=S|56=HOST|98=0|108=30|";
+const LOGON: &str = "35=A|34=1|49=C1|52=20260105-14:30:00|56=HOST|98=0|108=30|";
 
 /// What a session says to a message, or at the end of its stream.
 enum Says {

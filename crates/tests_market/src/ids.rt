@@ -220,14 +220,20 @@ fn words_of_a_key(rt: HostRuntime) {
     );
 }
 
+/// Each request for memory is refused in turn. The first of the numbers names a request, and one behind it none.
 #[test]
 fn memory_is_refused(rt: HostRuntime) {
-    for number in 1..16 {
+    for number in 1..100 {
         let heap = Refusing::new(rt.alloc(), number);
         let mut table = IdTable::new(&heap);
         let mut keys = Vec::new(&heap);
         note_numbers(&rt, &mut table, &mut keys, 200);
+        if !heap.has_refused() {
+            holds(&rt, number > 1);
+            return;
+        }
     }
+    holds(&rt, false);
 }
 
 #[test]

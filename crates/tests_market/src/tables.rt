@@ -3,6 +3,7 @@ ghost use Rattle.std.specs.Prelude.{◌≡◌};
 
 use crate::books::rows::is;
 use crate::expect::holds;
+use spread_books_plain::{front_with, is_in};
 use spread_books_queues::{BestPrice, FrontTable, QueueHeaps, QueueRank, queue_number};
 use spread_books_rows::{PlaceRows, is_own, with_quantity};
 use spread_rules::{Instrument, Order, Side};
@@ -148,6 +149,25 @@ fn whose_a_row_is(rt: HostRuntime) {
     holds(&rt, rows.find_own(1, &id(b"b")) == None);
     holds(&rt, is(rows.remove(7), &first));
     holds(&rt, rows.find_own(1, &id(b"a")) == None);
+}
+
+/// A better price goes ahead of the front of its queue, the same price at a later place does not.
+#[test]
+fn fronts_of_a_queue(rt: HostRuntime) {
+    let first = seller();
+    let same = Order { place: 8, ..first };
+    let better = Order {
+        place: 9,
+        price: 9800,
+        ..first
+    };
+    holds(&rt, front_with(None, &first) == first);
+    holds(&rt, front_with(Some(first), &same) == first);
+    holds(&rt, front_with(Some(first), &better) == better);
+    let month = Instrument::Outright(2);
+    holds(&rt, is_in(&first, month, Side::Sell));
+    holds(&rt, !is_in(&first, month, Side::Buy));
+    holds(&rt, !is_in(&first, Instrument::Outright(1), Side::Sell));
 }
 
 #[test]

@@ -10,7 +10,7 @@ use std::sync::Wait;
 use std::thread;
 use std::thread::Threads;
 use tests_shared::Refusing;
-use text_messages::{BLOCK_BYTES, TakesBlocks};
+use text_messages::{BLOCK_BYTES, TakesBlocks, put_whole};
 use text_ring::{BlockSink, BlockSource, block_ring};
 
 const LINE: &[u8] = b"abcdefghi\n";
@@ -155,6 +155,22 @@ fn blocks_of_a_sink(rt: HostRuntime) {
     holds(&rt, out.take(&mut block).is_ok() && block.is_empty());
     block.extend_from_slice(LINE).expect(&rt, "memory");
     holds(&rt, out.take(&mut block).is_err());
+    holds(&rt, out.bytes() == LINE);
+}
+
+/// Bytes wait in a block until it has no room for those that come next.
+#[test]
+fn bytes_that_wait_in_a_block(rt: HostRuntime) {
+    let mut out = TestSink::new(rt.alloc(), 100, 0).expect(&rt, "memory");
+    let mut block = Vec::with_capacity(rt.alloc(), 15).expect(&rt, "memory");
+    holds(&rt, block.capacity() == 15);
+    put_whole(&mut block, &mut out, LINE).expect(&rt, "a sink that works");
+    holds(&rt, block.as_slice() == LINE && out.bytes().is_empty());
+    put_whole(&mut block, &mut out, b"abcde\n").expect(&rt, "a sink that works");
+    holds(
+        &rt,
+        block.as_slice().starts_with(b"abcde\n") && block.len() == 6,
+    );
     holds(&rt, out.bytes() == LINE);
 }
 

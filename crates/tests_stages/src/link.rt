@@ -6,6 +6,7 @@ use tests_shared::{first_logon, first_order};
 
 mod days;
 mod gateways;
+mod inboxes;
 mod laws;
 mod links;
 mod range;

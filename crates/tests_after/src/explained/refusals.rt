@@ -2,7 +2,7 @@
 use super::{Case, TICK_5, expect_all};
 
 const JOURNAL: &[u8] =
-    b"JOURNAL 2\n0 logon 4331 484f5354 30\n0 new 61 4836 1 1 100 day\n0 new 61 4836 1 1 100 day\n0 new 62 5858 1 1 100 day\n0 new 63 4836 1 0 100 day\n0 new 64 4836 1 1 101 day\n0 cancel 65 61\n0 cancel 66 61\n0 cancel 67 70\n0 cancel 68 64\nEND 10\n";
+    b"JOURNAL 2\n0 logon 4331 484f5354 30\n0 new 61 4836 1 1 100 day\n0 new 61 4836 1 1 100 day\n0 new 62 5858 1 1 100 day\n0 new 63 4836 1 0 100 day\n0 new 64 4836 1 1 101 day\n0 cancel 65 61\n0 cancel 66 61\n0 cancel 67 70\n0 cancel 68 64\n0 new 69 4836 1 1000000 100 day\nEND 11\n";
 
 const CASES: &[Case] = &[
     Case {
@@ -25,6 +25,13 @@ const CASES: &[Case] = &[
         journal: JOURNAL,
         place: 5,
         words: b"entry 5, session 0: new order 63, buy 0 H6 at 100, day\noutcome: refused, reason 3: quantity 0 is not from 1 to 999999\n",
+    },
+    Case {
+        shows: "a lot too many",
+        rules: TICK_5,
+        journal: JOURNAL,
+        place: 11,
+        words: b"entry 11, session 0: new order 69, buy 1000000 H6 at 100, day\noutcome: refused, reason 3: quantity 1000000 is not from 1 to 999999\n",
     },
     Case {
         shows: "no multiple of the tick",

@@ -1,5 +1,6 @@
 //! Claims of a journal's fills and months.
 use super::check::{DIRECT_BEFORE_IMPLIED, DIRECT_BEFORE_IMPLIED_TEXT};
+use super::no_memory::{CHECKED_PLACES, Places};
 use crate::expect::holds;
 use crate::rules::three_months;
 use spread_host::{AuditFault, HostFault, audit};
@@ -111,41 +112,42 @@ fn claims(rt: HostRuntime) {
     }
 }
 
-/// Whether an audit in which all memory is the heap's finds the claim right. None where there is no memory.
+/// Whether an audit in which all memory is the heap's finds the claim right. None where there is no memory, with the
+/// place noted.
 fn audit_over<A: Allocator + Copy>(
     rt: &impl Abort,
     heap: A,
     rules: &Rulebook,
     claim: &[u8],
+    places: &mut Places,
 ) -> Option<bool> {
     match audit(heap, rules, DIRECT_BEFORE_IMPLIED, claim) {
         Ok(()) => Some(true),
         Err(AuditFault::Differs(_)) => Some(false),
-        Err(AuditFault::Host(fault)) => {
-            holds(
-                rt,
-                matches!(fault, HostFault::NoMemory(place) if place <= 6),
-            );
+        Err(AuditFault::Host(HostFault::NoMemory(place))) => {
+            holds(rt, places.note(place));
             None
         }
+        Err(AuditFault::Host(_)) => rt.panic("another fault"),
     }
 }
 
-/// Each request for memory refused in turn: no answer, or the one that there is with all memory.
+/// Each request for memory refused in turn: no answer, or the one that there is with all memory. The places are those of
+/// a check, and the last of the numbers names no request.
 fn expect_refusals(rt: &impl Abort, alloc: Global, rules: &Rulebook, claim: &[u8], right: bool) {
-    let mut refused = 0u32;
-    for number in 1..500u64 {
+    let mut places = Places::new();
+    let mut last_refused = true;
+    for number in 1..250u64 {
         let heap = Refusing::new(alloc, number);
-        match audit_over(rt, &heap, rules, claim) {
-            Some(answer) => holds(rt, answer == right),
-            None => {
-                holds(rt, heap.has_refused());
-                refused = refused.wrapping_add(1);
-            }
-        }
+        let answer = audit_over(rt, &heap, rules, claim, &mut places);
+        last_refused = heap.has_refused();
+        holds(
+            rt,
+            answer == Some(right) || (answer.is_none() && last_refused),
+        );
     }
-    // Of 500 numbers most name no request.
-    holds(rt, 0 < refused && refused < 250);
+    holds(rt, !last_refused);
+    holds(rt, places.are(&CHECKED_PLACES));
 }
 
 #[test]

@@ -7,11 +7,11 @@ ghost use Rattle.text_messages.specs.Messages.{texts_of};
 use super::read_again;
 use crate::expect::holds;
 use crate::rules::three_months;
-use spread_host::{day_of, write_day};
-use spread_rules::{Rulebook, TestSink};
+use spread_host::{HostFault, day_of, write_day, write_fills};
+use spread_rules::{Fill, Rulebook, TestSink};
 use std::alloc::Global;
 use std::process::Abort;
-use tests_shared::{FIRST_TRADE_JOURNAL, FIRST_TRADE_TEXT, stamp};
+use tests_shared::{FIRST_TRADE_JOURNAL, FIRST_TRADE_TEXT, Refusing, stamp};
 use text_day::{Day, write_behind_journal, write_journal_lines};
 use text_messages::write_sessions;
 
@@ -24,6 +24,8 @@ struct Written {
     whole: &'static [u8],
     /// The lines of what each session is sent.
     sent: &'static [u8],
+    /// The lines of the fills and of the months.
+    fills: &'static [u8],
 }
 
 /// The Logons of sessions 0 and 12.
@@ -40,12 +42,14 @@ static DAYS: [Written; 2] = [
         alone: FIRST_TRADE_JOURNAL,
         whole: FIRST_TRADE_TEXT,
         sent: b"O 0:8=FIX.4.2|9=57|35=A|34=1|49=HOST|52=20260105-14:30:00|56=C1|98=0|108=30|10=220|\nO 0:8=FIX.4.2|9=109|35=8|34=2|49=HOST|52=20260105-14:30:00|56=C1|37=2|11=a|17=2-1|20=0|150=0|39=0|55=H6|54=2|38=5|151=5|14=0|6=0|10=006|\nO 0:8=FIX.4.2|9=109|35=8|34=3|49=HOST|52=20260105-14:30:00|56=C1|37=3|11=b|17=3-1|20=0|150=0|39=0|55=H6|54=1|38=5|151=5|14=0|6=0|10=009|\nO 0:8=FIX.4.2|9=130|35=8|34=4|49=HOST|52=20260105-14:30:00|56=C1|37=3|11=b|17=3-2|20=0|150=2|39=2|55=H6|54=1|38=5|32=5|31=100.00|151=0|14=5|6=0|442=1|10=171|\nO 0:8=FIX.4.2|9=130|35=8|34=5|49=HOST|52=20260105-14:30:00|56=C1|37=2|11=a|17=3-3|20=0|150=2|39=2|55=H6|54=2|38=5|32=5|31=100.00|151=0|14=5|6=0|442=1|10=172|\nO 0:8=FIX.4.2|9=45|35=5|34=6|49=HOST|52=20260105-14:30:00|56=C1|10=185|\n",
+        fills: b"F 3 3 0 H6 1 5 10000\nF 3 2 0 H6 2 5 10000\nM H6 5 5 50000 50000\nM M6 0 0 0 0\nM U6 0 0 0 0\n",
     },
     Written {
         journal: TWO_LOGONS,
         alone: b"JOURNAL 2\n0 logon 4331 484f5354 30\n12 logon 4332 484f5354 30\nEND 2\n",
         whole: TWO_ANSWERS,
         sent: b"O 0:8=FIX.4.2|9=57|35=A|34=1|49=HOST|52=20260105-14:30:00|56=C1|98=0|108=30|10=220|\nO 12:8=FIX.4.2|9=57|35=A|34=1|49=HOST|52=20260105-14:30:00|56=C2|98=0|108=30|10=221|\n",
+        fills: b"M H6 0 0 0 0\nM M6 0 0 0 0\nM U6 0 0 0 0\n",
     },
 ];
 
@@ -95,6 +99,27 @@ fn expect_parts(rt: &impl Abort, alloc: Global, rules: &Rulebook, day: &Day<Glob
     holds(rt, sink.bytes() == want.whole);
 }
 
+/// The lines of these fills and of the months. Nothing is written where the first request for memory is refused, and a
+/// front of them where the sink has less room.
+fn expect_fills(rt: &impl Abort, alloc: Global, rules: &Rulebook, fills: &[Fill], want: &[u8])
+    requires { AreShown rules.now fills.now }
+{
+    let mut sink = TestSink::new(alloc, 4096, 0).expect(rt, "memory");
+    let heap = Refusing::new(alloc, 1);
+    let refused = write_fills(&heap, rules, fills, &mut sink);
+    holds(rt, refused == Err(HostFault::NoMemory(0)));
+    holds(rt, sink.bytes().is_empty());
+    write_fills(alloc, rules, fills, &mut sink).expect(rt, "a sink that works");
+    holds(rt, sink.bytes() == want);
+    let mut small = TestSink::new(alloc, 30, 0).expect(rt, "memory");
+    let failed = write_fills(alloc, rules, fills, &mut small);
+    holds(rt, failed == Err(HostFault::Write));
+    holds(
+        rt,
+        small.bytes().len() == 30 && want.starts_with(small.bytes()),
+    );
+}
+
 /// All that is written of the day. The lines are the same in pieces of any size.
 fn expect_written(
     rt: &impl Abort,
@@ -110,6 +135,7 @@ fn expect_written(
     expect_text(rt, alloc, rules, day, true, want.alone);
     expect_text(rt, alloc, rules, day, false, want.whole);
     expect_parts(rt, alloc, rules, day, want);
+    expect_fills(rt, alloc, rules, &day.fills, want.fills);
     expect_sent(rt, alloc, day, 4096, want.sent);
     expect_sent(rt, alloc, day, 100, want.sent);
     expect_sent(rt, alloc, day, 1, want.sent);

@@ -6,23 +6,39 @@ use spread_host::{HostFault, check, replay};
 use spread_rules::{Rulebook, TestSink, TestSource};
 use std::alloc::{Allocator, Global};
 use std::process::Abort;
-use tests_shared::{Refusing, stamp};
+use tests_shared::{FIRST_TRADE_LINES, FIRST_TRADE_TEXT, Refusing, stamp};
 
 const THREE_LOGONS: &[u8] =
     b"0:8=FIX.4.2|9=57|35=A|34=1|49=C1|52=20260105-14:30:00|56=HOST|98=0|108=30|10=220|\n\
 1:8=FIX.4.2|9=57|35=A|34=1|49=C1|52=20260105-14:30:00|56=HOST|98=0|108=30|10=220|\n\
 2:8=FIX.4.2|9=57|35=A|34=1|49=C1|52=20260105-14:30:00|56=HOST|98=0|108=30|10=220|\n";
 
+/// What a replay of them writes: each is answered, and closed at the end of its bytes.
+const THREE_LOGONS_TEXT: &[u8] = b"JOURNAL 2\n\
+0 logon 4331 484f5354 30\n\
+1 logon 4331 484f5354 30\n\
+2 logon 4331 484f5354 30\n\
+0 close 5\n\
+1 close 5\n\
+2 close 5\n\
+END 6\n\
+O 0:8=FIX.4.2|9=57|35=A|34=1|49=HOST|52=20260105-14:30:00|56=C1|98=0|108=30|10=220|\n\
+O 1:8=FIX.4.2|9=57|35=A|34=1|49=HOST|52=20260105-14:30:00|56=C1|98=0|108=30|10=220|\n\
+O 2:8=FIX.4.2|9=57|35=A|34=1|49=HOST|52=20260105-14:30:00|56=C1|98=0|108=30|10=220|\n\
+M H6 0 0 0 0\n\
+M M6 0 0 0 0\n\
+M U6 0 0 0 0\n";
+
 /// The places that refusals have named: that of the first entry not worked through, 0 where none was begun, one more than
 /// the journal's length where all were.
 #[derive(Drop)]
-struct Places {
+pub struct Places {
     last: u64,
     seen: [bool; 16],
 }
 
 impl Places {
-    fn new() -> Places {
+    pub fn new() -> Places {
         Places {
             last: 0,
             seen: [false; 16],
@@ -30,7 +46,7 @@ impl Places {
     }
 
     /// Notes a place. False where it lies below an earlier one, though the refused request came later.
-    fn note(&mut self, place: u64) -> bool {
+    pub fn note(&mut self, place: u64) -> bool {
         if place < self.last || place > 15 {
             return false;
         }
@@ -40,23 +56,26 @@ impl Places {
     }
 
     /// Whether these places were named, and no others.
-    fn are(&self, places: &[usize]) -> bool {
+    pub fn are(&self, places: &[usize]) -> bool {
         (0..16).all(|place| self.seen[place] == places.contains(&place))
     }
 }
 
-/// A replay of three Logons in which all memory is the heap's: nothing is written where it has no answer.
+/// A replay of these lines in which all memory is the heap's: it writes this text, or nothing where it has no answer.
 fn replay_over<A: Allocator + Copy>(
     rt: &impl Abort,
     alloc: Global,
     heap: A,
     rules: &Rulebook,
+    lines: &[u8],
+    text: &[u8],
 ) -> Option<HostFault> {
     let mut sink = TestSink::new(alloc, 4096, 0).expect(rt, "memory");
-    let lines = Vec::from_slice(alloc, THREE_LOGONS).expect(rt, "memory");
+    let lines = Vec::from_slice(alloc, lines).expect(rt, "memory");
     let mut source = TestSource::new(lines, 0);
     let fault = replay(heap, rules, stamp(), &mut source, &mut sink, false).err();
-    holds(rt, fault.is_none() || sink.bytes().is_empty());
+    let written = if fault.is_none() { text } else { b"" };
+    holds(rt, sink.bytes() == written);
     fault
 }
 
@@ -98,7 +117,8 @@ fn replay_refused_memory(rt: HostRuntime) {
     let mut last_refused = true;
     for number in 1..250u64 {
         let heap = Refusing::new(rt.alloc(), number);
-        let fault = replay_over(&rt, rt.alloc(), &heap, &rules);
+        let (lines, text) = (THREE_LOGONS, THREE_LOGONS_TEXT);
+        let fault = replay_over(&rt, rt.alloc(), &heap, &rules, lines, text);
         last_refused = heap.has_refused();
         holds(&rt, fault.is_some() == last_refused);
         note_fault(&rt, &mut places, last_refused, fault);
@@ -107,8 +127,31 @@ fn replay_refused_memory(rt: HostRuntime) {
     holds(&rt, places.are(&[0, 1, 2, 3, 7]));
 }
 
-/// Of the entries the first order is the second, and room for it was made before the first; the next order lets tables
-/// grow; the last, the fifth, makes the first fills. The last of the numbers names no request.
+/// Of the first trade's four entries the first, the Logon, is answered in a list that grows for it; behind the last one
+/// the text is written. The last of the numbers names no request.
+#[test]
+fn first_trade_refused_memory(rt: HostRuntime) {
+    let rules = three_months(&rt);
+    let mut places = Places::new();
+    let mut last_refused = true;
+    for number in 1..250u64 {
+        let heap = Refusing::new(rt.alloc(), number);
+        // A guess of a row that finds no memory is left out, and the answer is the same.
+        let (lines, text) = (FIRST_TRADE_LINES, FIRST_TRADE_TEXT);
+        let fault = replay_over(&rt, rt.alloc(), &heap, &rules, lines, text);
+        last_refused = heap.has_refused();
+        note_fault(&rt, &mut places, last_refused, fault);
+    }
+    holds(&rt, !last_refused);
+    holds(&rt, places.seen[0] && places.seen[1]);
+    holds(&rt, places.seen[5] && places.last == 5);
+}
+
+/// The places that a check of the five entries names. The first order is the second entry, and room for it was made before
+/// the first. Each later order sends the one before it into the tables of a queue of its own. Then the text is made.
+pub const CHECKED_PLACES: [usize; 5] = [0, 3, 4, 5, 6];
+
+/// The last of the numbers names no request.
 #[test]
 fn check_refused_memory(rt: HostRuntime) {
     let rules = three_months(&rt);
@@ -122,9 +165,5 @@ fn check_refused_memory(rt: HostRuntime) {
         note_fault(&rt, &mut places, last_refused, fault);
     }
     holds(&rt, !last_refused);
-    holds(
-        &rt,
-        places.seen[0] && !places.seen[1] && !places.seen[2] && places.seen[3],
-    );
-    holds(&rt, places.seen[5] && places.seen[6] && places.last == 6);
+    holds(&rt, places.are(&CHECKED_PLACES));
 }

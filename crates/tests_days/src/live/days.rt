@@ -10,7 +10,7 @@ use fix_wire_frames::{msg_types, tags};
 use gate_link::LinkFault;
 use live_day::run_sessions;
 use spread_host::{Caps, DaySettings, Gate, HostFault, run_day};
-use spread_rules::{Entry, Event, Rulebook, Side};
+use spread_rules::{Entry, Event, Fill, Rulebook, Side};
 use std::alloc::{AllocError, Allocator, Global};
 use std::process::Abort;
 use std::sync::Wait;
@@ -76,7 +76,7 @@ fn expect_part(rt: &impl Abort, alloc: Global, journal: &[Entry], session: u8, w
 }
 
 /// The journal has the first trade's events of each session, and no other entry.
-fn expect_trades(rt: &impl Abort, alloc: Global, journal: &[Entry], sessions: u8) {
+pub fn expect_trades(rt: &impl Abort, alloc: Global, journal: &[Entry], sessions: u8) {
     holds(rt, journal.len() == usize::from(sessions) * 4);
     let want = first_trade();
     for session in 0..sessions {
@@ -84,18 +84,18 @@ fn expect_trades(rt: &impl Abort, alloc: Global, journal: &[Entry], sessions: u8
     }
 }
 
-/// The month lines of the day are these.
-fn expect_months(
+/// The month lines of the fills are these.
+pub fn expect_months(
     rt: &impl Abort,
     alloc: Global,
     rulebook: &Rulebook,
-    day: &Day<Global>,
+    fills: &[Fill],
     want: &[u8],
 )
-    requires { AreShown rulebook.now day.now.fills.items }
+    requires { AreShown rulebook.now fills.now }
 {
     let mut months = Vec::new(alloc);
-    put_months(&mut months, rulebook, &day.fills).expect(rt, "memory");
+    put_months(&mut months, rulebook, fills).expect(rt, "memory");
     holds(rt, months.as_slice() == want);
 }
 
@@ -132,9 +132,9 @@ struct TradesDay {
 
 const ONE_TRADE: &[u8] = b"M H6 5 5 50000 50000\nM M6 0 0 0 0\nM U6 0 0 0 0\n";
 
-const TWO_TRADES: &[u8] = b"M H6 10 10 100000 100000\nM M6 0 0 0 0\nM U6 0 0 0 0\n";
+pub const TWO_TRADES: &[u8] = b"M H6 10 10 100000 100000\nM M6 0 0 0 0\nM U6 0 0 0 0\n";
 
-static TRADES_DAYS: [TradesDay; 12] = [
+static TRADES_DAYS: [TradesDay; 13] = [
     // Two sessions in threads of their own, each of which waits at its message 0 for the other.
     TradesDay {
         streams: 2,
@@ -197,6 +197,17 @@ static TRADES_DAYS: [TradesDay; 12] = [
         ring: 256,
         journal: 100_000,
         meeting: Meeting::Both(Point::Written, Point::Matched(2)),
+        most: 64,
+        fills: 2,
+        months: ONE_TRADE,
+    },
+    // What an entry sends is with its writer before the gate is told that it was matched: the two wait for each other.
+    TradesDay {
+        streams: 1,
+        before: 0,
+        ring: 256,
+        journal: 100_000,
+        meeting: Meeting::Both(Point::Written, Point::Matched(1)),
         most: 64,
         fills: 2,
         months: ONE_TRADE,
@@ -305,6 +316,10 @@ fn expect_trades_day(
     requires { AreShown rulebook.now day.now.fills.items }
 {
     holds(rt, watch.in_time());
+    holds(
+        rt,
+        watch.entries_in_turn() == Some(day.journal.len() as u64),
+    );
     expect_trades(rt, alloc, &day.journal, case.streams);
     expect_held(rt, case.meeting, &day.journal);
     expect_logons_first(rt, &day.out, case.streams);
@@ -312,7 +327,7 @@ fn expect_trades_day(
         expect_alone(rt, watch, &day.out);
     }
     holds(rt, day.fills.len() == case.fills);
-    expect_months(rt, alloc, rulebook, day, case.months);
+    expect_months(rt, alloc, rulebook, &day.fills, case.months);
 }
 
 fn run_trades_day<R: Threads + Wait + Sync + Abort>(
@@ -338,6 +353,12 @@ fn days_of_first_trades(rt: HostRuntime) {
     for case in &TRADES_DAYS {
         run_trades_day(&rt, rt.alloc(), &rulebook, case);
     }
+}
+
+/// A gate that says nothing of it lets a session step on as many messages together as it may.
+#[test]
+fn messages_of_an_open_gate(rt: HostRuntime) {
+    holds(&rt, Open.most() == 64);
 }
 
 // ---- days that are refused

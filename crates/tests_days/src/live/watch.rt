@@ -24,7 +24,8 @@ pub enum Meeting {
     Both(Point, Point),
 }
 
-/// Holds threads at a meeting, and counts what comes of session 0. So many messages are stepped on together.
+/// Holds threads at a meeting, and counts what comes of session 0, and the entries that were matched. So many messages
+/// are stepped on together.
 #[derive(Drop)]
 pub struct Watch {
     most: u32,
@@ -35,7 +36,9 @@ pub struct Watch {
     messages: AtomicU32,
     messages_at_first: AtomicU32,
     bytes: AtomicU64,
+    entries: AtomicU64,
     wrong: AtomicU32,
+    wrong_place: AtomicU32,
 }
 
 /// Waits until the flag is set, and says whether it came within ten million turns.
@@ -71,7 +74,9 @@ impl Watch {
             messages: AtomicU32::new(0),
             messages_at_first: AtomicU32::new(0),
             bytes: AtomicU64::new(0),
+            entries: AtomicU64::new(0),
             wrong: AtomicU32::new(0),
+            wrong_place: AtomicU32::new(0),
         }
     }
 
@@ -117,6 +122,15 @@ impl Watch {
         self.messages_at_first.load(Ordering::SeqCst)
     }
 
+    /// How many entries were matched, if their places came as 1, 2, 3 and so on, each once.
+    pub fn entries_in_turn(&self) -> Option<u64> {
+        if self.wrong_place.load(Ordering::SeqCst) == 0 {
+            Some(self.entries.load(Ordering::SeqCst))
+        } else {
+            None
+        }
+    }
+
     /// The last total of a writer's bytes.
     pub fn bytes(&self) -> u64 {
         self.bytes.load(Ordering::SeqCst)
@@ -137,6 +151,10 @@ impl Gate for Watch {
     }
 
     fn matched(&self, place: u64) {
+        let before = self.entries.swap(place, Ordering::SeqCst);
+        if place != before.wrapping_add(1) {
+            self.wrong_place.store(1, Ordering::SeqCst);
+        }
         if place == 1 {
             let come = self.messages();
             self.messages_at_first.store(come, Ordering::SeqCst);

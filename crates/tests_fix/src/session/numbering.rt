@@ -20,13 +20,13 @@ static SESSIONS: &[SessionCase] = &[
         name: "gap and duplicates",
         bodies: &[
             LOGON,
-            "35=1|34=2|49=C1|52=S|56=HOST|112=2|",
-            "35=1|34=4|49=C1|52=S|56=HOST|112=4|",
-            "35=1|34=5|49=C1|52=S|56=HOST|112=5|",
-            "35=1|34=3|43=Y|49=C1|52=S|56=HOST|112=3|",
-            "35=1|34=4|43=Y|49=C1|52=S|56=HOST|112=4|",
-            "35=1|34=5|43=Y|49=C1|52=S|56=HOST|112=5|",
-            "35=1|34=3|43=Y|49=C1|52=S|56=HOST|112=3|",
+            "35=1|34=2|49=C1|52=20260105-14:30:00|56=HOST|112=2|",
+            "35=1|34=4|49=C1|52=20260105-14:30:00|56=HOST|112=4|",
+            "35=1|34=5|49=C1|52=20260105-14:30:00|56=HOST|112=5|",
+            "35=1|34=3|43=Y|49=C1|52=20260105-14:30:00|56=HOST|112=3|",
+            "35=1|34=4|43=Y|49=C1|52=20260105-14:30:00|56=HOST|112=4|",
+            "35=1|34=5|43=Y|49=C1|52=20260105-14:30:00|56=HOST|112=5|",
+            "35=1|34=3|43=Y|49=C1|52=20260105-14:30:00|56=HOST|112=3|",
         ],
         says: &[
             Logon,
@@ -42,9 +42,9 @@ static SESSIONS: &[SessionCase] = &[
         name: "number too low",
         bodies: &[
             LOGON,
-            "35=1|34=2|49=C1|52=S|56=HOST|112=2|",
-            "35=1|34=2|49=C1|52=S|56=HOST|112=2|",
-            "35=1|34=3|49=C1|52=S|56=HOST|112=3|",
+            "35=1|34=2|49=C1|52=20260105-14:30:00|56=HOST|112=2|",
+            "35=1|34=2|49=C1|52=20260105-14:30:00|56=HOST|112=2|",
+            "35=1|34=3|49=C1|52=20260105-14:30:00|56=HOST|112=3|",
         ],
         says: &[Logon, TestReply(b"2"), Close(2)],
     },
@@ -53,7 +53,7 @@ static SESSIONS: &[SessionCase] = &[
         bodies: &[
             LOGON,
             "35=5|34=x|49=C1|56=HOST|",
-            "35=1|34=2|49=C1|52=S|56=HOST|112=2|",
+            "35=1|34=2|49=C1|52=20260105-14:30:00|56=HOST|112=2|",
         ],
         says: &[Logon, TestReply(b"2"), Close(5)],
     },
@@ -62,8 +62,8 @@ static SESSIONS: &[SessionCase] = &[
         name: "a gap fill",
         bodies: &[
             LOGON,
-            "35=4|34=2|49=C1|52=S|56=HOST|36=9|123=Y|",
-            "35=1|34=9|49=C1|52=S|56=HOST|112=9|",
+            "35=4|34=2|49=C1|52=20260105-14:30:00|56=HOST|36=9|123=Y|",
+            "35=1|34=9|49=C1|52=20260105-14:30:00|56=HOST|112=9|",
         ],
         says: &[Logon, TestReply(b"9"), Close(5)],
     },
@@ -71,8 +71,17 @@ static SESSIONS: &[SessionCase] = &[
         name: "a rejected gap fill",
         bodies: &[
             LOGON,
-            "35=4|34=2|49=C1|52=S|56=HOST|36=9|",
-            "35=1|34=3|49=C1|52=S|56=HOST|112=3|",
+            "35=4|34=2|49=C1|52=20260105-14:30:00|56=HOST|36=9|",
+            "35=1|34=3|49=C1|52=20260105-14:30:00|56=HOST|112=3|",
+        ],
+        says: &[Logon, Reject(2, 5), TestReply(b"3"), Close(5)],
+    },
+    SessionCase {
+        name: "a gap fill to its own number is rejected, and the next one is due",
+        bodies: &[
+            LOGON,
+            "35=4|34=2|49=C1|52=20260105-14:30:00|56=HOST|36=2|123=Y|",
+            "35=1|34=3|49=C1|52=20260105-14:30:00|56=HOST|112=3|",
         ],
         says: &[Logon, Reject(2, 5), TestReply(b"3"), Close(5)],
     },
@@ -80,11 +89,11 @@ static SESSIONS: &[SessionCase] = &[
         name: "the last number",
         bodies: &[
             LOGON,
-            "35=4|34=2|49=C1|52=S|56=HOST|36=999999999|123=Y|",
-            "35=1|34=999999999|49=C1|52=S|56=HOST|112=9|",
-            "35=1|34=999999999|43=Y|49=C1|52=S|56=HOST|112=9|",
-            "35=1|34=1000000000|49=C1|52=S|56=HOST|112=0|",
-            "35=1|34=999999999|49=C1|52=S|56=HOST|112=9|",
+            "35=4|34=2|49=C1|52=20260105-14:30:00|56=HOST|36=999999999|123=Y|",
+            "35=1|34=999999999|49=C1|52=20260105-14:30:00|56=HOST|112=9|",
+            "35=1|34=999999999|43=Y|49=C1|52=20260105-14:30:00|56=HOST|112=9|",
+            "35=1|34=1000000000|49=C1|52=20260105-14:30:00|56=HOST|112=0|",
+            "35=1|34=999999999|49=C1|52=20260105-14:30:00|56=HOST|112=9|",
         ],
         says: &[Logon, TestReply(b"9"), Close(2)],
     },
@@ -94,19 +103,47 @@ static SESSIONS: &[SessionCase] = &[
         bodies: &[
             LOGON,
             "35=5|34=2|49=C1|56=HOST|",
-            "35=1|34=3|49=C1|52=S|56=HOST|112=3|",
+            "35=1|34=3|49=C1|52=20260105-14:30:00|56=HOST|112=3|",
         ],
         says: &[Logon, Close(1)],
     },
     SessionCase {
+        name: "a second Logon",
+        bodies: &[
+            LOGON,
+            "35=A|34=2|49=C1|52=20260105-14:30:00|56=HOST|98=0|108=30|",
+        ],
+        says: &[Logon, Reject(2, 11), Close(5)],
+    },
+    SessionCase {
         name: "another client",
-        bodies: &[LOGON, "35=1|34=2|49=C2|52=S|56=HOST|112=2|"],
+        bodies: &[LOGON, "35=1|34=2|49=C2|52=20260105-14:30:00|56=HOST|112=2|"],
         says: &[Logon, Close(4)],
     },
     SessionCase {
         name: "encryption asked for",
-        bodies: &["35=A|34=1|49=C1|52=S|56=HOST|98=1|108=30|", LOGON],
+        bodies: &[
+            "35=A|34=1|49=C1|52=20260105-14:30:00|56=HOST|98=1|108=30|",
+            LOGON,
+        ],
         says: &[Close(3)],
+    },
+    // The first trade's order to sell, with one field changed.
+    SessionCase {
+        name: "an order without an id",
+        bodies: &[
+            LOGON,
+            "35=D|34=2|49=C1|52=20260105-14:30:00|56=HOST|11=|21=1|55=H6|54=2|60=20260105-14:30:00|38=5|40=2|44=100|",
+        ],
+        says: &[Logon, Reject(2, 4), Close(5)],
+    },
+    SessionCase {
+        name: "an order of a quantity that is no number",
+        bodies: &[
+            LOGON,
+            "35=D|34=2|49=C1|52=20260105-14:30:00|56=HOST|11=a|21=1|55=H6|54=2|60=20260105-14:30:00|38=x|40=2|44=100|",
+        ],
+        says: &[Logon, Reject(2, 6), Close(5)],
     },
 ];
 
@@ -147,7 +184,7 @@ fn a_session_opens_and_closes(rt: HostRuntime) {
 /// The body of an order with this number.
 fn order_body<A: Allocator>(rt: &impl Abort, alloc: A, number: u32) -> String<A> {
     format!(in alloc;
-        "35=D|34={number}|49=C1|52=S|56=HOST|11=a|21=1|55=H6|54=2|60=T|38=5|40=2|44=100|"
+        "35=D|34={number}|49=C1|52=20260105-14:30:00|56=HOST|11=a|21=1|55=H6|54=2|60=20260105-14:30:00|38=5|40=2|44=100|"
     ).expect(rt, "memory")
 }
 

@@ -6,11 +6,11 @@ use super::{BUY, FIRST_TRADE_SAYS, SELL, Says, expect_said};
 use crate::expect::holds;
 use fix_session::{Reader, Session, Verdict};
 use fix_session_judging::{count_messages, judge_ahead};
-use fix_wire::{Framer, Message};
+use fix_wire::{Framer, Message, Next};
 use spread_rules::{Entry, Event};
-use std::alloc::Allocator;
+use std::alloc::{Allocator, Global};
 use std::process::Abort;
-use tests_shared::{FIRST_MESSAGES, FIRST_TRADE};
+use tests_shared::{FIRST_BUY, FIRST_MESSAGES, FIRST_TRADE};
 
 /// What is done with a reader, and what it answers.
 enum Step {
@@ -183,6 +183,36 @@ fn a_day_cut_anywhere(rt: HostRuntime) {
     }
 }
 
+/// How many bytes the first trade's first messages have: the Logon, an order more, and both orders.
+const MESSAGE_ENDS: [usize; 3] = [79, 206, 333];
+
+/// A stream that ends here says what its whole messages say, and then that it was cut.
+fn expect_cut_short(rt: &impl Abort, alloc: Global, stream: &[u8]) {
+    let mut reader = Reader::new();
+    let mut entries = Vec::new(alloc);
+    reader.read(0, stream, &mut entries).expect(rt, "memory");
+    let mut whole = 0;
+    for end in &MESSAGE_ENDS {
+        if *end <= stream.len() {
+            holds(rt, whole < entries.len());
+            let event = Verdict::Event(entries[whole].event);
+            expect_said(rt, event, &FIRST_TRADE_SAYS[whole]);
+            whole += 1;
+        }
+    }
+    holds(rt, entries.len() == whole);
+    expect_said(rt, reader.end(), &Close(5));
+}
+
+/// The first trade cut short behind each of its bytes but the last.
+#[test]
+fn a_day_cut_short(rt: HostRuntime) {
+    holds(&rt, FIRST_TRADE.len() == 400);
+    for length in 0..400usize {
+        expect_cut_short(&rt, rt.alloc(), &FIRST_TRADE[..length]);
+    }
+}
+
 /// What entries that no message has written hold.
 fn no_entry() -> Entry {
     Entry {
@@ -206,6 +236,29 @@ fn messages_of_a_framer(rt: HostRuntime) {
     );
     holds(&rt, ahead.session.is_closed());
     expect_first_trade(&rt, &entries[..4], 3);
+}
+
+/// The framer goes past the first two of the first trade's messages, which were judged ahead.
+fn expect_two_passed_to(rt: &impl Abort, framer: &mut Framer) {
+    let mut entries = [no_entry(); 64];
+    let two = judge_ahead(framer, Session::new(), 3, 2, &mut entries);
+    if two.messages == 0 {
+        panic!(rt; "no message stands");
+    }
+    framer.pass_to(two.place);
+    holds(rt, framer.held() == 400 - 206);
+    holds(
+        rt,
+        matches!(framer.next(), Next::Message(third) if third.bytes() == FIRST_BUY),
+    );
+}
+
+/// Frames that were looked at are passed together.
+#[test]
+fn passed_to_a_place(rt: HostRuntime) {
+    let mut framer = Framer::new();
+    holds(&rt, framer.put(FIRST_TRADE) == 400);
+    expect_two_passed_to(&rt, &mut framer);
 }
 
 /// A session says of each message what it changes, and changes so.

@@ -1,10 +1,6 @@
 //! The pair of fronts that costs the least: kept in a table, and searched for.
-ghost use Rattle.std.specs.Prelude.{◌≡◌, true, Some, All, slice_get};
-ghost use Rattle.spread_rules.specs.declared.order.Order.{Order};
-ghost use Rattle.spread_rules.specs.code.Candidates.{HasOrderPrice};
-ghost use Rattle.spread_books_search.specs.Listed.{IsInMonths};
-
 use super::checked::add;
+use super::listed::{are_listed, is_in_months};
 use crate::expect::holds;
 use spread_books::{Book, ListBook};
 use spread_books_plain::PairCost;
@@ -12,32 +8,9 @@ use spread_books_quotes::{Change, FrontCosts, QuoteTable, is_all_on};
 use spread_books_search::{MonthPairs, cheapest_pair, front_cost, is_pair_on, spreads_with};
 use spread_rules::Side::{Buy, Sell};
 use spread_rules::{Instrument, Order, Rulebook, Side};
-use spread_rules_ids::limits::MAX_PRICE;
 use std::alloc::Global;
 use std::process::Abort;
 use tests_shared::{THREE_MONTHS, id};
-
-/// Whether the n-th order, if there is one, is at a price of orders.
-fn is_priced_at<B: Book>(book: &B, n: usize) -> bool
-    ensures { result ≡ true
-        → (o : Order) → slice_get (B.orders book.now) n ≡ Some o → HasOrderPrice o }
-{
-    match book.walk(n) {
-        None => true,
-        Some(order) => -MAX_PRICE <= order.price && order.price <= MAX_PRICE,
-    }
-}
-
-fn are_priced<B: Book>(book: &B) -> bool
-    ensures { result ≡ true → All HasOrderPrice (B.orders book.now) }
-{
-    for n in 0..book.len() {
-        if !is_priced_at(book, n) {
-            return false;
-        }
-    }
-    true
-}
 
 /// Whether the pair costs that, with that other month.
 fn is_pair(pair: Option<PairCost>, cost: i64, other_month: u64) -> bool {
@@ -61,16 +34,6 @@ fn sell(place: u64, instrument: Instrument, price: i64) -> Order {
     }
 }
 
-/// Whether it is an instrument of so many months.
-fn is_in_months(months: u8, instrument: Instrument) -> bool
-    ensures { result ≡ true → IsInMonths months instrument }
-{
-    match instrument {
-        Instrument::Outright(month) => month < months,
-        Instrument::Spread(_, far) => far < months,
-    }
-}
-
 /// What fronts of three months cost, and their cheapest pairs.
 #[derive(Drop)]
 struct Tables {
@@ -88,7 +51,7 @@ fn come(
 ) {
     let pairs = MonthPairs { rules, months: 3 };
     holds(rt, add(book, order).is_ok());
-    holds(rt, are_priced(book) && is_in_months(3, order.instrument));
+    holds(rt, are_listed(book, 3) && is_in_months(3, order.instrument));
     tables.fronts.note(book, &pairs, &order);
     tables
         .cheapest
@@ -103,13 +66,23 @@ fn empty_tables(rt: &impl Abort, alloc: Global) -> Tables {
     }
 }
 
+/// The same costs in their rows, by the other month, and among all cells of spreads.
+fn expect_rows(rt: &impl Abort, fronts: &FrontCosts<Global>) {
+    let spreads = fronts.spread_row(Buy, 0, 3);
+    holds(rt, spreads.len() == 3 && spreads.get(1) == Some(&100));
+    let outrights = fronts.outright_row(Buy, 3);
+    holds(rt, outrights.len() == 3 && outrights.get(1) == Some(&9900));
+    holds(rt, fronts.spread_cells().contains(&100));
+}
+
 /// Who buys the first month by way of the second pays 100 for the spread and 9900 for the second.
 fn expect_costs(rt: &impl Abort, rules: &Rulebook, book: &ListBook<Global>, tables: &Tables) {
-    holds(rt, are_priced(book));
+    holds(rt, are_listed(book, 3));
     let cost = front_cost(book, Instrument::Outright(1), Sell);
     holds(rt, cost == Some(9900));
     holds(rt, tables.fronts.spread_cell(Buy, 0, 1) == 100);
     holds(rt, tables.fronts.outright_cell(Buy, 1) == 9900);
+    expect_rows(rt, &tables.fronts);
     let pair = tables.cheapest.known_pair(Buy, 0).expect(rt, "a month");
     holds(rt, is_pair(pair, 10000, 1));
     let pairs = MonthPairs { rules, months: 3 };

@@ -120,7 +120,7 @@ pub(super) fn entry_of(step: &Step) -> Entry {
     }
 }
 
-fn order_of(kept: &Kept) -> Order {
+pub(super) fn order_of(kept: &Kept) -> Order {
     Order {
         place: kept.0,
         session: 0,

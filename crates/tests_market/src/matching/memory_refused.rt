@@ -3,9 +3,9 @@ ghost use Rattle.std.specs.Prelude.{◌<◌, ◌≡◌, []};
 ghost use Rattle.spread_match_state.specs.State.{empty_state};
 ghost use Rattle.spread_match_state.specs.Trade.{IsPriced};
 
-use super::cases::Came::{Replaced, RequestRefused, Rested};
+use super::cases::Came::{Replaced, RequestRefused, Rested, Session};
 use super::cases::Line::{Of, OfSpread};
-use super::cases::Sent::{Buy, Cancel, ReplaceBuy, ReplaceSell, Sell};
+use super::cases::Sent::{Buy, Cancel, Logon, ReplaceBuy, ReplaceSell, Sell};
 use super::cases::{Case, Kept, Step, entry_of, expect_over_list, outcome_of};
 use super::{H6, H6_M6, M6, is_priced, rulebook};
 use crate::expect::holds;
@@ -138,13 +138,15 @@ fn is_refused(
     refusing.has_refused()
 }
 
-/// Each request for memory of that case is refused in turn.
+/// Each request for memory of that case is refused in turn. The first of the numbers names a request, and one behind it
+/// none.
 fn refuse_each(rt: &impl Abort, alloc: Global, rules: &Rulebook, case: &Case) {
     let mut wanted = Vec::new(alloc);
     expect_over_list(rt, alloc, case, &mut wanted);
     let journal = entries_of(rt, alloc, case.journal);
     for number in 1..500u64 {
         if !is_refused(rt, alloc, rules, number, &journal, &wanted) {
+            holds(rt, number > 1);
             return;
         }
     }
@@ -168,19 +170,20 @@ static CASES: &[Case] = &[
         name: "each request refused in turn",
         rulebook: THREE_MONTHS,
         journal: &[
+            (0, Logon, Session),
             (0, Sell(b'a', H6, 2, 10000), Rested),
             (0, Sell(b'b', H6_M6, 3, 200), Rested),
             (0, Sell(b'c', M6, 4, 9800), Rested),
             (0, Buy(b'd', H6, 6, 10000), Rested),
         ],
         fills: &[
-            Of(4, 4, H6, Side::Buy, 2, 10000),
-            Of(4, 1, H6, Side::Sell, 2, 10000),
-            Of(4, 4, H6, Side::Buy, 3, 10000),
-            OfSpread(4, 2, H6_M6, Side::Sell, 3, 200, 10000, 9800),
-            Of(4, 3, M6, Side::Sell, 3, 9800),
+            Of(5, 5, H6, Side::Buy, 2, 10000),
+            Of(5, 2, H6, Side::Sell, 2, 10000),
+            Of(5, 5, H6, Side::Buy, 3, 10000),
+            OfSpread(5, 3, H6_M6, Side::Sell, 3, 200, 10000, 9800),
+            Of(5, 4, M6, Side::Sell, 3, 9800),
         ],
-        resting: &[(3, 1), (4, 1)],
+        resting: &[(4, 1), (5, 1)],
     },
     // Requests that are refused, that keep a place, that lose it and rest, and that lose it and trade. With so many
     // orders each of them comes upon a table that is full.

@@ -10,7 +10,7 @@ use spread_rules::{Instrument, Side};
 const H6_M6_OFF: &[u8] = b"tick 1\nmonth H6 10000\nmonth M6 9800\nmonth U6 9500\npair H6 M6 off\n";
 
 pub(super) const H6_U6_OFF: &[u8] =
-    b"tick 1\nmonth H6 10000\nmonth M6 9800\npair H6 M6 on\nmonth U6 9500\npair H6 U6 off";
+    b"tick 1\nmonth H6 10000\nmonth M6 9800\nmonth U6 9500\npair H6 U6 off\n";
 
 static PAIRS: &[Case] = &[
     Case {

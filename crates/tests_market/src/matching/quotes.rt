@@ -1,16 +1,20 @@
 //! Implied quotes of a market's book.
 ghost use Rattle.std.specs.Prelude.{◌≡◌, []};
+ghost use Rattle.spread_books.specs.Quotes.{AreQuotable};
 ghost use Rattle.spread_match_state.specs.State.{empty_state};
 
 use super::cases::Came::{Cancelled, Rested, Session};
 use super::cases::Sent::{Buy, Cancel, Logon, Sell};
-use super::cases::{Case, Kept, expect_case, expect_over_list};
+use super::cases::{Case, Kept, expect_case, expect_over_list, order_of};
 use super::pairs::H6_U6_OFF;
 use super::{H6, H6_M6, H6_U6, M6, M6_U6, U6, rulebook};
+use crate::books::checked::{add, remove};
+use crate::books::listed::are_listed;
 use crate::expect::holds;
 use spread_books::{Book, IndexBook};
 use spread_match::Market;
 use spread_rules::{Choice, Fill, Instrument, Members, Rulebook, Side};
+use spread_rules_ids::limits::MAX_MONTHS;
 use std::alloc::Global;
 use std::process::Abort;
 use tests_shared::THREE_MONTHS;
@@ -22,6 +26,15 @@ pub(super) struct QuoteCase {
     pub(super) quotes: &'static [(Instrument, Option<(i64, u64, u64)>)],
 }
 
+/// Orders that come to a book, and what a buyer would get by an implied quote of one instrument, of one lot: before the
+/// first of the orders leaves, and then.
+struct LeavingCase {
+    orders: &'static [Kept],
+    quoted: Instrument,
+    before: Option<(i64, u64, u64)>,
+    after: Option<(i64, u64, u64)>,
+}
+
 /// A book that has implied quotes: a function that has a market over any such book is cheaper than one that has a market
 /// over the index book.
 trait Quoting: Book {
@@ -31,6 +44,10 @@ trait Quoting: Book {
         instrument: Instrument,
         side: Side,
     ) -> Option<Choice>;
+
+    /// The quote of that queue in the book alone.
+    fn own_quote(&self, instrument: Instrument, side: Side) -> Option<Choice>
+        requires { AreQuotable (Self.orders self.now) };
 }
 
 impl Quoting for IndexBook<'_, Global> {
@@ -41,6 +58,10 @@ impl Quoting for IndexBook<'_, Global> {
     ) -> Option<Choice> {
         let book = market.book();
         book.quote(instrument, side)
+    }
+
+    fn own_quote(&self, instrument: Instrument, side: Side) -> Option<Choice> {
+        self.quote(instrument, side)
     }
 }
 
@@ -68,7 +89,29 @@ fn expect_quotes_of<B: Quoting>(
     }
 }
 
-/// What is done in a market over the index book. One function has all of these books, as each that has one is dear.
+/// A buyer's quote of that instrument in the book.
+fn buyers_quote<B: Quoting>(rt: &impl Abort, book: &B, instrument: Instrument) -> Option<Choice> {
+    holds(rt, are_listed(book, MAX_MONTHS));
+    book.own_quote(instrument, Side::Buy)
+}
+
+/// The orders come to a book without any, and the first one leaves.
+fn expect_leaving<B: Quoting>(rt: &impl Abort, book: &mut B, case: &LeavingCase) {
+    for kept in case.orders {
+        holds(rt, add(book, order_of(kept)) == Ok(true));
+    }
+    holds(
+        rt,
+        buyers_quote(rt, book, case.quoted) == choice_of(case.before),
+    );
+    holds(rt, remove(book, 0));
+    holds(
+        rt,
+        buyers_quote(rt, book, case.quoted) == choice_of(case.after),
+    );
+}
+
+/// What is done in a market over the index book.
 #[derive(Clone, Copy)]
 enum Course<'c> {
     /// What must come of the case comes of it, and the book has the quotes at the end.
@@ -100,24 +143,41 @@ fn take<B: Quoting>(
     }
 }
 
-/// The same in a market over that book.
-fn take_over<B: Quoting + Drop>(
+/// What is done with an index book. One function has all of these books, as each that has one is dear.
+#[derive(Clone, Copy)]
+enum Trial<'c> {
+    /// The first order leaves the book.
+    Leaving(&'c LeavingCase),
+    /// The course is taken in a market over the book.
+    Market(Course<'c>),
+}
+
+/// Tries that with a book without orders.
+fn try_with<B: Quoting + Drop>(
     rt: &impl Abort,
     alloc: Global,
     rules: &Rulebook,
     book: B,
-    course: Course<'_>,
+    trial: Trial<'_>,
 )
     requires { B.orders book ≡ [] }
 {
-    let mut market = Market::new(alloc, rules, book);
-    take(rt, &mut market, rules, course, &mut Vec::new(alloc))
+    match trial {
+        Trial::Leaving(case) => {
+            let mut book = book;
+            expect_leaving(rt, &mut book, case)
+        }
+        Trial::Market(course) => {
+            let mut market = Market::new(alloc, rules, book);
+            take(rt, &mut market, rules, course, &mut Vec::new(alloc))
+        }
+    }
 }
 
-/// The same in a market over the index book.
-fn take_over_index(rt: &impl Abort, alloc: Global, rules: &Rulebook, course: Course<'_>) {
+/// The same with an index book.
+fn try_with_index(rt: &impl Abort, alloc: Global, rules: &Rulebook, trial: Trial<'_>) {
     let book = IndexBook::new(alloc, rules).expect(rt, "memory");
-    take_over(rt, alloc, rules, book, course)
+    try_with(rt, alloc, rules, book, trial)
 }
 
 /// The cases over the list book, and with their quotes over the index book.
@@ -125,7 +185,8 @@ pub(super) fn expect_quotes(rt: &impl Abort, alloc: Global, cases: &[QuoteCase])
     for quoted in cases {
         let rules = rulebook(rt, quoted.case.rulebook, quoted.case.name);
         expect_over_list(rt, alloc, &quoted.case, &mut Vec::new(alloc));
-        take_over_index(rt, alloc, &rules, Course::Quoted(quoted));
+        let course = Course::Quoted(quoted);
+        try_with_index(rt, alloc, &rules, Trial::Market(course));
     }
 }
 
@@ -207,6 +268,40 @@ fn of_a_buyer(rt: HostRuntime) {
     expect_quotes(&rt, rt.alloc(), QUOTES)
 }
 
+static LEAVING: &[LeavingCase] = &[
+    // A spread loses one of its two months.
+    LeavingCase {
+        orders: &[
+            Kept(2, b'a', H6, Side::Sell, 10000, 1, 1),
+            Kept(3, b'b', M6, Side::Buy, 9800, 1, 1),
+        ],
+        quoted: H6_M6,
+        before: Some((200, 2, 3)),
+        after: None,
+    },
+    // A month loses the earlier of two other months that imply the same price.
+    LeavingCase {
+        orders: &[
+            Kept(2, b'a', H6, Side::Sell, 10000, 1, 1),
+            Kept(3, b'b', H6_U6, Side::Buy, 500, 1, 1),
+            Kept(4, b'c', M6, Side::Sell, 9800, 1, 1),
+            Kept(5, b'd', M6_U6, Side::Buy, 300, 1, 1),
+        ],
+        quoted: U6,
+        before: Some((9500, 3, 2)),
+        after: Some((9500, 5, 4)),
+    },
+];
+
+/// An order that leaves the book takes its quotes with it.
+#[test]
+fn of_an_order_that_leaves(rt: HostRuntime) {
+    let rules = rulebook(&rt, THREE_MONTHS, "a rulebook");
+    for case in LEAVING {
+        try_with_index(&rt, rt.alloc(), &rules, Trial::Leaving(case));
+    }
+}
+
 /// Two pairs offer a buyer of U6 the same price. The newest order has no part in them.
 static AT_HAND: Case = Case {
     name: "the pair of the earlier month is at hand",
@@ -240,5 +335,6 @@ fn at_hand<B: Book>(
 fn pair_at_hand(rt: HostRuntime) {
     let rules = rulebook(&rt, THREE_MONTHS, "a rulebook");
     let without = rulebook(&rt, H6_U6_OFF, "a rulebook");
-    take_over_index(&rt, rt.alloc(), &rules, Course::AtHand(&without));
+    let course = Course::AtHand(&without);
+    try_with_index(&rt, rt.alloc(), &rules, Trial::Market(course));
 }

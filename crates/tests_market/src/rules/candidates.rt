@@ -6,7 +6,7 @@ use crate::expect::{holds, holds_for};
 use spread_rules::{
     Candidate, Choice, Counterparty, Instrument, Level, Members, Order, Rank, Rulebook, Side,
     better, candidate_for, chosen, is_within, leg_prices, levels_meet, plain_candidate, price_at,
-    ranking,
+    quantity_with, ranking,
 };
 use std::test::Fail;
 
@@ -60,6 +60,19 @@ fn price_of_a_pair(rt: HostRuntime) {
     holds(&rt, price_at(&buyer(), &pair) == Some(9900));
     holds(&rt, is_within(&buyer(), 10000));
     holds(&rt, !is_within(&buyer(), 10001));
+}
+
+/// The least left of the buyer's six lots, the seller's two, the spread's three and the other month's four.
+#[test]
+fn lots_that_trade(rt: HostRuntime) {
+    let direct = Counterparty::Direct(seller());
+    holds(&rt, quantity_with(&buyer(), &direct) == 2);
+    let pair = Counterparty::Implied(spread_seller(), far_seller());
+    holds(&rt, quantity_with(&buyer(), &pair) == 3);
+    holds(
+        &rt,
+        Side::Buy.opposite() == Side::Sell && Side::Sell.opposite() == Side::Buy,
+    );
 }
 
 #[test]

@@ -3,9 +3,13 @@ ghost use Rattle.std.specs.Prelude.{◌≡◌, All, true};
 ghost use Rattle.spread_rules.specs.code.Candidates.{HasOrderPrice};
 
 use super::{H6, M6, THREE_MONTHS, U6};
+use crate::books::checked::add;
+use crate::books::listed::are_listed;
 use crate::expect::{holds, holds_for};
+use spread_books::ListBook;
+use spread_books_search::best_candidate;
 use spread_rules::Side::{Buy, Sell};
-use spread_rules::{Choice, Instrument, Members, Order, Rulebook, Side, plain_best};
+use spread_rules::{Choice, Instrument, Members, Order, Rulebook, Side, chosen, plain_best};
 use spread_rules_ids::Id;
 use std::alloc::Global;
 use std::process::Abort;
@@ -140,11 +144,41 @@ fn expect_choice(rt: &impl Abort, rules: &Rulebook, orders: &[Order], case: &Cas
     holds_for(rt, choice == case.wanted, case.name);
 }
 
+/// A book in which these orders rest.
+fn book_of(rt: &impl Abort, alloc: Global, resting: &[Placed]) -> ListBook<Global> {
+    let mut book = ListBook::new(alloc);
+    for placed in resting {
+        let added = add(&mut book, order_of(placed));
+        holds(rt, added == Ok(true));
+    }
+    book
+}
+
+/// What the search over a book finds for the new order of a case is what is wanted.
+fn expect_found(rt: &impl Abort, rules: &Rulebook, book: &ListBook<Global>, case: &Case) {
+    holds(rt, are_listed(book, rules.months()));
+    let new = order_of(&case.new);
+    let choice = match best_candidate(book, rules, &new) {
+        None => None,
+        Some(found) => Some(chosen(&new, &found)),
+    };
+    holds_for(rt, choice == case.wanted, case.name);
+}
+
 #[test]
 fn worked_rows(rt: HostRuntime) {
     let rules = Rulebook::read(THREE_MONTHS).expect(&rt, "a rulebook");
     for case in CASES {
         let orders = orders_of(&rt, rt.alloc(), case.resting);
         expect_choice(&rt, &rules, &orders, case);
+    }
+}
+
+#[test]
+fn worked_rows_over_a_book(rt: HostRuntime) {
+    let rules = Rulebook::read(THREE_MONTHS).expect(&rt, "a rulebook");
+    for case in CASES {
+        let book = book_of(&rt, rt.alloc(), case.resting);
+        expect_found(&rt, &rules, &book, case);
     }
 }

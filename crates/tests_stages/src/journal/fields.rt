@@ -1,8 +1,9 @@
 //! The fields of a journal's line, one by one.
 use crate::expect::holds;
+use crate::said::{DayOrder, Said, entry_of};
 use spread_journal_lines::{
-    LATEST_VERSION, Stage, Version, id_field, may_follow, number_field, read_id, read_number,
-    read_price, read_time_in_force, side_field, stage_after, version_field,
+    LATEST_VERSION, Stage, Version, id_field, may_follow, number_field, read_entry, read_id,
+    read_number, read_price, read_time_in_force, side_byte, side_field, stage_after, version_field,
 };
 use spread_rules::{Event, Side, Ticket};
 use tests_shared::id;
@@ -48,6 +49,10 @@ fn sides_are_one_and_two_and_times_in_force_words(rt: HostRuntime) {
     for (field, side) in &SIDES {
         holds(&rt, side_field(field) == *side);
     }
+    holds(
+        &rt,
+        side_byte(Side::Buy) == b'1' && side_byte(Side::Sell) == b'2',
+    );
     for (word, is_immediate) in &TIMES {
         holds(&rt, read_time_in_force(word) == *is_immediate);
     }
@@ -97,4 +102,31 @@ fn the_first_version_has_no_word_for_a_replace(rt: HostRuntime) {
         version_field(b"JOURNAL 2\nEND 0\n") == Some((Version::Latest, b"END 0\n".as_slice())),
     );
     holds(&rt, version_field(b"JOURNAL 3\nEND 0\n") == None);
+}
+
+/// Lines, each in its version, and the entry that they are.
+static LINES: [(Version, &[u8], Option<(u8, Said)>); 5] = [
+    (Version::First, b"15 close 1", Some((15, Said::Close(1)))),
+    (Version::First, b"16 close 1", None),
+    (
+        Version::Latest,
+        b"0 replace 61 63 4836 2 3 10000 day",
+        Some((
+            0,
+            Said::Replace(b"a", DayOrder(b"c", b"H6", Side::Sell, 3, 10000)),
+        )),
+    ),
+    (Version::First, b"0 replace 61 63 4836 2 3 10000 day", None),
+    (Version::Latest, b"END 1", None),
+];
+
+#[test]
+fn a_line_is_one_entry(rt: HostRuntime) {
+    for (version, line, wanted) in &LINES {
+        let entry = match wanted {
+            None => None,
+            Some((session, said)) => Some(entry_of(*session, said)),
+        };
+        holds(&rt, read_entry(*version, line) == entry);
+    }
 }

@@ -65,6 +65,13 @@ static ENTRIES: [(Said, &[Part]); 5] = [
     ),
 ];
 
+/// Whether session 0 was sent so many bytes of all, and the others nothing.
+fn is_sent_up_to<A: Allocator + Copy>(run: &Run<A>, length: usize) -> bool {
+    length <= SENT.len()
+        && run.was_sent(0, &SENT[..length])
+        && (1..16).all(|session| run.was_sent(session, b""))
+}
+
 /// Works an entry, and again where a request was refused in it: then nothing was sent.
 fn work<A: Allocator + Copy>(
     rt: &impl Abort,
@@ -80,7 +87,7 @@ fn work<A: Allocator + Copy>(
     if answer.is_err() {
         holds(rt, answer == Err(DeskFault::NoMemory));
         holds(rt, !refused_before && heap.has_refused());
-        holds(rt, run.length_sent(0) == length);
+        holds(rt, is_sent_up_to(run, length));
         run.answer(rt, entry, outcome, fills).expect(rt, "memory");
     }
 }
@@ -100,7 +107,7 @@ fn work_all<A: Allocator + Copy>(
         let fills = fills_of(rt, alloc, parts);
         work(rt, run, heap, &entry_of(0, said), &outcome, &fills);
     }
-    holds(rt, run.was_sent(0, SENT) && run.was_sent(1, b""));
+    holds(rt, is_sent_up_to(run, SENT.len()));
 }
 
 /// Whether the request of that number came.

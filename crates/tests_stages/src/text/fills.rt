@@ -8,7 +8,7 @@ use spread_rules::{Fill, Instrument, Rulebook, Side, TestSink};
 use std::alloc::Global;
 use std::process::Abort;
 use text_day::{TextFault, text_of_fills, write_fills};
-use text_fills::{MonthTotals, add_fill, month_totals, no_totals};
+use text_fills::{MonthTotals, add_fill, month_totals, no_totals, put_fills, write_fill_lines};
 
 /// A fill of one lot, as far as its lines show it.
 fn one_lot(at: u64, order: u64, instrument: Instrument, side: Side, prices: (i64, i64, i64)) -> Fill
@@ -68,6 +68,22 @@ fn expect_text(
     holds(rt, whole.as_slice() == text);
 }
 
+/// The lines of the fills alone, put in a list and written by way of a block, and the first month's sums.
+fn expect_lines(rt: &impl Abort, alloc: Global, rules: &Rulebook, fills: &[Fill], lines: &[u8])
+    requires { AreShown rules.now fills.now }
+{
+    let mut out = Vec::new(alloc);
+    put_fills(&mut out, rules, fills).expect(rt, "memory");
+    holds(rt, out.as_slice() == lines);
+    let mut sink = TestSink::new(alloc, 1000, 0).expect(rt, "memory");
+    let mut block = Vec::with_capacity(alloc, 512).expect(rt, "memory");
+    let mut sums = no_totals();
+    let written = write_fill_lines(&mut block, &mut sink, rules, fills, &mut sums);
+    written.expect(rt, "a sink that works");
+    holds(rt, sink.bytes() == lines);
+    holds(rt, sums[0] == one_each(10000));
+}
+
 #[test]
 fn spread_lifts_two_months(rt: HostRuntime) {
     let fills = [
@@ -100,6 +116,8 @@ fn spread_lifts_two_months(rt: HostRuntime) {
     let rules = three_months(&rt);
     let room = (1000, 0, text.len());
     expect_text(&rt, rt.alloc(), &rules, &fills, text, &room);
+    let lines = b"F 4 4 0 H6-M6 1 1 200 10000 9800\nF 4 2 0 H6 2 1 10000\nF 4 3 0 M6 1 1 9800\n";
+    expect_lines(&rt, rt.alloc(), &rules, &fills, lines);
 }
 
 /// Rooms for a text of 120 bytes.
