@@ -33,14 +33,14 @@ cost_of_pair side month other a b =
 -- two orders of the queues that meet a new order of that side and month together, where their pair of months takes part
 pub record IsPair
     (on : Pairs) (xs : List Order) (side : Side) (month other : ℕ) (a b : Order) : Type 0 where
-  pub on : is_pair_on on month other ≡ true
+  pub is_on : is_pair_on on month other ≡ true
   pub first : Rests xs (spread_of month other) (spread_side side month other) a
   pub second : Rests xs (Outright other) (other_side side) b
 
 -- the fronts of these queues, and what they cost
 pub record HasFronts
     (on : Pairs) (xs : List Order) (side : Side) (month other : ℕ) (cost : ℤ) : Type 0 where
-  pub on : is_pair_on on month other ≡ true
+  pub is_on : is_pair_on on month other ≡ true
   pub a : Order
   pub b : Order
   pub first : IsFront xs (spread_of month other) (spread_side side month other) (Some a)

@@ -134,7 +134,7 @@ module _ (on : Pairs) where
   outright_at xs m l q n is c None none =
       let f = c.fronts in
       let price = fronts_price on n m l.other_month xs f.a f.b is
-      (record { on = f.on; first = f.first.0; second = f.second.0 }) in
+      (record { is_on = f.is_on; first = f.first.0; second = f.second.0 }) in
       absurd (none f.a f.b price.0 f.first.0 f.second.0 price.1)
   outright_at xs m l q n is c (Some quote) f =
       least_of_fronts n xs (spread_of m l.other_month) (spread_side n.side m l.other_month) (Outright l.other_month)

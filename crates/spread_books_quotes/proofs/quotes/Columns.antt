@@ -52,7 +52,7 @@ module _ (on : Pairs) where
       let a = keep.first (Some _) (record { front = f.a; is = f.first; sum = refl }) in
       let b = keep.second (Some _) (record { front = f.b; is = f.second; sum = refl }) in
       record {
-        on = f.on;
+        is_on = f.is_on;
         a = a.front;
         b = b.front;
         first = a.is;
@@ -73,7 +73,7 @@ module _ (on : Pairs) where
       covered_by a b covers p (Some u) (Some v) f g =
           let first = no_dearer ys (spread_of m k) (spread_side side m k) u a (keep.first (Some u) f) p.first in
           let second = no_dearer ys (Outright k) (other_side side) v b (keep.second (Some v) g) p.second in
-          let was = covers f.front g.front (record { on = p.on; first = f.is.0; second = g.is.0 }) in
+          let was = covers f.front g.front (record { is_on = p.is_on; first = f.is.0; second = g.is.0 }) in
           dearer held (cost_of_pair side m k f.front g.front) (cost_of_pair side m k a b) k
           (pair_le _ _ _ _ _ _ (ap (λ (w : ℤ). w +ℤ cost (other_side (other_side side)) g.front.price) (sym f.sum)
           ∙ ap (λ (w : ℤ). u +ℤ w) (sym g.sum)) refl first second) was
@@ -126,7 +126,7 @@ module _ (on : Pairs) where
     small = h.small;
     below = h.below;
     covers = λ k a b lt p. h.covers k a b lt (record {
-      on = p.on;
+      is_on = p.is_on;
       first = still_rests ys xs (spread_of m k) (spread_side side m k) a fewer p.first;
       second = still_rests ys xs (Outright k) (other_side side) b fewer p.second;
     });
@@ -143,7 +143,7 @@ module _ (on : Pairs) where
   still_pair : (xs ys : List Order) (side : Side) (m k : ℕ) (c : ℤ) → AreAmong xs ys → (f : HasFronts on xs side m k c)
       → IsPair on ys side m k f.a f.b
   still_pair xs ys side m k c among f = record {
-    on = f.on;
+    is_on = f.is_on;
     first = still_rests xs ys (spread_of m k) (spread_side side m k) f.a among f.first.0;
     second = still_rests xs ys (Outright k) (other_side side) f.b among f.second.0;
   }

@@ -53,9 +53,9 @@ twice_other Sell = refl
 pair_sum : (on : Pairs) (xs : List Order) (s : Side) (m k : ℕ) (c d : Option ℤ) (b : Bool) → is_pair_on on m k ≡ b
     → IsSpreadCost on xs s m k c → CostsOfFront xs (Outright k) (other_side s) d
     → CostsOfFronts on xs s m k (sum_of c d)
-pair_sum on xs s m k None d b is h g = λ x y p. h.on p.on x p.first
+pair_sum on xs s m k None d b is h g = λ x y p. h.is_on p.is_on x p.first
 pair_sum on xs s m k (Some u) None b is h g = λ x y p. g y p.second
-pair_sum on xs s m k (Some u) (Some v) true is h g = fronts_cost on xs s m k u v is (h.on is) g
+pair_sum on xs s m k (Some u) (Some v) true is h g = fronts_cost on xs s m k u v is (h.is_on is) g
 pair_sum on xs s m k (Some u) (Some v) false is h g = (let none = h.off is in cc)
 
 -- what the rows tell of two queues is what their fronts together cost
@@ -79,7 +79,7 @@ empty_costs on months = record {
   spread_count = length-replicate {A = Option ℤ} (months * 2 * 24) None;
   outright_count = length-replicate {A = Option ℤ} (2 * 24) None;
   spreads = λ s m k a b. record {
-    on = λ e. none_rests (spread_of m k) (spread_side s m k) (spread_cost (no_costs months) s m k)
+    is_on = λ e. none_rests (spread_of m k) (spread_side s m k) (spread_cost (no_costs months) s m k)
         (nothing_there (months * 2 * 24) (row_cell s m k));
     off = λ e. nothing_there (months * 2 * 24) (row_cell s m k);
   };
@@ -98,7 +98,7 @@ pair_is on near far m k false e = cc
 module _ (on : Pairs) (months : ℕ) (most : months ≤ 24) (xs ys : List Order) where
   still_cost : (u : Side) (m k : ℕ) (c : Option ℤ) → KeepsCost xs ys (spread_of m k) (spread_side u m k)
       → IsSpreadCost on xs u m k c → IsSpreadCost on ys u m k c
-  still_cost u m k c keep h = record { on = λ e. keep c (h.on e); off = h.off }
+  still_cost u m k c keep h = record { is_on = λ e. keep c (h.is_on e); off = h.off }
 
   -- where each front costs what it did
   pub kept_costs : (rows : CostRows) → ((j : Instrument) (t : Side) → KeepsCost xs ys j t)
@@ -262,7 +262,7 @@ module _ (on : Pairs) (months : ℕ) (most : months ≤ 24) (xs ys : List Order)
         | inl e ↦
             subst (IsSpreadCost on ys u m k) (sym (noted_spread u m k (nat_lt m k) refl e.0 e.1))
             (record {
-              on = λ i. subst (λ (j : Instrument). CostsOfFront ys j (spread_side u m k) c) e.0
+              is_on = λ i. subst (λ (j : Instrument). CostsOfFront ys j (spread_side u m k) c) e.0
                   (subst (λ (t : Side). CostsOfFront ys (Spread near far) t c) e.1 own);
               off = λ i. absurd (let no : true ≡ false = sym (same_pair m k true part e.0) ∙ i in cc);
             })
@@ -281,7 +281,7 @@ module _ (on : Pairs) (months : ℕ) (most : months ≤ 24) (xs ys : List Order)
       outright_count = h.outright_count;
       spreads = λ u m k a b. elim (same_queue (Spread near far) (spread_of m k) s (spread_side u m k)) [
         | inl e ↦ record {
-          on = λ i. absurd (let no : true ≡ false = sym i ∙ same_pair m k false part e.0 in cc);
+          is_on = λ i. absurd (let no : true ≡ false = sym i ∙ same_pair m k false part e.0 in cc);
           off = (h.spreads u m k a b).off;
         }
         | inr n ↦ still_cost u m k (spread_cost rows u m k) (one (spread_of m k) (spread_side u m k) n)

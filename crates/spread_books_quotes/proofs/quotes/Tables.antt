@@ -289,7 +289,7 @@ module _ (f : Order → Order) (keeps : KeepsQueue f) (place : ℕ) where
       → KeepsQuotes all_on listed on months xs quotes → KeepsQuotes all_on listed on months (changed f place xs) quotes
   changed_table all_on listed on months xs quotes h = record {
     most = h.most;
-    on = h.on;
+    all_are_on = h.all_are_on;
     quoted = λ e.
         let q = h.quoted e in
         record {

@@ -101,7 +101,7 @@ with_spread_cost rows side near far cost = record rows {
 -- what the front of the month's spread with that other month costs, none where their pair takes no part
 pub record IsSpreadCost
     (on : Pairs) (xs : List Order) (side : Side) (month other : ℕ) (cost : Option ℤ) : Type 0 where
-  pub on : is_pair_on on month other ≡ true
+  pub is_on : is_pair_on on month other ≡ true
       → CostsOfFront xs (spread_of month other) (spread_side side month other) cost
   pub off : is_pair_on on month other ≡ false → cost ≡ None
 

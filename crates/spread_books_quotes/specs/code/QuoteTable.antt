@@ -119,5 +119,5 @@ pub record KeepsQuotes
     (all_on listed : Bool) (on : Pairs) (months : ℕ) (xs : List Order)
     (quotes : QuotesView) : Type 0 where
   pub most : months ≤ limits.MAX_MONTHS
-  pub on : all_on ≡ true → AreAllOn on
+  pub all_are_on : all_on ≡ true → AreAllOn on
   pub quoted : listed ≡ true → IsQuoted on months xs quotes

@@ -150,7 +150,7 @@ module _ (on : Pairs) where
       price) is (priced on n a b price e.meets))
       ((All-contains IsNearFirst xs a near e.stands.0).near_before_far) at in
       record {
-        on = sym (pair_takes_part n m k a.instrument is shape.of) ∙ part_of on n a b price e.meets;
+        is_on = sym (pair_takes_part n m k a.instrument is shape.of) ∙ part_of on n a b price e.meets;
         first = record { stands = e.stands.0; instrument_is = shape.of; side_is = shape.sided };
         second = record { stands = e.stands.1; instrument_is = shape.and; side_is = shape.and_on };
       }
@@ -161,7 +161,7 @@ module _ (on : Pairs) where
   fronts_price n m k xs a b is p =
       let r = queues_meet n.side m k a.price b.price in (
         r.0,
-        priced_again on n a b r.0 (pair_takes_part n m k a.instrument is p.first.instrument_is ∙ p.on)
+        priced_again on n a b r.0 (pair_takes_part n m k a.instrument is p.first.instrument_is ∙ p.is_on)
             (rw (is, p.first.side_is, p.first.instrument_is, p.second.side_is, p.second.instrument_is) r.1),
       )
 
@@ -276,7 +276,7 @@ module _ (on : Pairs) where
       covers a b price here.first here.second e
   beaten_at n xs m k l r a b price false is_other is f covers e at p low =
       let fronts : IsPair on xs n.side m l.other_month f.a f.b =
-      record { on = f.on; first = f.first.0; second = f.second.0 } in
+      record { is_on = f.is_on; first = f.first.0; second = f.second.0 } in
       let q = fronts_price n m l.other_month xs f.a f.b is fronts in
       let cost_q : cost n.side q.0 ≡ l.cost = price_costs n m l.other_month xs f.a f.b q.0 fronts q.1 ∙ sym f.sum in
       let cost_p : cost n.side price ≡ cost_of_pair n.side m k a b = price_costs n m k xs a b price p e.meets in
@@ -349,7 +349,7 @@ pub fronts_cost : (on : Pairs) (xs : List Order) (side : Side) (m k : ℕ) (c d 
     → HasFront xs (spread_of m k) (spread_side side m k) c → HasFront xs (Outright k) (other_side side) d
     → HasFronts on xs side m k (c +ℤ d)
 fronts_cost on xs side m k c d part f s = record {
-  on = part;
+  is_on = part;
   a = f.front;
   b = s.front;
   first = f.is;

@@ -23,7 +23,7 @@ returns-then-is_better g c =
     let cheapest = subst (IsCheapest on xs n.side m (month_count c.args.rules.now)) c.in-Some.is
     c.least_pair.ensures.least in
     let offers = c.with_fronts.ensures on (pair_takes_part on n m l.other_month q.instrument c.requires.new
-    c.spreads_with-spreads.ensures.instrument ∙ cheapest.fronts.on) c.requires.fair in
+    c.spreads_with-spreads.ensures.instrument ∙ cheapest.fronts.is_on) c.requires.fair in
     let covers : CoversTwo on n xs (spread_of m l.other_month) (spread_side n.side m l.other_month) and
     (other_side n.side) r =
     subst (λ (s : Side). CoversTwo on n xs (spread_of m l.other_month) (spread_side n.side m l.other_month) and s r)

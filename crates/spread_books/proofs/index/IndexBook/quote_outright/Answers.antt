@@ -34,7 +34,7 @@ returns g c =
     (subst (λ (i : Instrument). IsQuoteOfFronts all_on xs (Outright m) side i q.side and c.opposite.result r)
     c.spreads_with-spreads.ensures.instrument c.pair_quote.ensures)) in
     let part : takes_part on (Outright m) (spread_of m l.other_month) ≡ true = month_takes_part on m l.other_month
-    ∙ c.in-Some.ensures.fronts.on in
+    ∙ c.in-Some.ensures.fronts.is_on in
     outright_quote on xs side m l r c.requires c.in-Some.ensures
     (quote_on on xs (Outright m) side (spread_of m l.other_month) (spread_side side m l.other_month) and
     (other_side side) r part fronts)

@@ -11,7 +11,7 @@ invariant_of-result g c =
     let months = c.months-months.result in
     record {
       most = c.months-months.ensures.most;
-      on = c.is_all_on.ensures.0;
+      all_are_on = c.is_all_on.ensures.0;
       quoted = λ e.
           subst (λ (xs : List Order). IsQuoted on months xs c.in_ok-quotes.quotes) (sym c.new-2.ensures)
           (subst (λ (q : QuotesView). IsQuoted on months [] q) (sym c.in_ok-quotes.ensures) (empty_table on months));

@@ -39,7 +39,7 @@ invariant_of-self g c =
     } in
     record {
       most = c.self.invariant.most;
-      on = c.self.invariant.on;
+      all_are_on = c.self.invariant.all_are_on;
       quoted = λ e. left_table (implied c.self.inside.pairs.rules.now) c.self.inside.pairs.months xs ys o
           c.front_level-others.result c.self.inside.quotes c.renew_for.new.self (c.self.invariant.quoted e) left
           (c.renew_for.ensures.left refl xs left);
