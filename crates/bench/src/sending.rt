@@ -19,7 +19,7 @@ fn apply_each<B: Book, A: Allocator + Copy>(
     journal: &[Entry],
     applied: &mut Applied<A>,
 ) -> Result<(), NoMemory>
-    requires first { market.old.state ≡ empty_state }
+    requires first { market.old.state ≡ empty_state market.old.state.quotes_by }
     requires entries { All FitsEntry journal.now }
 {
     market.reserve(journal.len())?;

@@ -74,7 +74,7 @@ fn match_each<B: Book, A: Allocator + Copy>(
     journal: &[Entry],
     fills: &mut Vec<Fill, A>,
 ) -> Result<u64, NoMemory>
-    requires first { market.old.state ≡ empty_state }
+    requires first { market.old.state ≡ empty_state market.old.state.quotes_by }
     requires entries { All FitsEntry journal.now }
 {
     market.reserve(journal.len())?;

@@ -4,8 +4,6 @@ ghost use Rattle.std.specs.Prelude.{◌≡◌, ◌+◌, All, IfOk, IfSome, lengt
 ghost use Rattle.spread_rules.specs.code.Candidates.{HasOrderPrice};
 ghost use Rattle.spread_rules.specs.Clearing.{removed};
 ghost use Rattle.spread_rules.specs.Journal.{FitsEntry};
-ghost use Rattle.spread_rules.specs.Meaning.{order_of};
-ghost use Rattle.spread_rules_rulebook.specs.Rulebook.{find_symbol};
 ghost use Rattle.apply_market.specs.Application.{meaning_behind};
 ghost use Rattle.explain_turns.specs.Explained.{AreTurns, HaveLegPrices, LiesBeyond, after_all_turns};
 ghost use Rattle.explain_entries.specs.EntryExplained.{named_by, others_of, standing_at, trader_of};
@@ -14,26 +12,9 @@ use crate::orders_before::{OrdersBefore, named_by, standing_at};
 use crate::told::{EntryExplanation, Traded};
 use explain_turns::explain_order;
 use spread_match::laws::ranges;
-use spread_rules::{Entry, Event, NoMemory, Order, Outcome, Rulebook, Ticket};
+use spread_match_orders::new_order;
+use spread_rules::{Entry, Event, NoMemory, Order, Outcome, Rulebook};
 use std::alloc::Allocator;
-
-/// The order that a new order asks for.
-fn new_order(rulebook: &Rulebook, place: u64, session: u8, ticket: &Ticket) -> Option<Order>
-    ensures { result
-        ≡ option_map (order_of place session ticket.now) (find_symbol rulebook.now ticket.now.symbol) }
-{
-    let instrument = rulebook.find(ticket.symbol.bytes())?;
-    Some(Order {
-        place,
-        session,
-        id: ticket.id,
-        instrument,
-        side: ticket.side,
-        price: ticket.price,
-        quantity: ticket.quantity,
-        leaves: ticket.quantity,
-    })
-}
 
 /// The order that an entry of that place brings to be matched, where it brings one.
 fn trader_of(rulebook: &Rulebook, place: u64, entry: &Entry, outcome: &Outcome) -> Option<Order>
@@ -44,7 +25,10 @@ fn trader_of(rulebook: &Rulebook, place: u64, entry: &Entry, outcome: &Outcome) 
 {
     match (&entry.event, outcome) {
         (Event::New(_), Outcome::Refused(_)) => None,
-        (Event::New(ticket), _) => new_order(rulebook, place, entry.session, ticket),
+        (Event::New(ticket), _) => {
+            let instrument = rulebook.find(ticket.symbol.bytes())?;
+            Some(new_order(place, entry.session, ticket, instrument))
+        }
         (Event::Replace { ticket, .. }, Outcome::Replaced(order)) if order.place == place => {
             Some(Order {
                 price: ticket.price,

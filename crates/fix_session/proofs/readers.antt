@@ -1,3 +1,2 @@
 pub mod FirstMessage
 pub mod BytesFed
-pub mod MessagesCopied

@@ -14,7 +14,7 @@ ghost use Rattle.fix_session.specs.code.ReaderFields.{IsKept};
 
 use fix_session_judging::{Ahead, Change, Session, Verdict, count_messages, judge_ahead};
 use fix_wire_framer::{Framer, Next};
-use spread_rules::{Entry, NoMemory};
+use spread_rules::Entry;
 use std::alloc::{AllocError, Allocator};
 use std::marker::Model;
 
@@ -192,21 +192,6 @@ impl Reader {
         self.session = after;
         self.due = None;
         verdict
-    }
-
-    /// A copy of the first message, if one stands. Bytes at which no frame stands are skipped.
-    pub(crate) fn copy_first<A: Allocator>(
-        &mut self,
-        alloc: A,
-    ) -> Result<Option<Vec<u8, A>>, NoMemory>
-        ensures copy { IfOk result
-            (λ copy. option_map (λ v. v.items) copy ≡ first_message self.old) }
-        ensures skipped { self.new ≡ after_skipping self.old }
-    {
-        match self.framer.next() {
-            Next::Message(message) => Ok(Some(message.bytes().to_vec(alloc)?)),
-            Next::Need => Ok(None),
-        }
     }
 
     /// Judges and passes the first message, whose event joins the entries; false where none stands.

@@ -83,6 +83,7 @@ impl Session {
     }
 
     /// What the session says to a message, and the session after it. A message whose number can't be read changes nothing.
+    /// For tests and laws; the host asks `judge_into`, which copies no verdict.
     pub fn judge(&self, message: &Message) -> (Verdict, Session)
         ensures { result ≡ judge self.now message.now.frame.now }
     {

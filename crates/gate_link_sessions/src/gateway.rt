@@ -121,7 +121,7 @@ impl<A: Allocator> Gateway<A> {
         self.reader.put(piece)
     }
 
-    /// Whether a message stands that `step` would judge.
+    /// Whether a message stands that `step` would judge. For who steps one by one; the host asks `judge_many`.
     pub fn stands(&mut self) -> bool
         ensures gate { SameGateway self.old self.new }
         ensures skipped { is_over self.old ≡ false → OnlySkipped self.old self.new }
@@ -163,7 +163,8 @@ impl<A: Allocator> Gateway<A> {
         Step::Sent
     }
 
-    /// How many messages are held, or `most` where they are more; 0 once the session is closed. Nothing changes.
+    /// How many messages are held, or `most` where they are more; 0 once the session is closed. Nothing changes. For who
+    /// slices by itself; the host asks `judge_many`.
     pub fn standing(&mut self, most: u32) -> u32
         ensures count { result ≡ held_messages most self.old }
         ensures same { self.new ≡ self.old }
@@ -210,7 +211,8 @@ impl<A: Allocator> Gateway<A> {
     }
 
     /// Judges the first messages that are held, at most so many, none past a close, and sends their events as one slice:
-    /// all of them or none. At Full nothing changes, at Need nothing but bytes at which no frame stands.
+    /// all of them or none. At Full nothing changes, at Need nothing but bytes at which no frame stands. The host takes it in
+    /// two calls, `judge_many` and `send_judged`, between which the gate is called.
     pub fn step_many(&mut self, frames: u32) -> Burst
         requires { (1 ≤ frames) × (frames ≤ MAX_SLICE) }
         ensures gate { SameGateway self.old self.new }

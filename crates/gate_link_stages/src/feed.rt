@@ -229,7 +229,7 @@ impl<A: Allocator> Matcher<A> {
         }
     }
 
-    /// Takes the next entry, if one is there.
+    /// Takes the next entry, if one is there. For who wants it as its own; the host asks `lend`, which copies none.
     pub fn take(&mut self) -> Taken
         ensures ring { SameMatcher self.old self.new }
         ensures take { Takes result self.old self.new }

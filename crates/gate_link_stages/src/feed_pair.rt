@@ -15,6 +15,8 @@ pub fn agree<A: Allocator>(feeder: &mut Feeder<A>, matcher: &mut Matcher<A>) -> 
     ensures ring { SameFeeder feeder.old feeder.new × SameMatcher matcher.old matcher.new }
     ensures same { (given feeder.new ≡ given feeder.old)
         × (taken matcher.new ≡ taken matcher.old) }
+    ensures marks { (feed_ended feeder.new ≡ feed_ended feeder.old)
+        × (take_ended matcher.new ≡ take_ended matcher.old) }
     ensures value { result ≡ take_ended matcher.old }
     ensures agree { Agrees result (feed_ended feeder.old)
         (given feeder.old) (taken matcher.old) }

@@ -126,7 +126,7 @@ impl<A: Allocator> Poster<A> {
         }
     }
 
-    /// Gives the first bytes, 63 at most, and says how many.
+    /// Gives the first bytes, 63 at most, and says how many. For who gives one piece; the host asks `post_many`.
     pub fn post(&mut self, bytes: &[u8]) -> Post
         ensures ring { SamePoster self.old self.new }
         ensures post { Posts result bytes.now self.old self.new }

@@ -15,6 +15,8 @@ pub fn finished<A: Allocator>(poster: &mut Poster<A>, writer: &mut Writer<A>) ->
     ensures ring { SamePoster poster.old poster.new × SameWriter writer.old writer.new }
     ensures same { (posted poster.new ≡ posted poster.old)
         × (written writer.new ≡ written writer.old) }
+    ensures marks { (post_ended poster.new ≡ post_ended poster.old)
+        × (write_ended writer.new ≡ write_ended writer.old) }
     ensures value { result ≡ write_ended writer.old }
     ensures finished { Finishes result (post_ended poster.old)
         (posted poster.old) (written writer.old) }

@@ -1,5 +1,5 @@
 //! A book that has the cheapest pairs of its fronts at hand.
-ghost use Rattle.std.specs.Prelude.{◌≡◌, ◌<◌, ◌^◌, [], IfOk, IfSome, true, length};
+ghost use Rattle.std.specs.Prelude.{◌≡◌, ◌<◌, ◌^◌, [], IfOk, IfSome, Some, true, length};
 ghost use Rattle.spread_rules_ids.specs.declared.limits.TheConstants.{MAX_MONTHS};
 ghost use Rattle.spread_rules_rulebook.specs.Rulebook.{implied};
 ghost use Rattle.spread_books_plain.specs.Pairs.{IsCheapest};
@@ -107,6 +107,8 @@ impl<'r, A: Allocator + Copy> QuotedBook<'r, A> {
 
 impl<'r, A: Allocator + Copy> Book for QuotedBook<'r, A> {
     ghost orders = { λ b. b.orders };
+
+    ghost quotes_by = { λ b. Some b.rules };
 
     #[inline(always)]
     fn front(&self, instrument: Instrument, side: Side) -> Option<Order> {

@@ -1,5 +1,5 @@
 //! A book over ordered tables that has the best prices of its queues at hand.
-ghost use Rattle.std.specs.Prelude.{◌≡◌, ◌<◌, ◌^◌, ◌==◌, ◌++◌, ◌∷◌, [], List, Contains, length};
+ghost use Rattle.std.specs.Prelude.{◌≡◌, ◌<◌, ◌^◌, ◌==◌, ◌++◌, ◌∷◌, [], List, Contains, length, None};
 ghost use Rattle.std.specs.List.{find};
 ghost use Rattle.spread_rules.specs.Clearing.{removed};
 ghost use Rattle.spread_rules.specs.declared.order.Order.{Order};
@@ -137,6 +137,8 @@ impl<A: Allocator + Copy> FrontBook<A> {
 
 impl<A: Allocator + Copy> Book for FrontBook<A> {
     ghost orders = { λ b. b };
+
+    ghost quotes_by = { λ b. None };
 
     #[inline(always)]
     fn front(&self, instrument: Instrument, side: Side) -> Option<Order> {

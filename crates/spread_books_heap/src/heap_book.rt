@@ -1,5 +1,5 @@
 //! A book over tables: its orders by place, and their ranks by queue.
-ghost use Rattle.std.specs.Prelude.{◌≡◌, ◌<◌, ◌^◌, ◌==◌, [], length};
+ghost use Rattle.std.specs.Prelude.{◌≡◌, ◌<◌, ◌^◌, ◌==◌, [], length, None};
 ghost use Rattle.std.specs.List.{find};
 ghost use Rattle.std.specs.Option.{option_copied};
 ghost use Rattle.spread_rules.specs.Clearing.{reduced, removed};
@@ -95,6 +95,8 @@ impl<A: Allocator + Copy> HeapBook<A> {
 
 impl<A: Allocator + Copy> Book for HeapBook<A> {
     ghost orders = { λ b. b };
+
+    ghost quotes_by = { λ b. None };
 
     fn front(&self, instrument: Instrument, side: Side) -> Option<Order> {
         match self.best_price(instrument, side) {

@@ -1,8 +1,8 @@
 //! What a book of resting orders does.
-ghost use Rattle.std.specs.Prelude.{◌≡◌, ◌==◌, ◌<◌, ◌++◌, ◌∷◌, [], List, length, slice_get, OnOk, OnErr, IfSome, All};
+ghost use Rattle.std.specs.Prelude.{◌≡◌, ◌==◌, ◌<◌, ◌++◌, ◌∷◌, [], List, Option, length, slice_get, OnOk, OnErr, IfSome, All};
 ghost use Rattle.std.specs.List.{find};
 ghost use Rattle.spread_rules_ids.specs.declared.limits.TheConstants.{MAX_MONTHS};
-ghost use Rattle.spread_rules_rulebook.specs.Rulebook.{implied};
+ghost use Rattle.spread_rules_rulebook.specs.Rulebook.{Rules, implied};
 ghost use Rattle.spread_rules.specs.code.Candidates.{HasOrderPrice};
 ghost use Rattle.spread_rules.specs.Clearing.{reduced, removed};
 ghost use Rattle.spread_rules.specs.Meaning.{is_own};
@@ -16,9 +16,12 @@ use crate::pair::PairCost;
 use spread_rules::{Instrument, Level, NoMemory, Order, Rulebook, Side};
 use spread_rules_ids::Id;
 
-/// Resting orders, seen as the list of them in order of place.
+/// Resting orders, seen as the list of them in order of place, and the rulebook by which the book quotes, where it
+/// quotes.
 pub trait Book {
     ghost orders: { Self → List Order };
+
+    ghost quotes_by: { Self → Option Rules };
 
     /// The front of a queue: the best price for who meets it, then the earliest place. None where no order of that
     /// instrument and side rests. Takes no memory.
@@ -60,12 +63,14 @@ pub trait Book {
     fn add(&mut self, order: Order) -> Result<(), NoMemory>
         requires { All (λ o. o.place < order.place) (orders self.old) }
         ensures ok { OnOk result (orders self.new ≡ orders self.old ++ order ∷ []) }
-        ensures unchanged_on_err { OnErr result (orders self.new ≡ orders self.old) };
+        ensures unchanged_on_err { OnErr result (orders self.new ≡ orders self.old) }
+        ensures rules { quotes_by self.new ≡ quotes_by self.old };
 
     /// So many lots fewer are left of the order of that place, which rests with more left. Takes no memory.
     fn reduce(&mut self, place: u64, by: u32)
         requires { HasMore (orders self.old) place by }
-        ensures { orders self.new ≡ reduced place by (orders self.old) };
+        ensures less { orders self.new ≡ reduced place by (orders self.old) }
+        ensures rules { quotes_by self.new ≡ quotes_by self.old };
 
     /// The order of that place takes that id and that quantity, what is filled included, and keeps its place. All growth
     /// comes before the change, so after NoMemory nothing has changed.
@@ -73,12 +78,14 @@ pub trait Book {
         requires { CanAmend (orders self.old) place id quantity }
         ensures ok { OnOk result
             (orders self.new ≡ amended place id quantity (orders self.old)) }
-        ensures unchanged_on_err { OnErr result (orders self.new ≡ orders self.old) };
+        ensures unchanged_on_err { OnErr result (orders self.new ≡ orders self.old) }
+        ensures rules { quotes_by self.new ≡ quotes_by self.old };
 
     /// The order of that place rests no longer. Takes no memory.
     fn remove(&mut self, place: u64)
         requires { HasPlace (orders self.old) place }
-        ensures { orders self.new ≡ removed place (orders self.old) };
+        ensures gone { orders self.new ≡ removed place (orders self.old) }
+        ensures rules { quotes_by self.new ≡ quotes_by self.old };
 
     /// The n-th resting order from 0 in order of place. Takes no memory.
     fn walk(&self, n: usize) -> Option<Order>

@@ -133,6 +133,8 @@ impl<A: Allocator + Copy> ListBook<A> {
 impl<A: Allocator + Copy> Book for ListBook<A> {
     ghost orders = { λ b. b };
 
+    ghost quotes_by = { λ b. None };
+
     fn front(&self, instrument: Instrument, side: Side) -> Option<Order> {
         first_in(&self.orders, instrument, side)
     }

@@ -91,7 +91,7 @@ pub fn write_day<K: TakesBlocks<A>, A: Allocator + Copy>(
 
 /// Writes the lines of fills, and of months, and nothing else. Each fill's instrument is the rulebook's, its quantity is
 /// at most 999,999, and its price and leg prices are within 2,000,000,000 either way. Answers NoMemory(0), with nothing
-/// written, or Write, with a prefix of the text written.
+/// written, or Write, with a prefix of the text written. For who has fills at hand; `check` writes those of a journal.
 pub fn write_fills<K: Sink, A: Allocator>(
     alloc: A,
     rulebook: &Rulebook,

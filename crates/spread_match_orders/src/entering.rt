@@ -29,6 +29,7 @@ pub fn add_order<B: Book, A: Allocator + Copy>(
         ++ record (entered_status order.now) { status = cond used REJECTED CANCELED } ∷ []) }
     ensures err_orders { OnErr result (B.orders book.new ≡ B.orders book.old) }
     ensures err_statuses { OnErr result (statuses.new ≡ statuses.old) }
+    ensures rules { B.quotes_by book.new ≡ B.quotes_by book.old }
 {
     book.add(*order)?;
     let place = order.place;

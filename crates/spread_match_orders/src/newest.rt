@@ -27,7 +27,9 @@ fn mark_filled_from<A: Allocator + Copy>(statuses: &mut Statuses<A>, fills: &[Fi
 fn rest_or_remove<B: Book>(book: &mut B, immediate: bool, own: &Order, left: u32)
     requires newest { IsNewest own.now (B.orders book.old) }
     requires most { left ≤ own.now.leaves }
-    ensures { B.orders book.new ≡ orders_after_trading immediate own.now left (B.orders book.old) }
+    ensures orders { B.orders book.new
+        ≡ orders_after_trading immediate own.now left (B.orders book.old) }
+    ensures rules { B.quotes_by book.new ≡ B.quotes_by book.old }
 {
     if left == 0 || immediate {
         book.remove(own.place);
@@ -59,6 +61,7 @@ pub fn trade_newest<B: Book, A: Allocator + Copy>(
     ensures statuses { statuses.new
         ≡ statuses_after (trading_of rules.now order.now (B.orders book.old)).fills
         statuses.old }
+    ensures rules { B.quotes_by book.new ≡ B.quotes_by book.old }
 {
     let before = fills.len();
     let left = trade(book, rules, *order, fills);

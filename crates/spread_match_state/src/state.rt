@@ -51,7 +51,12 @@ impl<B: Book, A: Allocator + Copy> Model for MarketState<B, A> {
 
     ghost Value = { MarketState };
 
-    ghost view = { λ m. record { orders = B.orders m.book; statuses = m.statuses; last = m.last } };
+    ghost view = { λ m. record {
+      orders = B.orders m.book;
+      statuses = m.statuses;
+      last = m.last;
+      quotes_by = B.quotes_by m.book;
+    } };
 }
 
 /// A New entry's ticket, whose instrument the rulebook has.
@@ -67,7 +72,7 @@ impl<B: Book, A: Allocator + Copy> MarketState<B, A> {
     /// Before the first entry, over a book that is empty.
     pub fn new(alloc: A, book: B) -> Self
         requires { B.orders book ≡ [] }
-        ensures { result ≡ empty_state }
+        ensures { result ≡ empty_state (B.quotes_by book) }
     {
         MarketState {
             book,
@@ -85,7 +90,8 @@ impl<B: Book, A: Allocator + Copy> MarketState<B, A> {
 
     /// The resting orders.
     pub fn book(&self) -> &B
-        ensures { B.orders result.now ≡ self.now.orders }
+        ensures orders { B.orders result.now ≡ self.now.orders }
+        ensures rules { B.quotes_by result.now ≡ self.now.quotes_by }
     {
         &self.book
     }
@@ -115,55 +121,7 @@ impl<B: Book, A: Allocator + Copy> MarketState<B, A> {
         Ok(refusal(used, reason))
     }
 
-    /// The new order stands in the book, and its entry among the statuses. Where its id was used it is refused, and the
-    /// answer is true.
-    fn add_to_book(&mut self, order: &Order) -> Result<bool, NoMemory>
-        requires orders { All (λ o. o.place < order.now.place) self.old.orders }
-        ensures used { IfOk result (λ used.
-            used ≡ is_some (find (has_id order.now.session order.now.id) self.old.statuses)) }
-        ensures stands { IfOk result (λ used.
-            used ≡ false → self.new ≡ with_order self.old order.now) }
-        ensures refused { IfOk result (λ used.
-            used ≡ true → self.new ≡ with_refusal self.old order.now) }
-        ensures unchanged_on_err { OnErr result (self.new ≡ self.old) }
-    {
-        add_order(&mut self.book, &mut self.statuses, order)
-    }
-
-    /// The newest order, which stands in the book and among the statuses, is traded, and rests with what is left or
-    /// goes. Answers how much is left. There is room for three fills of each other order.
-    fn trade_newest(
-        &mut self,
-        rules: &Rulebook,
-        order: &Order,
-        immediate: bool,
-        fills: &mut Vec<Fill, A>,
-    ) -> u32
-        requires newest { IsNewest order.now self.old.orders }
-        requires tradable { IsTradable (month_count rules.now) self.old.orders }
-        requires room { vec_len fills.old
-            + 3 * min order.now.leaves (length (removed order.now.place self.old.orders))
-            ≤ vec_capacity fills.old }
-        ensures left { result ≡ (trading_in rules.now self.old order.now).new.leaves }
-        ensures fills { fills.new.items
-            ≡ fills.old.items ++ (trading_in rules.now self.old order.now).fills }
-        ensures orders { self.new.orders
-            ≡ resting immediate (trading_in rules.now self.old order.now) }
-        ensures statuses { self.new.statuses
-            ≡ statuses_after (trading_in rules.now self.old order.now).fills self.old.statuses }
-        ensures last { self.new.last ≡ self.old.last }
-    {
-        trade_newest(
-            &mut self.book,
-            &mut self.statuses,
-            rules,
-            order,
-            immediate,
-            fills,
-        )
-    }
-
-    /// Clears a ticket of a listed instrument, which is refused only where its id was used. All growth comes first.
+    /// Matches a ticket's order of a listed instrument, which is refused only where its id was used. All growth comes first.
     fn match_new(
         &mut self,
         rules: &Rulebook,
@@ -193,12 +151,19 @@ impl<B: Book, A: Allocator + Copy> MarketState<B, A> {
         let ticket = new.ticket;
         fills.reserve(3 * self.book.len().min(ticket.quantity as usize))?;
         let order = new_order(new.place, new.session, ticket, new.instrument);
-        let used = self.add_to_book(&order)?;
+        let used = add_order(&mut self.book, &mut self.statuses, &order)?;
         if used {
             self.last = new.place;
             return Ok(Outcome::Refused(ord_rej_reason::DUPLICATE_ORDER));
         }
-        let left = self.trade_newest(rules, &order, ticket.immediate, fills);
+        let left = trade_newest(
+            &mut self.book,
+            &mut self.statuses,
+            rules,
+            &order,
+            ticket.immediate,
+            fills,
+        );
         self.last = new.place;
         Ok(outcome_with(ticket.immediate, left))
     }
@@ -258,15 +223,6 @@ impl<B: Book, A: Allocator + Copy> MarketState<B, A> {
         }
     }
 
-    /// The session's resting order with that id. It stands at the place that the status of the id names, or nowhere.
-    fn resting(&self, session: u8, id: &Id) -> Option<Order>
-        requires places { PlacesDiffer self.now.orders }
-        requires known { HaveStatuses self.now.statuses self.now.orders }
-        ensures { result ≡ find (is_own session id.now) self.now.orders }
-    {
-        resting_order(&self.book, &self.statuses, session, id)
-    }
-
     /// Ends the resting order with the original id.
     fn cancel(&mut self, place: u64, session: u8, id: &Id, original: &Id) -> Outcome
         requires places { PlacesDiffer self.old.orders }
@@ -277,7 +233,7 @@ impl<B: Book, A: Allocator + Copy> MarketState<B, A> {
             ≡ state_with self.old place session (Cancel id.now original.now)
             (cancel_in self.old session original.now) }
     {
-        let resting = self.resting(session, original);
+        let resting = resting_order(&self.book, &self.statuses, session, original);
         self.last = place;
         match resting {
             Some(order) => {
@@ -377,10 +333,17 @@ impl<B: Book, A: Allocator + Copy> MarketState<B, A> {
     {
         fills.reserve(3 * self.book.len().min(ticket.quantity as usize))?;
         let order = moved_order(place, ticket, resting);
-        self.add_to_book(&order)?;
+        add_order(&mut self.book, &mut self.statuses, &order)?;
         self.book.remove(resting.place);
         self.statuses.mark_replaced(resting);
-        self.trade_newest(rules, &order, false, fills);
+        trade_newest(
+            &mut self.book,
+            &mut self.statuses,
+            rules,
+            &order,
+            false,
+            fills,
+        );
         self.last = place;
         Ok(Outcome::Replaced(order))
     }
@@ -457,13 +420,16 @@ impl<B: Book, A: Allocator + Copy> MarketState<B, A> {
         match &entry.event {
             Event::New(ticket) => self.apply_new(rules, place, entry.session, ticket, fills),
             Event::Cancel { id, original } => Ok(self.cancel(place, entry.session, id, original)),
-            Event::Replace { original, ticket } => match self.resting(entry.session, original) {
-                Some(resting) => self.replace_resting(rules, place, ticket, &resting, fills),
-                None => {
-                    let refusal = self.refusal_of(entry.session, original);
-                    self.refuse_replace(place, entry.session, ticket, refusal)
+            Event::Replace { original, ticket } => {
+                let session = entry.session;
+                match resting_order(&self.book, &self.statuses, session, original) {
+                    Some(resting) => self.replace_resting(rules, place, ticket, &resting, fills),
+                    None => {
+                        let refusal = self.refusal_of(session, original);
+                        self.refuse_replace(place, session, ticket, refusal)
+                    }
                 }
-            },
+            }
             _ => {
                 self.last = place;
                 Ok(Outcome::Session)

@@ -209,6 +209,7 @@ impl<A: Allocator + Copy> Statuses<A> {
             (B.orders book.new ≡ amended status.place status.id quantity (B.orders book.old)) }
         ensures unchanged_on_err { OnErr result (self.new ≡ self.old) }
         ensures as_before { OnErr result (B.orders book.new ≡ B.orders book.old) }
+        ensures rules { B.quotes_by book.new ≡ B.quotes_by book.old }
     {
         self.rows.reserve(1)?;
         let key = IdKey::new(status.session, &status.id);

@@ -63,7 +63,8 @@ pub fn reduce_or_remove<B: Book>(book: &mut B, by: u32, order: &Order)
     requires stands { Contains (B.orders book.old) order.now }
     requires most { by ≤ order.now.leaves }
     requires places { PlacesDiffer (B.orders book.old) }
-    ensures { B.orders book.new ≡ after_fill by (B.orders book.old) order.now }
+    ensures orders { B.orders book.new ≡ after_fill by (B.orders book.old) order.now }
+    ensures rules { B.quotes_by book.new ≡ B.quotes_by book.old }
 {
     if order.leaves == by {
         book.remove(order.place);
@@ -99,8 +100,9 @@ pub fn reduce_members<B: Book>(book: &mut B, by: u32, candidate: &Candidate)
     requires most { HaveLeft by candidate.now.counterparty }
     requires places { PlacesDiffer (B.orders book.old) }
     requires apart { AreApart candidate.now.counterparty }
-    ensures { B.orders book.new
+    ensures orders { B.orders book.new
         ≡ fold (after_fill by) (B.orders book.old) (members candidate.now.counterparty) }
+    ensures rules { B.quotes_by book.new ≡ B.quotes_by book.old }
 {
     match candidate.counterparty {
         Counterparty::Direct(order) => reduce_or_remove(book, by, &order),
@@ -131,6 +133,7 @@ fn turn_once<B: Book, A: Allocator + Copy>(
     ensures orders { B.orders book.new
         ≡ fold (after_fill (least_left left.now candidate.now.counterparty))
         (B.orders book.old) (members candidate.now.counterparty) }
+    ensures rules { B.quotes_by book.new ≡ B.quotes_by book.old }
     ensures items { fills.new.items
         ≡ fills.old.items ++ fills_of (references_of rules.now) left.now candidate.now }
     ensures len { vec_len fills.new ≤ vec_len fills.old + 3 }
@@ -162,6 +165,7 @@ pub fn trade<B: Book, A: Allocator + Copy>(
         ≡ (clear (implied rules.now) (references_of rules.now) new rest).orders ++ new ∷ [] }
     ensures fills { fills.new.items
         ≡ fills.old.items ++ (clear (implied rules.now) (references_of rules.now) new rest).fills }
+    ensures rules { B.quotes_by book.new ≡ B.quotes_by book.old }
 {
     let mut left = new;
     while left.leaves > 0 {

@@ -44,7 +44,7 @@ impl Desk {
     }
 
     /// Nobody has logged on, and each session's first message bears this number. None where it is 0 or above the
-    /// limit.
+    /// limit. For tests of spent numbers; the host begins with `new`.
     pub fn starting(stamp: Id, next: u32) -> Option<Desk>
         ensures { result ≡ sessions_at stamp next }
     {

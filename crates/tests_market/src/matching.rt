@@ -139,7 +139,7 @@ fn apply_all<B: Book>(
     market: &mut Market<'_, B, Global>,
     journal: &[Entry],
 ) -> Vec<Fill>
-    requires { market.old.state ≡ empty_state }
+    requires { market.old.state ≡ empty_state market.old.state.quotes_by }
 {
     let mut fills = Vec::new(alloc);
     for n in 0..journal.len() {

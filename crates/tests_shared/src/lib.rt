@@ -1,5 +1,4 @@
-//! What tests share, and the benchmark with them: an allocator that refuses one request, ends that fail, choices by seed,
-//! the worked examples' samples, and what a call requires, looked at.
+//! What tests share: an allocator that refuses one request, choices by seed, and the samples of the worked examples.
 #![tactic(auto)]
 
 mod chance;

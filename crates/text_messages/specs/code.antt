@@ -1,4 +1,4 @@
 -- Words of the code alone: no public promise needs them to be read.
-pub mod LineLead
+pub mod LineStart
 pub mod Blocks
 pub mod Messages

@@ -3,7 +3,7 @@ ghost use Rattle.std.specs.Prelude.{◌≡◌, ◌<◌, ◌≤◌, ◌+◌, ◌+
 ghost use Rattle.fix_wire_frames.specs.Frames.{IsFrameRow};
 ghost use Rattle.text_messages.specs.Messages.{texts_of, outgoing_line};
 ghost use Rattle.text_messages.specs.code.Messages.{shown_byte, session_lines, outgoing_lines_from};
-ghost use Rattle.text_messages.specs.code.LineLead.{line_lead};
+ghost use Rattle.text_messages.specs.code.LineStart.{start_of_line};
 ghost use Rattle.text_messages.specs.code.Blocks.{Puts, Writes};
 
 use crate::blocks::{BLOCK_BYTES, TakesBlocks, append};
@@ -88,9 +88,9 @@ fn put_part<K: TakesBlocks<A>, A: Allocator>(
 }
 
 /// What each line of a session begins with, `O S:`.
-fn lead(session: u8) -> &'static [u8]
+fn line_start(session: u8) -> &'static [u8]
     requires { session < SESSIONS }
-    ensures text { result.now ≡ line_lead session }
+    ensures text { result.now ≡ start_of_line session }
     ensures shown { map shown_byte result.now ≡ result.now }
 {
     match session {
@@ -130,18 +130,18 @@ fn put_long_message<K: TakesBlocks<A>, A: Allocator>(
     ensures room { OnOk result
         (min BLOCK_BYTES (vec_capacity block.old) ≤ vec_capacity block.new) }
 {
-    put_part(block, sink, lead(session))?;
+    put_part(block, sink, line_start(session))?;
     put_part(block, sink, message)?;
     put_part(block, sink, b"\n")
 }
 
 /// Appends one message's line, for which there is room.
-fn append_line<A: Allocator>(block: &mut Vec<u8, A>, lead: &[u8], message: &[u8])
-    requires { vec_len block.old + length lead.now + length message.now + 1 ≤ vec_capacity block.old }
-    ensures items { block.new.items ≡ block.old.items ++ (lead.now ++ message.now ++ 10 ∷ []) }
+fn append_line<A: Allocator>(block: &mut Vec<u8, A>, line_start: &[u8], message: &[u8])
+    requires { vec_len block.old + length line_start.now + length message.now + 1 ≤ vec_capacity block.old }
+    ensures items { block.new.items ≡ block.old.items ++ (line_start.now ++ message.now ++ 10 ∷ []) }
     ensures room { vec_capacity block.old ≤ vec_capacity block.new }
 {
-    append(block, lead);
+    append(block, line_start);
     append(block, message);
     block.push_reserved(b'\n');
 }
@@ -162,13 +162,16 @@ fn put_message<K: TakesBlocks<A>, A: Allocator>(
     ensures room { OnOk result
         (min BLOCK_BYTES (vec_capacity block.old) ≤ vec_capacity block.new) }
 {
-    let lead = lead(session);
-    let line = lead.len().saturating_add(message.len()).saturating_add(1);
+    let line_start = line_start(session);
+    let line = line_start
+        .len()
+        .saturating_add(message.len())
+        .saturating_add(1);
     if line > block.capacity().min(BLOCK_BYTES) {
         return put_long_message(block, sink, session, message);
     }
     make_room_shown(block, sink, line)?;
-    append_line(block, lead, message);
+    append_line(block, line_start, message);
     Ok(())
 }
 

@@ -4,7 +4,7 @@ use Rattle.std.specs.Bool.{OnTrue}
 use Rattle.std.proofs.lemmas.List.{append-nil, append_assoc, length-drop, take-append-drop}
 use Rattle.fix_wire_frames.specs.Frames.{frames, frame_at}
 use Rattle.fix_wire_frames.specs.Held.{first_frame, from_first_start, past_frame, after_first_frame}
-use Rattle.fix_wire_framer.specs.Pieces.{SplitsInto, IsDrained, SameSplit}
+use Rattle.fix_wire_framer.specs.Pieces.{SplitsInto, IsDrained}
 use Rattle.fix_wire_frames.proofs.framing.FrontStays.{frame_within}
 use Rattle.fix_wire_frames.proofs.framing.FramesHeld.{scan_start, start_frames, no_frames, pass_law, start_shorter}
 
@@ -50,47 +50,3 @@ passed_leaves old mid new frame b e first stands passed =
           ∙ ap (λ t. frame ∷ frames (t ++ more)) (sym new_is)),
       omega (arith, less, shorter, same),
     )
-
-pub goes_on_message : (out : List (List ℕ)) (held : List ℕ) (out1 : List (List ℕ)) (held1 frame held2 : List ℕ)
-    → SameSplit out held out1 held1 → SplitsInto held1 (frame ∷ []) held2
-    → SameSplit out held (out1 ++ frame ∷ []) held2
-goes_on_message out held out1 held1 frame held2 h l more = h more ∙ ap (λ t. out1 ++ t) (l more)
-    ∙ sym (append_assoc out1 (frame ∷ []) (frames (held2 ++ more)))
-
-pub goes_on_need : (out : List (List ℕ)) (held : List ℕ) (out1 : List (List ℕ)) (held1 held2 : List ℕ)
-    → SameSplit out held out1 held1 → SplitsInto held1 [] held2 → SameSplit out held out1 held2
-goes_on_need out held out1 held1 held2 h l more = h more ∙ ap (λ t. out1 ++ t) (l more)
-
--- a part of a piece is put, and its messages are passed
-pub goes_on_put : (out : List (List ℕ)) (bytes : List ℕ) (out1 : List (List ℕ)) (held rest : List ℕ) (n : ℕ)
-    (put : List ℕ) (out2 : List (List ℕ)) (held2 : List ℕ) →
-    SameSplit out bytes out1 (held ++ rest) → put ≡ held ++ take n rest → SameSplit out1 put out2 held2
-    → SameSplit out bytes out2 (held2 ++ drop n rest)
-goes_on_put out bytes out1 held rest n put out2 held2 h e g more =
-    let parts : (held ++ rest) ++ more ≡ put ++ (drop n rest ++ more) =
-    append_assoc held rest more
-    ∙ ap (λ t. held ++ (t ++ more)) (sym (take-append-drop n rest))
-    ∙ ap (λ t. held ++ t) (append_assoc (take n rest) (drop n rest) more)
-    ∙ sym (append_assoc held (take n rest) (drop n rest ++ more))
-    ∙ ap (λ t. t ++ (drop n rest ++ more)) (sym e) in
-    h more ∙ ap (λ t. out1 ++ frames t) parts ∙ g (drop n rest ++ more)
-    ∙ ap (λ t. out2 ++ frames t) (sym (append_assoc held2 (drop n rest) more))
-
--- a piece behind others
-pub goes_on_piece : (out : List (List ℕ)) (bytes : List ℕ) (out1 : List (List ℕ)) (held piece : List ℕ)
-    (out2 : List (List ℕ)) (held2 : List ℕ) →
-    SameSplit out bytes out1 held → SameSplit out1 (held ++ piece) out2 held2
-    → SameSplit out (bytes ++ piece) out2 held2
-goes_on_piece out bytes out1 held piece out2 held2 h g more =
-    ap (λ t. out ++ frames t) (append_assoc bytes piece more) ∙ h (piece ++ more)
-    ∙ ap (λ t. out1 ++ frames t) (sym (append_assoc held piece more)) ∙ g more
-
-pub all_passed : (bytes : List ℕ) (out : List (List ℕ)) (held : List ℕ) → SameSplit [] bytes out held → IsDrained held
-    → out ≡ frames bytes
-all_passed bytes out held h d =
-    sym (append-nil out) ∙ ap (λ t. out ++ t) (sym d.0) ∙ ap (λ t. out ++ frames t) (sym (append-nil held)) ∙ sym (h [])
-    ∙ ap frames (append-nil bytes)
-
-pub all_left : (bytes : List ℕ) (out : List (List ℕ)) (held : List ℕ) → SameSplit [] bytes out held → IsDrained held
-    → SplitsInto bytes (frames bytes) held
-all_left bytes out held h d more = h more ∙ ap (λ t. t ++ frames (held ++ more)) (all_passed bytes out held h d)

@@ -86,7 +86,7 @@ trading_in rules m order = trading_of rules order m.orders
 
 -- the state after an entry that came to this
 abbrev pub state_with : MarketState → ℕ → ℕ → Event → EntryMeaning → MarketState
-state_with m place session event e = record {
+state_with m place session event e = record m {
   orders = e.orders;
   statuses =
       statuses_after e.fills

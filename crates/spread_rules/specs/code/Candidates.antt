@@ -36,7 +36,7 @@ candidate_at n p (Some price) =
     if is_within_limit n.side n.price price
     then Some (record { price = price; counterparty = p }) else None
 
--- an eligible candidate
+-- an eligible candidate, where the counterparty is one
 abbrev pub candidate_of : Pairs → Order → Counterparty → Option Candidate
 candidate_of on n p = candidate_at n p (price_of on n p)
 
@@ -50,7 +50,7 @@ better_by before (Some p) (Some q) = cond (before q p) (Some q) (Some p)
 abbrev pub counterparties : List Order → List Counterparty
 counterparties xs = map Direct xs ++ flat_map (λ a. map (Implied a) xs) xs
 
--- the one that ranks first of the eligible candidates among these
+-- the one that ranks first of the eligible candidates among these: `best_candidate`, where these are all singles and pairs
 abbrev pub least_candidate : Pairs → Order → List Counterparty → Option Candidate
 least_candidate on n ps =
     fold (λ best p. better_by (is_before n) best (candidate_of on n p)) None ps

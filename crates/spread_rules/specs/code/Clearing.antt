@@ -21,16 +21,17 @@ abbrev pub after_match : List ℤ → Trading → Option Candidate → Trading
 after_match references s None = s
 after_match references s (Some o) = after_trade references s o
 
--- one turn, which changes nothing where there is no next
+-- One turn, which changes nothing where there is no next: `match_once` in the steps of the code (lemma `once_is` of ClearIsTurns).
 abbrev pub turn : Pairs → List ℤ → Trading → Trading
 turn on references s = after_match references s (next_candidate on s)
 
+-- so many turns: `iterate (match_once ..)` in the steps of the code
 abbrev pub turns : Pairs → List ℤ → ℕ → Trading → Trading
 turns on references zero s = s
 turns on references (suc k) s =
     turns on references k (turn on references s)
 
--- a new order against these, before the first turn
+-- a new order against these, before the first turn: what `clear` begins with
 abbrev pub begin : Order → List Order → Trading
 begin n xs = record { new = n; orders = xs; fills = [] }
 

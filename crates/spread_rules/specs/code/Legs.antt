@@ -8,7 +8,7 @@ use Rattle.spread_rules_rulebook.specs.declared.instrument.Instrument.TheVariant
 use Rattle.spread_rules.specs.declared.fill.Fill.{Fill}
 use Rattle.spread_rules.specs.Legs.{is_side, lots, money, other_side}
 
--- the lots bought and sold in a month, and the money paid and received
+-- the lots bought and sold in a month, and the money paid and received: `lots` and `money` of one side
 abbrev pub bought : ℕ → List Fill → ℕ
 bought month fills = lots Buy month fills
 

@@ -89,7 +89,8 @@ abbrev pub meaning_of_journal : Rules → List Entry → JournalState
 meaning_of_journal rules entries =
     fold (λ past (place, e). after_entry rules past place e) no_entries (enumerate_from 1 entries)
 
--- the instrument, or why the ticket is refused, by the earlier order with its id and the instrument that it names
+-- The instrument, or why the ticket is refused, by the earlier order with its id and the instrument that it names:
+-- `instrument_or_refusal_of` with both found beforehand.
 abbrev pub refusal_or_instrument :
     Rules → Ticket → Option OrderStatus → Option Instrument → Result Instrument ℕ
 refusal_or_instrument rules t earlier named =
@@ -111,7 +112,7 @@ past_tickets place session outcome original (Some t) =
     record { place = place; session = session; original = original; ticket = t; outcome = outcome }
     ∷ []
 
--- the orders that rest after an order was traded so
+-- the orders that rest after an order was traded so: the `rest` of `traded`
 abbrev pub resting : Bool → Trading → List Order
 resting immediate t = if t.new.leaves == 0 || immediate then t.orders else t.orders ++ t.new ∷ []
 
@@ -119,11 +120,11 @@ resting immediate t = if t.new.leaves == 0 || immediate then t.orders else t.ord
 abbrev pub statuses_of : JournalState → List OrderStatus
 statuses_of past = map (status_of past) past.entered
 
--- how an order that rests stands: part of it is filled, or nothing yet
+-- how an order that rests stands, part of it filled or nothing yet: the `status` of `replace_means`
 abbrev pub resting_status : Order → ℕ
 resting_status o = cond (done o == 0) ord_status.NEW ord_status.PARTIALLY_FILLED
 
--- a replace of a resting order is refused for that reason
+-- a replace of a resting order is refused for that reason: the `refused` of `replace_means`
 abbrev pub replace_refused : ℕ → Order → List Order → EntryMeaning
 replace_refused reason r xs = untraded (CancelRefused reason r.place (resting_status r)) xs
 
@@ -131,7 +132,7 @@ replace_refused reason r xs = untraded (CancelRefused reason r.place (resting_st
 abbrev pub keeps_place : Ticket → Order → Bool
 keeps_place t r = int_eq t.price r.price && nat_le t.quantity r.quantity
 
--- the same order at this entry's place and at the ticket's price
+-- the same order at this entry's place and at the ticket's price: the `moved` of `replace_means`
 abbrev pub moved_to : ℕ → Ticket → Order → Order
 moved_to place t r = record (with_quantity t.id t.quantity r) { place = place; price = t.price }
 

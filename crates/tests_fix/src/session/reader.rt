@@ -4,7 +4,7 @@ ghost use Rattle.std.specs.Prelude.{◌<◌};
 use super::Says::{Close, Logon, Nothing};
 use super::{BUY, FIRST_TRADE_SAYS, SELL, Says, expect_said};
 use crate::expect::holds;
-use fix_session::{Reader, Session, Verdict, read_pieces};
+use fix_session::{Reader, Session, Verdict};
 use fix_session_judging::{count_messages, judge_ahead};
 use fix_wire::{Framer, Message};
 use spread_rules::{Entry, Event};
@@ -169,20 +169,16 @@ fn entries_of_a_text(rt: HostRuntime) {
     }
 }
 
-fn expect_day<A: Allocator>(rt: &impl Abort, messages: &[Vec<u8, A>]) {
-    holds(rt, messages.len() == 4);
-    for place in 0..4usize {
-        holds(rt, messages[place].as_slice() == FIRST_MESSAGES[place]);
-    }
-}
-
 #[test]
 fn a_day_cut_anywhere(rt: HostRuntime) {
     holds(&rt, FIRST_TRADE.len() == 400);
     for cut in 0..=400usize {
-        let pieces = [&FIRST_TRADE[..cut], &FIRST_TRADE[cut..]];
-        let (messages, reader) = read_pieces(rt.alloc(), &pieces).expect(&rt, "memory");
-        expect_day(&rt, &messages);
+        let mut reader = Reader::new();
+        let mut entries = Vec::new(rt.alloc());
+        for piece in [&FIRST_TRADE[..cut], &FIRST_TRADE[cut..]] {
+            reader.read(7, piece, &mut entries).expect(&rt, "memory");
+        }
+        expect_first_trade(&rt, &entries, 7);
         holds(&rt, reader.is_closed());
     }
 }

@@ -206,7 +206,7 @@ fn expect_outcomes<B: Book>(
     journal: &[Step],
     fills: &mut Vec<Fill>,
 )
-    requires { market.old.state ≡ empty_state }
+    requires { market.old.state ≡ empty_state market.old.state.quotes_by }
 {
     for n in 0..journal.len() {
         let entry = entry_of(&journal[n]);
@@ -222,7 +222,7 @@ pub(super) fn expect_case<B: Book>(
     case: &Case,
     fills: &mut Vec<Fill>,
 )
-    requires { market.old.state ≡ empty_state }
+    requires { market.old.state ≡ empty_state market.old.state.quotes_by }
 {
     expect_outcomes(rt, market, case.journal, fills);
     expect_fills(rt, fills, case.fills);

@@ -47,7 +47,7 @@ fn expect_best(
     market: &mut Market<'_, ListBook<Global>, Global>,
     fills: &mut Vec<Fill>,
 )
-    requires { market.old.state ≡ empty_state }
+    requires { market.old.state ≡ empty_state market.old.state.quotes_by }
 {
     market.reserve(2).expect(rt, "memory");
     let buyer = buyer();

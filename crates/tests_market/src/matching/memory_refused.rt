@@ -76,7 +76,7 @@ fn expect_outcomes<B: Book, A: Allocator + Copy>(
     journal: &[(Entry, Outcome)],
     wanted: &[Fill],
 )
-    requires { market.old.state ≡ empty_state }
+    requires { market.old.state ≡ empty_state market.old.state.quotes_by }
 {
     let mut fills = Vec::new(alloc);
     for n in 0..journal.len() {

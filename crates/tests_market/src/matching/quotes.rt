@@ -85,7 +85,7 @@ fn take<B: Quoting>(
     course: Course<'_>,
     fills: &mut Vec<Fill>,
 )
-    requires { market.old.state ≡ empty_state }
+    requires { market.old.state ≡ empty_state market.old.state.quotes_by }
 {
     match course {
         Course::Quoted(quoted) => {

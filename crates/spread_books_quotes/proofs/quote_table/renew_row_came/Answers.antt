@@ -55,10 +55,10 @@ cell_within g c =
     subst (λ (n : ℕ). cell_of c.args.side c.loop-month.month < n) (sym c.loop-month.invariant.count)
     (c.side_count.ensures.within c.loop-month.month (omega (arith, under, first, both)))
 
-pub bounds-cells-cell : goal.bounds-cells-cell
-bounds-cells-cell g c =
-    subst (λ (n : ℕ). n < length c.loop-month.cells) (sym c.cell.ensures)
-    (cell_within g (goal.at.bounds-cells-cell g c).After-row_cell)
+pub bounds-cells-side_month_cell : goal.bounds-cells-side_month_cell
+bounds-cells-side_month_cell g c =
+    subst (λ (n : ℕ). n < length c.loop-month.cells) (sym c.side_month_cell.ensures)
+    (cell_within g (goal.at.bounds-cells-side_month_cell g c).After-row_cell)
 
 pub loop-month-preserved : goal.loop-month-preserved
 loop-month-preserved g c =
@@ -67,9 +67,9 @@ loop-month-preserved g c =
     let k = c.loop-month.month in
     let was = c.loop-month.invariant in
     let cells = c.loop-month.cells in
-    let n = c.cell.result in
+    let n = c.side_month_cell.result in
     let new = c.offer.new.held in
-    let at : n ≡ cell_of s k = c.cell.ensures in
+    let at : n ≡ cell_of s k = c.side_month_cell.ensures in
     record {
       count = length-set cells n new ∙ was.count;
       rest = λ t m other. put_elsewhere cells s t k m n new at (λ q. other q.0) ∙ was.rest t m other;

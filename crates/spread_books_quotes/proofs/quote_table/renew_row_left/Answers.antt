@@ -16,9 +16,9 @@ loop-month-preserved g c =
     let k = c.loop-month.month in
     let was = c.loop-month.invariant in
     let cells = c.loop-month.cells in
-    let n = c.cell.result in
+    let n = c.side_month_cell.result in
     let new = c.renew_left.new.held in
-    let at : n ≡ cell_of s k = c.cell.ensures in
+    let at : n ≡ cell_of s k = c.side_month_cell.ensures in
     record {
       count = length-set cells n new ∙ was.count;
       rest = λ t m other. put_elsewhere cells s t k m n new at (λ q. other q.0) ∙ was.rest t m other;

@@ -29,7 +29,7 @@ returns-then-unwrap_or-clause-orders g c =
     let new = c.args.order.now in
     let xs = g.B.Book.orders c.args.book.now in
     if_used _ c.add-noted.result (sym c.unwrap_or.ensures ∙ c.if-unwrap_or.true)
-    (c.remove.ensures ∙ (ap (removed new.place) c.in_ok-add.ensures.ok ∙ removed_newest new xs c.requires))
+    (c.remove.ensures.gone ∙ (ap (removed new.place) c.in_ok-add.ensures.ok ∙ removed_newest new xs c.requires))
 
 pub returns-else-unwrap_or-clause-orders : goal.returns-else-unwrap_or-clause-orders
 returns-else-unwrap_or-clause-orders g c = if_unused _ c.add-noted.result
@@ -39,7 +39,7 @@ pub returns-then-unwrap_or-clause-err_orders : goal.returns-then-unwrap_or-claus
 returns-then-unwrap_or-clause-err_orders g c =
     let new = c.args.order.now in
     let xs = g.B.Book.orders c.args.book.now in
-    on_err c.add-noted.result (c.remove.ensures ∙ (ap (removed new.place) c.in_ok-add.ensures.ok
+    on_err c.add-noted.result (c.remove.ensures.gone ∙ (ap (removed new.place) c.in_ok-add.ensures.ok
     ∙ removed_newest new xs c.requires))
 
 pub returns-else-unwrap_or-clause-err_orders : goal.returns-else-unwrap_or-clause-err_orders

@@ -22,16 +22,17 @@ module _ (immediate : Bool) (own : Order) (left : ℕ) (xs : List Order) where
     rests_whole most least = let k : (left == 0) ≡ false = grind (arith, nat_tests, some) in
         let l : (left == own.leaves) ≡ true = grind (arith, nat_tests) in rw (k, stays, l)
 
-pub returns-then-immediate : goal.returns-then-immediate
-returns-then-immediate g c = c.remove.ensures ∙ gone c.args.immediate c.args.own.now c.args.left
+pub returns-then-immediate-clause-orders : goal.returns-then-immediate-clause-orders
+returns-then-immediate-clause-orders g c =
+    c.remove.ensures.gone ∙ gone c.args.immediate c.args.own.now c.args.left
     (g.B.Book.orders c.args.book.now) c.if-immediate.either
 
-pub returns-then-left-own : goal.returns-then-left-own
-returns-then-left-own g c =
-    c.reduce.ensures ∙ rests_less c.args.immediate c.args.own.now c.args.left (g.B.Book.orders c.args.book.now)
+pub returns-then-left-own-clause-orders : goal.returns-then-left-own-clause-orders
+returns-then-left-own-clause-orders g c =
+    c.reduce.ensures.less ∙ rests_less c.args.immediate c.args.own.now c.args.left (g.B.Book.orders c.args.book.now)
     c.if-immediate.false.0 c.if-immediate.false.1 c.if-left-own.true
 
-pub returns-else-left-own : goal.returns-else-left-own
-returns-else-left-own g c =
+pub returns-else-left-own-clause-orders : goal.returns-else-left-own-clause-orders
+returns-else-left-own-clause-orders g c =
     rests_whole c.args.immediate c.args.own.now c.args.left (g.B.Book.orders c.args.book.now) c.if-immediate.false.0
     c.if-immediate.false.1 c.requires.most c.if-left-own.false

@@ -49,7 +49,7 @@ returns-clause-orders g c =
     let xs = g.B.Book.orders c.args.book.now in
     let refs = references_of c.args.rules.now in
     let d = trading_of c.args.rules.now n xs in
-    c.rest_or_remove.ensures
+    c.rest_or_remove.ensures.orders
     ∙ (ap (orders_after_trading c.args.immediate n c.trade-left.result.leaves) c.trade-left.ensures.orders
     ∙ (ap (λ (o : Order). orders_after_trading c.args.immediate n o.leaves (d.orders ++ n ∷ []))
     c.trade-left.ensures.left

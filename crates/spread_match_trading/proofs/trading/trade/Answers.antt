@@ -20,6 +20,7 @@ loop-left-init g c = record {
     record { count = 0; left_is = refl; orders_is = c.requires.1.1.0; fills_is = refl },
   );
   tradable = c.requires.1.1.1.0;
+  rules = refl;
   room = room_first _ _ _ _ _ c.requires.1.1.1.1 (ap (λ (xs : List Order). length xs) c.requires.1.1.0
       ∙ length_push g.rest c.args.new);
 }
@@ -74,6 +75,7 @@ loop-left-preserved g c =
       tradable = subst (IsTradable (month_count c.args.rules.now)) (sym c.turn_once-left.ensures.orders)
           (still_tradable (month_count c.args.rules.now) left book candidate.counterparty inv.tradable
           least.eligible.stands apart);
+      rules = c.turn_once-left.ensures.rules ∙ inv.rules;
       room = room_kept _ _ _ _ _ _ (least_left left candidate.counterparty) (length book) _ inv.room
           c.turn_once-left.ensures.len c.turn_once-left.ensures.room some c.loop-left-test.true
           (others_some (implied c.args.rules.now) (references_of c.args.rules.now) c.args.new g.rest left book

@@ -10,6 +10,7 @@ invariant-loop-left g l = record {
   after : (made : List Fill) × (l.fills.items ≡ l.fn.fills.items ++ made)
       × IsAfter (implied l.rules) (references_of l.rules) l.fn.new g.rest l.left (g.B.Book.orders l.book) made;
   tradable : IsTradable (month_count l.rules) (g.B.Book.orders l.book);
+  rules : g.B.Book.quotes_by l.book ≡ g.B.Book.quotes_by l.fn.book;
   room : vec_len l.fills + 3 * min l.left.leaves (length (g.B.Book.orders l.book) - 1) ≤ vec_capacity l.fills;
 }
 

@@ -10,7 +10,7 @@ pub invariant_of-self : goal.invariant_of-self
 invariant_of-self g c =
     subst (λ (ys : List Order). KeepsQuotes c.self.inside.all_on c.self.inside.listed
     (implied c.self.inside.pairs.rules.now) c.self.inside.pairs.months ys c.self.inside.quotes)
-    (sym c.reduce.ensures)
+    (sym c.reduce.ensures.less)
     (changed_table (less c.args.by) (record {
       instrument = λ o. refl;
       side = λ o. refl;

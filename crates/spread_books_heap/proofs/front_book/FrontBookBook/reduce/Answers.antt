@@ -7,7 +7,7 @@ use Rattle.spread_books_heap.proofs.front_book.FrontBookBook.reduce.Goals as goa
 
 pub invariant_of-self : goal.invariant_of-self
 invariant_of-self g c =
-    subst (λ (ys : List Order). HoldsPrices ys c.self.inside.fronts) (sym c.reduce.ensures)
+    subst (λ (ys : List Order). HoldsPrices ys c.self.inside.fronts) (sym c.reduce.ensures.less)
     (prices_changed (less c.args.by) (record {
       instrument = λ o. refl;
       side = λ o. refl;

@@ -13,13 +13,13 @@ use Rattle.spread_books_quotes.proofs.quote_table.QuoteTable.renew_cell.Goals.{e
 
 pub returns-in-Came-clause-rest : goal.returns-in-Came-clause-rest
 returns-in-Came-clause-rest g c = λ t m other.
-    put_elsewhere c.self.inside.cells.items c.args.column.side t c.args.month m c.cell-n.result c.offer.new.held
-    c.cell-n.ensures other ∙ ap (λ (ps : List (Option PairCost)). known_pair ps t m) c.self.view_is
+    put_elsewhere c.self.inside.cells.items c.args.column.side t c.args.month m c.side_month_cell-n.result c.offer.new.held
+    c.side_month_cell-n.ensures other ∙ ap (λ (ps : List (Option PairCost)). known_pair ps t m) c.self.view_is
 
 pub returns-in-Left-clause-rest : goal.returns-in-Left-clause-rest
 returns-in-Left-clause-rest g c = λ t m other.
-    put_elsewhere c.self.inside.cells.items c.args.column.side t c.args.month m c.cell-n.result c.renew_left.new.held
-    c.cell-n.ensures other ∙ ap (λ (ps : List (Option PairCost)). known_pair ps t m) c.self.view_is
+    put_elsewhere c.self.inside.cells.items c.args.column.side t c.args.month m c.side_month_cell-n.result c.renew_left.new.held
+    c.side_month_cell-n.ensures other ∙ ap (λ (ps : List (Option PairCost)). known_pair ps t m) c.self.view_is
 
 pub returns-in-Came-clause-own : goal.returns-in-Came-clause-own
 returns-in-Came-clause-own g c = λ on xs ys told lt way keep h.
@@ -28,7 +28,7 @@ returns-in-Came-clause-own g c = λ on xs ys told lt way keep h.
     let m = c.args.month in
     let via = c.args.column.via in
     let cells = c.self.inside.cells.items in
-    let n = c.cell-n.result in
+    let n = c.side_month_cell-n.result in
     let among = subst (λ (w : Change). IsOneWay w xs ys) c.in-Came.is way in
     let was : HasCheapest on months xs (pairs_of cells) s m =
     subst (λ (ps : List (Option PairCost)). HasCheapest on months xs ps s m) (sym c.self.view_is) h in
@@ -39,9 +39,9 @@ returns-in-Came-clause-own g c = λ on xs ys told lt way keep h.
     let before = c.if-n-len.true in
     let count = c.len.ensures in
     let all = c.self.inside.cells.ok.0 in
-    let held = held_there on months xs cells s m n c.index_mut.result.now c.cell-n.ensures
+    let held = held_there on months xs cells s m n c.index_mut.result.now c.side_month_cell-n.ensures
     (omega (arith, before, count, all)) was in
-    put_there on months ys cells s m n c.offer.new.held c.cell-n.ensures
+    put_there on months ys cells s m n c.offer.new.held c.side_month_cell-n.ensures
     (subst (λ (p : PairCost). IsCheapest on ys s m months (pair_of_cell p))
     (sym (c.offer.ensures ∙ ap (λ (z : ℤ). sooner_of z via c.index_mut.result.now) sum))
     (came_told on xs ys s m months via keep c.if-via-months.true among c.args.costs.now c.index_mut.result.now a b told
@@ -55,16 +55,16 @@ returns-in-Left-clause-own g c = λ on xs ys told lt way keep h.
     let s = c.args.column.side in
     let m = c.args.month in
     let cells = c.self.inside.cells.items in
-    let n = c.cell-n.result in
+    let n = c.side_month_cell-n.result in
     let among = subst (λ (w : Change). IsOneWay w xs ys) c.in-Left.is way in
     let was : HasCheapest on months xs (pairs_of cells) s m =
     subst (λ (ps : List (Option PairCost)). HasCheapest on months xs ps s m) (sym c.self.view_is) h in
     let before = c.if-n-len.true in
     let count = c.len.ensures in
     let all = c.self.inside.cells.ok.0 in
-    let held = held_there on months xs cells s m n c.index_mut-in-Left.result.now c.cell-n.ensures
+    let held = held_there on months xs cells s m n c.index_mut-in-Left.result.now c.side_month_cell-n.ensures
     (omega (arith, before, count, all)) was in
-    put_there on months ys cells s m n c.renew_left.new.held c.cell-n.ensures
+    put_there on months ys cells s m n c.renew_left.new.held c.side_month_cell-n.ensures
     (c.renew_left.ensures on xs ys told lt among keep (subst
     (λ (p : PairCost). IsCheapest on xs s m months (pair_of_cell p)) (sym c.index_mut-in-Left.ensures.value) held))
 
@@ -78,7 +78,7 @@ returns-else-via-months-clause-own g c = λ on xs ys told lt way keep h least kn
           let inside = known_within c.self.inside.cells.items c.args.column.side c.args.month least there in
           let past = w.if-n-len.false in
           let count = w.len.ensures in
-          let at = c.cell-n.ensures in
+          let at = c.side_month_cell-n.ensures in
           let all = c.self.inside.cells.ok.0 in
           absurd (omega (arith, inside, past, count, at, all))
       | else-via-months-via-else-via-months w ↦

@@ -17,7 +17,7 @@ marked : (g : Over) (c : After-self-1 g) → set c.self.inside.rows.items c.in-S
 marked g c =
     set_replaced c.args.order.now.session c.args.order.now.id c.self.inside.rows.items c.in-Some.at c.index.result.now
     (row c.self.inside.rows.items c.args.self.now c.args.order.now.session c.args.order.now.id c.in-Some.at
-    c.self.view_is c.in-Some.ensures.stands) c.self.invariant.0 (sym c.index.ensures) c.if-index-eq-CANCELED.true
+    c.self.view_is c.in-Some.ensures.stands) c.self.invariant.0 (sym c.index.ensures) c.if-index-eq-WHEN_IT_RESTS_NO_MORE.true
     c.index_mut.result.now c.index_mut.ensures.value
 
 pub invariant_of-self : goal.invariant_of-self
@@ -32,17 +32,17 @@ invariant_of-self g c =
           (replace_key session id) c.self.invariant.1),
     )
 
-pub returns-then-index-eq-CANCELED : goal.returns-then-index-eq-CANCELED
-returns-then-index-eq-CANCELED g c = marked g c ∙ ap
+pub returns-then-index-eq-WHEN_IT_RESTS_NO_MORE : goal.returns-then-index-eq-WHEN_IT_RESTS_NO_MORE
+returns-then-index-eq-WHEN_IT_RESTS_NO_MORE g c = marked g c ∙ ap
     (map (status_after_replace c.args.order.now.session c.args.order.now.id)) c.self.view_is
 
-pub returns-else-index-eq-CANCELED : goal.returns-else-index-eq-CANCELED
-returns-else-index-eq-CANCELED g c =
+pub returns-else-index-eq-WHEN_IT_RESTS_NO_MORE : goal.returns-else-index-eq-WHEN_IT_RESTS_NO_MORE
+returns-else-index-eq-WHEN_IT_RESTS_NO_MORE g c =
     sym c.self.view_is
     ∙ (none_replaced c.args.order.now.session c.args.order.now.id c.self.inside.rows.items c.in-Some.at
     c.index.result.now (row c.self.inside.rows.items c.args.self.now c.args.order.now.session c.args.order.now.id
     c.in-Some.at c.self.view_is c.in-Some.ensures.stands) c.self.invariant.0 c.index.ensures
-    c.if-index-eq-CANCELED.false
+    c.if-index-eq-WHEN_IT_RESTS_NO_MORE.false
     ∙ ap (map (status_after_replace c.args.order.now.session c.args.order.now.id)) c.self.view_is)
 
 pub returns-in_default : goal.returns-in_default

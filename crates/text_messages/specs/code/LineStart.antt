@@ -3,5 +3,5 @@
 use Rattle.std.specs.Prelude.{ℕ, List, ◌++◌, codes, decimal}
 
 -- `O S:`
-abbrev pub line_lead : ℕ → List ℕ
-line_lead session = codes "O " ++ decimal session ++ codes ":"
+abbrev pub start_of_line : ℕ → List ℕ
+start_of_line session = codes "O " ++ decimal session ++ codes ":"
