@@ -7,7 +7,7 @@ use Rattle.gate_link_sessions.proofs.gateways.StillOwed.{owes_nothing, owed_put,
 use Rattle.gate_link_sessions.proofs.laws.owed.Goals as goal
 
 pub returns-clause-starts : goal.returns-clause-starts
-returns-clause-starts c = c.judge_into.ensures.whole
+returns-clause-starts c = c.judged.ensures.whole
 
 pub returns-clause-closed : goal.returns-clause-closed
 returns-clause-closed c s held more shut = owes_nothing s (frames (held ++ more)) shut
@@ -25,5 +25,5 @@ pub returns-clause-ended : goal.returns-clause-ended
 returns-clause-ended c = end_owed
 
 pub returns-clause-closes : goal.returns-clause-closes
-returns-clause-closes c stream = ap (list_any is_close) (sym (c.judge_into.ensures.whole stream))
+returns-clause-closes c stream = ap (list_any is_close) (sym (c.judged.ensures.whole stream))
     ∙ whole_has_close new_session (frames stream) refl
