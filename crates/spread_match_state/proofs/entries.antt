@@ -1,5 +1,6 @@
 pub mod IdNotUsed
-pub mod NamedInstrument
-pub mod Replaces
-pub mod ReplacedStates
 pub mod MayRest
+pub mod NamedInstrument
+pub mod OrderAdded
+pub mod ReplacedStates
+pub mod Replaces

@@ -1,27 +1,19 @@
 //! The state of a market, and what each kind of entry does to it.
-ghost use Rattle.std.specs.Prelude.{◌≡◌, ℕ, ◌<◌, ◌≤◌, ◌+◌, ◌*◌, min, List, All, Contains, OnOk, OnErr, IfOk, ◌++◌, [], length, is_some, Option, None, true, false};
+ghost use Rattle.std.specs.Prelude.{◌≡◌, ℕ, ◌<◌, ◌≤◌, List, Contains, OnOk, OnErr, IfOk, ◌++◌, [], is_some, None, true};
 ghost use Rattle.std.specs.List.{find};
-ghost use Rattle.std.specs.Vec.{vec_len, vec_capacity};
 ghost use Rattle.spread_rules_ids.specs.declared.limits.TheConstants.{MAX_ORDER_QTY};
-ghost use Rattle.spread_rules.specs.declared.order.Order.{Order};
-ghost use Rattle.spread_rules.specs.declared.outcome.OrderStatus.{OrderStatus};
 ghost use Rattle.spread_rules.specs.declared.event.Event.TheVariants.{New, Cancel, Replace};
 ghost use Rattle.spread_rules.specs.code.Cases.{keeping_means};
 ghost use Rattle.spread_rules.specs.Amended.{done};
 ghost use Rattle.spread_rules.specs.Candidates.{PlacesDiffer};
-ghost use Rattle.spread_rules.specs.Clearing.{removed};
 ghost use Rattle.spread_rules_rulebook.specs.Prices.{IsOrderPrice};
-ghost use Rattle.spread_rules.specs.Meaning.{has_id, is_own, is_refused, cancel_of_nothing_resting, untraded};
-ghost use Rattle.spread_rules.specs.code.Meaning.{resting, resting_status, keeps_place};
+ghost use Rattle.spread_rules.specs.Meaning.{has_id, is_refused, cancel_of_nothing_resting, untraded};
 ghost use Rattle.spread_rules_rulebook.specs.Rulebook.{month_count};
 ghost use Rattle.spread_match_state.specs.State.{empty_state};
 ghost use Rattle.spread_books_search.specs.Listed.{IsInMonths, IsNearBeforeFar};
 ghost use Rattle.spread_match_state.specs.Trade.{IsPriced};
-ghost use Rattle.spread_match_trading.specs.Tradable.{IsTradable};
-ghost use Rattle.spread_match_statuses.specs.code.Statuses.{statuses_after};
-ghost use Rattle.spread_match_state.specs.code.StateAfter.{with_order, with_refusal, refusal_in, matched_in, cancel_in, replaced_in, moved_in, trading_in, meaning_in, state_after, state_with, IsReady};
+ghost use Rattle.spread_match_state.specs.code.StateAfter.{refusal_in, matched_in, cancel_in, replaced_in, moved_in, meaning_in, state_after, state_with, IsReady};
 ghost use Rattle.spread_match_orders.specs.code.Entering.{HaveStatuses};
-ghost use Rattle.spread_match_trading.specs.code.Turns.{IsNewest};
 
 use spread_books_plain::Book;
 use spread_books_rows::with_quantity;

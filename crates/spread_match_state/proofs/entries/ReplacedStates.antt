@@ -41,19 +41,22 @@ own_place place left false false = refl
 
 -- the state after it was traded
 pub matched_state : (m : MarketState) (place session : ℕ) (t : Ticket) (i : Instrument) (orders : List Order)
-    (statuses : List OrderStatus) (d : Trading) → orders ≡ resting t.immediate d →
+    (statuses : List OrderStatus) (quotes_by : Option Rules) (d : Trading) → orders ≡ resting t.immediate d →
     statuses ≡ statuses_after d.fills (m.statuses ++ entered_status (order_of place session t i) ∷ [])
-    → record { orders = orders; statuses = statuses; last = place } ≡ state_with m place session (New t)
-    (clearing_means t.immediate d)
-matched_state m place session t i orders statuses d e f =
+    → quotes_by ≡ m.quotes_by
+    → record { orders = orders; statuses = statuses; last = place; quotes_by = quotes_by } ≡ state_with m place session
+    (New t) (clearing_means t.immediate d)
+matched_state m place session t i orders statuses quotes_by d e f h =
     let outcome = outcome_of t.immediate d.new.leaves in
     let last = λ (p k : ℕ). statuses_after d.fills (m.statuses
     ++ record { session = session; id = t.id; place = p; status = k } ∷ []) in
     let first : last place 4 ≡ last (place_left place outcome) (cond (is_refused outcome) 8 4) =
     ap (λ (p : ℕ). last p 4) (sym (own_place place d.new.leaves (d.new.leaves == 0) t.immediate))
     ∙ ap (last (place_left place outcome)) (first_is_four t.immediate d.new.leaves) in
-    ap (λ (xs : List Order). record { orders = xs; statuses = statuses; last = place }) e
-    ∙ ap (λ (ss : List OrderStatus). record { orders = resting t.immediate d; statuses = ss; last = place }) (f ∙ first)
+    ap (λ (q : Option Rules). record { orders = orders; statuses = statuses; last = place; quotes_by = q }) h
+    ∙ (ap (λ (xs : List Order). record m { orders = xs; statuses = statuses; last = place }) e
+    ∙ ap (λ (ss : List OrderStatus). record m { orders = resting t.immediate d; statuses = ss; last = place })
+    (f ∙ first))
 
 -- ---- a replace that loses its place
 
@@ -127,30 +130,31 @@ room_moved xs rest gone len cap got n q leaves e h g f l =
 
 -- the state after it was traded
 pub moved_state : (rules : Rules) (m : MarketState) (place : ℕ) (t : Ticket) (r n : Order) (orders : List Order)
-    (statuses : List OrderStatus) (d : Trading) → n ≡ moved_to place t r →
+    (statuses : List OrderStatus) (quotes_by : Option Rules) (d : Trading) → n ≡ moved_to place t r →
     d ≡ clear (implied rules) (references_of rules) (moved_to place t r) (removed r.place m.orders)
     → orders ≡ resting false d →
     statuses ≡ statuses_after d.fills (map (status_after_replace r.session r.id) (m.statuses ++ entered_status n ∷ []))
-    →
-    record { orders = orders; statuses = statuses; last = place } ≡ state_with m place r.session (Replace r.id t)
-    (moved_in rules m place t r)
-moved_state rules m place t r n orders statuses d same e f g =
-    ap (λ (xs : List Order). record { orders = xs; statuses = statuses; last = place }) f
-    ∙ (ap (λ (ss : List OrderStatus). record { orders = resting false d; statuses = ss; last = place }) g
-    ∙ (ap (λ (o : Order). record {
+    → quotes_by ≡ m.quotes_by →
+    record { orders = orders; statuses = statuses; last = place; quotes_by = quotes_by } ≡ state_with m place r.session
+    (Replace r.id t) (moved_in rules m place t r)
+moved_state rules m place t r n orders statuses quotes_by d same e f g h =
+    ap (λ (q : Option Rules). record { orders = orders; statuses = statuses; last = place; quotes_by = q }) h
+    ∙ (ap (λ (xs : List Order). record m { orders = xs; statuses = statuses; last = place }) f
+    ∙ (ap (λ (ss : List OrderStatus). record m { orders = resting false d; statuses = ss; last = place }) g
+    ∙ (ap (λ (o : Order). record m {
       orders = resting false d;
       statuses =
           statuses_after d.fills (map (status_after_replace r.session r.id) (m.statuses ++ entered_status o ∷ []));
       last =
           place;
     }) same
-    ∙ ap (λ (x : Trading). record {
+    ∙ ap (λ (x : Trading). record m {
       orders = resting false x;
       statuses =
           statuses_after x.fills (map (status_after_replace r.session r.id)
           (m.statuses ++ entered_status (moved_to place t r) ∷ []));
       last = place;
-    }) e))
+    }) e)))
 
 -- ---- a replace that keeps its place
 

@@ -1,13 +1,13 @@
 -- The market's state after an entry: the orders that rest, and a status for each New and Replace entry in place of the
 -- past.
 -- Words of the code alone.
-use Rattle.std.specs.Prelude.{ℕ, ◌≤◌, not, cond, List, [], ◌∷◌, ◌++◌, map, All, Option, Some, None}
+use Rattle.std.specs.Prelude.{ℕ, ◌≤◌, cond, List, [], ◌∷◌, ◌++◌, map, All, Option, Some, None}
 use Rattle.std.specs.List.{find}
 use Rattle.spread_rules.specs.declared.codes.ord_rej_reason.TheConstants as ord_rej_reason
 use Rattle.spread_rules.specs.declared.codes.ord_status.TheConstants as ord_status
 use Rattle.spread_rules.specs.declared.order.Order.{Order}
 use Rattle.spread_rules.specs.code.Cases.{moving_means, replace_of_resting, clearing_means}
-use Rattle.spread_rules.specs.Clearing.{clear, removed, Trading}
+use Rattle.spread_rules.specs.Clearing.{clear, removed}
 use Rattle.spread_rules.specs.declared.outcome.OrderStatus.{OrderStatus}
 use Rattle.spread_rules_rulebook.specs.declared.instrument.Instrument.{Instrument}
 use Rattle.spread_rules.specs.declared.event.Ticket.{Ticket}
@@ -15,7 +15,7 @@ use Rattle.spread_rules.specs.declared.event.Event.{Event}
 use Rattle.spread_rules.specs.declared.outcome.Outcome.{Outcome}
 use Rattle.spread_rules.specs.declared.outcome.Outcome.TheVariants.{Refused}
 use Rattle.spread_match_trading.specs.Tradable.{IsTradable}
-use Rattle.spread_match_orders.specs.code.Entering.{entered_status, trading_of, HaveStatuses}
+use Rattle.spread_match_orders.specs.code.Entering.{HaveStatuses}
 use Rattle.spread_rules.specs.Meaning.{EntryMeaning, has_id, instrument_or_refusal_of, is_own, is_refused, meaning_with, order_of, place_left, ticket_of, untraded, cancel_means}
 use Rattle.spread_rules.specs.code.Meaning.{moved_to, original_of}
 use Rattle.spread_rules_rulebook.specs.Rulebook.{implied, Rules, references_of}
@@ -80,10 +80,6 @@ replaced_in rules m place t r =
     replace_of_resting rules m.orders place t
     (instrument_or_refusal_of rules m.statuses r.session t) r
 
--- how that order is traded with all other orders of that state
-abbrev pub trading_in : Rules → MarketState → Order → Trading
-trading_in rules m order = trading_of rules order m.orders
-
 -- the state after an entry that came to this
 abbrev pub state_with : MarketState → ℕ → ℕ → Event → EntryMeaning → MarketState
 state_with m place session event e = record m {
@@ -98,18 +94,6 @@ state_with m place session event e = record m {
 abbrev pub state_after : Rules → MarketState → ℕ → ℕ → Event → MarketState
 state_after rules m place session event =
     state_with m place session event (meaning_in rules m place session event)
-
--- with that order in the book, and its status
-abbrev pub with_order : MarketState → Order → MarketState
-with_order m o =
-    record m { orders = m.orders ++ o ∷ []; statuses = m.statuses ++ entered_status o ∷ [] }
-
--- with the status of that order, which is refused
-abbrev pub with_refusal : MarketState → Order → MarketState
-with_refusal m o =
-    record m {
-      statuses = m.statuses ++ record (entered_status o) { status = ord_status.REJECTED } ∷ [];
-    }
 
 -- what has to hold of a market, so that the next entry can be applied
 pub record IsReady (months : ℕ) (m : MarketState) : Type 0 where
