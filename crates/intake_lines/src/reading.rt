@@ -42,6 +42,20 @@ fn read_piece<S: Source>(source: &mut S, piece: &mut [u8]) -> Result<Option<usiz
     }
 }
 
+/// How many bytes were taken with a piece of so many. Where an input may not hold as many, the fault is Read.
+fn with_piece(taken: usize, count: usize) -> Result<usize, LinesFault>
+    requires { taken ≤ MAX_INPUT_BYTES }
+    ensures sum { IfOk result (λ all. all ≡ taken + count) }
+    ensures bound { OnOk result (taken + count ≤ MAX_INPUT_BYTES) }
+    ensures fault { IfErr result (λ f. f ≡ LinesFault.Read) }
+    ensures over { OnErr result (MAX_INPUT_BYTES < taken + count) }
+{
+    if count > MAX_INPUT_BYTES - taken {
+        return Err(LinesFault::Read);
+    }
+    Ok(taken + count)
+}
+
 /// Reads a source to its end, past a bad line too.
 fn read_pieces<S: Source, A: Allocator + Copy>(
     alloc: A,
@@ -53,22 +67,21 @@ fn read_pieces<S: Source, A: Allocator + Copy>(
     ensures reading { IfOk result IsReading }
     ensures end { OnOk result (IsAtEnd (S.left source.new)) }
     ensures not_failed { OnOk result (S.has_failed source.new ≡ false) }
+    ensures bound { OnOk result
+        (IfSome (S.left source.old) (λ input. length input ≤ MAX_INPUT_BYTES)) }
     ensures read { IsErrOf result LinesFault.Read → (S.has_failed source.new ≡ true)
         ⊎ IfSome (S.left source.old) (λ input. MAX_INPUT_BYTES < length input) }
     // One read more than the limit, and no further.
-    ensures taken { IsErrOf result LinesFault.Read →
-        TakesAtMost (S.left source.old) (S.left source.new) (MAX_INPUT_BYTES + CHUNK_BYTES) }
+    ensures taken { TakesAtMost (S.left source.old) (S.left source.new)
+        (MAX_INPUT_BYTES + CHUNK_BYTES) }
     ensures fault { IfErr result (λ f. (f ≡ LinesFault.Read) ⊎ (f ≡ LinesFault.NoMemory)) }
 {
     let mut reader = DayReader::new(alloc)?;
     let mut piece = [0u8; CHUNK_BYTES];
     let mut taken = 0;
     while let Some(count) = read_piece(source, &mut piece)? {
-        if count > MAX_INPUT_BYTES - taken {
-            return Err(LinesFault::Read);
-        }
+        taken = with_piece(taken, count)?;
         reader.take_piece(&mut piece[..count])?;
-        taken += count;
     }
     Ok(reader)
 }
@@ -91,8 +104,11 @@ pub fn read_day_lines<S: Source, A: Allocator + Copy>(
     ensures not_failed { OnOk result (S.has_failed source.new ≡ false) }
     ensures read { IsErrOf result LinesFault.Read → (S.has_failed source.new ≡ true)
         ⊎ IfSome (S.left source.old) (λ input. MAX_INPUT_BYTES < length input) }
-    ensures taken { IsErrOf result LinesFault.Read →
-        TakesAtMost (S.left source.old) (S.left source.new) (MAX_INPUT_BYTES + CHUNK_BYTES) }
+    ensures taken { TakesAtMost (S.left source.old) (S.left source.new)
+        (MAX_INPUT_BYTES + CHUNK_BYTES) }
+    // What is too long has no journal and no bad line.
+    ensures bound { IfSome (S.left source.old) (λ input. MAX_INPUT_BYTES < length input
+        → IsErrOf result LinesFault.Read ⊎ IsErrOf result LinesFault.NoMemory) }
     ensures fault { IfErr result (λ f.
         IfSome (S.left source.old) (λ input. IsLinesFault input f)) }
     // A bad line does not end the reading.

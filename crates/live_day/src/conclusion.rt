@@ -1,9 +1,13 @@
 //! A day from the joined parts of its threads.
-ghost use Rattle.std.specs.Prelude.{◌≡◌, ◌≤◌, ◌<◌, ℕ, length, true, IfOk, IfErr, IfSome, IfNone, vec_len};
+ghost use Rattle.std.specs.Prelude.{◌≡◌, ◌≢◌, ◌≤◌, ◌<◌, ℕ, Some, length, true, false, IfOk, IfErr, IfSome, IfNone, IsErrOf, vec_len};
+ghost use Rattle.std.specs.List.{list_any};
+ghost use Rattle.spread_rules_ids.specs.declared.limits.TheConstants.{MAX_JOURNAL_ENTRIES};
 ghost use Rattle.spread_report_outbound.specs.Sessions.{bytes_of};
 ghost use Rattle.apply_desk.specs.Sending.{sending_rules, stamp_of};
 ghost use Rattle.live_day.specs.Streams.{IsDayOfSessions, IsThreadsFault};
-ghost use Rattle.live_day.specs.code.Concluding.{AreJoined, IsFaultOfEnds, IsWhole};
+ghost use Rattle.apply_market.specs.declared.fault.ApplyFault.{ApplyFault};
+ghost use Rattle.live_day.specs.code.Concluding.{AreJoined, IsFaultOfEnds, IsToldBehind, IsWhole};
+ghost use Rattle.live_day.specs.code.Making.{of_apply};
 ghost use Rattle.live_matching.specs.declared.step.MatchEnd.TheVariants as matched_end;
 ghost use Rattle.live_matching.specs.code.Posting.{posted_at};
 ghost use Rattle.live_sessions.specs.declared.sequencing.SequenceEnd.TheVariants as sequence_end;
@@ -26,7 +30,9 @@ pub struct SessionsDay<A: Allocator> {
 }
 
 /// Whether some writer found no memory.
-fn any_refused<A: Allocator>(written: &[Written<A>]) -> bool {
+fn any_refused<A: Allocator>(written: &[Written<A>]) -> bool
+    ensures { result ≡ list_any (λ one. one.refused) written.now }
+{
     for one in written {
         if one.refused {
             return true;
@@ -84,6 +90,12 @@ fn first_fault(
     place: u64,
 ) -> Option<ThreadsFault>
     ensures fault { IfSome result (IsFaultOfEnds sequenced matched place) }
+    ensures full { sequenced ≡ sequence_end.JournalFull
+        → result ≡ Some ThreadsFault.JournalFull }
+    ensures refused { sequenced ≢ sequence_end.JournalFull → refused ≡ true
+        → result ≡ Some (ThreadsFault.NoMemory place) }
+    ensures matched { (f : ApplyFault) → sequenced ≢ sequence_end.JournalFull
+        → refused ≡ false → matched ≡ matched_end.Fault f → result ≡ Some (of_apply f) }
     ensures whole { IfNone result
         ((sequenced ≡ sequence_end.Whole) × (matched ≡ matched_end.Whole) × (agreed ≡ true)) }
 {
@@ -111,20 +123,27 @@ fn fault_of<A: Allocator + Copy>(
     streams: &GivenStreams<A>,
     room: usize,
 ) -> Option<ThreadsFault>
-    requires { AreJoined room streams.now.value.items sequenced.old matched.old written.old }
+    requires joined { AreJoined room streams.now.value.items sequenced.old matched.old written.old }
+    requires few { room ≤ MAX_JOURNAL_ENTRIES }
     ensures journal { sequenced.new.journal ≡ sequenced.old.journal }
     ensures reported { matched.new.posted.reported ≡ matched.old.posted.reported }
     ensures count { length written.new ≡ length written.old }
     ensures fault { IfSome result (λ f. (ring : ℕ)
         → IsThreadsFault (sending_rules matched.old.posted.reported) streams.now.value.items ring
         room f) }
+    ensures full { sequenced.old.end ≡ sequence_end.JournalFull
+        → result ≡ Some ThreadsFault.JournalFull }
+    ensures refused { sequenced.old.end ≢ sequence_end.JournalFull
+        → list_any (λ one. one.refused) written.old ≡ true
+        → result ≡ Some (ThreadsFault.NoMemory (matched.old.worked + 1)) }
+    ensures place { IfSome result (IsToldBehind matched.old.worked matched.old.end) }
     ensures whole { IfNone result
         (IsWhole streams.now.value.items sequenced.old.journal.items matched.old.posted written.new) }
 {
     let agreed = agree(&mut sequenced.feeder, &mut matched.matcher);
     let refused = any_refused(written);
     // Where the matching thread found no memory, its place is the same.
-    let place = matched.worked.saturating_add(1);
+    let place = matched.worked + 1;
     if let Some(fault) = first_fault(sequenced.end, matched.end, refused, agreed, place) {
         return Some(fault);
     }
@@ -142,13 +161,20 @@ pub fn conclude<A: Allocator + Copy>(
     streams: &GivenStreams<A>,
     room: usize,
 ) -> Result<SessionsDay<A>, ThreadsFault>
-    requires { AreJoined room streams.now.value.items sequenced matched written.items }
+    requires joined { AreJoined room streams.now.value.items sequenced matched written.items }
+    requires few { room ≤ MAX_JOURNAL_ENTRIES }
     ensures size { IfOk result (λ day. length day.journal.items ≤ room) }
     ensures day { IfOk result (IsDayOfSessions (sending_rules matched.entry.posted.reported)
         (stamp_of matched.entry.posted.reported) streams.now.value.items) }
     ensures fault { IfErr result (λ f. (ring : ℕ)
         → IsThreadsFault (sending_rules matched.entry.posted.reported)
         streams.now.value.items ring room f) }
+    ensures full { sequenced.end ≡ sequence_end.JournalFull
+        → IsErrOf result ThreadsFault.JournalFull }
+    ensures refused { sequenced.end ≢ sequence_end.JournalFull
+        → list_any (λ one. one.refused) written.items ≡ true
+        → IsErrOf result (ThreadsFault.NoMemory (matched.entry.worked + 1)) }
+    ensures place { IfErr result (IsToldBehind matched.entry.worked matched.entry.end) }
 {
     let mut sequenced = sequenced;
     let mut matched = matched;

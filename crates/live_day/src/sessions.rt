@@ -1,9 +1,10 @@
 //! A day of sessions in threads: all are started, the journal is made in the caller's, and all are joined.
-ghost use Rattle.std.specs.Prelude.{◌≡◌, ◌≤◌, ℕ, length, IfOk, IfErr, OnOk};
+ghost use Rattle.std.specs.Prelude.{◌≡◌, ◌≤◌, ◌⊎◌, ℕ, length, IfOk, IfErr, OnOk};
+ghost use Rattle.spread_rules_ids.specs.declared.limits.TheConstants.{MAX_JOURNAL_ENTRIES};
 ghost use Rattle.spread_rules.specs.Journal.{IsLawful};
 ghost use Rattle.apply_desk.specs.Sending.{sending_rules, stamp_of};
 ghost use Rattle.live_day.specs.code.Starting.{AreReady, IsRunning};
-ghost use Rattle.live_day.specs.Streams.{IsDayOfSessions, IsThreadsFault};
+ghost use Rattle.live_day.specs.Streams.{IsDayOfSessions, IsLink, IsThreadsFault};
 ghost use Rattle.live_day.specs.Limits.{IsWithinLimits};
 
 use crate::conclusion::{SessionsDay, conclude};
@@ -29,7 +30,8 @@ fn finish<R: Wait + Threads, A: Allocator + Copy>(
     streams: &GivenStreams<A>,
     room: usize,
 ) -> Result<SessionsDay<A>, ThreadsFault>
-    requires { IsRunning room streams.now.value.items running }
+    requires running { IsRunning room streams.now.value.items running }
+    requires few { room ≤ MAX_JOURNAL_ENTRIES }
     ensures size { IfOk result (λ day. length day.journal.items ≤ room) }
     ensures day { IfOk result (IsDayOfSessions
         (sending_rules running.entry.matching.promise.posted.value.reported)
@@ -63,7 +65,8 @@ fn sessions_in<'r: 's, 's, E, R: Wait + Threads + Sync, G: Gate, A: Allocator + 
     streams: Vec<Vec<u8, A>, A>,
     alloc: A,
 ) -> Result<SessionsDay<A>, ThreadsFault>
-    requires { AreReady streams.items stages }
+    requires ready { AreReady streams.items stages }
+    requires few { stages.room ≤ MAX_JOURNAL_ENTRIES }
     ensures day { IfOk result (IsDayOfSessions (sending_rules stages.entry.posted.reported)
         (stamp_of stages.entry.posted.reported) streams.items) }
     ensures size { IfOk result (λ day. length day.journal.items ≤ stages.entry.room) }
@@ -99,6 +102,8 @@ pub fn run_sessions<'r, R: Threads + Wait + Sync, G: Gate, A: Allocator + Copy +
     ensures lawful { IfOk result (λ day. IsLawful day.journal.items) }
     ensures limits { OnOk result
         (IsWithinLimits (length streams.items) caps.ring caps.journal) }
+    ensures within { IfErr result (λ f.
+        IsLink f ⊎ IsWithinLimits (length streams.items) caps.ring caps.journal) }
     ensures fault { IfErr result
         (IsThreadsFault rules.now.rulebook.now streams.items caps.ring caps.journal) }
 {
@@ -119,6 +124,8 @@ pub fn run_sessions<'r, R: Threads + Wait + Sync, G: Gate, A: Allocator + Copy +
             ensures size { IfOk result (λ day. length day.journal.items ≤ caps.journal) }
             ensures limits { OnOk result
                 (IsWithinLimits (length streams.items) caps.ring caps.journal) }
+            ensures within { IfErr result (λ f.
+                IsLink f ⊎ IsWithinLimits (length streams.items) caps.ring caps.journal) }
             ensures fault { IfErr result
                 (IsThreadsFault rules.entry.now.rulebook.now streams.items caps.ring caps.journal) }
         {

@@ -1,8 +1,9 @@
 //! What the threads of a day work with, made before any of them is started.
-ghost use Rattle.std.specs.Prelude.{◌≡◌, ℕ, [], length, IfOk, IfErr, OnOk, vec_len};
+ghost use Rattle.std.specs.Prelude.{◌≡◌, ◌⊎◌, ℕ, [], length, IfOk, IfErr, OnOk, vec_len};
 ghost use Rattle.apply_desk.specs.Sending.{sending_rules, stamp_of};
 ghost use Rattle.gate_link_stages.specs.Faults.{IsRingRefusal, IsRingSize};
 ghost use Rattle.live_day.specs.Limits.{IsWithinLimits};
+ghost use Rattle.live_day.specs.Streams.{IsLink};
 ghost use Rattle.live_day.specs.code.Making.{IsMade, IsStagesFault};
 ghost use Rattle.live_matching.specs.code.Posting.{NoneEnded, posted_at};
 ghost use Rattle.live_writers.specs.code.Writing.{ArePostPairs};
@@ -102,6 +103,8 @@ pub fn stages_of<'r, A: Allocator + Copy>(
     ensures room { IfOk result (λ s. s.room ≡ caps.journal) }
     ensures rules { IfOk result (λ s. sending_rules s.posted.reported ≡ rules.now.rulebook.now) }
     ensures stamp { IfOk result (λ s. stamp_of s.posted.reported ≡ rules.now.stamp) }
+    ensures within { IfErr result (λ f.
+        IsLink f ⊎ IsWithinLimits sessions caps.ring caps.journal) }
     ensures fault { IfErr result (IsStagesFault sessions caps.ring caps.journal) }
 {
     let (gateways, sequencer) = match link(alloc, sessions, caps.ring, caps.journal) {

@@ -1,7 +1,7 @@
 //! The entries of a journal taken from a ring as they come, applied, and what they send given to the writers.
-ghost use Rattle.std.specs.Prelude.{◌≡◌, ◌≤◌, length};
+ghost use Rattle.std.specs.Prelude.{◌≡◌};
 ghost use Rattle.apply_desk.specs.Sending.{sending_rules, stamp_of};
-ghost use Rattle.live_matching.specs.code.Matching.{MatchEnds};
+ghost use Rattle.live_matching.specs.code.Matching.{HasWorked, MatchEnds};
 ghost use Rattle.live_matching.specs.code.Posting.{IsUnfed, SamePosters};
 ghost use Rattle.gate_link_stages.specs.Feeding.{SameMatcher, taken};
 
@@ -38,7 +38,7 @@ pub fn match_all<R: Wait, G: Gate, A: Allocator + Copy>(
     ensures writers { SamePosters posted.old.posters.items posted.new.posters.items }
     ensures rules { sending_rules posted.new.reported ≡ sending_rules posted.old.reported }
     ensures stamp { stamp_of posted.new.reported ≡ stamp_of posted.old.reported }
-    ensures few { result.0 ≤ length (taken matcher.new) }
+    ensures worked { HasWorked result.1 result.0 (taken matcher.new) }
     ensures ends { MatchEnds result.1 (taken matcher.new) posted.new }
 {
     let mut worked = 0u64;

@@ -1,5 +1,5 @@
 -- The streams of a day in threads, and the events that they have.
-use Rattle.std.specs.Prelude.{ℕ, List, [], map, length, slice_index_or, sum_by, Vec}
+use Rattle.std.specs.Prelude.{ℕ, ◌≤◌, List, [], map, length, slice_index_or, sum_by, Vec}
 use mathlib.Core.List.{IsPrefix}
 use Rattle.spread_rules.specs.declared.event.Event.{Event}
 use Rattle.spread_rules.specs.declared.event.Entry.{Entry}
@@ -17,3 +17,7 @@ all_events {A} streams = sum_by (λ (v : Vec ℕ A). length (whole v.items)) str
 -- of each session, the journal has a beginning of the events of its stream
 abbrev pub IsBeginningOf : {A : Type 0} → List (Vec ℕ A) → List Entry → Type 0
 IsBeginningOf streams journal = (s : ℕ) → IsPrefix (restricted s journal) (whole_at streams s)
+
+-- such a journal, with no more entries than there is room for
+abbrev pub IsBeginningWithin : {A : Type 0} → List (Vec ℕ A) → ℕ → List Entry → Type 0
+IsBeginningWithin streams room journal = IsBeginningOf streams journal × (length journal ≤ room)

@@ -39,6 +39,12 @@ pub record IsPartOut (journal_only : Bool) (rules : Rules) (stamp input : List �
   pub is_of : IsJournalOf input journal
   pub part : AppendsPrefix old new (text_of_day journal_only rules stamp journal)
 
+-- Its source was read to its end when this fault came. Memory may be short before, where no entry was begun.
+abbrev pub IsBehindReading : HostFault → Type 0
+IsBehindReading faults.Read = ⊥
+IsBehindReading (faults.NoMemory place) = 0 < place
+IsBehindReading _ = Unit {0}
+
 -- why an input that is read whole has no day; memory may be short before the first entry, at an entry or after the last
 abbrev pub IsReplayFault : Rules → Option (List ℕ) → HostFault → Type 0
 IsReplayFault rules input (faults.DayLine n) = IfSome input (λ i. day_lines_of i ≡ Err n)

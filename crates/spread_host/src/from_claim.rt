@@ -1,11 +1,11 @@
 //! A claim of a journal's fills and month totals, held against what the rule gives.
-ghost use Rattle.std.specs.Prelude.{IfErr, OnOk};
+ghost use Rattle.std.specs.Prelude.{◌≢◌, Err, IfErr, OnOk};
 ghost use Rattle.spread_host.specs.Claims.{IsRight, IsAuditFault};
+ghost use Rattle.spread_host.specs.declared.from_claim.AuditFault.{AuditFault};
+ghost use Rattle.spread_host_faults.specs.declared.fault.HostFault.{HostFault};
 
-use apply_market::fills_of_journal;
+use crate::from_journal::apply_text;
 use spread_host_faults::HostFault;
-use spread_journal::{JournalFault, read_journal};
-use spread_match::laws::ranges;
 use spread_rules::Rulebook;
 use std::alloc::Allocator;
 use text_day::{Difference, first_difference, text_of_fills};
@@ -31,21 +31,15 @@ pub fn audit<A: Allocator + Copy>(
 ) -> Result<(), AuditFault<A>>
     ensures right { OnOk result (IsRight rulebook.now text.now claim.now) }
     ensures fault { IfErr result (IsAuditFault rulebook.now text.now claim.now) }
+    // Nothing is written here.
+    ensures never_write { result ≢ Err (AuditFault.Host HostFault.Write) }
 {
-    // Cites the ranges of a journal's fills, and that a rulebook is lawful.
-    ranges();
-    rulebook.months();
-    let journal = match read_journal(alloc, text) {
-        Ok(journal) => journal,
-        Err(JournalFault::NoMemory) => return Err(AuditFault::Host(HostFault::NoMemory(0))),
-        Err(fault) => return Err(AuditFault::Host(HostFault::Journal(fault))),
+    let applied = match apply_text(alloc, rulebook, text) {
+        Ok(applied) => applied,
+        Err(fault) => return Err(AuditFault::Host(fault)),
     };
-    let fills = match fills_of_journal(alloc, rulebook, &journal) {
-        Ok(fills) => fills,
-        Err(fault) => return Err(AuditFault::Host(HostFault::from(fault))),
-    };
-    let no_memory = HostFault::NoMemory(journal.len() as u64 + 1);
-    let Ok(right) = text_of_fills(alloc, rulebook, &fills) else {
+    let no_memory = HostFault::NoMemory(applied.journal.len() as u64 + 1);
+    let Ok(right) = text_of_fills(alloc, rulebook, &applied.fills) else {
         return Err(AuditFault::Host(no_memory));
     };
     if claim == right.as_slice() {

@@ -6,7 +6,7 @@ ghost use Rattle.spread_rules_ends.specs.Ends.{TakesAtMost};
 ghost use Rattle.intake_lines.specs.declared.reading.TheConstants.{CHUNK_BYTES};
 ghost use Rattle.spread_journal_lines.specs.JournalText.{HasByteIds};
 ghost use Rattle.spread_host.specs.Headline.{IsJournalOfText, HasFills, HasOutgoing, BoughtIsSold, PaidIsReceived, IsAlwaysQuiet, IsDayOf};
-ghost use Rattle.spread_host.specs.Days.{IsReplayFault, IsPartOut, text_of_day};
+ghost use Rattle.spread_host.specs.Days.{IsBehindReading, IsReplayFault, IsPartOut, text_of_day};
 ghost use Rattle.spread_host_faults.specs.declared.fault.HostFault.{HostFault};
 
 use crate::day::{day_of, write_day};
@@ -62,8 +62,12 @@ pub fn replay<S: Source, K: Sink, A: Allocator + Copy>(
     // When each fault comes, and what is out then.
     ensures read { IsErrOf result HostFault.Read → (S.has_failed source.new ≡ true)
         ⊎ IfSome (S.left source.old) (λ input. MAX_INPUT_BYTES < length input) }
-    ensures taken { IsErrOf result HostFault.Read →
-        TakesAtMost (S.left source.old) (S.left source.new) (MAX_INPUT_BYTES + CHUNK_BYTES) }
+    ensures taken { TakesAtMost (S.left source.old) (S.left source.new)
+        (MAX_INPUT_BYTES + CHUNK_BYTES) }
+    ensures bound { IfSome (S.left source.old) (λ input. MAX_INPUT_BYTES < length input
+        → IsErrOf result HostFault.Read ⊎ IsErrOf result (HostFault.NoMemory 0)) }
+    ensures read_on { IfErr result (λ f. IsBehindReading f →
+        IsAtEnd (S.left source.new) × (S.has_failed source.new ≡ false)) }
     ensures write { IsErrOf result HostFault.Write → (K.has_failed sink.new ≡ true)
         × IfSome (S.left source.old) (λ input. IsPartOut journal_only rulebook.now stamp input
         (K.written sink.old) (K.written sink.new)) }

@@ -1,11 +1,11 @@
 //! A day in threads: one for each session, one that matches, one for each session's writer, and the sequencer in the
 //! caller's.
-ghost use Rattle.std.specs.Prelude.{◌≡◌, ◌<◌, ◌≤◌, ℕ, [], length, slice_index_or, IfOk, IfErr, OnOk};
-ghost use Rattle.spread_rules_ids.specs.declared.limits.TheConstants.{SESSIONS, MAX_RING, MAX_JOURNAL_ENTRIES};
+ghost use Rattle.std.specs.Prelude.{◌≡◌, ◌<◌, ◌≤◌, ◌⊎◌, ℕ, [], length, slice_index_or, IfOk, IfErr, OnOk};
+ghost use Rattle.spread_rules_ids.specs.declared.limits.TheConstants.{SESSIONS};
 ghost use Rattle.text_messages.specs.Messages.{texts_of};
-ghost use Rattle.gate_link_stages.specs.Faults.{Between};
+ghost use Rattle.live_day.specs.Limits.{IsWithinLimits};
 ghost use Rattle.spread_host.specs.Headline.{IsJournalOfStreams, HasFills, HasOutgoing, BoughtIsSold, PaidIsReceived, IsAlwaysQuiet, IsDayOf};
-ghost use Rattle.spread_host.specs.LiveDays.{IsRunDayFault};
+ghost use Rattle.spread_host.specs.LiveDays.{IsLink, IsRunDayFault};
 
 use live_day::{Caps, DaySettings, SessionsDay, run_sessions};
 use live_shared::Gate;
@@ -48,12 +48,15 @@ pub fn run_day<R: Threads + Wait + Sync, G: Gate, A: Allocator + Copy + Send>(
     // What else is true of the day.
     ensures day { IfOk result (λ day.
         IsDayOf rulebook.now stamp day.journal.items day.fills.items) }
-    ensures limits { OnOk result (Between 1 SESSIONS (length streams.items)
-        × Between 1 MAX_RING caps.ring × (caps.journal ≤ MAX_JOURNAL_ENTRIES)) }
+    ensures limits { OnOk result
+        (IsWithinLimits (length streams.items) caps.ring caps.journal) }
     ensures size { IfOk result (λ day. length day.journal.items ≤ caps.journal) }
     ensures no_stream { IfOk result (λ day. (s : ℕ) → s < SESSIONS → length streams.items ≤ s
         → slice_index_or (texts_of day.out.items) s [] ≡ []) }
 
+    // A number out of range is answered by Link alone.
+    ensures within { IfErr result (λ f.
+        IsLink f ⊎ IsWithinLimits (length streams.items) caps.ring caps.journal) }
     // When each fault comes; JournalFull, where the streams have more events than the journal has room for.
     ensures fault { IfErr result (IsRunDayFault rulebook.now streams.items caps.ring caps.journal) }
 {

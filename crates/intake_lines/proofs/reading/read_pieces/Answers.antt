@@ -1,11 +1,13 @@
-use Rattle.std.proofs.Common.{◌<◌, ◌≤◌, ◌++◌, [], ℕ, List, Option, IfSome, length, take, drop, refl, sym, subst, arith, length-append}
+use Rattle.std.proofs.Common.{◌+◌, ◌<◌, ◌≤◌, ◌++◌, [], ℕ, List, Option, IfSome, length, take, drop, refl, sym, subst, arith, length-append}
 use Rattle.std.proofs.lemmas.List.{length-take-le, length-drop, map-append}
 use Rattle.std.specs.Io.KnownBytes.{Consumes}
 use Rattle.std.proofs.KnownBytes.{Consumes-nil, Consumes-trans}
+use Rattle.spread_rules_ends.specs.Ends.{TakesAtMost}
 use Rattle.fix_wire_frames.specs.Texts.{with_soh}
 use Rattle.fix_wire_frames.specs.code.Texts.{soh_for_bar}
 use Rattle.intake_lines.specs.code.PiecesRead.{HasRead}
 use Rattle.intake_lines.proofs.reading.read_pieces.Goals as goal
+use Rattle.intake_lines.proofs.reading.read_pieces.Goals.{In-Some}
 
 pub loop-reader-init : goal.loop-reader-init
 loop-reader-init g c = (
@@ -16,9 +18,10 @@ loop-reader-init g c = (
   ([], refl, Consumes-nil (g.S.Source.left c.args.source.now), c.in_ok-reader.ensures.read),
 )
 
--- what was read before, and the read that was one too many
-pub returns-then-count-taken-clause-taken : goal.returns-then-count-taken-clause-taken
-returns-then-count-taken-clause-taken g c e =
+-- what was read before, and one read more
+one_more : (g : _) (c : In-Some g) → TakesAtMost (g.S.Source.left c.args.source.now)
+    (g.S.Source.left c.read_piece.new.source) (16777216 + 65536)
+one_more g c =
     let before = c.loop-reader.invariant in
     let input = before.4.0 in
     let piece = c.read_piece.new.piece in
@@ -38,13 +41,19 @@ returns-then-count-taken-clause-taken g c e =
           (take n piece))) c.in-Some.is c.in_ok-count.ensures.bytes),
     )
 
+pub returns-in_err-taken-clause-taken : goal.returns-in_err-taken-clause-taken
+returns-in_err-taken-clause-taken g c = one_more g (goal.at.returns-in_err-taken-clause-taken g c).In-Some
+
+pub returns-in_err-take_piece-clause-taken : goal.returns-in_err-take_piece-clause-taken
+returns-in_err-take_piece-clause-taken g c = one_more g (goal.at.returns-in_err-take_piece-clause-taken g c).In-Some
+
 pub loop-reader-smaller : goal.loop-reader-smaller
 loop-reader-smaller g c =
     let more : 0 < c.in-Some.count = subst (λ (o : Option ℕ). IfSome o (λ n. 0 < n)) c.in-Some.is
     c.in_ok-count.ensures.more in
-    let below = c.if-count-taken.false in
-    let small = c.loop-reader.invariant.1 in
-    omega (arith, more, below, small)
+    let below = c.in_ok-taken.ensures.bound in
+    let sum = c.in_ok-taken.ensures.sum in
+    omega (arith, more, below, sum)
 
 pub loop-reader-preserved : goal.loop-reader-preserved
 loop-reader-preserved g c =
@@ -65,15 +74,16 @@ loop-reader-preserved g c =
     let joined = length-append input more in
     let whole = length-append c.take_piece.new.piece (drop count buf) in
     let behind = length-drop count buf in
-    let below = c.if-count-taken.false in
+    let below = c.in_ok-taken.ensures.bound in
+    let sum = c.in_ok-taken.ensures.sum in
     let next = c.in_ok-take_piece.ensures.number in (
       omega (arith, whole, behind, kept, few, bound, same, piece),
-      omega (arith, below, small),
+      omega (arith, below, sum),
       c.in_ok-count.ensures.not_failed,
-      omega (arith, next, few, numbered),
+      omega (arith, next, few, numbered, sum),
       (
         input ++ more,
-        omega (arith, joined, few, taken),
+        omega (arith, joined, few, taken, sum),
         Consumes-trans _ _ _ _ _ before.4.2 (subst (λ (o : Option ℕ). IfSome o
             (λ n. Consumes (g.S.Source.left c.loop-reader.source) (g.S.Source.left c.read_piece.new.source)
             (take n buf))) c.in-Some.is c.in_ok-count.ensures.bytes),

@@ -1,4 +1,4 @@
-use Rattle.std.proofs.Common.{◌≡◌, ◌∙◌, refl, sym, ap, subst, List, [], ◌∷◌, length, length-append, arith}
+use Rattle.std.proofs.Common.{◌≡◌, ◌∙◌, ℕ, ◌+◌, ⊥, refl, sym, ap, subst, inl, inr, List, [], ◌∷◌, length, length-append, arith}
 use Rattle.std.proofs.lemmas.List.{with_items_is}
 use Rattle.std.specs.Vec.{with_items}
 use Rattle.spread_rules.specs.declared.event.Entry.{Entry}
@@ -6,9 +6,11 @@ use Rattle.gate_link_stages.specs.Feeding.{taken, taken_of, Takes, SameMatcher}
 use Rattle.gate_link_stages.specs.declared.feed.Lent.{Lent}
 use Rattle.gate_link_stages.specs.declared.feed.Lent.TheVariants.{Entry as LentEntry, Ended as LentEnd}
 use Rattle.gate_link_stages.specs.declared.post.Poster.{Poster}
-use Rattle.live_matching.specs.code.Matching.{MatchEnds}
+use Rattle.live_matching.specs.code.Matching.{HasWorked, MatchEnds}
 use Rattle.live_matching.specs.code.Posting.{HasPosted, SamePosters, posted_at}
 use Rattle.live_matching.specs.declared.posting.PostedEntries.{PostedEntries}
+use Rattle.live_matching.specs.declared.step.MatchEnd.{MatchEnd}
+use Rattle.live_matching.specs.declared.step.MatchEnd.TheVariants.{Whole, Stopped, Fault}
 use Rattle.live_matching.proofs.Posters.{same_posters_trans}
 use Rattle.live_matching.proofs.OneEntryMore.{posted_still}
 use Rattle.live_matching.proofs.RingEnds.{same_matcher_trans, step_ends}
@@ -24,6 +26,13 @@ took_by : (g : _) (c : After-lend g) (r : Lent) → c.lend.result ≡ r
     → Takes (taken_of r) c.loop.matcher c.lend.follows.lender-at-none
 took_by g c r is = subst (λ (t : Lent). Takes (taken_of t) c.loop.matcher c.lend.follows.lender-at-none) is
     c.lend.follows.holds-at-none.1
+
+-- where the last entry that was taken did not come to its end, all but that one were worked through
+worked_but_last : (end : MatchEnd) (worked : ℕ) (took : List Entry) → (end ≡ Whole → ⊥) → worked + 1 ≡ length took
+    → HasWorked end worked took
+worked_but_last Whole worked took not all = absurd (not refl)
+worked_but_last Stopped worked took not all = inr all
+worked_but_last (Fault f) worked took not all = all
 
 writers : (g : _) (c : After-match_one g) → SamePosters c.args.posted.now.posters.items
     c.match_one.new.posted.posters.items
@@ -44,7 +53,7 @@ loop-preserved-in-Whole g c =
       stamp = c.match_one.ensures.stamp ∙ was.stamp;
       posted = now;
       rings = c.match_one.ensures.rings;
-      few = omega (arith, c.count-worked.ensures, now.reported.applied.count);
+      worked = c.count-worked.ensures ∙ now.reported.applied.count;
       running = took.2;
     }
 
@@ -60,14 +69,15 @@ returns-in_default g c =
       writers = writers g (goal.at.returns-in_default g c).After-match_one;
       rules = c.match_one.ensures.rules ∙ was.rules;
       stamp = c.match_one.ensures.stamp ∙ was.stamp;
-      few = omega (arith, was.few, ap length took.1, length-append es (c.in-Entry.entry.now ∷ []));
+      worked = worked_but_last c.match_one.result c.loop.worked (taken c.lend.follows.lender-at-none)
+          c.in_default.not-Whole (omega (arith, was.worked, ap length took.1, length-append es (c.in-Entry.entry.now ∷ [])));
       ends = subst (λ (xs : List Entry). MatchEnds c.match_one.result xs c.match_one.new.posted) (sym took.1) ends;
     }
 
 pub returns-then-load : goal.returns-then-load
 returns-then-load g c =
     let was = c.loop.invariant in
-    record { ring = was.ring; writers = was.writers; rules = was.rules; stamp = was.stamp; few = was.few; ends = tt }
+    record { ring = was.ring; writers = was.writers; rules = was.rules; stamp = was.stamp; worked = inl was.worked; ends = tt }
 
 pub returns-in-Ended : goal.returns-in-Ended
 returns-in-Ended g c =
@@ -93,6 +103,6 @@ returns-in-Ended g c =
       writers = all;
       rules = was.rules;
       stamp = was.stamp;
-      few = omega (arith, was.few, ap length took.0);
+      worked = was.worked ∙ sym (ap length took.0);
       ends = subst (λ (es : List Entry). HasPosted es p) (sym took.0) now;
     }

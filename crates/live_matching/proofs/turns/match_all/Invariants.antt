@@ -1,4 +1,4 @@
-use Rattle.std.proofs.Common.{◌≡◌, ◌≤◌, false, length}
+use Rattle.std.proofs.Common.{◌≡◌, false, length}
 use Rattle.gate_link_stages.specs.Feeding.{taken, take_ended, SameMatcher}
 use Rattle.apply_desk.specs.Sending.{sending_rules, stamp_of}
 use Rattle.live_matching.specs.code.Posting.{CanPost, HasPosted, SamePosters}
@@ -12,6 +12,6 @@ invariant-loop g l = record {
   stamp : stamp_of l.posted.reported ≡ stamp_of l.initial.posted.reported;
   posted : HasPosted (taken l.matcher) l.posted;
   rings : CanPost l.posted;
-  few : l.worked ≤ length (taken l.matcher);
+  worked : l.worked ≡ length (taken l.matcher);
   running : take_ended l.matcher ≡ false;
 }
