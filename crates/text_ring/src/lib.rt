@@ -3,12 +3,10 @@
 #![tactic(auto)]
 
 mod block;
-mod giving;
 mod ring;
 mod sink;
 mod source;
 
-pub use giving::{GivingEnd, RingEnd};
-pub use ring::{block_ring, same_text};
+pub use ring::block_ring;
 pub use sink::BlockSink;
 pub use source::BlockSource;
