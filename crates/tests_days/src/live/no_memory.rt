@@ -122,19 +122,3 @@ fn run_day_refused_memory(rt: HostRuntime) {
 fn run_day_refused_memory_over_full_rings(rt: HostRuntime) {
     expect_refusals(&rt, rt.alloc(), 1);
 }
-
-/// The first request of `run_day`'s own is the link's: where it is refused, the link is, and not the day.
-#[test]
-fn run_day_refused_its_link(rt: HostRuntime) {
-    let rulebook = three_months(&rt);
-    for number in 1..10u64 {
-        let heap = Refusing::new(rt.alloc(), number);
-        let Ok(streams) = streams_of(&heap, 1, FIRST_TRADE) else {
-            continue;
-        };
-        let fault = run_day(&rt, &heap, &rulebook, stamp(), streams, &Open, USUAL).err();
-        holds(&rt, fault == Some(HostFault::Link(LinkFault::NoMemory)));
-        return;
-    }
-    holds(&rt, false);
-}
