@@ -1,7 +1,8 @@
 //! Implied quotes of a market's book.
-ghost use Rattle.std.specs.Prelude.{◌≡◌, []};
-ghost use Rattle.spread_books.specs.Quotes.{AreQuotable};
+ghost use Rattle.std.specs.Prelude.{◌≡◌, [], Some};
+ghost use Rattle.spread_books.specs.Quotes.{AreQuotable, IsQuote};
 ghost use Rattle.spread_match_state.specs.State.{empty_state};
+ghost use Rattle.spread_rules_rulebook.specs.Rulebook.{Rules, implied};
 
 use super::cases::Came::{Cancelled, Rested, Session};
 use super::cases::Sent::{Buy, Cancel, Logon, Sell};
@@ -38,12 +39,14 @@ struct LeavingCase {
 /// A book that has implied quotes: a function that has a market over any such book is cheaper than one that has a market
 /// over the index book.
 trait Quoting: Book {
-    /// The quote of that queue.
+    /// The quote against an order of that instrument and side, under the rulebook by which the market's book quotes.
     fn quote_of(
         market: &Market<'_, Self, Global>,
         instrument: Instrument,
         side: Side,
-    ) -> Option<Choice>;
+    ) -> Option<Choice>
+        ensures { (rules : Rules) → market.now.state.quotes_by ≡ Some rules
+            → IsQuote (implied rules) market.now.state.orders instrument side result };
 
     /// The quote of that queue in the book alone.
     fn own_quote(&self, instrument: Instrument, side: Side) -> Option<Choice>
