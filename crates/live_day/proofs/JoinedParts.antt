@@ -1,5 +1,5 @@
 -- What the joined parts of a day come to.
-use Rattle.std.proofs.Common.{◌≡◌, ◌∙◌, sym, ap, ℕ, ◌+◌, ◌<◌, ◌≤◌, Bool, true, false, List, [], length, get_or, subst, arith, append-nil, inl, inr, Vec}
+use Rattle.std.proofs.Common.{◌≡◌, ◌∙◌, sym, ap, ℕ, ◌+◌, ◌<◌, ◌≤◌, Bool, true, false, List, [], length, get_or, subst, arith, append-nil, length-append, inl, inr, Vec}
 use Rattle.std.proofs.Math.ListN.{set}
 use Rattle.std.proofs.lemmas.Bool.{cases_eq}
 use mathlib.Core.List.{IsPrefix}
@@ -15,7 +15,7 @@ use Rattle.gate_link_stages.specs.Posting.{Finishes, ArePostPair}
 use Rattle.apply_desk.specs.code.Applied.{IsApplyFault}
 use Rattle.apply_market.specs.declared.fault.ApplyFault.{ApplyFault}
 use Rattle.apply_market.specs.declared.fault.ApplyFault.TheVariants.{NoMemory, NumbersSpent}
-use Rattle.live_sessions.specs.Streams.{IsBeginningOf, whole_at}
+use Rattle.live_sessions.specs.Streams.{IsBeginningOf, IsBeginningWithin, whole_at}
 use Rattle.live_sessions.specs.code.Sequencing.{SequenceEnds}
 use Rattle.live_writers.specs.code.Writing.{AreJoinedPairs}
 use Rattle.live_sessions.specs.declared.sequencing.Sequenced.{Sequenced}
@@ -25,12 +25,12 @@ use Rattle.gate_link_stages.specs.declared.post.Poster.{Poster}
 use Rattle.live_day.specs.Streams.{IsThreadsFault}
 use Rattle.live_day.specs.code.Concluding.{IsFaultOfEnds}
 use Rattle.live_day.specs.code.Making.{of_apply}
-use Rattle.live_matching.specs.code.Matching.{MatchEnds}
+use Rattle.live_matching.specs.code.Matching.{HasWorked, MatchEnds}
 use Rattle.live_day.specs.declared.fault.ThreadsFault.{ThreadsFault}
 use Rattle.live_day.specs.declared.fault.ThreadsFault.TheVariants as threads
 use Rattle.live_matching.specs.declared.turns.Matched.{Matched}
 use Rattle.live_matching.specs.declared.step.MatchEnd.{MatchEnd}
-use Rattle.live_matching.specs.declared.step.MatchEnd.TheVariants.{Fault}
+use Rattle.live_matching.specs.declared.step.MatchEnd.TheVariants.{Whole, Stopped, Fault}
 use Rattle.apply_desk.specs.Sending.{sending_rules}
 
 pub agrees_prefix : (b ended : Bool) (gave took : List Entry) → Agrees b ended gave took → IsPrefix took gave
@@ -51,10 +51,21 @@ parts_of_front streams front journal pre parts s =
     prefix_trans (restricted s front) (restricted s journal) (whole_at streams s)
     (restricted_prefix s front journal pre) (parts s)
 
+-- a beginning of a list is no longer than it
+pub prefix_short : {X : Type 0} (xs ys : List X) → IsPrefix xs ys → length xs ≤ length ys
+prefix_short xs ys p = omega (arith, length-append xs p.0, ap length p.1)
+
+-- no more entries were worked through than were taken
+pub worked_few : (end : MatchEnd) (worked : ℕ) (took : List Entry) → HasWorked end worked took → worked ≤ length took
+worked_few Whole worked took all = omega (arith, all)
+worked_few Stopped worked took (inl all) = omega (arith, all)
+worked_few Stopped worked took (inr all) = omega (arith, all)
+worked_few (Fault f) worked took all = omega (arith, all)
+
 -- the matching thread's fault is one of the day
 pub live_fault : {A : Type 0} (rules : Rules) (streams : List (Vec ℕ A)) (ring room : ℕ) (took : List Entry)
     (f : ApplyFault)
-    → IsBeginningOf streams took → IsApplyFault rules took f → IsThreadsFault rules streams ring room (of_apply f)
+    → IsBeginningWithin streams room took → IsApplyFault rules took f → IsThreadsFault rules streams ring room (of_apply f)
 live_fault rules streams ring room took (NoMemory place) parts is = inr (took, parts, omega (arith, is))
 live_fault rules streams ring room took (NumbersSpent place) parts is = (took, parts, is)
 
@@ -67,7 +78,7 @@ fault_named q m place (NumbersSpent p) is = is
 -- a fault of how the two ended is one of the day
 pub fault_of_day : {A : Type 0} (room ring : ℕ) (streams : List (Vec ℕ A)) (q : Sequenced A) (m : Matched A) (place : ℕ)
     → SequenceEnds q.end room streams q.journal.items q.feeder → MatchEnds m.end (taken m.matcher) m.posted
-    → IsBeginningOf streams (taken m.matcher)
+    → IsBeginningWithin streams room (taken m.matcher)
     → place ≤ length (taken m.matcher) + 1 → (f : ThreadsFault) → IsFaultOfEnds q.end m.end place f
     → IsThreadsFault (sending_rules m.posted.reported) streams ring room f
 fault_of_day room ring streams q m place sequenced matched parts within threads.JournalFull is =

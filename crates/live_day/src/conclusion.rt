@@ -1,5 +1,5 @@
 //! A day from the joined parts of its threads.
-ghost use Rattle.std.specs.Prelude.{◌≡◌, ◌≢◌, ◌≤◌, ◌<◌, ℕ, Some, length, true, false, IfOk, IfErr, IfSome, IfNone, IsErrOf, vec_len};
+ghost use Rattle.std.specs.Prelude.{◌≡◌, ◌≢◌, ◌≤◌, ◌<◌, ◌+◌, ℕ, Some, length, true, false, IfOk, IfErr, IfSome, IfNone, IsErrOf, vec_len};
 ghost use Rattle.std.specs.List.{list_any};
 ghost use Rattle.spread_rules_ids.specs.declared.limits.TheConstants.{MAX_JOURNAL_ENTRIES};
 ghost use Rattle.spread_report_outbound.specs.Sessions.{bytes_of};
@@ -33,12 +33,7 @@ pub struct SessionsDay<A: Allocator> {
 fn any_refused<A: Allocator>(written: &[Written<A>]) -> bool
     ensures { result ≡ list_any (λ one. one.refused) written.now }
 {
-    for one in written {
-        if one.refused {
-            return true;
-        }
-    }
-    false
+    written.iter().any(|one| one.refused)
 }
 
 /// Whether each writer took its end mark. Then each has what was given to it.

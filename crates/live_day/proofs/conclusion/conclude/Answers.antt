@@ -1,5 +1,6 @@
-use Rattle.std.proofs.Common.{◌≡◌, ◌∙◌, sym, ap, subst, ℕ, ◌<◌, List, length, arith, vec_len, Option, Some, None, refl}
+use Rattle.std.proofs.Common.{◌≡◌, ◌∙◌, sym, ap, subst, ℕ, ◌<◌, List, length, arith, vec_len, true, Option, Some, None, refl}
 use Rattle.std.specs.Prelude.{IfNone}
+use Rattle.std.specs.List.{list_any}
 use Rattle.std.proofs.lemmas.List.{with_items_is}
 use Rattle.std.specs.Vec.{with_items}
 use Rattle.spread_report_outbound.specs.Rows.{IsRow}
@@ -17,7 +18,7 @@ use Rattle.live_matching.specs.code.Posting.{HasPosted, posted_at}
 use Rattle.live_day.specs.declared.fault.ThreadsFault.{ThreadsFault}
 use Rattle.live_day.proofs.CollectedBytes.{collected}
 use Rattle.live_day.proofs.conclusion.conclude.Goals as goal
-use Rattle.live_day.proofs.conclusion.conclude.Goals.{After-into_parts-fills}
+use Rattle.live_day.proofs.conclusion.conclude.Goals.{After-fault_of-fault, After-into_parts-fills}
 
 none_found : {P : Type 0} (o : Option ThreadsFault) → ((f : ThreadsFault) → o ≡ Some f → ⊥) → IfNone o P → P
 none_found None other h = h
@@ -40,7 +41,7 @@ with_written-out-requires g c =
     omega (
       arith,
       sixteen g (goal.at.with_written-out-requires g c).After-into_parts-fills all.posted,
-      c.requires.few_writers,
+      c.requires.joined.few_writers,
       c.args.written.ok.0,
     )
 
@@ -85,3 +86,21 @@ returns-clause-day g c =
       whole = λ s h. subst (IsRow (messages_to rules stamp (applied_entries rules journal) s)) (sym (sent s h))
           (all.posted.reported.sent.row s h);
     }
+
+-- the writers that are looked at are those that were handed over
+refused_is : (g : _) (c : After-fault_of-fault g) → list_any (λ (one : Written _). one.refused) c.args.written.items ≡ true
+    → list_any (λ (one : Written _). one.refused) c.as_mut_slice.result.now ≡ true
+refused_is g c is = ap (list_any (λ (one : Written _). one.refused)) c.as_mut_slice.ensures.value ∙ is
+
+pub returns-in-Some-clause-refused : goal.returns-in-Some-clause-refused
+returns-in-Some-clause-refused g c apart is =
+    let same = c.in-Some.ensures.refused apart
+    (refused_is g (goal.at.returns-in-Some-clause-refused g c).After-fault_of-fault is) in
+    cc same
+
+pub returns-clause-full : goal.returns-clause-full
+returns-clause-full g c is = absurd (c.in_default.not-Some _ (c.fault_of-fault.ensures.full is))
+
+pub returns-clause-refused : goal.returns-clause-refused
+returns-clause-refused g c apart is = absurd (c.in_default.not-Some _ (c.fault_of-fault.ensures.refused apart
+    (refused_is g (goal.at.returns-clause-refused g c).After-fault_of-fault is)))

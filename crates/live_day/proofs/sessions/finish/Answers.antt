@@ -10,11 +10,11 @@ use Rattle.live_day.proofs.sessions.finish.Goals as goal
 
 -- nothing was given yet
 pub sequence-sequenced-requires-clause-prefix : goal.sequence-sequenced-requires-clause-prefix
-sequence-sequenced-requires-clause-prefix g c = rw c.requires.given_none (journal_of c.args.running.sequencer, refl)
+sequence-sequenced-requires-clause-prefix g c = rw c.requires.running.given_none (journal_of c.args.running.sequencer, refl)
 
-pub conclude-requires : goal.conclude-requires
-conclude-requires g c =
-    let r = c.requires in
+pub conclude-requires-clause-joined : goal.conclude-requires-clause-joined
+conclude-requires-clause-joined g c =
+    let r = c.requires.running in
     let running = c.args.running in
     let promised = running.matching.promise in
     let m = c.join-matched.ensures in
@@ -30,7 +30,7 @@ conclude-requires g c =
           rs.items r.writing_count lr r.posts m.writers
           r.writing c.join_writers-written.ensures.kept;
       few_writers = omega (arith, lr, r.writing_count, r.few);
-      few = m.few;
+      worked = m.worked;
       given_on = q.given_on;
       parts = q.parts;
       size = subst (λ (n : ℕ). length c.sequence-sequenced.result.journal.items ≤ n) r.journal_room q.size;
