@@ -15,9 +15,7 @@ use std::alloc::{AllocError, Allocator, Global};
 use std::process::Abort;
 use std::sync::Wait;
 use std::thread::Threads;
-use tests_shared::{
-    FIRST_LOGON, FIRST_TRADE, FIRST_TRADE_SENT, first_logon, first_order, id, is_first_sent, stamp,
-};
+use tests_shared::{FIRST_LOGON, FIRST_TRADE, first_logon, first_order, id, is_first_sent, stamp};
 use text_day::{Day, put_months};
 
 pub const USUAL: Caps = Caps {
@@ -296,12 +294,16 @@ fn expect_held(rt: &impl Abort, meeting: Meeting, journal: &[Entry]) {
     }
 }
 
-/// What a stream alone is sent, and what the gate is told of it: each message and each piece of bytes in turn.
-fn expect_alone(rt: &impl Abort, watch: &Watch, out: &[Vec<u8>]) {
-    holds(rt, is_first_sent(out));
+/// What the gate is told: each message of each session, each piece of its bytes, and each entry, in turn.
+fn expect_told(rt: &impl Abort, watch: &Watch, sessions: u8, day: &Day<Global>) {
     holds(rt, watch.in_turn());
-    holds(rt, watch.messages() == 4);
-    holds(rt, watch.bytes() == FIRST_TRADE_SENT.len() as u64);
+    holds(rt, watch.entries() == day.journal.len() as u64);
+    holds(rt, day.out.len() == 16);
+    for session in 0..sessions {
+        holds(rt, watch.messages(session) == 4);
+        let list = day.out.get(usize::from(session)).expect(rt, "a list");
+        holds(rt, watch.bytes(session) == list.len() as u64);
+    }
 }
 
 /// The day is the case's.
@@ -316,15 +318,12 @@ fn expect_trades_day(
     requires { AreShown rulebook.now day.now.fills.items }
 {
     holds(rt, watch.in_time());
-    holds(
-        rt,
-        watch.entries_in_turn() == Some(day.journal.len() as u64),
-    );
+    expect_told(rt, watch, case.streams, day);
     expect_trades(rt, alloc, &day.journal, case.streams);
     expect_held(rt, case.meeting, &day.journal);
     expect_logons_first(rt, &day.out, case.streams);
     if case.streams == 1 {
-        expect_alone(rt, watch, &day.out);
+        holds(rt, is_first_sent(&day.out));
     }
     holds(rt, day.fills.len() == case.fills);
     expect_months(rt, alloc, rulebook, &day.fills, case.months);
@@ -441,7 +440,7 @@ fn each_message_once(rt: HostRuntime) {
     let streams = streams_of(rt.alloc(), 1, FIRST_TRADE).expect(&rt, "memory");
     let day = run_sessions(&rt, rt.alloc(), &rules, streams, &watch, USUAL);
     let day = day.ok().expect(&rt, "a day");
-    holds(&rt, watch.messages() == 4);
+    holds(&rt, watch.messages(0) == 4);
     holds(&rt, watch.messages_at_first() == 4);
     holds(&rt, watch.in_turn());
     holds(&rt, day.applied.fills.len() == 2);
@@ -496,7 +495,7 @@ fn requests_in_turn<R: Threads + Wait + Sync + Abort>(
     let streams = streams_of(alloc, 1, &stream).expect(rt, "memory");
     let day = run_day(rt, alloc, rulebook, stamp(), streams, &watch, caps).expect(rt, "a day");
     holds(rt, day.journal.len() == 302);
-    holds(rt, watch.messages() == 301);
+    holds(rt, watch.messages(0) == 301);
     holds(rt, watch.in_turn());
 }
 

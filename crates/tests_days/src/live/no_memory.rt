@@ -54,16 +54,16 @@ struct Seen {
 /// Notes a fault, which comes of a refused request alone. Nothing is applied where no place is named, or place 0; else the
 /// place is one more than the entries that were matched. Links are made before all else.
 fn note(rt: &impl Abort, seen: &mut Seen, fault: HostFault, has_refused: bool, watch: &Watch) {
-    holds(rt, has_refused);
+    holds(rt, has_refused && watch.in_turn());
     match fault {
         HostFault::NoMemory(place) if place < 10 => {
-            holds(rt, watch.entries_in_turn() == Some(place.saturating_sub(1)));
+            holds(rt, watch.entries() == place.saturating_sub(1));
             seen.places[place as usize] = true;
         }
         _ => {
             holds(rt, fault == HostFault::Link(LinkFault::NoMemory));
             holds(rt, !seen.places.contains(&true));
-            holds(rt, watch.entries_in_turn() == Some(0));
+            holds(rt, watch.entries() == 0);
             seen.link = true;
         }
     }
@@ -77,7 +77,7 @@ fn is_refused<R: Threads + Wait + Sync + Abort>(
     number: u64,
     seen: &mut Seen,
 ) -> bool {
-    let heap = Refusing::new(alloc, u64::MAX / 2);
+    let heap = Refusing::idle(alloc);
     let streams = streams_of(&heap, 2, FIRST_TRADE).expect(rt, "memory");
     let watch = Watch::new(64, Meeting::Nowhere);
     let parts = DayParts {

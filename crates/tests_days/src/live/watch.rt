@@ -1,7 +1,7 @@
 //! A gate that sees a day, and holds its threads.
 use spread_host::Gate;
 use std::sync::atomic::{AtomicU32, AtomicU64, Ordering};
-use std::thread;
+use std::{array, thread};
 
 /// A point of a day.
 #[derive(Clone, Copy)]
@@ -24,7 +24,14 @@ pub enum Meeting {
     Both(Point, Point),
 }
 
-/// Holds threads at a meeting, and counts what comes of session 0, and the entries that were matched. So many messages
+/// What has come of one session: how many messages, and the last total of its writer's bytes.
+#[derive(Drop)]
+struct Seen {
+    messages: AtomicU32,
+    bytes: AtomicU64,
+}
+
+/// Holds threads at a meeting, and counts what comes of each session, and the entries that were matched. So many messages
 /// are stepped on together.
 #[derive(Drop)]
 pub struct Watch {
@@ -33,12 +40,10 @@ pub struct Watch {
     first: AtomicU32,
     second: AtomicU32,
     late: AtomicU32,
-    messages: AtomicU32,
+    sessions: [Seen; 16],
     messages_at_first: AtomicU32,
-    bytes: AtomicU64,
     entries: AtomicU64,
     wrong: AtomicU32,
-    wrong_place: AtomicU32,
 }
 
 /// Waits until the flag is set, and says whether it came within ten million turns.
@@ -71,12 +76,13 @@ impl Watch {
             first: AtomicU32::new(0),
             second: AtomicU32::new(0),
             late: AtomicU32::new(0),
-            messages: AtomicU32::new(0),
+            sessions: array::from_fn(|_| Seen {
+                messages: AtomicU32::new(0),
+                bytes: AtomicU64::new(0),
+            }),
             messages_at_first: AtomicU32::new(0),
-            bytes: AtomicU64::new(0),
             entries: AtomicU64::new(0),
             wrong: AtomicU32::new(0),
-            wrong_place: AtomicU32::new(0),
         }
     }
 
@@ -106,42 +112,51 @@ impl Watch {
         self.late.load(Ordering::SeqCst) == 0
     }
 
-    /// Whether nothing but messages and bytes of session 0 came, each message once, in order, and each total of bytes
-    /// more than the one before.
+    /// Whether of each session each message came once, in order, and each total of bytes was more than the one before, and
+    /// of the entries the places came as 1, 2, 3 and so on.
     pub fn in_turn(&self) -> bool {
         self.wrong.load(Ordering::SeqCst) == 0
     }
 
-    /// How many messages have come.
-    pub fn messages(&self) -> u32 {
-        self.messages.load(Ordering::SeqCst)
+    /// How many messages of that session have come.
+    pub fn messages(&self, session: u8) -> u32 {
+        match self.sessions.get(usize::from(session)) {
+            Some(seen) => seen.messages.load(Ordering::SeqCst),
+            None => 0,
+        }
     }
 
-    /// How many had come when the first entry was matched.
+    /// How many of session 0 had come when the first entry was matched.
     pub fn messages_at_first(&self) -> u32 {
         self.messages_at_first.load(Ordering::SeqCst)
     }
 
-    /// How many entries were matched, if their places came as 1, 2, 3 and so on, each once.
-    pub fn entries_in_turn(&self) -> Option<u64> {
-        if self.wrong_place.load(Ordering::SeqCst) == 0 {
-            Some(self.entries.load(Ordering::SeqCst))
-        } else {
-            None
+    /// The last total of the bytes of that session's writer.
+    pub fn bytes(&self, session: u8) -> u64 {
+        match self.sessions.get(usize::from(session)) {
+            Some(seen) => seen.bytes.load(Ordering::SeqCst),
+            None => 0,
         }
     }
 
-    /// The last total of a writer's bytes.
-    pub fn bytes(&self) -> u64 {
-        self.bytes.load(Ordering::SeqCst)
+    /// The place of the last entry that was matched.
+    pub fn entries(&self) -> u64 {
+        self.entries.load(Ordering::SeqCst)
+    }
+
+    /// Notes whether it came in turn.
+    fn note(&self, in_turn: bool) {
+        if !in_turn {
+            self.wrong.store(1, Ordering::SeqCst);
+        }
     }
 }
 
 impl Gate for Watch {
     fn before(&self, session: u8, message: u32) {
-        let due = self.messages.fetch_add(1, Ordering::SeqCst);
-        if session != 0 || message != due {
-            self.wrong.store(1, Ordering::SeqCst);
+        match self.sessions.get(usize::from(session)) {
+            Some(seen) => self.note(message == seen.messages.fetch_add(1, Ordering::SeqCst)),
+            None => self.note(false),
         }
         self.come(Point::Message(session, message));
     }
@@ -152,20 +167,18 @@ impl Gate for Watch {
 
     fn matched(&self, place: u64) {
         let before = self.entries.swap(place, Ordering::SeqCst);
-        if place != before.wrapping_add(1) {
-            self.wrong_place.store(1, Ordering::SeqCst);
-        }
+        self.note(place == before.wrapping_add(1));
         if place == 1 {
-            let come = self.messages();
+            let come = self.messages(0);
             self.messages_at_first.store(come, Ordering::SeqCst);
         }
         self.come(Point::Matched(place));
     }
 
     fn written(&self, session: u8, total: u64) {
-        let before = self.bytes.swap(total, Ordering::SeqCst);
-        if session != 0 || total <= before {
-            self.wrong.store(1, Ordering::SeqCst);
+        match self.sessions.get(usize::from(session)) {
+            Some(seen) => self.note(total > seen.bytes.swap(total, Ordering::SeqCst)),
+            None => self.note(false),
         }
         self.come(Point::Written);
     }

@@ -16,14 +16,14 @@ loop-n-preserved g c =
           c.loop-n.invariant.2 (c.is_listed_at.ensures.months is_so),
     )
 
-pub returns-price : goal.returns-price
-returns-price g c = λ e. subst (All HasOrderPrice) (take_all c.loop-n.n (g.B.Book.orders c.args.book.now) (omega arith))
+pub returns-clause-price : goal.returns-clause-price
+returns-clause-price g c = λ e. subst (All HasOrderPrice) (take_all c.loop-n.n (g.B.Book.orders c.args.book.now) (omega arith))
     c.loop-n.invariant.0
 
-pub returns-near : goal.returns-near
-returns-near g c = λ e. subst (All IsNearFirst) (take_all c.loop-n.n (g.B.Book.orders c.args.book.now) (omega arith))
+pub returns-clause-near : goal.returns-clause-near
+returns-clause-near g c = λ e. subst (All IsNearFirst) (take_all c.loop-n.n (g.B.Book.orders c.args.book.now) (omega arith))
     c.loop-n.invariant.1
 
-pub returns-months : goal.returns-months
-returns-months g c = λ e. subst (All (λ (o : Order). IsInMonths c.args.months o.instrument))
+pub returns-clause-months : goal.returns-clause-months
+returns-clause-months g c = λ e. subst (All (λ (o : Order). IsInMonths c.args.months o.instrument))
     (take_all c.loop-n.n (g.B.Book.orders c.args.book.now) (omega arith)) c.loop-n.invariant.2
