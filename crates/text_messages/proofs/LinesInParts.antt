@@ -8,9 +8,11 @@ use Rattle.text_messages.specs.code.LineStart.{start_of_line}
 
 -- the start of a session below 10, and of one of two digits
 pub start_of_one : (session d : ℕ) → session ≡ d → d < 10 → 79 ∷ 32 ∷ (48 + d) ∷ 58 ∷ [] ≡ start_of_line session
-start_of_one session d is h = sym (ap start_of_line is ∙ ap (λ (ds : List ℕ). 79 ∷ 32 ∷ (ds ++ 58 ∷ [])) (decimal_digit d h))
+start_of_one session d is h = sym (ap start_of_line is
+    ∙ ap (λ (ds : List ℕ). 79 ∷ 32 ∷ (ds ++ 58 ∷ [])) (decimal_digit d h))
 
-pub start_of_two : (session d : ℕ) → session ≡ 10 + d → d < 10 → 79 ∷ 32 ∷ 49 ∷ (48 + d) ∷ 58 ∷ [] ≡ start_of_line session
+pub start_of_two : (session d : ℕ) → session ≡ 10 + d → d < 10
+    → 79 ∷ 32 ∷ 49 ∷ (48 + d) ∷ 58 ∷ [] ≡ start_of_line session
 start_of_two session d is h =
     let tens : (10 + d) / 10 ≡ 1 = omega arith in
     let ones : (10 + d) % 10 ≡ d = omega arith in

@@ -17,11 +17,13 @@ loop-n-preserved g c =
     )
 
 pub returns-clause-price : goal.returns-clause-price
-returns-clause-price g c = λ e. subst (All HasOrderPrice) (take_all c.loop-n.n (g.B.Book.orders c.args.book.now) (omega arith))
+returns-clause-price g c = λ e. subst (All HasOrderPrice)
+    (take_all c.loop-n.n (g.B.Book.orders c.args.book.now) (omega arith))
     c.loop-n.invariant.0
 
 pub returns-clause-near : goal.returns-clause-near
-returns-clause-near g c = λ e. subst (All IsNearFirst) (take_all c.loop-n.n (g.B.Book.orders c.args.book.now) (omega arith))
+returns-clause-near g c = λ e. subst (All IsNearFirst)
+    (take_all c.loop-n.n (g.B.Book.orders c.args.book.now) (omega arith))
     c.loop-n.invariant.1
 
 pub returns-clause-months : goal.returns-clause-months
