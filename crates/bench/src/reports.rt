@@ -6,6 +6,7 @@ use spread_journal::JournalFault;
 use spread_report::{Desk, DeskFault, fit_fills, fits_outcome};
 use spread_rules::{Entry, Fill, Outcome, Rulebook};
 use spread_rules_ids::Id;
+use spread_rules_ids::limits::SESSIONS;
 use std::alloc::{AllocError, Allocator};
 
 /// All fills of a journal's entries, and each entry's outcome.
@@ -37,8 +38,8 @@ fn send<A: Allocator + Copy>(
     applied: &SentEntry<'_>,
     lists: &mut Vec<Vec<u8, A>, A>,
 ) -> Result<(), BenchFault> {
-    if applied.entry.session >= 16
-        || lists.len() != 16
+    if usize::from(applied.entry.session) >= SESSIONS
+        || lists.len() != SESSIONS
         || !fits_outcome(rules, &applied.entry.event, applied.outcome)
         || !fit_fills(rules, applied.fills)
     {
@@ -71,7 +72,7 @@ fn made_at(fills: &[Fill], place: u64) -> usize
 /// Sixteen empty lists.
 fn new_lists<A: Allocator + Copy>(alloc: A) -> Result<Vec<Vec<u8, A>, A>, AllocError> {
     let mut lists = Vec::new(alloc);
-    for _ in 0..16u8 {
+    for _ in 0..SESSIONS {
         lists.push(Vec::new(alloc))?;
     }
     Ok(lists)

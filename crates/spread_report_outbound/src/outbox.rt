@@ -5,8 +5,8 @@ ghost use Rattle.spread_rules_ids.specs.declared.limits.TheConstants.{SESSIONS};
 use crate::sending::OutboundSessions;
 use std::alloc::Allocator;
 
-/// What messages are sent through: the outbound sessions, and for each of them the list to which its messages are appended.
-/// Both are lent by the caller.
+/// What messages are sent through: the outbound sessions, and the list of each to which its messages are appended.
+/// The caller lends both.
 #[derive(Drop)]
 pub struct Outbox<'a, A: Allocator> {
     pub(crate) outbound: &'a mut OutboundSessions,

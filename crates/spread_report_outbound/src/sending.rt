@@ -72,7 +72,7 @@ impl OutboundSessions {
         }
     }
 
-    /// Appends a message that bears the session's next number to this list of the session's, and uses that number; before its
+    /// Appends a message that bears the session's next number to the session's list, and uses that number; before its
     /// Logon a session is sent nothing. After an error nothing has changed.
     #[inline(always)]
     fn append<A: Allocator, B: Body>(
@@ -133,8 +133,8 @@ impl<A: Allocator> Outbox<'_, A> {
         spell_parties(&mut outbound.parties, &outbound.comp_ids, &outbound.stamp);
     }
 
-    /// Appends a message that bears the session's next number to its list, and uses that number; before its Logon a session
-    /// is sent nothing. After an error nothing has changed.
+    /// Appends a message that bears the session's next number to its list, and uses that number; before its Logon a
+    /// session is sent nothing. After an error nothing has changed.
     pub fn send_body<B: Body>(&mut self, session: u8, kind: u8, body: &B) -> Result<(), DeskFault>
         requires session { session < SESSIONS }
         requires kind { kind ≢ SOH }
