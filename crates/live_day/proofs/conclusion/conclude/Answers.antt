@@ -88,7 +88,8 @@ returns-clause-day g c =
     }
 
 -- the writers that are looked at are those that were handed over
-refused_is : (g : _) (c : After-fault_of-fault g) → list_any (λ (one : Written _). one.refused) c.args.written.items ≡ true
+refused_is : (g : _) (c : After-fault_of-fault g) → list_any (λ (one : Written _). one.refused) c.args.written.items ≡
+    true
     → list_any (λ (one : Written _). one.refused) c.as_mut_slice.result.now ≡ true
 refused_is g c is = ap (list_any (λ (one : Written _). one.refused)) c.as_mut_slice.ensures.value ∙ is
 

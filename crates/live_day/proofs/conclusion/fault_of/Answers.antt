@@ -38,8 +38,11 @@ took_parts g c =
 -- the place behind the entries that were worked
 within_taken : (g : _) (c : After-agree-agreed g)
     → c.args.matched.now.worked + 1 ≤ length (taken c.args.matched.now.matcher) + 1
-within_taken g c = omega (arith, worked_few c.args.matched.now.end c.args.matched.now.worked
-    (taken c.args.matched.now.matcher) c.requires.joined.worked)
+within_taken g c = omega (
+  arith,
+  worked_few c.args.matched.now.end c.args.matched.now.worked
+      (taken c.args.matched.now.matcher) c.requires.joined.worked,
+)
 
 pub returns-in-Some-clause-fault : goal.returns-in-Some-clause-fault
 returns-in-Some-clause-fault g c =

@@ -10,7 +10,8 @@ use Rattle.live_day.proofs.sessions.finish.Goals as goal
 
 -- nothing was given yet
 pub sequence-sequenced-requires-clause-prefix : goal.sequence-sequenced-requires-clause-prefix
-sequence-sequenced-requires-clause-prefix g c = rw c.requires.running.given_none (journal_of c.args.running.sequencer, refl)
+sequence-sequenced-requires-clause-prefix g c = rw c.requires.running.given_none
+    (journal_of c.args.running.sequencer, refl)
 
 pub conclude-requires-clause-joined : goal.conclude-requires-clause-joined
 conclude-requires-clause-joined g c =
