@@ -70,24 +70,18 @@ returns-in_default g c =
       rules = c.match_one.ensures.rules ∙ was.rules;
       stamp = c.match_one.ensures.stamp ∙ was.stamp;
       worked = worked_but_last c.match_one.result c.loop.worked (taken c.lend.follows.lender-at-none)
-<<<<<<< HEAD
           c.in_default.not-Whole (omega (
             arith,
             was.worked,
             ap length took.1,
             length-append es (c.in-Entry.entry.now ∷ []),
           ));
-=======
-          c.in_default.not-Whole (omega (arith, was.worked, ap length took.1,
-              length-append es (c.in-Entry.entry.now ∷ [])));
->>>>>>> 610d508346e623ca877fc94343b0feb1f6b993d2
       ends = subst (λ (xs : List Entry). MatchEnds c.match_one.result xs c.match_one.new.posted) (sym took.1) ends;
     }
 
 pub returns-then-load : goal.returns-then-load
 returns-then-load g c =
     let was = c.loop.invariant in
-<<<<<<< HEAD
     record {
       ring = was.ring;
       writers = was.writers;
@@ -96,10 +90,6 @@ returns-then-load g c =
       worked = inl was.worked;
       ends = tt;
     }
-=======
-    record { ring = was.ring; writers = was.writers; rules = was.rules; stamp = was.stamp; worked = inl was.worked;
-        ends = tt }
->>>>>>> 610d508346e623ca877fc94343b0feb1f6b993d2
 
 pub returns-in-Ended : goal.returns-in-Ended
 returns-in-Ended g c =
