@@ -13,12 +13,14 @@ use Rattle.spread_books_quotes.proofs.quote_table.QuoteTable.renew_cell.Goals.{e
 
 pub returns-in-Came-clause-rest : goal.returns-in-Came-clause-rest
 returns-in-Came-clause-rest g c = λ t m other.
-    put_elsewhere c.self.inside.cells.items c.args.column.side t c.args.month m c.side_month_cell-n.result c.offer.new.held
+    put_elsewhere c.self.inside.cells.items c.args.column.side t c.args.month m c.side_month_cell-n.result
+    c.offer.new.held
     c.side_month_cell-n.ensures other ∙ ap (λ (ps : List (Option PairCost)). known_pair ps t m) c.self.view_is
 
 pub returns-in-Left-clause-rest : goal.returns-in-Left-clause-rest
 returns-in-Left-clause-rest g c = λ t m other.
-    put_elsewhere c.self.inside.cells.items c.args.column.side t c.args.month m c.side_month_cell-n.result c.renew_left.new.held
+    put_elsewhere c.self.inside.cells.items c.args.column.side t c.args.month m c.side_month_cell-n.result
+    c.renew_left.new.held
     c.side_month_cell-n.ensures other ∙ ap (λ (ps : List (Option PairCost)). known_pair ps t m) c.self.view_is
 
 pub returns-in-Came-clause-own : goal.returns-in-Came-clause-own

@@ -17,7 +17,8 @@ marked : (g : Over) (c : After-self-1 g) → set c.self.inside.rows.items c.in-S
 marked g c =
     set_replaced c.args.order.now.session c.args.order.now.id c.self.inside.rows.items c.in-Some.at c.index.result.now
     (row c.self.inside.rows.items c.args.self.now c.args.order.now.session c.args.order.now.id c.in-Some.at
-    c.self.view_is c.in-Some.ensures.stands) c.self.invariant.0 (sym c.index.ensures) c.if-index-eq-WHEN_IT_RESTS_NO_MORE.true
+    c.self.view_is c.in-Some.ensures.stands) c.self.invariant.0 (sym c.index.ensures)
+    c.if-index-eq-WHEN_IT_RESTS_NO_MORE.true
     c.index_mut.result.now c.index_mut.ensures.value
 
 pub invariant_of-self : goal.invariant_of-self
