@@ -11,9 +11,9 @@ use gate_link_stages::LinkFault;
 use spread_rules_ids::limits::{MAX_JOURNAL_ENTRIES, MAX_RING, SESSIONS};
 use std::alloc::Allocator;
 
-/// The gateways of 1 to 16 sessions in their order, over rings of 1 to 4,096 events, and their sequencer, whose journal has
-/// room for at most 1,000,000 entries, all of it reserved here. The faults are judged in the order 1, 2, 4, 3: no memory
-/// is asked for before all sizes were looked at.
+/// The gateways of 1 to 16 sessions in their order, over rings of 1 to 4,096 events, and their sequencer, whose journal
+/// has room for at most 1,000,000 entries, all of it reserved here. The faults are judged in the order 1, 2, 4, 3: no
+/// memory is asked for before all sizes were looked at.
 pub fn link<A: Allocator + Copy>(
     alloc: A,
     sessions: usize,

@@ -113,7 +113,8 @@ impl<B: Book, A: Allocator + Copy> MarketState<B, A> {
         Ok(refusal(used, reason))
     }
 
-    /// Matches a ticket's order of a listed instrument, which is refused only where its id was used. All growth comes first.
+    /// Matches a ticket's order of a listed instrument, which is refused only where its id was used. All growth comes
+    /// first.
     fn match_new(
         &mut self,
         rules: &Rulebook,
