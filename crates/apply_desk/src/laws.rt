@@ -1,4 +1,4 @@
-//! Laws over the definitions alone.
+//! Laws: a journal applied entry by entry is the journal applied whole; spent numbers are the first place that wants one more.
 ghost use Rattle.std.specs.Prelude.{◌≡◌, ℕ, ◌<◌, ◌≤◌, ◌-◌, true, false, List, take};
 ghost use Rattle.spread_rules_ids.specs.declared.limits.TheConstants.{SESSIONS};
 ghost use Rattle.spread_rules.specs.declared.event.Entry.{Entry};

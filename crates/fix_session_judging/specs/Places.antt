@@ -15,20 +15,20 @@ use Rattle.fix_session_kinds.specs.Table.{meaning_of_message}
 use Rattle.fix_session_judging.specs.declared.session.Logon.{Logon}
 use Rattle.fix_session_judging.specs.View.{Numbered, logon_of, event_of_accepted, due_after_accepted}
 
--- the message has the CompIDs of the session's Logon, which is the first message, where that is a lawful one
+-- the message has the CompIDs of the session's Logon, which is the first message, where that is a lawful one. Rule S4.
 abbrev pub has_comp_ids : List Numbered → Numbered → Bool
 has_comp_ids ms m =
     let logon = option_and_then (λ first. logon_of first.text first.number) (slice_get ms 0) in
     option_map_or (λ l. option_eq bytes_eq (get tags.SENDER_COMP_ID m.text) (Some l.client)
     && option_eq bytes_eq (get tags.TARGET_COMP_ID m.text) (Some l.host)) logon false
 
--- a live message at a place, where `due` is due: it is accepted
+-- a live message at a place, where `due` is due: it is accepted. Rule S7.
 abbrev pub is_accepted : List Numbered → ℕ → ℕ → Numbered → Bool
 is_accepted ms zero due m = is_some (logon_of m.text m.number)
 is_accepted ms (suc p) due m = has_comp_ids ms m && (m.number == due)
 
 -- A live message at a place, where `due` is due: why it closes the session. A number below the due one is no reason
--- where PossDupFlag says that the message may be a duplicate.
+-- where PossDupFlag says that the message may be a duplicate. Rules S3, S4, S5.
 abbrev pub closing : List Numbered → ℕ → ℕ → Numbered → Option ℕ
 closing ms zero due m = then_some (is_none (logon_of m.text m.number)) close_reason.NO_LOGON
 closing ms (suc p) due m =
@@ -40,18 +40,19 @@ closing ms (suc p) due m =
     close_reason.LOGOUT)
 
 -- the number due at a place: the first number, and then the one after the last accepted message before the place
+-- Rule S7.
 abbrev pub due : List Numbered → ℕ → ℕ
 due ms zero = FIRST_MSG_SEQ_NUM
 due ms (suc p) = option_map_or (λ m. if is_accepted ms p (due ms p) m
     then due_after_accepted m.number (meaning_of_message m.text m.number)
     else due ms p) (slice_get ms p) (due ms p)
 
--- a place is live if no earlier place is closing
+-- a place is live if no earlier place is closing. Rule S1.
 abbrev pub live : List Numbered → ℕ → Bool
 live ms zero = true
 live ms (suc p) = live ms p && is_none (option_and_then (closing ms p (due ms p)) (slice_get ms p))
 
--- a gap is open at a place: a message behind the last accepted one has a number above the due one
+-- a gap is open at a place: a message behind the last accepted one has a number above the due one. Rule S6.
 abbrev pub has_open_gap : List Numbered → ℕ → Bool
 has_open_gap ms zero = false
 has_open_gap ms (suc p) = option_map_or (λ m. not (is_accepted ms p (due ms p) m)
@@ -67,7 +68,7 @@ event_of ms (suc p) m =
     then event_of_accepted m.number (meaning_of_message m.text m.number)
     else then_some (nat_lt d m.number && not (has_open_gap ms (suc p))) (variant.Gap d)
 
--- the event of the message m at a place
+-- the event of the message m at a place. Rule S1.
 abbrev pub event : List Numbered → ℕ → Numbered → Option Event
 event ms p m =
     if live ms p

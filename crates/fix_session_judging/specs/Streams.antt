@@ -8,7 +8,7 @@ use Rattle.fix_wire_frames.specs.Messages.{number}
 use Rattle.fix_session_judging.specs.View.{Numbered}
 use Rattle.fix_session_judging.specs.Places.{live, message_events}
 
--- the messages of a stream: the frames whose number can be read
+-- the messages of a stream: the frames whose number can be read. Rule S2.
 abbrev pub messages : List ℕ → List Numbered
 messages stream =
     filter_map (λ m. option_map (λ n. record { number = n; text = m }) (number m)) (frames stream)

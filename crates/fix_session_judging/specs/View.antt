@@ -16,7 +16,7 @@ use Rattle.fix_session_judging.specs.declared.session.Logon.{Logon}
 
 -- ---- the Logon
 
--- what a lawful Logon says: it has the first number and a SendingTime, and asks for no encryption
+-- what a lawful Logon says: it has the first number and a SendingTime, and asks for no encryption. Rule S3.
 unfoldable pub logon_of : List ℕ → ℕ → Option Logon
 logon_of m n = if not (bytes_eq (kind m) (msg_types.LOGON ∷ []) && (n == FIRST_MSG_SEQ_NUM))
     then None else result_ok do
@@ -35,7 +35,7 @@ event_of_accepted n (Ok (Says e)) = Some e
 event_of_accepted n (Err reason) = Some (events.Reject n reason)
 event_of_accepted n _ = None
 
--- the number due after it: a lawful gap fill's new one, else the next
+-- the number due after it: a lawful gap fill's new one, else the next. Rule S7.
 abbrev pub due_after_accepted : ℕ → Result Meaning ℕ → ℕ
 due_after_accepted n (Ok (GapFill next)) = next
 due_after_accepted n _ = n + 1

@@ -178,7 +178,7 @@ fn given_number(message: &Message, tag: u32) -> Option<u32>
     }
 }
 
-/// Whether the message is a Logon with the first number and a SendingTime, and asks for no encryption.
+/// Whether the message is a Logon with the first number and a SendingTime, and asks for no encryption. Rule S3.
 fn is_opening(message: &Message, number: u32) -> bool
     ensures { result ≡ is_opening message.now.frame.now number }
 {
@@ -240,7 +240,7 @@ fn opened(logon: Logon, verdict: &mut Verdict) -> Change
     Change::Opens
 }
 
-/// Whether a message has the CompIDs of the Logon.
+/// Whether a message has the CompIDs of the Logon. Rule S4.
 fn has_comp_ids(running: &Running, message: &Message) -> bool
     ensures { result
         ≡ (is_same_text (get tags.SENDER_COMP_ID message.now.frame.now) running.now.client
@@ -290,7 +290,7 @@ fn judge_running(running: &Running, message: &Message, number: u32, verdict: &mu
     judge_due(message, number, verdict)
 }
 
-/// A number below the due one: a duplicate is dropped.
+/// A number below the due one: a duplicate is dropped. Rule S5.
 fn judge_below(message: &Message, verdict: &mut Verdict) -> Change
     ensures { (r : Running) → judgement_in r (verdict.new, result)
         ≡ step_below r (is_same_text (get tags.POSS_DUP_FLAG message.now.frame.now) (codes "Y")) }
@@ -302,7 +302,7 @@ fn judge_below(message: &Message, verdict: &mut Verdict) -> Change
     closes(close_reason::MSG_SEQ_NUM_TOO_LOW, verdict)
 }
 
-/// A number above the due one: the message is discarded, and the missing ones are asked for once.
+/// A number above the due one: the message is discarded, and the missing ones are asked for once. Rule S6.
 fn judge_above(running: &Running, verdict: &mut Verdict) -> Change
     ensures { judgement_in running.now (verdict.new, result) ≡ step_above running.now }
 {
@@ -318,7 +318,7 @@ fn judge_above(running: &Running, verdict: &mut Verdict) -> Change
     }
 }
 
-/// The due number: the message is accepted.
+/// The due number: the message is accepted. Rule S7.
 #[inline(always)]
 fn judge_due(message: &Message, number: u32, verdict: &mut Verdict) -> Change
     requires { number ≤ MAX_MSG_SEQ_NUM }

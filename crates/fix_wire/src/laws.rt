@@ -1,4 +1,4 @@
-//! Laws over the definitions alone.
+//! Laws: the frames of a stream are the same however it is cut; what is written is read back.
 ghost use Rattle.std.specs.Prelude.{◌≡◌, List, ℕ, ◌∷◌, ◌++◌, Some, None, false, ◌+◌, ◌<◌, length, drop};
 ghost use Rattle.fix_wire_frames.specs.Frames.{IsFrame, frame_at, may_begin, frames};
 ghost use Rattle.fix_wire_frames.specs.Held.{first_frame, from_first_start, after_first_frame};

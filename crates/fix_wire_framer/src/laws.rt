@@ -1,4 +1,4 @@
-//! Laws over the definitions alone.
+//! Law: how many bytes a framer holds.
 ghost use Rattle.std.specs.Prelude.{◌≡◌};
 ghost use Rattle.fix_wire_framer.specs.declared.framer.TheConstants.{BUFFER_BYTES};
 

@@ -1,4 +1,4 @@
--- Two messages and some values, read.
+-- Two messages and some values, read: worked examples of the definitions, which the prover checks.
 use Rattle.std.specs.Prelude.{◌≡◌, ℕ, pos, negsuc, List, [], ◌∷◌, ◌++◌, length, Some, Ok, Err, refl, codes}
 use Rattle.fix_wire_values.specs.declared.values.Unread.TheVariants.{Range}
 use Rattle.fix_wire_frames.specs.Texts.{with_soh}

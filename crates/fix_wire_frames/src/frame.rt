@@ -52,7 +52,7 @@ pub enum Scan {
     Frame(usize),
     /// no frame, but what may still begin one
     Incomplete,
-    /// neither
+    /// no lawful frame, and nothing that may begin one
     Garbled,
 }
 

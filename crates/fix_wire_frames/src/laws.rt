@@ -1,4 +1,4 @@
-//! Laws over the definitions alone.
+//! Laws: frames in words; the numbers and characters that FIX 4.2 gives tags, kinds and values.
 ghost use Rattle.std.specs.Prelude.{◌≡◌, List, ℕ, [], ◌∷◌, Some, None, true, false, codes, take, drop};
 ghost use Rattle.fix_wire_frames.specs.Frames.{frame_at, may_begin, frames};
 ghost use Rattle.fix_wire_frames.specs.declared.field_values.TheConstants as field_value;

@@ -1,4 +1,4 @@
-//! Laws over the definitions alone.
+//! Law: the greatest price that a text may have.
 ghost use Rattle.std.specs.Prelude.{◌≡◌};
 ghost use Rattle.fix_wire_values.specs.declared.values.TheConstants.{MAX_HUNDREDTHS};
 

@@ -1,4 +1,4 @@
-//! Laws over the definitions alone.
+//! Law: how much goes into the rings behind the sequencer at once.
 ghost use Rattle.std.specs.Prelude.{◌≡◌};
 ghost use Rattle.gate_link_stages.specs.declared.feed.TheConstants.{MAX_SLICE_ITEMS};
 ghost use Rattle.gate_link_stages.specs.declared.post.TheConstants.{POSTED_BYTES, POST_BYTES};

@@ -21,8 +21,8 @@ pub fn found(looks: u32) -> u32
     looks.saturating_sub(1)
 }
 
-/// Leaves the processor to the other threads after a look that found nothing, and counts it; behind so many looks it
-/// sleeps.
+/// Leaves the processor to the other threads after a look that found nothing, and counts the look; after `EAGER_LOOKS` of
+/// them it sleeps for `SLEEP_MICROS` (docs/DECISIONS.md, "Threads and rings").
 pub fn rest<R: Wait>(rt: &R, looks: u32) -> u32
     ensures eager { looks < EAGER_LOOKS → result ≡ looks + 1 }
     ensures sleepy { EAGER_LOOKS ≤ looks → result ≡ looks }

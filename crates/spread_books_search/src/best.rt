@@ -230,7 +230,7 @@ fn with_months<B: Book>(
     }
 }
 
-/// The least eligible candidate, over fronts alone.
+/// The least eligible candidate, over fronts alone. Rule M5.
 pub fn best_candidate<B: Book>(book: &B, rules: &Rulebook, new: &Order) -> Option<Candidate>
     requires order_price { All HasOrderPrice (B.orders book.now) }
     requires listed { All IsNearFirst (B.orders book.now) }

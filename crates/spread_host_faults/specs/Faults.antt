@@ -1,4 +1,4 @@
--- The numbers of faults.
+-- A number for each fault of the host, for callers of the library; no exit status and no part of a fault line.
 use Rattle.std.specs.Prelude.{ℕ}
 use Rattle.spread_host_faults.specs.declared.fault.HostFault.{HostFault}
 use Rattle.intake_lines.specs.declared.lines.LinesFault.{LinesFault}

@@ -50,7 +50,7 @@ pub enum HostFault {
 }
 
 impl HostFault {
-    /// Its number, 1 to 10.
+    /// A number for each fault, 1 to 10, for callers of the library. The program's statuses are exchange_faults' own.
     pub fn number(&self) -> u8
         ensures { result ≡ number_of self.now }
     {

@@ -44,7 +44,7 @@ fn judge_fields(
     }
 }
 
-/// A refusal. That its id was used comes before any other reason.
+/// A refusal. That its id was used comes before any other reason. Rule M2.
 pub fn refusal(used: bool, reason: u8) -> Outcome
     ensures { result ≡ Refused (cond used DUPLICATE_ORDER reason) }
 {
@@ -71,7 +71,7 @@ pub fn new_order(place: u64, session: u8, ticket: &Ticket, instrument: Instrumen
     }
 }
 
-/// What becomes of an order of which so much is left.
+/// What becomes of an order of which so much is left. Rule M8.
 pub fn outcome_with(immediate: bool, left: u32) -> Outcome
     ensures { result ≡ outcome_of immediate left }
 {
@@ -118,7 +118,7 @@ fn may_replace(rules: &Rulebook, ticket: &Ticket, resting: &Order, used: bool) -
     }
 }
 
-/// Why the replace of a resting order is refused, if it is.
+/// Why the replace of a resting order is refused, if it is. Rule M10.
 pub fn replace_refusal(rules: &Rulebook, ticket: &Ticket, resting: &Order, used: bool) -> Option<u8>
     ensures { (earlier : Option OrderStatus) → used ≡ is_some earlier
         → result ≡ replace_refusal ticket.now resting.now
@@ -134,7 +134,7 @@ pub fn replace_refusal(rules: &Rulebook, ticket: &Ticket, resting: &Order, used:
     }
 }
 
-/// Whether the order keeps its place: at the same price, and for no more.
+/// Whether the order keeps its place: at the same price, and for no more. Rule M10.
 pub fn keeps_place(ticket: &Ticket, resting: &Order) -> bool
     ensures { result ≡ keeps_place ticket.now resting.now }
 {

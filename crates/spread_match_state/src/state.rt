@@ -216,7 +216,7 @@ impl<B: Book, A: Allocator + Copy> MarketState<B, A> {
         }
     }
 
-    /// Ends the resting order with the original id.
+    /// Ends the resting order with the original id. Rule M9.
     fn cancel(&mut self, place: u64, session: u8, id: &Id, original: &Id) -> Outcome
         requires places { PlacesDiffer self.old.orders }
         requires known { HaveStatuses self.old.statuses self.old.orders }
@@ -348,7 +348,7 @@ impl<B: Book, A: Allocator + Copy> MarketState<B, A> {
         self.statuses.find(session, id).is_some()
     }
 
-    /// A Replace entry that names a resting order.
+    /// A Replace entry that names a resting order. Rule M10.
     fn replace_resting(
         &mut self,
         rules: &Rulebook,
@@ -389,7 +389,7 @@ impl<B: Book, A: Allocator + Copy> MarketState<B, A> {
         }
     }
 
-    /// Applies one entry. All growth comes first, so after NoMemory nothing has changed.
+    /// Applies one entry. All growth comes first, so after NoMemory nothing has changed. Rule M11.
     pub fn apply_entry(
         &mut self,
         rules: &Rulebook,

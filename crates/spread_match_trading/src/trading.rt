@@ -113,7 +113,7 @@ pub fn reduce_members<B: Book>(book: &mut B, by: u32, candidate: &Candidate)
     }
 }
 
-/// One turn: the fills, the resting orders, and what is left of the new order.
+/// One turn: the fills, the resting orders, and what is left of the new order. Rule M6.
 fn turn_once<B: Book, A: Allocator + Copy>(
     book: &mut B,
     rules: &Rulebook,
@@ -149,7 +149,7 @@ fn turn_once<B: Book, A: Allocator + Copy>(
 }
 
 /// The turns of a new order, which stands in the book already. Then the fills are those of the clearing, and so are the
-/// book's other orders.
+/// book's other orders. Rule M8.
 pub fn trade<B: Book, A: Allocator + Copy>(
     book: &mut B,
     rules: &Rulebook,

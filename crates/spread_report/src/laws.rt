@@ -1,4 +1,4 @@
-//! Laws over the definitions alone.
+//! Laws: what a session is sent is read back; a desk that goes on sends what the whole journal sends.
 ghost use Rattle.std.specs.Prelude.{◌≡◌, ◌<◌, ◌≤◌, ◌∷◌, ◌++◌, [], List, ℕ, true, false, length};
 ghost use Rattle.std.specs.List.{AllByRecursion, concat};
 ghost use Rattle.fix_wire_frames.specs.Frames.{IsFrame, frames};

@@ -1,4 +1,4 @@
-//! Laws over the definitions alone.
+//! Law: the numbers of the codes in reports.
 ghost use Rattle.std.specs.Prelude.{◌≡◌, ◌+◌};
 ghost use Rattle.spread_report_fields.specs.Codes.{side_code};
 ghost use Rattle.spread_report_fields.specs.declared.codes.TheConstants.{ENCRYPT_METHOD_NONE, EXEC_TRANS_TYPE_NEW, CXL_REJ_RESPONSE_TO_CANCEL, CXL_REJ_RESPONSE_TO_REPLACE, SINGLE_SECURITY, INDIVIDUAL_LEG, MULTI_LEG_SECURITY};

@@ -23,7 +23,7 @@ fn reference(rules: &Rulebook, month: u8) -> i64
 
 /// The leg prices, near and far, of the spread that takes part where an order trades with a candidate: a spread traded
 /// with one has the near month's reference price and what the price leaves for the far one; an implied trade has its
-/// outrights' prices. An outright that trades with one has its price twice.
+/// outrights' prices. An outright that trades with one has its price twice. Rule M7.
 pub fn leg_prices(rules: &Rulebook, new: &Order, candidate: &Candidate) -> (i64, i64)
     requires { HasLegPrice candidate.now }
     ensures { result

@@ -1,4 +1,4 @@
-//! Laws over the definitions alone.
+//! Laws: a key tells session and id; limits and bytes in numbers.
 ghost use Rattle.std.specs.Prelude.{◌≡◌, ℕ, List, [], ◌∷◌, pos, codes};
 ghost use Rattle.spread_rules_ids.specs.declared.bytes.TheConstants.{SOH, LINE_FEED, SPACE, NUMBER_SIGN, HYPHEN_MINUS, POINT, DIGIT_ZERO, COLON, EQUALS, VERTICAL_BAR};
 ghost use Rattle.spread_rules_ids.specs.declared.limits.TheConstants.{SESSIONS, MAX_MONTHS, MAX_NAME_LENGTH, MAX_TICK, MAX_ID_LENGTH, MAX_NUMBER, FIRST_MSG_SEQ_NUM, MAX_MSG_SEQ_NUM, MIN_BODY_LENGTH, MAX_BODY_LENGTH, MAX_ORDER_QTY, MAX_PRICE, MAX_LEG_PRICE, MAX_JOURNAL_ENTRIES, MAX_RING, MAX_INPUT_BYTES};

@@ -75,7 +75,7 @@ instruments_of rules =
     map Outright months
     ++ flat_map (λ far. map (λ near. Spread near far) (range_with_len 0 far)) months
 
--- the same, of one instrument
+-- the rulebook has this instrument: its months exist, a spread's near one first
 abbrev pub IsListed : Rules → Instrument → Type 0
 IsListed rules (Outright m) = m < length rules.months
 IsListed rules (Spread i j) = (i < j) × (j < length rules.months)

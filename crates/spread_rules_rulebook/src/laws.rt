@@ -1,4 +1,4 @@
-//! Laws over the definitions alone.
+//! Laws: a rulebook's text has one answer; one of twelve months means what it meant before pairs.
 ghost use Rattle.std.specs.Prelude.{◌≡◌, ◌≢◌, true, Ok, Err, ℕ, List, Result};
 ghost use Rattle.spread_rules_rulebook.specs.RulebookTextBeforePairs.{FirstRules, HasNoPairLine, with_all_on, answer_with_all_on, ReadsRulebook as first_ReadsRulebook};
 ghost use Rattle.spread_rules_rulebook.specs.Rulebook.{Rules, implied};

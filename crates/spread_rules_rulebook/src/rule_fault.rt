@@ -23,7 +23,7 @@ pub enum RuleFault {
 }
 
 impl RuleFault {
-    /// Its number, 1 to 5.
+    /// A number for each fault, 1 to 5, for callers of the library.
     pub fn number(&self) -> u8
         ensures { result ≡ fault_number self.now }
     {

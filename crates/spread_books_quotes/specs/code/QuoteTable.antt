@@ -88,7 +88,7 @@ pub record HasLeft (xs ys : List Order) (o : Order) (others : Option Level) : Ty
   pub stood : Contains xs o
   pub front : IsFrontLevel ys o.instrument o.side others
 
--- an order of so many months, at a price of orders
+-- the order's months are below that number, and its price is within the range of orders
 pub record IsListed (months : ℕ) (o : Order) : Type 0 where
   pub within : IsInMonths months o.instrument
   pub small : HasOrderPrice o

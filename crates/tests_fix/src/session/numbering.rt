@@ -1,4 +1,5 @@
 //! Numbers of messages: gaps, duplicates, gap fills and what closes a session.
+//! Rules S1 to S7 of docs/PROFILE.md.
 use super::Says::{Close, Gap, Logon, Reject, TestReply};
 use super::{LOGON, SELL, Says, expect_events, is_said, judged, push_event};
 use crate::expect::holds;

@@ -1,4 +1,5 @@
 //! Pairs of months that are switched on or off.
+//! Rule M3 of docs/PROFILE.md.
 use super::cases::Came::{Filled, Rested, Session};
 use super::cases::Line::{Of, OfSpread};
 use super::cases::Sent::{Buy, Logon, Sell};

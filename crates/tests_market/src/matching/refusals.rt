@@ -1,4 +1,5 @@
 //! Refused orders, cancels, and cancels that come too late.
+//! Rules M2 and M9 of docs/PROFILE.md.
 use super::cases::Came::{Cancelled, Refused, RequestRefused, Rested, Session};
 use super::cases::Line::Of;
 use super::cases::Sent::{Buy, Cancel, Logon, Sell};

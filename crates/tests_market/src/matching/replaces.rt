@@ -1,4 +1,5 @@
 //! Replace requests: refused, with the place kept, and with the place lost.
+//! Rule M10 of docs/PROFILE.md.
 use super::cases::Came::{Cancelled, Filled, Refused, Replaced, RequestRefused, Rested, Session};
 use super::cases::Line::{Of, OfSpread};
 use super::cases::Sent::{Buy, Cancel, Logon, ReplaceBuy, ReplaceSell, ReplaceSellNow, Sell};

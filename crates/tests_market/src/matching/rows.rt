@@ -1,4 +1,5 @@
 //! The worked rows of matching.
+//! Rules M1, M3 to M8 of docs/PROFILE.md.
 use super::cases::Came::{Ended, Filled, Rested, Session};
 use super::cases::Line::{Of, OfSpread};
 use super::cases::Sent::{Buy, BuyNow, Logon, Sell};

@@ -1,4 +1,5 @@
 //! The lines of fills and of months.
+//! Rule M12 of docs/PROFILE.md.
 ghost use Rattle.std.specs.Prelude.{◌≡◌};
 ghost use Rattle.text_day.specs.DayText.{AreShown};
 
