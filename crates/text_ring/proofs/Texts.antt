@@ -6,12 +6,19 @@ use Rattle.std.proofs.lemmas.Grind.{flat_map-append}
 use Rattle.std.proofs.lemmas.List.{nil_from_length}
 use Rattle.std.specs.Io.KnownBytes.{Appends}
 use Rattle.std.specs.declared.vec.Vec.{Vec}
+use Rattle.rtrb.specs.Ring.{SameConsumer}
+use Rattle.rtrb.specs.declared.consumer.Consumer.{Consumer}
 use Rattle.spread_rules_ends.specs.Ends.{AppendsPrefix}
 use Rattle.gate_link_stages.specs.Marks.{ends}
 use Rattle.gate_link_stages.proofs.Marks.{ends_more, ends_mark}
 use Rattle.text_messages.specs.code.Blocks.{Writes}
 use Rattle.text_messages.proofs.BlocksInTurn.{front_after, front_of_more}
 use Rattle.text_ring.specs.Blocks.{is_mark, text_in}
+
+-- two steps of the same end of a ring
+pub same_consumer_trans : {T A P : Type 0} (a b d : Consumer T A P) → SameConsumer a b → SameConsumer b d
+    → SameConsumer a d
+same_consumer_trans a b d p q = ((q.0.0 ∙ p.0.0, q.0.1 ∙ p.0.1, q.0.2 ∙ p.0.2, q.0.3 ∙ p.0.3), q.1 ∙ p.1)
 
 -- one block more
 pub text_more : {A : Type 0} (xs ys : List (Vec ℕ A)) (p : Vec ℕ A) → ys ≡ xs ++ p ∷ [] → text_in ys ≡ text_in xs

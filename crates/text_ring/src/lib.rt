@@ -3,10 +3,12 @@
 #![tactic(auto)]
 
 mod block;
+mod giving;
 mod ring;
 mod sink;
 mod source;
 
-pub use ring::block_ring;
+pub use giving::{GivingEnd, RingEnd};
+pub use ring::{block_ring, same_text};
 pub use sink::BlockSink;
 pub use source::BlockSource;

@@ -1,6 +1,6 @@
 //! The end that the thread has that makes a text.
-ghost use Rattle.std.specs.Prelude.{◌≡◌, ◌≤◌, ◌++◌, ◌∷◌, [], Some, true, false, min, vec_len, vec_capacity};
-ghost use Rattle.rtrb.specs.Ring.{sent};
+ghost use Rattle.std.specs.Prelude.{◌≡◌, ◌≤◌, ◌++◌, ◌∷◌, [], true, false, min, vec_len, vec_capacity};
+ghost use Rattle.rtrb.specs.Ring.{sent, SameProducer};
 ghost use Rattle.gate_link_stages.specs.Marks.{ends};
 ghost use Rattle.text_ring.specs.Blocks.{is_mark};
 ghost use Rattle.text_messages.specs.declared.blocks.TheConstants.{BLOCK_BYTES};
@@ -8,17 +8,16 @@ ghost use Rattle.text_messages.specs.declared.blocks.TheConstants.{BLOCK_BYTES};
 use crate::block::{Block, Emptied, Filled};
 use live_shared::rest;
 use rtrb::{Consumer, Producer, PushError};
-use spread_rules_ends::Failed;
 use std::alloc::Allocator;
 use std::mem;
 use std::sync::Wait;
-use text_messages::{BLOCK_BYTES, TakesBlocks};
+use text_messages::BLOCK_BYTES;
 
 /// Takes the blocks of a text, which go to another thread. It may move to another thread.
 #[derive(Drop)]
 pub struct BlockSink<'r, R, A: Allocator> {
     rt: &'r R,
-    filled: Producer<Block<A>, A, Filled>,
+    pub(crate) filled: Producer<Block<A>, A, Filled>,
     emptied: Consumer<Block<A>, A, Emptied>,
     ended: bool,
     // The mark comes last, and only where it is ended.
@@ -28,7 +27,8 @@ pub struct BlockSink<'r, R, A: Allocator> {
 /// Gives a block on, as soon as the ring has room for it.
 fn give<R: Wait, A: Allocator>(rt: &R, filled: &mut Producer<Block<A>, A, Filled>, block: Block<A>)
     requires { BLOCK_BYTES ≤ vec_capacity block }
-    ensures { sent filled.new ≡ sent filled.old ++ block ∷ [] }
+    ensures ring { SameProducer filled.old filled.new }
+    ensures sent { sent filled.new ≡ sent filled.old ++ block ∷ [] }
 {
     let mut block = block;
     let mut looks = 0u32;
@@ -84,7 +84,7 @@ fn exchange<A: Allocator>(block: &mut Block<A>, empty: Block<A>) -> Block<A>
 }
 
 impl<'r, R: Wait, A: Allocator> BlockSink<'r, R, A> {
-    ghost use Rattle.text_ring.specs.Ends.{text_given};
+    ghost use Rattle.text_ring.specs.Ends.{text_given, SameSink};
 
     pub(crate) fn new(
         rt: &'r R,
@@ -102,8 +102,27 @@ impl<'r, R: Wait, A: Allocator> BlockSink<'r, R, A> {
         }
     }
 
+    /// Takes all that stands in the block. Then it is empty, with as much room as before, or as a block has.
+    pub fn take(&mut self, block: &mut Block<A>)
+        requires { self.old.ended ≡ false }
+        ensures ring { SameSink self.old self.new }
+        ensures open { self.new.ended ≡ false }
+        ensures text { text_given self.new ≡ text_given self.old ++ block.old.items }
+        ensures items { block.new.items ≡ [] }
+        ensures len { vec_len block.new ≡ 0 }
+        ensures room { min BLOCK_BYTES (vec_capacity block.old) ≤ vec_capacity block.new }
+    {
+        if block.is_empty() {
+            return;
+        }
+        let empty = take_empty(self.rt, &mut self.emptied);
+        let full = exchange(block, empty);
+        give(self.rt, &mut self.filled, full);
+    }
+
     /// Marks the end of the text, where it is not marked yet: the other end returns when it comes to it.
     pub fn end(&mut self)
+        ensures ring { SameSink self.old self.new }
         ensures text { text_given self.new ≡ text_given self.old }
         ensures ended { self.new.ended ≡ true }
     {
@@ -113,25 +132,5 @@ impl<'r, R: Wait, A: Allocator> BlockSink<'r, R, A> {
         let mark = take_empty(self.rt, &mut self.emptied);
         give(self.rt, &mut self.filled, mark);
         self.ended = true;
-    }
-}
-
-impl<'r, R: Wait, A: Allocator> TakesBlocks<A> for BlockSink<'r, R, A> {
-    ghost use Rattle.text_ring.specs.Ends.{text_given};
-
-    // The text of the blocks that were given on.
-    ghost written = { λ s. Some (text_given s) };
-
-    // No write fails here; behind the mark none may be asked for.
-    ghost has_failed = { λ s. s.ended };
-
-    fn take(&mut self, block: &mut Vec<u8, A>) -> Result<(), Failed> {
-        if block.is_empty() {
-            return Ok(());
-        }
-        let empty = take_empty(self.rt, &mut self.emptied);
-        let full = exchange(block, empty);
-        give(self.rt, &mut self.filled, full);
-        Ok(())
     }
 }

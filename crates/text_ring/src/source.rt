@@ -2,7 +2,7 @@
 ghost use Rattle.std.specs.Prelude.{◌≡◌, ◌≤◌, true, false, is_ok, OnOk, OnErr, vec_capacity};
 ghost use Rattle.text_messages.specs.code.Blocks.{Writes};
 ghost use Rattle.text_messages.specs.declared.blocks.TheConstants.{BLOCK_BYTES};
-ghost use Rattle.text_ring.specs.Ends.{text_taken, IsUnread, IsRead};
+ghost use Rattle.text_ring.specs.Ends.{text_taken, IsUnread, IsRead, SameSource};
 
 use crate::block::{Block, Emptied, Filled};
 use live_shared::{found, rest};
@@ -40,6 +40,7 @@ impl<A: Allocator> BlockSource<A> {
         requires not_failed { OnOk so_far (K.has_failed sink.old ≡ false) }
         requires failed { OnErr so_far (K.has_failed sink.old ≡ true) }
         requires unread { IsUnread self.old }
+        ensures ring { SameSource self.old self.new }
         ensures read { IsRead self.new }
         ensures writes { Writes result (K.written sink.old) (K.written sink.new) (K.has_failed sink.new)
             (text_taken self.new) }

@@ -7,6 +7,6 @@ invariant_of-self g c =
     let was = c.args.self.now in
     record {
       shape = mark_more (sent was.filled) (sent c.give.new.filled) c.take_empty-mark.result was.ended
-          c.if-self.false was.shape c.give.ensures (is_mark_of c.take_empty-mark.result
+          c.if-self.false was.shape c.give.ensures.sent (is_mark_of c.take_empty-mark.result
           c.take_empty-mark.ensures.empty);
     }

@@ -1,7 +1,7 @@
 use Rattle.std.proofs.Common.{refl, sym, ◌∙◌, false, append-nil}
 use Rattle.rtrb.specs.Ring.{received}
 use Rattle.text_ring.specs.Blocks.{text_in}
-use Rattle.text_ring.proofs.Texts.{text_more, is_mark_of, no_mark_of, none_of, some_of, plain_more, mark_more, writes_more, writes_no_more, none_failed}
+use Rattle.text_ring.proofs.Texts.{same_consumer_trans, text_more, is_mark_of, no_mark_of, none_of, some_of, plain_more, mark_more, writes_more, writes_no_more, none_failed}
 use Rattle.text_ring.proofs.source.BlockSource.write_to.Goals as goal
 use Rattle.text_ring.proofs.source.BlockSource.write_to.Goals.{then-is_ok, else-is_ok}
 
@@ -27,6 +27,7 @@ loop-preserved-in-Ok g c =
     let some = some_of p c.is_empty.result c.is_empty.ensures c.if-is_empty.false in
     let text = text_more (received was) (received c.pop.new.self) p c.in-Ok.ensures.ok.0 in
     record {
+      ring = same_consumer_trans c.args.self.now.filled was c.pop.new.self c.loop.invariant.ring c.in-Ok.ensures.ring;
       plain = plain_more (received was) (received c.pop.new.self) p false refl c.loop.invariant.plain
           c.in-Ok.ensures.ok.0 (no_mark_of p some);
       writes =

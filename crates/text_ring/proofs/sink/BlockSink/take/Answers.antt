@@ -1,7 +1,7 @@
 use Rattle.std.proofs.Common.{◌<◌, length}
 use Rattle.rtrb.specs.Ring.{sent}
 use Rattle.text_ring.proofs.Texts.{no_mark_of, plain_more, some_of}
-use Rattle.text_ring.proofs.sink.BlockSinkTakesBlocks.take.Goals as goal
+use Rattle.text_ring.proofs.sink.BlockSink.take.Goals as goal
 
 pub invariant_of-self : goal.invariant_of-self
 invariant_of-self g c =
@@ -11,5 +11,5 @@ invariant_of-self g c =
     c.if-is_empty.false) in
     record {
       shape = plain_more (sent was.filled) (sent c.give.new.filled) c.exchange-full.result was.ended
-          c.requires.not_failed was.shape c.give.ensures (no_mark_of c.exchange-full.result some);
+          c.requires was.shape c.give.ensures.sent (no_mark_of c.exchange-full.result some);
     }
