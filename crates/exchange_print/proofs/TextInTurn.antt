@@ -7,7 +7,8 @@ use Rattle.text_messages.proofs.BlocksInTurn.{front_of_more}
 use Rattle.text_day.proofs.PartsInTurn.{then_writes}
 
 -- where the first could not be written, nothing was written behind it
-pub both_written : {T E F : Type 0} (so_far : Result T E) (r : Result T F) (a b c : Option (List ℕ)) (was has_failed : Bool)
+pub both_written : {T E F : Type 0} (so_far : Result T E) (r : Result T F) (a b c : Option (List ℕ))
+    (was has_failed : Bool)
     (xs ys : List ℕ) → Writes so_far a b was xs → Writes r b c has_failed ys
     → OnErr so_far ((is_ok r ≡ false) × (c ≡ b)) → Writes r a c has_failed (xs ++ ys)
 both_written (Ok u) r a b c was has_failed xs ys first second kept =

@@ -81,11 +81,7 @@ fn empty_block(alloc: Global) -> Result<Vec<u8, Global>, AllocError>
 }
 
 /// Makes and writes the lines of the journal, and then writes the blocks of the text behind it as they come.
-fn write_text<R: Wait, K: Sink>(
-    rt: &R,
-    writer: TextWriter<K>,
-    journal: &[Entry],
-) -> WrittenText<K>
+fn write_text<R: Wait, K: Sink>(rt: &R, writer: TextWriter<K>, journal: &[Entry]) -> WrittenText<K>
     requires not_failed { K.has_failed writer.sink ≡ false }
     requires empty { writer.block.items ≡ [] }
     requires room { BLOCK_BYTES ≤ vec_capacity writer.block }

@@ -66,7 +66,7 @@ worked_few (Fault f) worked took all = omega (arith, all)
 pub live_fault : {A : Type 0} (rules : Rules) (streams : List (Vec ℕ A)) (ring room : ℕ) (took : List Entry)
     (f : ApplyFault)
     → IsBeginningWithin streams room took → IsApplyFault rules took f
-        → IsThreadsFault rules streams ring room (of_apply f)
+    → IsThreadsFault rules streams ring room (of_apply f)
 live_fault rules streams ring room took (NoMemory place) parts is = inr (took, parts, omega (arith, is))
 live_fault rules streams ring room took (NumbersSpent place) parts is = (took, parts, is)
 

@@ -11,7 +11,8 @@ returns g c =
     let first = c.write_journal_lines-so_far in
     let last = c.write_to-result in
     record {
-      writes = both_written first.result last.result (told c.args.writer.sink) (told first.new.sink) (told last.new.sink)
+      writes = both_written first.result last.result (told c.args.writer.sink) (told first.new.sink)
+          (told last.new.sink)
           (g.K.Sink.has_failed first.new.sink) (g.K.Sink.has_failed last.new.sink)
           (journal_text c.args.journal.now) (text_taken last.new.self) first.ensures.writes last.ensures.writes
           (on_err first.result (λ kept. (kept.0, ap told kept.1)) last.ensures.kept);
