@@ -3,7 +3,7 @@ use crate::files::{read_files, read_rules};
 use crate::tasks::run_journal;
 use bench::measure;
 use exchange_faults::Fault;
-use exchange_print::print_day;
+use exchange_print::{Printed, print_day};
 use exchange_words::Request;
 use spread_host::{Caps, Gate, HostFault, replay, run_day};
 use spread_rules_ends::{FromReader, ToWriter};
@@ -62,7 +62,9 @@ fn run_live<'a>(
     let rulebook = read_rules(rt, rules)?;
     let streams = read_files(rt, sessions)?;
     let day = run_day(rt, rt.alloc(), &rulebook, stamp, streams, &Open, caps)?;
-    print_day(rt, &rulebook, day)?;
+    let sink = ToWriter::new(io::writer(rt));
+    let Printed { result, .. } = print_day(rt, &rulebook, day, sink);
+    result?;
     Ok(())
 }
 

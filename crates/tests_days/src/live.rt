@@ -2,5 +2,6 @@
 mod days;
 mod headline;
 mod no_memory;
+mod printing;
 mod stages;
 mod watch;

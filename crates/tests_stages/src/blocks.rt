@@ -1,17 +1,18 @@
 //! A text that goes through a ring of blocks.
-ghost use Rattle.std.specs.Prelude.{◌≡◌, false};
-ghost use Rattle.text_ring.specs.Ends.{IsUnread};
+ghost use Rattle.std.specs.Prelude.{◌≡◌, Some, false};
+ghost use Rattle.text_ring.specs.Ends.{IsUnread, SameSink};
 
 use crate::expect::holds;
 use spread_rules_ends::TestSink;
 use std::alloc::{Allocator, Global};
+use std::marker::Brand;
 use std::process::Abort;
 use std::sync::Wait;
 use std::thread;
 use std::thread::Threads;
 use tests_shared::Refusing;
-use text_messages::{BLOCK_BYTES, TakesBlocks, put_whole};
-use text_ring::{BlockSink, BlockSource, block_ring};
+use text_messages::{BLOCK_BYTES, TakesBlocks};
+use text_ring::{BlockSink, BlockSource, GivingEnd, RingEnd, block_ring, same_text};
 
 const LINE: &[u8] = b"abcdefghi\n";
 
@@ -27,7 +28,7 @@ fn give_lines<R: Wait + Abort, A: Allocator>(
     let mut block = Vec::with_capacity(alloc, BLOCK_BYTES).expect(rt, "memory");
     for _ in 0..lines {
         block.extend_from_slice(LINE).expect(rt, "memory");
-        sink.take(&mut block).expect(rt, "no write fails");
+        sink.take(&mut block);
         holds(rt, block.is_empty());
     }
     sink.end();
@@ -128,7 +129,7 @@ fn give_block<R: Wait + Abort, A: Allocator + Copy>(
     ensures { sink.new.ended ≡ false }
 {
     let mut block = bytes.to_vec(alloc).expect(rt, "memory");
-    sink.take(&mut block).expect(rt, "no write fails");
+    sink.take(&mut block);
     holds(rt, block.is_empty());
 }
 
@@ -146,6 +147,35 @@ fn blocks_of_each_size(rt: HostRuntime) {
     holds(&rt, out.bytes().ends_with(b"xx"));
 }
 
+/// Gives a line on by an end that has a name, and hands the end back.
+fn give_by_name<'r, R: Wait + Abort, B: RingEnd>(
+    rt: &'r R,
+    alloc: Global,
+    sink: BlockSink<'r, R, Global>,
+) -> BlockSink<'r, R, Global>
+    requires end { B.end ≡ Some sink.filled }
+    requires open { sink.ended ≡ false }
+    ensures { SameSink sink.entry result }
+{
+    let mut giving = GivingEnd::<R, B>::new(sink);
+    let mut block = LINE.to_vec(alloc).expect(rt, "memory");
+    giving.take(&mut block).expect(rt, "no write fails");
+    holds(rt, block.is_empty());
+    giving.into_sink()
+}
+
+/// What the one end took is what the other was given.
+#[test]
+fn both_ends_of_a_text(rt: HostRuntime) {
+    let (sink, mut source) = block_ring(&rt, rt.alloc()).expect(&rt, "memory");
+    let mut sink = give_by_name::<HostRuntime, Brand>(&rt, rt.alloc(), sink);
+    sink.end();
+    let mut out = TestSink::new(rt.alloc(), 100, 0).expect(&rt, "memory");
+    holds(&rt, source.write_to(&rt, &mut out, Ok(())).is_ok());
+    holds(&rt, out.bytes() == LINE);
+    same_text(&mut sink, &mut source);
+}
+
 /// A sink takes blocks too: it writes them.
 #[test]
 fn blocks_of_a_sink(rt: HostRuntime) {
@@ -155,22 +185,6 @@ fn blocks_of_a_sink(rt: HostRuntime) {
     holds(&rt, out.take(&mut block).is_ok() && block.is_empty());
     block.extend_from_slice(LINE).expect(&rt, "memory");
     holds(&rt, out.take(&mut block).is_err());
-    holds(&rt, out.bytes() == LINE);
-}
-
-/// Bytes wait in a block until it has no room for those that come next.
-#[test]
-fn bytes_that_wait_in_a_block(rt: HostRuntime) {
-    let mut out = TestSink::new(rt.alloc(), 100, 0).expect(&rt, "memory");
-    let mut block = Vec::with_capacity(rt.alloc(), 15).expect(&rt, "memory");
-    holds(&rt, block.capacity() == 15);
-    put_whole(&mut block, &mut out, LINE).expect(&rt, "a sink that works");
-    holds(&rt, block.as_slice() == LINE && out.bytes().is_empty());
-    put_whole(&mut block, &mut out, b"abcde\n").expect(&rt, "a sink that works");
-    holds(
-        &rt,
-        block.as_slice().starts_with(b"abcde\n") && block.len() == 6,
-    );
     holds(&rt, out.bytes() == LINE);
 }
 

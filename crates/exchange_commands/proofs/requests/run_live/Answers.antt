@@ -3,8 +3,8 @@ use Rattle.std.proofs.Common.{rules, ◌≤◌, length, arith}
 use Rattle.spread_host.proofs.SixteenTexts.{sessions_sent}
 use Rattle.exchange_commands.proofs.requests.run_live.Goals as goal
 
-pub print_day-requires : goal.print_day-requires
-print_day-requires g c =
+pub print_day-result-requires-clause-printable : goal.print_day-result-requires-clause-printable
+print_day-result-requires-clause-printable g c =
     let day = c.in_ok-day.day in
     let made = c.in_ok-day.ensures in
     let each = sessions_sent c.in_ok-rulebook.rulebook c.in_ok-stamp.stamp day.journal.items day.fills.items

@@ -12,5 +12,6 @@ returns g c =
     let gave = sent c.args.sink.now.filled in
     let looked = c.slots_beside.ensures.looked in
     let producer = c.slots_beside.ensures.producer in
-    let all : took ++ known ≡ gave = sym (ap (λ xs. xs ++ known) looked.1) ∙ (c.slots_beside.ensures.fifo ∙ producer.1) in
+    let all : took ++ known ≡ gave = sym (ap (λ xs. xs ++ known) looked.1)
+    ∙ (c.slots_beside.ensures.fifo ∙ producer.1) in
     ap text_in (all_taken is_mark took known gave c.args.sink.now.ended c.requires.read c.args.sink.now.shape all).1
