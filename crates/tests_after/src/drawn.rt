@@ -2,5 +2,6 @@
 
 mod courses;
 mod faults;
+mod marks;
 mod pictures;
 mod sizes;

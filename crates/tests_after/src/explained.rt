@@ -11,6 +11,7 @@ mod refusals;
 mod replaces;
 mod sessions;
 mod told;
+mod turns;
 
 /// A tick of five hundredths.
 const TICK_5: &[u8] = b"tick 5\nmonth H6 10000\nmonth M6 9800\nmonth U6 9500\n";

@@ -1,7 +1,7 @@
 //! The phases of the benchmark: what they count of the first trade, and the lines that tell it.
 use crate::expect::{holds, holds_for};
 use bench::{BenchFault, Beside, Measured, measure};
-use bench_phases::{apply_entry, read_inputs};
+use bench_phases::{apply_entry, read_inputs, scanned};
 use spread_books::IndexBook;
 use spread_match::Market;
 use spread_rules::codes::close_reason;
@@ -95,6 +95,7 @@ fn phases_of_the_first_trade(rt: HostRuntime) {
         let measured = measure(&rt, phase.name, files).ok().expect(&rt, "measured");
         holds_for(&rt, counts(&measured, phase), phase.name);
     }
+    holds(&rt, scanned(&streams) == 4);
     let refused = measure(&rt, "match", &streams);
     holds(&rt, matches!(refused, Err(BenchFault::Phase)));
 }

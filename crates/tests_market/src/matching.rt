@@ -21,6 +21,7 @@ mod replaces;
 mod rows;
 mod sizes;
 mod statuses;
+mod tickets;
 
 const H6: Instrument = Instrument::Outright(0);
 

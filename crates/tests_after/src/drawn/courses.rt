@@ -8,7 +8,7 @@ use spread_rules::Instrument;
 use std::alloc::{AllocError, Global};
 
 /// Four entries: behind the first a bid and an offer rest 20 ticks apart, the second trades 5 lots between them.
-fn short_course(alloc: Global) -> Result<Course<Global>, AllocError> {
+pub fn short_course(alloc: Global) -> Result<Course<Global>, AllocError> {
     let mut course = Course::new(alloc, Instrument::Outright(0));
     course.look(column_of(1, 4), Some(9_990), Some(10_010))?;
     course.note(Trade {

@@ -112,6 +112,7 @@ fn expect_refusals<R: Threads + Wait + Sync + Abort>(rt: &R, alloc: Global, ring
     holds(rt, seen.places[0] && seen.places[1..].contains(&true));
 }
 
+/// Over rings that take all that comes.
 #[test]
 fn run_day_refused_memory(rt: HostRuntime) {
     expect_refusals(&rt, rt.alloc(), 256);

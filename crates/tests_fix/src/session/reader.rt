@@ -1,5 +1,5 @@
 //! A reader looks at a message, passes it, and reads whole texts.
-ghost use Rattle.std.specs.Prelude.{◌<◌};
+ghost use Rattle.std.specs.Prelude.{◌<◌, ◌≤◌};
 
 use super::Says::{Close, Logon, Nothing};
 use super::{BUY, FIRST_TRADE_SAYS, SELL, Says, expect_said};
@@ -169,38 +169,47 @@ fn entries_of_a_text(rt: HostRuntime) {
     }
 }
 
+/// The first trade in two pieces is what it is in one.
+fn expect_whole(rt: &impl Abort, alloc: Global, first: &[u8], rest: &[u8]) {
+    let mut reader = Reader::new();
+    let mut entries = Vec::new(alloc);
+    reader.read(7, first, &mut entries).expect(rt, "memory");
+    reader.read(7, rest, &mut entries).expect(rt, "memory");
+    expect_first_trade(rt, &entries, 7);
+    holds(rt, reader.is_closed());
+}
+
 #[test]
 fn a_day_cut_anywhere(rt: HostRuntime) {
     holds(&rt, FIRST_TRADE.len() == 400);
     for cut in 0..=400usize {
-        let mut reader = Reader::new();
-        let mut entries = Vec::new(rt.alloc());
-        for piece in [&FIRST_TRADE[..cut], &FIRST_TRADE[cut..]] {
-            reader.read(7, piece, &mut entries).expect(&rt, "memory");
-        }
-        expect_first_trade(&rt, &entries, 7);
-        holds(&rt, reader.is_closed());
+        expect_whole(&rt, rt.alloc(), &FIRST_TRADE[..cut], &FIRST_TRADE[cut..]);
     }
 }
 
-/// How many bytes the first trade's first messages have: the Logon, an order more, and both orders.
-const MESSAGE_ENDS: [usize; 3] = [79, 206, 333];
+/// How many of the first trade's messages stand whole in so many of its bytes, of which it has 400: its Logon has 79 bytes,
+/// each order 127.
+fn whole_messages(length: usize) -> usize
+    ensures { result ≤ 3 }
+{
+    match length {
+        0..79 => 0,
+        79..206 => 1,
+        206..333 => 2,
+        _ => 3,
+    }
+}
 
-/// A stream that ends here says what its whole messages say, and then that it was cut.
+/// A stream that ends within the first trade says what its whole messages say, and then that it was cut.
 fn expect_cut_short(rt: &impl Abort, alloc: Global, stream: &[u8]) {
     let mut reader = Reader::new();
     let mut entries = Vec::new(alloc);
     reader.read(0, stream, &mut entries).expect(rt, "memory");
-    let mut whole = 0;
-    for end in &MESSAGE_ENDS {
-        if *end <= stream.len() {
-            holds(rt, whole < entries.len());
-            let event = Verdict::Event(entries[whole].event);
-            expect_said(rt, event, &FIRST_TRADE_SAYS[whole]);
-            whole += 1;
-        }
-    }
+    let whole = whole_messages(stream.len());
     holds(rt, entries.len() == whole);
+    for n in 0..whole {
+        expect_said(rt, Verdict::Event(entries[n].event), &FIRST_TRADE_SAYS[n]);
+    }
     expect_said(rt, reader.end(), &Close(5));
 }
 

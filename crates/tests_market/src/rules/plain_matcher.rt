@@ -174,6 +174,7 @@ fn worked_rows(rt: HostRuntime) {
     }
 }
 
+/// The search over a book comes to the same rows.
 #[test]
 fn worked_rows_over_a_book(rt: HostRuntime) {
     let rules = Rulebook::read(THREE_MONTHS).expect(&rt, "a rulebook");

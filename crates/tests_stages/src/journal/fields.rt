@@ -120,6 +120,7 @@ static LINES: [(Version, &[u8], Option<(u8, Said)>); 5] = [
     (Version::Latest, b"END 1", None),
 ];
 
+/// A session is below 16, and only the latest version has a line for a replace.
 #[test]
 fn a_line_is_one_entry(rt: HostRuntime) {
     for (version, line, wanted) in &LINES {
